@@ -2,7 +2,8 @@
 use Rattle.std.proofs.Common.{◌≡◌, ◌≢◌, ℕ, [], None, refl}
 use Rattle.std.proofs.lemmas.List.Elements.{All-nil}
 use Rattle.mdl_calls.specs.Words.{Answer, Call}
-use Rattle.mdl_core.specs.Words.{Core, SpeaksFor, own_at, Knows}
+use Rattle.mdl_core.specs.Words.{Core, SpeaksFor, own_at}
+use Rattle.mdl_space.specs.CoreMembers.{core_space}
 use Rattle.mdl_core.specs.CoreJoins.{Joins}
 use Rattle.mdl_core.proofs.CallLaws.{core-keeps}
 use Rattle.mdl_core.proofs.CoreSound.{calls_keep-sound}
@@ -16,12 +17,12 @@ still_speaks = core-keeps calls_keep-sound
 
 -- the space attends to a new context of a session that has nothing
 pub attends_new : (space : Core) (who : ℕ) (x : ContextView) → x ≡ record { who = who; kept = []; known = []; wait = None } → SpeaksFor space who
-    → own_at space who ≡ record { held = []; wait = None } → Attends SpeaksFor own_at Knows space x
+    → own_at space who ≡ record { held = []; wait = None } → Attends core_space space x
 attends_new space who x new speaks nothing =
     rw new (record { speaks = speaks; serves = rw nothing (record { held = refl; wait = refl }); known = All-nil _; places = All-nil _; wish = tt })
 
 -- the space attends to a session's context as before, where another session has made calls
-pub still_attends : (before after : Core) (x : ContextView) (who : ℕ) → LeavesOthers SpeaksFor own_at Knows who before after → x.who ≢ who
-    → Attends SpeaksFor own_at Knows before x → Attends SpeaksFor own_at Knows after x
+pub still_attends : (before after : Core) (x : ContextView) (who : ℕ) → LeavesOthers core_space who before after → x.who ≢ who
+    → Attends core_space before x → Attends core_space after x
 still_attends before after x who by other attends =
     let kept = by x.who other attends.speaks in attends-same before after x attends kept.2 kept.0 kept.1

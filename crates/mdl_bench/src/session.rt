@@ -31,14 +31,14 @@ pub struct Session {
 }
 
 impl Model for Session {
-    ghost use Rattle.mdl_core.specs.CoreJoins.{SpeaksFor, own_at, Knows};
+    ghost use Rattle.mdl_space.specs.CoreMembers.{core_space};
     ghost use Rattle.mdl_context.specs.Contexts.{Attends};
 
     ghost Value = { Unit };
 
     ghost view = { λ _. tt };
 
-    ghost invariant = { λ session. Attends SpeaksFor own_at Knows session.space session.context };
+    ghost invariant = { λ session. Attends core_space session.space session.context };
 }
 
 impl Session {
@@ -165,8 +165,8 @@ fn acquire<S: LockSpace>(
     key: &Key,
     duration: Duration,
 ) -> Result<TicketId, Failure>
-    requires { Attends S.speaks_for S.own S.knows space.old context.old }
-    ensures { Attends S.speaks_for S.own S.knows space.new context.new }
+    requires { Attends S.LockSpace space.old context.old }
+    ensures { Attends S.LockSpace space.new context.new }
 {
     let request = Request {
         key,

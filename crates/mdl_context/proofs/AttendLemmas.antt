@@ -10,6 +10,7 @@ use Rattle.mdl_calls.specs.declared.answers.Held.{Held}
 use Rattle.mdl_calls.specs.declared.answers.Settled.{Settled}
 use Rattle.mdl_calls.specs.Words.{Answer, Done, Granted, Lost, Call, End_wait, Unpin, caller, Own, own_after, gaining}
 use Rattle.mdl_calls.specs.Own.{waiting}
+use Rattle.mdl_calls.specs.declared.lock_space.LockSpace.{Ghosts}
 use Rattle.mdl_context.specs.declared.kept.Kept.{Kept}
 use Rattle.mdl_context.specs.declared.kept.Wanted.{Wanted}
 use Rattle.mdl_context.specs.Contexts.{ContextView, Attends, IsAwaited, Serves, held_of, place_known, is_known_place}
@@ -87,29 +88,29 @@ still-awaited known e kept (Some wanted) awaited = (still-known-place known e _ 
 
 -- ---- over calls
 
-module _ {S : Type 0} {speaks_for : S → ℕ → Type 0} {own : S → ℕ → Own} {knows : S → ℕ → ℕ → KeyName → Type 0} where
+module _ {S : Type 0} {members : Ghosts S} where
   -- what the context serves then is what the session has then, and it knows what it knew
-  pub attends-over : (a b : S) (before after : ContextView) → Attends speaks_for own knows a before → ((place : ℕ) (key : KeyName) → knows a before.who place key → knows b before.who place key)
-      → speaks_for b before.who → Serves (own b before.who) after → after.who ≡ before.who → after.known ≡ before.known → ArePlaced before.known after.kept
-      → IsAwaitedIn before.known after.kept after.wait → Attends speaks_for own knows b after
+  pub attends-over : (a b : S) (before after : ContextView) → Attends members a before → ((place : ℕ) (key : KeyName) → members.knows a before.who place key → members.knows b before.who place key)
+      → members.speaks_for b before.who → Serves (members.own b before.who) after → after.who ≡ before.who → after.known ≡ before.known → ArePlaced before.known after.kept
+      → IsAwaitedIn before.known after.kept after.wait → Attends members b after
   attends-over a b before after attends still speaks serves same known placed wished = record {
-    speaks = subst (speaks_for b) (sym same) speaks;
-    serves = subst (λ who. Serves (own b who) after) (sym same) serves;
-    known = subst (λ who. AreKnown knows b who after.known) (sym same) (subst (AreKnown knows b before.who) (sym known) (λ k d inside. still _ _ (attends.known k d inside)));
+    speaks = subst (members.speaks_for b) (sym same) speaks;
+    serves = subst (λ who. Serves (members.own b who) after) (sym same) serves;
+    known = subst (λ who. AreKnown members.knows b who after.known) (sym same) (subst (AreKnown members.knows b before.who) (sym known) (λ k d inside. still _ _ (attends.known k d inside)));
     places = subst (λ (es : List (KeyName × ℕ)). ArePlaced es after.kept) (sym known) placed;
     wish = subst (λ (es : List (KeyName × ℕ)). IsAwaitedIn es after.kept after.wait) (sym known) wished;
   }
 
   -- nothing has changed, though there were calls
-  pub attends-same : (a b : S) (context : ContextView) → Attends speaks_for own knows a context → ((place : ℕ) (key : KeyName) → knows a context.who place key → knows b context.who place key)
-      → speaks_for b context.who → own b context.who ≡ own a context.who → Attends speaks_for own knows b context
+  pub attends-same : (a b : S) (context : ContextView) → Attends members a context → ((place : ℕ) (key : KeyName) → members.knows a context.who place key → members.knows b context.who place key)
+      → members.speaks_for b context.who → members.own b context.who ≡ members.own a context.who → Attends members b context
   attends-same a b context attends still speaks same =
       attends-over a b context context attends still speaks (subst (λ (o : Own). Serves o context) (sym same) attends.serves) refl refl attends.places attends.wish
 
   -- fewer tickets are left
-  pub attends-left : (a b : S) (before after : ContextView) (stays : Kept → Bool) → Attends speaks_for own knows a before → ((place : ℕ) (key : KeyName) → knows a before.who place key → knows b before.who place key)
-      → speaks_for b before.who → Serves (own b before.who) after → after.who ≡ before.who → after.known ≡ before.known → after.kept ≡ filter stays before.kept → after.wait ≡ before.wait
-      → is_some before.wait ≡ false → Attends speaks_for own knows b after
+  pub attends-left : (a b : S) (before after : ContextView) (stays : Kept → Bool) → Attends members a before → ((place : ℕ) (key : KeyName) → members.knows a before.who place key → members.knows b before.who place key)
+      → members.speaks_for b before.who → Serves (members.own b before.who) after → after.who ≡ before.who → after.known ≡ before.known → after.kept ≡ filter stays before.kept → after.wait ≡ before.wait
+      → is_some before.wait ≡ false → Attends members b after
   attends-left a b before after stays attends still speaks serves same known left waits idle =
       attends-over a b before after attends still speaks serves same known
       (subst (ArePlaced before.known) (sym left) (All-filter stays (λ (t : Kept). is_known_place before.known t.place ≡ true) before.kept attends.places))
@@ -117,9 +118,9 @@ module _ {S : Type 0} {speaks_for : S → ℕ → Type 0} {own : S → ℕ → O
 
   -- other durations
   pub attends-changed : (f : Kept → Kept) → ((t : Kept) → held_of (f t) ≡ held_of t) → (space : S) (before after : ContextView) → after.who ≡ before.who → after.known ≡ before.known
-      → after.kept ≡ map f before.kept → after.wait ≡ before.wait → is_some before.wait ≡ false → Attends speaks_for own knows space before → Attends speaks_for own knows space after
+      → after.kept ≡ map f before.kept → after.wait ≡ before.wait → is_some before.wait ≡ false → Attends members space before → Attends members space after
   attends-changed f same space before after who known kept wait idle attends =
-      attends-over space space before after attends (λ place key there. there) attends.speaks (serves-changed f same (own space before.who) before after kept wait attends.serves) who known
+      attends-over space space before after attends (λ place key there. there) attends.speaks (serves-changed f same (members.own space before.who) before after kept wait attends.serves) who known
       (subst (ArePlaced before.known) (sym kept)
       (All-map (λ (t : Kept). is_known_place before.known t.place ≡ true) f before.kept (λ k d inside. placed-changed (slice_index_or before.kept k d) (attends.places k d inside))))
       (awaited-idle before.known after.kept after.wait (ap is_some wait ∙ idle))
@@ -128,73 +129,73 @@ module _ {S : Type 0} {speaks_for : S → ℕ → Type 0} {own : S → ℕ → O
       placed-changed t there = ap (λ (h : Held). is_known_place before.known h.place) (same t) ∙ there
 
   -- one more place is known
-  pub attends-learnt : (space : S) (key : KeyName) (place : ℕ) (before after : ContextView) → Attends speaks_for own knows space before → knows space before.who place key
-      → after ≡ remembering key place before → Attends speaks_for own knows space after
+  pub attends-learnt : (space : S) (key : KeyName) (place : ℕ) (before after : ContextView) → Attends members space before → members.knows space before.who place key
+      → after ≡ remembering key place before → Attends members space after
   attends-learnt space key place before after attends knew learnt =
-      subst (Attends speaks_for own knows space) (sym learnt) (record {
+      subst (Attends members space) (sym learnt) (record {
         speaks = attends.speaks;
         serves = record { held = attends.serves.held; wait = attends.serves.wait };
-        known = All-push (λ (e : KeyName × ℕ). knows space before.who e.1 e.0) before.known (key, place) attends.known knew;
+        known = All-push (λ (e : KeyName × ℕ). members.knows space before.who e.1 e.0) before.known (key, place) attends.known knew;
         places = still-placed before.known (key, place) before.kept attends.places;
         wish = still-awaited before.known (key, place) before.kept before.wait attends.wish;
       })
 
   -- a ticket at a known place is gained
-  pub attends-granted : (a b : S) (before after : ContextView) (id place : ℕ) (request : Wish) → Attends speaks_for own knows a before
-      → ((at : ℕ) (key : KeyName) → knows a before.who at key → knows b before.who at key) → speaks_for b before.who → own b before.who ≡ gaining id place request.mode (own a before.who)
-      → is_known_place before.known place ≡ true → is_some before.wait ≡ false → after ≡ keeping id place request before → Attends speaks_for own knows b after
+  pub attends-granted : (a b : S) (before after : ContextView) (id place : ℕ) (request : Wish) → Attends members a before
+      → ((at : ℕ) (key : KeyName) → members.knows a before.who at key → members.knows b before.who at key) → members.speaks_for b before.who → members.own b before.who ≡ gaining id place request.mode (members.own a before.who)
+      → is_known_place before.known place ≡ true → is_some before.wait ≡ false → after ≡ keeping id place request before → Attends members b after
   attends-granted a b before after id place request attends still speaks gains there idle is =
       let then_after = keeping id place request before in
-      subst (Attends speaks_for own knows b) (sym is)
+      subst (Attends members b) (sym is)
       (attends-over a b before then_after attends still speaks (serves-gaining _ _ before then_after id place request attends.serves gains refl refl) refl refl
       (placed-push before.known before.kept then_after.kept _ refl attends.places there) (awaited-idle before.known then_after.kept before.wait idle))
 
   -- a wait for a ticket at a known place begins
-  pub attends-awaiting : (a b : S) (before after : ContextView) (number place : ℕ) (request : Wish) (searched : Bool) → Attends speaks_for own knows a before
-      → ((at : ℕ) (key : KeyName) → knows a before.who at key → knows b before.who at key) → speaks_for b before.who → own b before.who ≡ waiting number place request.mode (own a before.who)
-      → is_known_place before.known place ≡ true → after ≡ awaiting place request searched before → Attends speaks_for own knows b after
+  pub attends-awaiting : (a b : S) (before after : ContextView) (number place : ℕ) (request : Wish) (searched : Bool) → Attends members a before
+      → ((at : ℕ) (key : KeyName) → members.knows a before.who at key → members.knows b before.who at key) → members.speaks_for b before.who → members.own b before.who ≡ waiting number place request.mode (members.own a before.who)
+      → is_known_place before.known place ≡ true → after ≡ awaiting place request searched before → Attends members b after
   attends-awaiting a b before after number place request searched attends still speaks begins there is =
       let then_after = awaiting place request searched before in
-      subst (Attends speaks_for own knows b) (sym is)
+      subst (Attends members b) (sym is)
       (attends-over a b before then_after attends still speaks (serves-waiting _ _ before then_after number place request searched attends.serves begins refl refl) refl refl attends.places (there, tt))
 
 -- ---- over a call
 
-module _ {S : Type 0} {speaks_for : S → ℕ → Type 0} {own : S → ℕ → Own} {knows : S → ℕ → ℕ → KeyName → Type 0} {joins : S → Call → Answer → S → Type 0}
-    (keeps : (a b : S) (call : Call) (answer : Answer) (w : ℕ) → speaks_for a w → joins a call answer b → speaks_for b w)
-    (changes : (a b : S) (call : Call) (answer : Answer) (who : ℕ) → caller call ≡ Some who → joins a call answer b → own b who ≡ own_after call answer (own a who))
-    (remembers : (a b : S) (call : Call) (answer : Answer) (w place : ℕ) (key : KeyName) → speaks_for a w → (call ≡ Unpin w place → answer ≡ Done → ⊥) → joins a call answer b
-    → knows a w place key → knows b w place key) where
+module _ {S : Type 0} (members : Ghosts S)
+    (keeps : (a b : S) (call : Call) (answer : Answer) (w : ℕ) → members.speaks_for a w → members.joins a call answer b → members.speaks_for b w)
+    (changes : (a b : S) (call : Call) (answer : Answer) (who : ℕ) → caller call ≡ Some who → members.joins a call answer b → members.own b who ≡ own_after call answer (members.own a who))
+    (remembers : (a b : S) (call : Call) (answer : Answer) (w place : ℕ) (key : KeyName) → members.speaks_for a w → (call ≡ Unpin w place → answer ≡ Done → ⊥) → members.joins a call answer b
+    → members.knows a w place key → members.knows b w place key) where
   -- what is known stays known
-  pub known-still : (a b : S) (call : Call) (answer : Answer) (who : ℕ) → speaks_for a who → unpins call ≡ false → joins a call answer b
-      → (place : ℕ) (key : KeyName) → knows a who place key → knows b who place key
+  pub known-still : (a b : S) (call : Call) (answer : Answer) (who : ℕ) → members.speaks_for a who → unpins call ≡ false → members.joins a call answer b
+      → (place : ℕ) (key : KeyName) → members.knows a who place key → members.knows b who place key
   known-still a b call answer who speaks stays step place key = remembers a b call answer who place key speaks (λ e done. cc) step
 
   -- the context serves what the call makes of the session
-  pub attends-after : (a b : S) (call : Call) (answer : Answer) (before after : ContextView) → Attends speaks_for own knows a before → caller call ≡ Some before.who → unpins call ≡ false
-      → joins a call answer b → Serves (own_after call answer (own a before.who)) after → after.who ≡ before.who → after.known ≡ before.known → ArePlaced before.known after.kept
-      → IsAwaitedIn before.known after.kept after.wait → Attends speaks_for own knows b after
+  pub attends-after : (a b : S) (call : Call) (answer : Answer) (before after : ContextView) → Attends members a before → caller call ≡ Some before.who → unpins call ≡ false
+      → members.joins a call answer b → Serves (own_after call answer (members.own a before.who)) after → after.who ≡ before.who → after.known ≡ before.known → ArePlaced before.known after.kept
+      → IsAwaitedIn before.known after.kept after.wait → Attends members b after
   attends-after a b call answer before after attends by stays step serves same known placed wished =
-      let now : own b before.who ≡ own_after call answer (own a before.who) = changes a b call answer before.who by step in
+      let now : members.own b before.who ≡ own_after call answer (members.own a before.who) = changes a b call answer before.who by step in
       attends-over a b before after attends (known-still a b call answer before.who attends.speaks stays step) (keeps a b call answer before.who attends.speaks step)
       (subst (λ (o : Own). Serves o after) (sym now) serves) same known placed wished
 
   -- a call that does nothing to the session
-  pub attends-still : (a b : S) (call : Call) (answer : Answer) (context : ContextView) → Attends speaks_for own knows a context → caller call ≡ Some context.who → unpins call ≡ false
-      → own_after call answer (own a context.who) ≡ own a context.who → joins a call answer b → Attends speaks_for own knows b context
+  pub attends-still : (a b : S) (call : Call) (answer : Answer) (context : ContextView) → Attends members a context → caller call ≡ Some context.who → unpins call ≡ false
+      → own_after call answer (members.own a context.who) ≡ members.own a context.who → members.joins a call answer b → Attends members b context
   attends-still a b call answer context attends by stays nothing step =
       attends-after a b call answer context context attends by stays step (subst (λ (o : Own). Serves o context) (sym nothing) attends.serves) refl refl attends.places attends.wish
 
   -- a wait ends with its ticket
-  pub attends-won : (a b : S) (id : ℕ) (before after : ContextView) → Attends speaks_for own knows a before → joins a (End_wait before.who) (Granted id) b
-      → after.who ≡ before.who → after.known ≡ before.known → after.kept ≡ with_wanted id before.wait before.kept → after.wait ≡ None → Attends speaks_for own knows b after
+  pub attends-won : (a b : S) (id : ℕ) (before after : ContextView) → Attends members a before → members.joins a (End_wait before.who) (Granted id) b
+      → after.who ≡ before.who → after.known ≡ before.known → after.kept ≡ with_wanted id before.wait before.kept → after.wait ≡ None → Attends members b after
   attends-won a b id before after attends step same known kept wait =
       attends-after a b _ _ before after attends refl refl step (serves-winning id _ _ before after attends.serves refl kept wait) same known
       (placed-taken before.known id before.wait before.kept after.kept kept attends.places attends.wish) (awaited-none before.known after.kept after.wait wait)
 
   -- a wait ends without it
-  pub attends-lost : (a b : S) (how : Settled) (before after : ContextView) → Attends speaks_for own knows a before → joins a (End_wait before.who) (Lost how) b → after ≡ without_wait before
-      → Attends speaks_for own knows b after
+  pub attends-lost : (a b : S) (how : Settled) (before after : ContextView) → Attends members a before → members.joins a (End_wait before.who) (Lost how) b → after ≡ without_wait before
+      → Attends members b after
   attends-lost a b how before after attends step lost =
-      subst (Attends speaks_for own knows b) (sym lost)
+      subst (Attends members b) (sym lost)
       (attends-after a b _ _ before (without_wait before) attends refl refl step (serves-ending _ _ before (without_wait before) attends.serves refl refl refl) refl refl attends.places tt)

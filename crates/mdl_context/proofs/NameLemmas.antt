@@ -4,7 +4,8 @@ use Rattle.std.specs.Prelude.{◌==◌, not, All, filter}
 use Rattle.std.proofs.lemmas.List.Elements.{All-head, All-tail}
 use Rattle.mdl_key.specs.Keys.{KeyName, key_eq}
 use Rattle.mdl_system.proofs.Deciding.{key-Decides}
-use Rattle.mdl_calls.specs.Own.{Own, IsRising}
+use Rattle.mdl_calls.specs.Own.{IsRising}
+use Rattle.mdl_calls.specs.declared.lock_space.LockSpace.{Ghosts}
 use Rattle.mdl_context.specs.declared.kept.Kept.{Kept}
 use Rattle.mdl_context.specs.Contexts.{AreRising, place_known, is_known_place, without}
 use Rattle.mdl_context.specs.Holdings.{is_at}
@@ -17,30 +18,30 @@ none-pass : (p : Kept → Bool) (kept : List Kept) → filter p (filter (λ t. n
 none-pass p [] = refl
 none-pass p (t ∷ ts) = grind (arith, none-pass p ts)
 
-module _ {S : Type 0} (speaks_for : S → ℕ → Type 0) (own : S → ℕ → Own) (knows : S → ℕ → ℕ → KeyName → Type 0)
-    (rising : (a : S) (w : ℕ) → speaks_for a w → IsRising (own a w))
-    (one_key : (a : S) (w place : ℕ) (key other : KeyName) → speaks_for a w → knows a w place key → knows a w place other → key ≡ other)
-    (one_place : (a : S) (w place other : ℕ) (key : KeyName) → speaks_for a w → knows a w place key → knows a w other key → place ≡ other) where
-  module _ (space : S) (who : ℕ) (speaks : speaks_for space who) (key : KeyName) where
+module _ {S : Type 0} (members : Ghosts S)
+    (rising : (a : S) (w : ℕ) → members.speaks_for a w → IsRising (members.own a w))
+    (one_key : (a : S) (w place : ℕ) (key other : KeyName) → members.speaks_for a w → members.knows a w place key → members.knows a w place other → key ≡ other)
+    (one_place : (a : S) (w place other : ℕ) (key : KeyName) → members.speaks_for a w → members.knows a w place key → members.knows a w other key → place ≡ other) where
+  module _ (space : S) (who : ℕ) (speaks : members.speaks_for space who) (key : KeyName) where
     -- the place that a context knows is the key's
-    knows-there : (known : List (KeyName × ℕ)) (place : ℕ) → All (λ (entry : KeyName × ℕ). knows space who entry.1 entry.0) known → place_known key known ≡ Some place → knows space who place key
+    knows-there : (known : List (KeyName × ℕ)) (place : ℕ) → All (λ (entry : KeyName × ℕ). members.knows space who entry.1 entry.0) known → place_known key known ≡ Some place → members.knows space who place key
     knows-there [] place all found = cc
-    knows-there (e ∷ es) place all found = go (key_eq key e.0) refl (knows-there es place (All-tail (λ (entry : KeyName × ℕ). knows space who entry.1 entry.0) e es all)) where
-      go : (b : Bool) → key_eq key e.0 ≡ b → (place_known key es ≡ Some place → knows space who place key) → knows space who place key
+    knows-there (e ∷ es) place all found = go (key_eq key e.0) refl (knows-there es place (All-tail (λ (entry : KeyName × ℕ). members.knows space who entry.1 entry.0) e es all)) where
+      go : (b : Bool) → key_eq key e.0 ≡ b → (place_known key es ≡ Some place → members.knows space who place key) → members.knows space who place key
       go true same later =
           let here : e.1 ≡ place = grind (arith, found, same) in
-          subst (λ k. knows space who place k) (sym ((key-Decides key e.0).0 same))
-          (subst (λ p. knows space who p e.0) here (All-head (λ (entry : KeyName × ℕ). knows space who entry.1 entry.0) e es all))
+          subst (λ k. members.knows space who place k) (sym ((key-Decides key e.0).0 same))
+          (subst (λ p. members.knows space who p e.0) here (All-head (λ (entry : KeyName × ℕ). members.knows space who entry.1 entry.0) e es all))
       go false same later = later (grind (arith, found, same))
 
     -- the place of a key that a context doesn't know is none of its places
-    not-there : (known : List (KeyName × ℕ)) (place : ℕ) → All (λ (entry : KeyName × ℕ). knows space who entry.1 entry.0) known → knows space who place key → place_known key known ≡ None
+    not-there : (known : List (KeyName × ℕ)) (place : ℕ) → All (λ (entry : KeyName × ℕ). members.knows space who entry.1 entry.0) known → members.knows space who place key → place_known key known ≡ None
         → is_known_place known place ≡ false
     not-there [] place all knew none = refl
-    not-there (e ∷ es) place all knew none = go (key_eq key e.0) refl (not-there es place (All-tail (λ (entry : KeyName × ℕ). knows space who entry.1 entry.0) e es all) knew) where
+    not-there (e ∷ es) place all knew none = go (key_eq key e.0) refl (not-there es place (All-tail (λ (entry : KeyName × ℕ). members.knows space who entry.1 entry.0) e es all) knew) where
       other : key_eq key e.0 ≡ false → (b : Bool) → (e.1 == place) ≡ b → b ≡ false
       other differs true same =
-          let there : knows space who place e.0 = subst (λ p. knows space who p e.0) (equal e.1 place same) (All-head (λ (entry : KeyName × ℕ). knows space who entry.1 entry.0) e es all) in
+          let there : members.knows space who place e.0 = subst (λ p. members.knows space who p e.0) (equal e.1 place same) (All-head (λ (entry : KeyName × ℕ). members.knows space who entry.1 entry.0) e es all) in
           let one : key ≡ e.0 = one_key space who place key e.0 speaks knew there in
           absurd (grind (arith, differs, (key-Decides key e.0).1 one))
       other differs false same = refl
@@ -61,7 +62,7 @@ module _ {S : Type 0} (speaks_for : S → ℕ → Type 0) (own : S → ℕ → O
         absurd (grind (arith, none, there))
     go false same rest = grind (arith, same, rest)
 
-  pub names-given-up : NamesAreGivenUp speaks_for own knows
+  pub names-given-up : NamesAreGivenUp members
   names-given-up space context key place attends knew = go (place_known key context.known) refl where
     go : (o : Option ℕ) → place_known key context.known ≡ o → filter (is_at place) (without (at_known_place o context.kept) context.kept) ≡ []
     go None none =

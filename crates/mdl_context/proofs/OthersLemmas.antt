@@ -3,7 +3,8 @@ use Rattle.std.proofs.Common.{◌≡◌, ◌≢◌, ℕ, List, Option, Some, inl
 use Rattle.mdl_key.specs.declared.mode.Mode.{Mode}
 use Rattle.mdl_key.specs.Keys.{KeyName}
 use Rattle.mdl_calls.specs.declared.answers.Held.{Held}
-use Rattle.mdl_calls.specs.Words.{Answer, Done, Call, Unpin, caller, EachCall, Own, Program, Runs, Give, Ask, Grow}
+use Rattle.mdl_calls.specs.Words.{Answer, Done, Call, Unpin, caller, EachCall, Program, Runs, Give, Ask, Grow}
+use Rattle.mdl_calls.specs.declared.lock_space.LockSpace.{Ghosts}
 use Rattle.mdl_context.specs.declared.kept.Kept.{Kept}
 use Rattle.mdl_context.specs.declared.request.Acquire.{Acquire}
 use Rattle.mdl_context.specs.Wishes.{Wish}
@@ -23,19 +24,19 @@ IsFor who program = EachCall (λ call. caller call ≡ Some who) program
 
 -- ---- what runs of such a program leave
 
-module _ {S : Type 0} {speaks_for : S → ℕ → Type 0} {own : S → ℕ → Own} {knows : S → ℕ → ℕ → KeyName → Type 0} {joins : S → Call → Answer → S → Type 0}
-    (keeps : (a b : S) (call : Call) (answer : Answer) (w : ℕ) → speaks_for a w → joins a call answer b → speaks_for b w)
-    (others : (a b : S) (call : Call) (answer : Answer) (w : ℕ) → speaks_for a w → (caller call ≡ Some w → ⊥) → joins a call answer b → own b w ≡ own a w)
-    (remembers : (a b : S) (call : Call) (answer : Answer) (w place : ℕ) (key : KeyName) → speaks_for a w → (call ≡ Unpin w place → answer ≡ Done → ⊥) → joins a call answer b
-    → knows a w place key → knows b w place key) where
+module _ {S : Type 0} (members : Ghosts S)
+    (keeps : (a b : S) (call : Call) (answer : Answer) (w : ℕ) → members.speaks_for a w → members.joins a call answer b → members.speaks_for b w)
+    (others : (a b : S) (call : Call) (answer : Answer) (w : ℕ) → members.speaks_for a w → (caller call ≡ Some w → ⊥) → members.joins a call answer b → members.own b w ≡ members.own a w)
+    (remembers : (a b : S) (call : Call) (answer : Answer) (w place : ℕ) (key : KeyName) → members.speaks_for a w → (call ≡ Unpin w place → answer ≡ Done → ⊥) → members.joins a call answer b
+    → members.knows a w place key → members.knows b w place key) where
   not-theirs : (call : Call) (w who place : ℕ) → w ≢ who → caller call ≡ Some who → call ≡ Unpin w place → ⊥
   not-theirs call w who place other made e = other (unwrap (ap caller (sym e) ∙ made)) where
     unwrap : Some w ≡ Some who → w ≡ who
     unwrap same = cc
 
-  pub leaves : {A : Type 0} (who : ℕ) (program : Program A) (a b : S) (reply : A) → IsFor who program → Runs joins a program reply b → LeavesOthers speaks_for own knows who a b
+  pub leaves : {A : Type 0} (who : ℕ) (program : Program A) (a b : S) (reply : A) → IsFor who program → Runs members.joins a program reply b → LeavesOthers members who a b
   leaves who (Give x) a b reply made (same, here) w other speaks =
-      subst (λ s. speaks_for s w × (own s w ≡ own a w) × ((place : ℕ) (key : KeyName) → knows a w place key → knows s w place key)) here (speaks, refl, λ place key known. known)
+      subst (λ s. members.speaks_for s w × (members.own s w ≡ members.own a w) × ((place : ℕ) (key : KeyName) → members.knows a w place key → members.knows s w place key)) here (speaks, refl, λ place key known. known)
   leaves who (Ask call next) a b reply made (answer, mid, step, run) w other speaks =
       let then_speaks = keeps a mid call answer w speaks step in
       let rest = leaves who (next answer) mid b reply (made.1 answer) run w other then_speaks in
@@ -45,9 +46,9 @@ module _ {S : Type 0} {speaks_for : S → ℕ → Type 0} {own : S → ℕ → O
   leaves who (Grow refused found) a b reply made (inr run) w other speaks = leaves who found a b reply made.1 run w other speaks
 
 -- twice over, the others are left as they are
-pub both-leave : {S : Type 0} (speaks_for : S → ℕ → Type 0) (own : S → ℕ → Own) (knows : S → ℕ → ℕ → KeyName → Type 0) (who : ℕ) (a mid b : S)
-    → LeavesOthers speaks_for own knows who a mid → LeavesOthers speaks_for own knows who mid b → LeavesOthers speaks_for own knows who a b
-both-leave speaks_for own knows who a mid b first second w other speaks =
+pub both-leave : {S : Type 0} (members : Ghosts S) (who : ℕ) (a mid b : S)
+    → LeavesOthers members who a mid → LeavesOthers members who mid b → LeavesOthers members who a b
+both-leave members who a mid b first second w other speaks =
     let here = first w other speaks in
     let there = second w other here.0 in
     (there.0, there.1 ∙ here.1, λ place key known. there.2 place key (here.2 place key known))

@@ -18,6 +18,7 @@ use Rattle.mdl_calls.specs.Own.{changing, upgraded, waiting}
 use Rattle.mdl_calls.specs.Own as owned
 use Rattle.mdl_calls.specs.Words.{Answer, Done, Call, Upgrade_now, Unpin, caller, Own, IsRising, own_after, gaining, giving_up, is_number, ticket_held, Runs, Give, Ask}
 use Rattle.mdl_calls.proofs.RunLemmas.{runs_bind}
+use Rattle.mdl_calls.specs.declared.lock_space.LockSpace.{Ghosts}
 use Rattle.mdl_context.specs.declared.asking.Got.{Got}
 use Rattle.mdl_context.specs.declared.asking.Got.TheVariants as got
 use Rattle.mdl_context.specs.declared.context_error.ContextError.TheVariants.{NotHeld, Waiting, Space}
@@ -71,24 +72,24 @@ serves-more own after before now t serves gain kept wait = record {
   wait = ap (λ (o : Own). option_map wish_there o.wait) gain ∙ serves.wait ∙ sym (ap (option_map wish_here) wait);
 }
 
-module _ {S : Type 0} {speaks_for : S → ℕ → Type 0} {own : S → ℕ → Own} {knows : S → ℕ → ℕ → KeyName → Type 0} where
+module _ {S : Type 0} {members : Ghosts S} where
   -- a second ticket is gained beside one of its place
-  pub attends-second : (a b : S) (before : ContextView) (t : Kept) → Attends speaks_for own knows a before → ((at : ℕ) (key : KeyName) → knows a before.who at key → knows b before.who at key)
-      → speaks_for b before.who → own b before.who ≡ gaining t.id t.place t.mode (own a before.who) → is_known_place before.known t.place ≡ true → is_some before.wait ≡ false
-      → Attends speaks_for own knows b (with_ticket t before)
+  pub attends-second : (a b : S) (before : ContextView) (t : Kept) → Attends members a before → ((at : ℕ) (key : KeyName) → members.knows a before.who at key → members.knows b before.who at key)
+      → members.speaks_for b before.who → members.own b before.who ≡ gaining t.id t.place t.mode (members.own a before.who) → is_known_place before.known t.place ≡ true → is_some before.wait ≡ false
+      → Attends members b (with_ticket t before)
   attends-second a b before t attends still speaks gains there idle =
       attends-over a b before (with_ticket t before) attends still speaks (serves-more _ _ before (with_ticket t before) t attends.serves gains refl refl) refl refl
       (placed-push before.known before.kept (before.kept ++ t ∷ []) t refl attends.places there) (awaited-idle before.known (before.kept ++ t ∷ []) before.wait idle)
 
   -- that is one to be merged into the first
-  pub has-gained : (a b : S) (before : ContextView) (id new : ℕ) (wanted : Wanted) → Attends speaks_for own knows a before
-      → ((at : ℕ) (key : KeyName) → knows a before.who at key → knows b before.who at key) → speaks_for b before.who
-      → own b before.who ≡ gaining new wanted.place wanted.mode (own a before.who) → is_some before.wait ≡ false
+  pub has-gained : (a b : S) (before : ContextView) (id new : ℕ) (wanted : Wanted) → Attends members a before
+      → ((at : ℕ) (key : KeyName) → members.knows a before.who at key → members.knows b before.who at key) → members.speaks_for b before.who
+      → members.own b before.who ≡ gaining new wanted.place wanted.mode (members.own a before.who) → is_some before.wait ≡ false
       → MatchOption (ticket_kept id before.kept) ⊥ (λ ticket. (wanted ≡ wanted_upgrade ticket wanted.mode false) × (covers wanted.mode ticket.mode ≡ true))
-      → HasSecond speaks_for own knows id new wanted.mode b before
+      → HasSecond members id new wanted.mode b before
   has-gained a b before id new wanted attends still speaks gains idle fits = go (ticket_kept id before.kept) refl fits where
     go : (o : Option Kept) → ticket_kept id before.kept ≡ o → MatchOption o ⊥ (λ ticket. (wanted ≡ wanted_upgrade ticket wanted.mode false) × (covers wanted.mode ticket.mode ≡ true))
-        → HasSecond speaks_for own knows id new wanted.mode b before
+        → HasSecond members id new wanted.mode b before
     go None found fits = absurd fits
     go (Some t) found fits =
         let second : Kept = record { id = new; place = wanted.place; mode = wanted.mode; duration = wanted.duration } in
@@ -101,11 +102,11 @@ module _ {S : Type 0} {speaks_for : S → ℕ → Type 0} {own : S → ℕ → O
         )
 
   -- it is waited for
-  pub attends-to-upgrade : (a b : S) (before after : ContextView) (id number : ℕ) (wanted : Wanted) (searched : Bool) → Attends speaks_for own knows a before
-      → ((at : ℕ) (key : KeyName) → knows a before.who at key → knows b before.who at key) → speaks_for b before.who
-      → own b before.who ≡ waiting number wanted.place wanted.mode (own a before.who)
+  pub attends-to-upgrade : (a b : S) (before after : ContextView) (id number : ℕ) (wanted : Wanted) (searched : Bool) → Attends members a before
+      → ((at : ℕ) (key : KeyName) → members.knows a before.who at key → members.knows b before.who at key) → members.speaks_for b before.who
+      → members.own b before.who ≡ waiting number wanted.place wanted.mode (members.own a before.who)
       → MatchOption (ticket_kept id before.kept) ⊥ (λ ticket. (wanted ≡ wanted_upgrade ticket wanted.mode false) × (covers wanted.mode ticket.mode ≡ true))
-      → after.who ≡ before.who → after.known ≡ before.known → after.kept ≡ before.kept → after.wait ≡ Some (record wanted { searched = searched }) → Attends speaks_for own knows b after
+      → after.who ≡ before.who → after.known ≡ before.known → after.kept ≡ before.kept → after.wait ≡ Some (record wanted { searched = searched }) → Attends members b after
   attends-to-upgrade a b before after id number wanted searched attends still speaks begins fits who known kept wait =
       attends-over a b before after attends still speaks (record {
         held = ap (λ (o : Own). o.held) begins ∙ attends.serves.held ∙ sym (ap (map held_of) kept);
@@ -125,17 +126,17 @@ module _ {S : Type 0} {speaks_for : S → ℕ → Type 0} {own : S → ℕ → O
           )
 
   -- it is gone, and tickets may be in other modes
-  pub attends-one : (a b : S) (before after : ContextView) (t : Kept) (id : ℕ) (f : Mode → Mode) → Attends speaks_for own knows a (with_ticket t before)
-      → ((at : ℕ) (key : KeyName) → knows a before.who at key → knows b before.who at key) → speaks_for b before.who → Serves (own b before.who) after → after.who ≡ before.who
-      → after.known ≡ before.known → after.kept ≡ in_mode id f before.kept → after.wait ≡ before.wait → is_some before.wait ≡ false → Attends speaks_for own knows b after
+  pub attends-one : (a b : S) (before after : ContextView) (t : Kept) (id : ℕ) (f : Mode → Mode) → Attends members a (with_ticket t before)
+      → ((at : ℕ) (key : KeyName) → members.knows a before.who at key → members.knows b before.who at key) → members.speaks_for b before.who → Serves (members.own b before.who) after → after.who ≡ before.who
+      → after.known ≡ before.known → after.kept ≡ in_mode id f before.kept → after.wait ≡ before.wait → is_some before.wait ≡ false → Attends members b after
   attends-one a b before after t id f attends still speaks serves who known kept wait idle =
       attends-over a b (with_ticket t before) after attends still speaks serves who known
       (subst (ArePlaced before.known) (sym kept) (placed-in_mode before.known id f before.kept (placed-front before.known before.kept (t ∷ []) attends.places)))
       (awaited-idle before.known after.kept after.wait (ap is_some wait ∙ idle))
 
-  pub attends-back : (a b : S) (before after : ContextView) (t : Kept) → Attends speaks_for own knows a (with_ticket t before)
-      → ((at : ℕ) (key : KeyName) → knows a before.who at key → knows b before.who at key) → speaks_for b before.who → Serves (own b before.who) after → after.who ≡ before.who
-      → after.known ≡ before.known → after.kept ≡ before.kept → after.wait ≡ before.wait → is_some before.wait ≡ false → Attends speaks_for own knows b after
+  pub attends-back : (a b : S) (before after : ContextView) (t : Kept) → Attends members a (with_ticket t before)
+      → ((at : ℕ) (key : KeyName) → members.knows a before.who at key → members.knows b before.who at key) → members.speaks_for b before.who → Serves (members.own b before.who) after → after.who ≡ before.who
+      → after.known ≡ before.known → after.kept ≡ before.kept → after.wait ≡ before.wait → is_some before.wait ≡ false → Attends members b after
   attends-back a b before after t attends still speaks serves who known kept wait idle =
       attends-over a b (with_ticket t before) after attends still speaks serves who known
       (subst (ArePlaced before.known) (sym kept) (placed-front before.known before.kept (t ∷ []) attends.places))
@@ -143,50 +144,50 @@ module _ {S : Type 0} {speaks_for : S → ℕ → Type 0} {own : S → ℕ → O
 
   -- ---- a second ticket
 
-  module _ (id new : ℕ) (mode : Mode) (space : S) (context : ContextView) (rising : IsRising (own space context.who)) (has : HasSecond speaks_for own knows id new mode space context) where
-    pub has-mergeable : Mergeable true id new (own space context.who)
+  module _ (id new : ℕ) (mode : Mode) (space : S) (context : ContextView) (rising : IsRising (members.own space context.who)) (has : HasSecond members id new mode space context) where
+    pub has-mergeable : Mergeable true id new (members.own space context.who)
     has-mergeable =
-        subst (λ n. Mergeable true id n (own space context.who)) has.1
-        (can-merge (own space context.who) context has.0 rising has.4.serves id
+        subst (λ n. Mergeable true id n (members.own space context.who)) has.1
+        (can-merge (members.own space context.who) context has.0 rising has.4.serves id
         (subst (λ m. MatchOption (ticket_kept id context.kept) ⊥ (λ ticket. (ticket.place ≡ has.0.place) × (covers m ticket.mode ≡ true))) (sym has.2) has.3))
 
     pub has-rising : AreRising context.kept
-    has-rising = others-rising (own space context.who) context has.0 rising has.4.serves
+    has-rising = others-rising (members.own space context.who) context has.0 rising has.4.serves
 
     -- it is merged into the first one
-    pub attends-united : (b : S) (after : ContextView) → ((at : ℕ) (key : KeyName) → knows space context.who at key → knows b context.who at key) → speaks_for b context.who
-        → own b context.who ≡ owned.merging id new (ticket_held new (own space context.who)) (own space context.who) → after.who ≡ context.who → after.known ≡ context.known
-        → after.kept ≡ in_mode id (λ _. mode) context.kept → after.wait ≡ context.wait → is_some context.wait ≡ false → Attends speaks_for own knows b after
+    pub attends-united : (b : S) (after : ContextView) → ((at : ℕ) (key : KeyName) → members.knows space context.who at key → members.knows b context.who at key) → members.speaks_for b context.who
+        → members.own b context.who ≡ owned.merging id new (ticket_held new (members.own space context.who)) (members.own space context.who) → after.who ≡ context.who → after.known ≡ context.known
+        → after.kept ≡ in_mode id (λ _. mode) context.kept → after.wait ≡ context.wait → is_some context.wait ≡ false → Attends members b after
     attends-united b after still speaks merged who known kept wait idle =
-        let o = own space context.who in
+        let o = members.own space context.who in
         let here = ap (λ n. owned.merging id n (ticket_held n o) o) (sym has.1) in
         let in_its = ap (λ m. in_mode id (λ _. m) context.kept) (sym has.2) in
         attends-one space b context after has.0 id (λ _. mode) has.4 still speaks
-        (serves-merged o context has.0 rising has.4.serves id (own b context.who) after (merged ∙ here) (kept ∙ in_its) wait) who known kept wait idle
+        (serves-merged o context has.0 rising has.4.serves id (members.own b context.who) after (merged ∙ here) (kept ∙ in_its) wait) who known kept wait idle
 
     -- it is released
-    pub attends-parted : (b : S) (after : ContextView) → ((at : ℕ) (key : KeyName) → knows space context.who at key → knows b context.who at key) → speaks_for b context.who
-        → own b context.who ≡ giving_up new (own space context.who) → after.who ≡ context.who → after.known ≡ context.known → after.kept ≡ context.kept → after.wait ≡ context.wait
-        → is_some context.wait ≡ false → Attends speaks_for own knows b after
+    pub attends-parted : (b : S) (after : ContextView) → ((at : ℕ) (key : KeyName) → members.knows space context.who at key → members.knows b context.who at key) → members.speaks_for b context.who
+        → members.own b context.who ≡ giving_up new (members.own space context.who) → after.who ≡ context.who → after.known ≡ context.known → after.kept ≡ context.kept → after.wait ≡ context.wait
+        → is_some context.wait ≡ false → Attends members b after
     attends-parted b after still speaks gone who known kept wait idle =
-        let o = own space context.who in
+        let o = members.own space context.who in
         attends-back space b context after has.0 has.4 still speaks
-        (serves-released o context has.0 rising has.4.serves (own b context.who) after (gone ∙ ap (λ n. giving_up n o) (sym has.1)) kept wait) who known kept wait idle
+        (serves-released o context has.0 rising has.4.serves (members.own b context.who) after (gone ∙ ap (λ n. giving_up n o) (sym has.1)) kept wait) who known kept wait idle
 
 -- ---- over a call
 
-module _ {S : Type 0} {speaks_for : S → ℕ → Type 0} {own : S → ℕ → Own} {knows : S → ℕ → ℕ → KeyName → Type 0} {joins : S → Call → Answer → S → Type 0}
-    (keeps : (a b : S) (call : Call) (answer : Answer) (w : ℕ) → speaks_for a w → joins a call answer b → speaks_for b w)
-    (changes : (a b : S) (call : Call) (answer : Answer) (who : ℕ) → caller call ≡ Some who → joins a call answer b → own b who ≡ own_after call answer (own a who))
-    (remembers : (a b : S) (call : Call) (answer : Answer) (w place : ℕ) (key : KeyName) → speaks_for a w → (call ≡ Unpin w place → answer ≡ Done → ⊥) → joins a call answer b
-    → knows a w place key → knows b w place key) where
+module _ {S : Type 0} (members : Ghosts S)
+    (keeps : (a b : S) (call : Call) (answer : Answer) (w : ℕ) → members.speaks_for a w → members.joins a call answer b → members.speaks_for b w)
+    (changes : (a b : S) (call : Call) (answer : Answer) (who : ℕ) → caller call ≡ Some who → members.joins a call answer b → members.own b who ≡ own_after call answer (members.own a who))
+    (remembers : (a b : S) (call : Call) (answer : Answer) (w place : ℕ) (key : KeyName) → members.speaks_for a w → (call ≡ Unpin w place → answer ≡ Done → ⊥) → members.joins a call answer b
+    → members.knows a w place key → members.knows b w place key) where
   -- the mode of a ticket is changed
-  pub attends-in_mode : (a b : S) (call : Call) (answer : Answer) (id : ℕ) (f : Mode → Mode) (before after : ContextView) → Attends speaks_for own knows a before
-      → caller call ≡ Some before.who → unpins call ≡ false → joins a call answer b → own_after call answer (own a before.who) ≡ changing id f (own a before.who) → after.who ≡ before.who
-      → after.known ≡ before.known → after.kept ≡ in_mode id f before.kept → after.wait ≡ before.wait → is_some before.wait ≡ false → Attends speaks_for own knows b after
+  pub attends-in_mode : (a b : S) (call : Call) (answer : Answer) (id : ℕ) (f : Mode → Mode) (before after : ContextView) → Attends members a before
+      → caller call ≡ Some before.who → unpins call ≡ false → members.joins a call answer b → own_after call answer (members.own a before.who) ≡ changing id f (members.own a before.who) → after.who ≡ before.who
+      → after.known ≡ before.known → after.kept ≡ in_mode id f before.kept → after.wait ≡ before.wait → is_some before.wait ≡ false → Attends members b after
   attends-in_mode a b call answer id f before after attends by stays step changed_there who known kept wait idle =
-      attends-after keeps changes remembers a b call answer before after attends by stays step
-      (serves-in_mode id f (own a before.who) (own_after call answer (own a before.who)) before after attends.serves changed_there kept wait) who known
+      attends-after members keeps changes remembers a b call answer before after attends by stays step
+      (serves-in_mode id f (members.own a before.who) (own_after call answer (members.own a before.who)) before after attends.serves changed_there kept wait) who known
       (subst (ArePlaced before.known) (sym kept) (placed-in_mode before.known id f before.kept attends.places))
       (awaited-idle before.known after.kept after.wait (ap is_some wait ∙ idle))
 

@@ -12,6 +12,7 @@ use Rattle.mdl_calls.specs.declared.answers.Held.{Held}
 use Rattle.mdl_calls.specs.declared.answers.Settled.{Settled}
 use Rattle.mdl_calls.specs.Own.{Own, Wait, are_rising}
 use Rattle.mdl_system.specs.Strength.{covers}
+use Rattle.mdl_calls.specs.declared.lock_space.LockSpace.{Ghosts}
 use Rattle.mdl_context.specs.declared.kept.Kept.{Kept}
 use Rattle.mdl_context.specs.declared.kept.Wanted.{Wanted}
 use Rattle.mdl_context.specs.declared.request.Mark.{Mark}
@@ -109,11 +110,12 @@ IsAwaited known kept wanted =
     (is_known_place known wanted.place ≡ true) × IfSome wanted.upgrades (λ id. MatchOption (ticket_kept id kept) ⊥ (IsUpgradedBy wanted))
 
 -- the lock space speaks for the context's session, and the context keeps what that has there. The session knows each place that
--- the context knows, with its key; and each ticket is at one of these places, and so is what is waited for
-pub record Attends {S : Type 0} (speaks_for : S → ℕ → Type 0) (own : S → ℕ → Own) (knows : S → ℕ → ℕ → KeyName → Type 0) (space : S) (context : ContextView) : Type 0 where
-  pub speaks : speaks_for space context.who
-  pub serves : Serves (own space context.who) context
-  pub known : All (λ entry. knows space context.who entry.1 entry.0) context.known
+-- the context knows, with its key; and each ticket is at one of these places, and so is what is waited for. The members are what
+-- the space gives the trait
+pub record Attends {S : Type 0} (members : Ghosts S) (space : S) (context : ContextView) : Type 0 where
+  pub speaks : members.speaks_for space context.who
+  pub serves : Serves (members.own space context.who) context
+  pub known : All (λ entry. members.knows space context.who entry.1 entry.0) context.known
   pub places : All (λ ticket. is_known_place context.known ticket.place ≡ true) context.kept
   pub wish : IfSome context.wait (IsAwaited context.known context.kept)
 
@@ -123,7 +125,8 @@ IsSettled is_settled space who = (how : Settled) × is_settled space who how
 
 -- a lock space goes on to speak for all sessions but one, and nothing changes for them: each has what it had, and knows what it
 -- knew
-abbrev pub LeavesOthers : {S : Type 0} → (S → ℕ → Type 0) → (S → ℕ → Own) → (S → ℕ → ℕ → KeyName → Type 0) → ℕ → S → S → Type 0
-LeavesOthers speaks_for own knows who before after =
-    (w : ℕ) → w ≢ who → speaks_for before w →
-    speaks_for after w × (own after w ≡ own before w) × ((place : ℕ) (key : KeyName) → knows before w place key → knows after w place key)
+abbrev pub LeavesOthers : {S : Type 0} → Ghosts S → ℕ → S → S → Type 0
+LeavesOthers members who before after =
+    (w : ℕ) → w ≢ who → members.speaks_for before w →
+    members.speaks_for after w × (members.own after w ≡ members.own before w)
+    × ((place : ℕ) (key : KeyName) → members.knows before w place key → members.knows after w place key)

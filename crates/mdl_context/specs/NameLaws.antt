@@ -1,13 +1,13 @@
 -- What is left of the tickets of a key that is given up by its name.
 use Rattle.std.specs.Prelude.{◌≡◌, ℕ, [], filter}
 use Rattle.mdl_key.specs.Keys.{KeyName}
-use Rattle.mdl_calls.specs.Own.{Own}
+use Rattle.mdl_calls.specs.declared.lock_space.LockSpace.{Ghosts}
 use Rattle.mdl_context.specs.Contexts.{ContextView, Attends, place_known, without}
 use Rattle.mdl_context.specs.Holdings.{is_at}
 use Rattle.mdl_context.specs.Releases.{at_known_place}
 
 -- once the tickets of a key are given up, none is left at any place that the session knows to be the key's
-abbrev pub NamesAreGivenUp : {S : Type 0} → (S → ℕ → Type 0) → (S → ℕ → Own) → (S → ℕ → ℕ → KeyName → Type 0) → Type 0
-NamesAreGivenUp {S} speaks_for own knows =
-    (space : S) (context : ContextView) (key : KeyName) (place : ℕ) → Attends speaks_for own knows space context → knows space context.who place key →
+abbrev pub NamesAreGivenUp : {S : Type 0} → Ghosts S → Type 0
+NamesAreGivenUp {S} members =
+    (space : S) (context : ContextView) (key : KeyName) (place : ℕ) → Attends members space context → members.knows space context.who place key →
     filter (is_at place) (without (at_known_place (place_known key context.known) context.kept) context.kept) ≡ []

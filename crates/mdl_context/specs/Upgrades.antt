@@ -3,12 +3,12 @@
 -- project's own choice.
 use Rattle.std.specs.Prelude.{◌≡◌, ℕ, Bool, true, false, [], ◌∷◌, ◌++◌, Option, Some, None, MatchOption, Result, Ok, Err, IfErr, IsOk, IsOkUnless}
 use Rattle.mdl_key.specs.declared.mode.Mode.{Mode}
-use Rattle.mdl_key.specs.Keys.{KeyName}
 use Rattle.mdl_calls.specs.declared.space_error.SpaceError.{SpaceError}
 use Rattle.mdl_calls.specs.declared.space_error.SpaceError.TheVariants.{OutOfMemory, Full}
 use Rattle.mdl_calls.specs.Own.{Own, upgraded, giving_up}
 use Rattle.mdl_calls.specs.Own as owned
 use Rattle.mdl_calls.specs.Words.{Answer, Done, Upgraded, Would_wait, ticket_held, Upgrade_now, Merge, Downgrade, Release, Program, Give, Ask, Grow, ◌>>=◌}
+use Rattle.mdl_calls.specs.declared.lock_space.LockSpace.{Ghosts}
 use Rattle.mdl_context.specs.declared.asking.Got.{Got}
 use Rattle.mdl_context.specs.declared.asking.Got.TheVariants as got
 use Rattle.mdl_context.specs.declared.context_error.ContextError.{ContextError}
@@ -75,11 +75,11 @@ FailsByMergeOrWant (Some _) result = IfErr result (λ error. is_merge_fault erro
 
 -- the session has gained a ticket of this number and mode that the context doesn't keep, at the place of a kept one, which isn't
 -- stronger
-abbrev pub HasSecond : {S : Type 0} → (S → ℕ → Type 0) → (S → ℕ → Own) → (S → ℕ → ℕ → KeyName → Type 0) → ℕ → ℕ → Mode → S → ContextView → Type 0
-HasSecond speaks_for own knows id new mode space context =
+abbrev pub HasSecond : {S : Type 0} → Ghosts S → ℕ → ℕ → Mode → S → ContextView → Type 0
+HasSecond members id new mode space context =
     (second : Kept) × (second.id ≡ new) × (second.mode ≡ mode)
     × MatchOption (ticket_kept id context.kept) ⊥ (λ ticket. (ticket.place ≡ second.place) × (covers mode ticket.mode ≡ true))
-    × Attends speaks_for own knows space (with_ticket second context)
+    × Attends members space (with_ticket second context)
 
 -- ---- upgrades
 

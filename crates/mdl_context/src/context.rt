@@ -93,7 +93,7 @@ impl<S: LockSpace> Context<S> {
         ensures done { OnOk result (self.new ≡ record self.old { kept = map (kept_for Explicit) self.old.kept }) }
         ensures unchanged { OnErr result (self.new ≡ self.old) }
         ensures who { self.new.who ≡ self.old.who }
-        ensures attends { (space : S) → Attends S.speaks_for S.own S.knows space self.old → Attends S.speaks_for S.own S.knows space self.new }
+        ensures attends { (space : S) → Attends S.LockSpace space self.old → Attends S.LockSpace space self.new }
     {
         if self.holdings.is_waiting() {
             return Err(ContextError::Waiting);
@@ -110,7 +110,7 @@ impl<S: LockSpace> Context<S> {
         ensures done { OnOk result (self.new ≡ record self.old { kept = map transactional self.old.kept }) }
         ensures unchanged { OnErr result (self.new ≡ self.old) }
         ensures who { self.new.who ≡ self.old.who }
-        ensures attends { (space : S) → Attends S.speaks_for S.own S.knows space self.old → Attends S.speaks_for S.own S.knows space self.new }
+        ensures attends { (space : S) → Attends S.LockSpace space self.old → Attends S.LockSpace space self.new }
     {
         if self.holdings.is_waiting() {
             return Err(ContextError::Waiting);

@@ -27,5 +27,5 @@ pub fn ending_leaves_explicit()
 
 /// Once the tickets of a key are given up by its name, none is left at any place that the session knows to be the key's.
 pub fn names_are_given_up<S: LockSpace>()
-    ensures { NamesAreGivenUp S.speaks_for S.own S.knows }
+    ensures { NamesAreGivenUp S.LockSpace }
 {}

@@ -96,10 +96,10 @@ pub(crate) fn make<S: LockSpace>(
     context: &mut Context<S>,
     act: Act,
 ) -> Option<Reply>
-    requires { Attends S.speaks_for S.own S.knows space.old context.old }
-    ensures attends { Attends S.speaks_for S.own S.knows space.new context.new }
+    requires { Attends S.LockSpace space.old context.old }
+    ensures attends { Attends S.LockSpace space.new context.new }
     ensures who { context.new.who ≡ context.old.who }
-    ensures others { LeavesOthers S.speaks_for S.own S.knows context.old.who space.old space.new }
+    ensures others { LeavesOthers S.LockSpace context.old.who space.old space.new }
 {
     let reply = match act {
         Act::Acquire(lock, mode, duration) => {

@@ -1,5 +1,5 @@
 //! Many tickets at many places: a context that is asked for more than a few still finds room.
-ghost use Rattle.mdl_core.specs.CoreJoins.{SpeaksFor, own_at, Knows};
+ghost use Rattle.mdl_space.specs.CoreMembers.{core_space};
 ghost use Rattle.mdl_context.specs.Contexts.{Attends};
 
 use crate::memory::start;
@@ -30,8 +30,8 @@ fn gains_all(
     duration: Duration,
     first: TicketId,
 ) -> bool
-    requires { Attends SpeaksFor own_at Knows space.old context.old }
-    ensures { Attends SpeaksFor own_at Knows space.new context.new }
+    requires { Attends core_space space.old context.old }
+    ensures { Attends core_space space.new context.new }
 {
     let mut next = first;
     for key in keys {

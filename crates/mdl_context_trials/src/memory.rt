@@ -3,7 +3,7 @@
 //!
 //! `rt try --test --fail-alloc N` refuses the allocation of that number.
 ghost use Rattle.std.specs.Prelude.{◌≡◌, ◌≢◌, IfOk};
-ghost use Rattle.mdl_core.specs.CoreJoins.{SpeaksFor, own_at, Knows};
+ghost use Rattle.mdl_space.specs.CoreMembers.{core_space};
 ghost use Rattle.mdl_context.specs.Contexts.{Attends};
 
 use crate::acts::{Act, Lock, Reply, make};
@@ -31,7 +31,7 @@ fn key_of(alloc: Global, lock: Lock) -> Result<Key, KeyError> {
 
 /// A space of so many places and two sessions, and the context of its second session.
 pub(crate) fn start(alloc: Global, places: u16) -> Result<(CoreSpace, Context<CoreSpace>), NewError>
-    ensures attends { IfOk result (λ pair. Attends SpeaksFor own_at Knows pair.0 pair.1) }
+    ensures attends { IfOk result (λ pair. Attends core_space pair.0 pair.1) }
     ensures who { IfOk result (λ pair. pair.1.who ≡ 2) }
 {
     let space = new_space(alloc, places, WHO)?;
@@ -45,10 +45,10 @@ fn take<S: LockSpace>(
     other: u16,
     key: &Key,
 ) -> Result<Attempt, SpaceError>
-    requires attends { Attends S.speaks_for S.own S.knows space.old context.now }
+    requires attends { Attends S.LockSpace space.old context.now }
     requires speaks { S.speaks_for space.old other }
     requires other { other ≢ context.now.who }
-    ensures attends { Attends S.speaks_for S.own S.knows space.new context.now }
+    ensures attends { Attends S.LockSpace space.new context.now }
     ensures speaks { S.speaks_for space.new other }
 {
     let _context = context;
@@ -63,10 +63,10 @@ fn leave<S: LockSpace>(
     other: u16,
     id: TicketId,
 ) -> Result<(), SpaceError>
-    requires attends { Attends S.speaks_for S.own S.knows space.old context.now }
+    requires attends { Attends S.LockSpace space.old context.now }
     requires speaks { S.speaks_for space.old other }
     requires other { other ≢ context.now.who }
-    ensures { Attends S.speaks_for S.own S.knows space.new context.now }
+    ensures { Attends S.LockSpace space.new context.now }
 {
     let _context = context;
     space.release(other, id)
@@ -74,9 +74,9 @@ fn leave<S: LockSpace>(
 
 // The first session takes a lock, at the second try, where memory was refused to the first.
 fn stand_in_the_way(space: &mut CoreSpace, context: &Context<CoreSpace>, key: &Key) -> bool
-    requires attends { Attends SpeaksFor own_at Knows space.old context.now }
+    requires attends { Attends core_space space.old context.now }
     requires who { context.now.who ≡ 2 }
-    ensures { Attends SpeaksFor own_at Knows space.new context.now }
+    ensures { Attends core_space space.new context.now }
 {
     let first = take(space, context, OTHER, key);
     if first != Err(SpaceError::OutOfMemory) {
@@ -87,9 +87,9 @@ fn stand_in_the_way(space: &mut CoreSpace, context: &Context<CoreSpace>, key: &K
 
 // And gives it up, which takes no memory.
 fn get_out_of_the_way(space: &mut CoreSpace, context: &Context<CoreSpace>) -> bool
-    requires attends { Attends SpeaksFor own_at Knows space.old context.now }
+    requires attends { Attends core_space space.old context.now }
     requires who { context.now.who ≡ 2 }
-    ensures { Attends SpeaksFor own_at Knows space.new context.now }
+    ensures { Attends core_space space.new context.now }
 {
     leave(space, context, OTHER, 1).is_ok()
 }
@@ -132,8 +132,8 @@ pub(crate) fn are_kept(kept: &[Kept], held: &[Held]) -> bool {
 
 // Whether a session has no wait.
 fn has_no_wait<S: LockSpace>(space: &mut S, context: &Context<S>, who: u16) -> bool
-    requires { Attends S.speaks_for S.own S.knows space.old context.now }
-    ensures { Attends S.speaks_for S.own S.knows space.new context.now }
+    requires { Attends S.LockSpace space.old context.now }
+    ensures { Attends S.LockSpace space.new context.now }
 {
     let _context = context;
     space.wait_of(who).is_none()
@@ -141,8 +141,8 @@ fn has_no_wait<S: LockSpace>(space: &mut S, context: &Context<S>, who: u16) -> b
 
 // Whether a session waits, and the wait is killed now.
 fn kill_the_wait<S: LockSpace>(space: &mut S, context: &Context<S>, who: u16) -> bool
-    requires { Attends S.speaks_for S.own S.knows space.old context.now }
-    ensures { Attends S.speaks_for S.own S.knows space.new context.now }
+    requires { Attends S.LockSpace space.old context.now }
+    ensures { Attends S.LockSpace space.new context.now }
 {
     let _context = context;
     match space.wait_of(who) {
@@ -160,9 +160,9 @@ fn outlives(
     act: Act,
     wanted: Reply,
 ) -> bool
-    requires attends { Attends SpeaksFor own_at Knows space.old context.old }
+    requires attends { Attends core_space space.old context.old }
     requires who { context.old.who ≡ 2 }
-    ensures attends { Attends SpeaksFor own_at Knows space.new context.new }
+    ensures attends { Attends core_space space.new context.new }
     ensures who { context.new.who ≡ 2 }
 {
     let Ok(before) = held_by(space, WHO) else {
@@ -190,9 +190,9 @@ fn all_outlive(
     context: &mut Context<CoreSpace>,
     rows: &[(Act, Reply)],
 ) -> bool
-    requires attends { Attends SpeaksFor own_at Knows space.old context.old }
+    requires attends { Attends core_space space.old context.old }
     requires who { context.old.who ≡ 2 }
-    ensures attends { Attends SpeaksFor own_at Knows space.new context.new }
+    ensures attends { Attends core_space space.new context.new }
     ensures who { context.new.who ≡ 2 }
 {
     for (act, wanted) in rows {
@@ -205,9 +205,9 @@ fn all_outlive(
 
 // Whether tickets up to this number can be had, beside the first ones, which are of one lock.
 fn clones(alloc: Global, space: &mut CoreSpace, context: &mut Context<CoreSpace>, most: u64) -> bool
-    requires attends { Attends SpeaksFor own_at Knows space.old context.old }
+    requires attends { Attends core_space space.old context.old }
     requires who { context.old.who ≡ 2 }
-    ensures attends { Attends SpeaksFor own_at Knows space.new context.new }
+    ensures attends { Attends core_space space.new context.new }
     ensures who { context.new.who ≡ 2 }
 {
     let act = Act::Acquire(Lock::A, Mode::SR, Duration::Explicit);

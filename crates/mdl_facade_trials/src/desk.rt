@@ -1,6 +1,6 @@
 //! One session's statements over the space of one thread.
 ghost use Rattle.mdl.specs.mdl_context.Contexts.{Attends};
-ghost use Rattle.mdl.specs.mdl_core.Words.{Knows, SpeaksFor, own_at};
+ghost use Rattle.mdl.specs.mdl_space.CoreMembers.{core_space};
 
 use mdl::space::NewError;
 use mdl::stmt::OutOfMemory;
@@ -19,13 +19,13 @@ struct Desk {
 // The space attends to the session, which is what the calls of its runner ask for.
 impl Model for Desk {
     ghost use Rattle.mdl.specs.mdl_context.Contexts.{Attends};
-    ghost use Rattle.mdl.specs.mdl_core.Words.{Knows, SpeaksFor, own_at};
+    ghost use Rattle.mdl.specs.mdl_space.CoreMembers.{core_space};
 
     ghost Value = { Unit };
 
     ghost view = { λ _. tt };
 
-    ghost invariant = { λ desk. Attends SpeaksFor own_at Knows desk.space desk.runner.context };
+    ghost invariant = { λ desk. Attends core_space desk.space desk.runner.context };
 }
 
 impl Desk {
@@ -50,8 +50,8 @@ fn start(
     runner: &mut OwnedRunner<CoreSpace>,
     statement: &Statement,
 ) -> Result<Option<Progress>, OutOfMemory>
-    requires { Attends SpeaksFor own_at Knows space.old runner.old.context }
-    ensures { Attends SpeaksFor own_at Knows space.new runner.new.context }
+    requires { Attends core_space space.old runner.old.context }
+    ensures { Attends core_space space.new runner.new.context }
 {
     if runner.is_waiting() {
         return Ok(None);

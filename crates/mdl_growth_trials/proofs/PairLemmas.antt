@@ -1,20 +1,21 @@
 -- Two sessions over one lock space, of which one makes calls.
 use Rattle.std.proofs.Common.{◌≡◌, ◌≢◌, ℕ, [], None, refl, ◌∙◌, arith}
 use Rattle.std.proofs.lemmas.List.Elements.{All-nil}
-use Rattle.mdl_core.specs.Words.{Core, SpeaksFor, own_at, Knows}
+use Rattle.mdl_core.specs.Words.{Core, SpeaksFor, own_at}
+use Rattle.mdl_space.specs.CoreMembers.{core_space}
 use Rattle.mdl_context.specs.Contexts.{ContextView, Attends, LeavesOthers}
 use Rattle.mdl_context.proofs.AttendLemmas.{attends-same}
 use Rattle.mdl_growth_trials.specs.Pairs.{AreTwo}
 
 -- the other one has made a call
-still_attended : (before after : Core) (x : ContextView) (who : ℕ) → LeavesOthers SpeaksFor own_at Knows who before after → x.who ≢ who
-    → Attends SpeaksFor own_at Knows before x → Attends SpeaksFor own_at Knows after x
+still_attended : (before after : Core) (x : ContextView) (who : ℕ) → LeavesOthers core_space who before after → x.who ≢ who
+    → Attends core_space before x → Attends core_space after x
 still_attended before after x who by other attends =
     let kept = by x.who other attends.speaks in attends-same before after x attends kept.2 kept.0 kept.1
 
 -- the first has made a call
 pub first_then : (before after : Core) (first second x : ContextView) → AreTwo before first second → x.who ≡ first.who
-    → Attends SpeaksFor own_at Knows after x → LeavesOthers SpeaksFor own_at Knows first.who before after → AreTwo after x second
+    → Attends core_space after x → LeavesOthers core_space first.who before after → AreTwo after x second
 first_then before after first second x two who attends by = record {
   one = who ∙ two.one;
   two = two.two;
@@ -24,7 +25,7 @@ first_then before after first second x two who attends by = record {
 
 -- the second has made a call
 pub second_then : (before after : Core) (first second x : ContextView) → AreTwo before first second → x.who ≡ second.who
-    → Attends SpeaksFor own_at Knows after x → LeavesOthers SpeaksFor own_at Knows second.who before after → AreTwo after first x
+    → Attends core_space after x → LeavesOthers core_space second.who before after → AreTwo after first x
 second_then before after first second x two who attends by = record {
   one = two.one;
   two = who ∙ two.two;
@@ -34,7 +35,7 @@ second_then before after first second x two who attends by = record {
 
 -- a new context of a session that has nothing
 pub fresh : (space : Core) (who : ℕ) (x : ContextView) → x ≡ record { who = who; kept = []; known = []; wait = None } → SpeaksFor space who
-    → own_at space who ≡ record { held = []; wait = None } → Attends SpeaksFor own_at Knows space x
+    → own_at space who ≡ record { held = []; wait = None } → Attends core_space space x
 fresh space who x new speaks nothing =
     rw new (record { speaks = speaks; serves = rw nothing (record { held = refl; wait = refl }); known = All-nil _; places = All-nil _; wish = tt })
 

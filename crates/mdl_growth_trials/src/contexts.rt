@@ -1,7 +1,7 @@
 //! The contexts of two sessions over a space: tickets by duration, waits, a deadlock and stronger modes. Where a call is refused for want of
 //! memory, the session holds what it held and waits for nothing, and the call is made again. What gives up takes no memory.
 ghost use Rattle.std.specs.Prelude.{◌≡◌};
-ghost use Rattle.mdl_core.specs.CoreJoins.{SpeaksFor, own_at, Knows};
+ghost use Rattle.mdl_space.specs.CoreMembers.{core_space};
 ghost use Rattle.mdl_context.specs.Contexts.{Attends, LeavesOthers};
 
 use crate::spaces::{new_space, table};
@@ -131,7 +131,7 @@ fn stands(context: &Context<CoreSpace>) -> (Mark, usize, bool) {
 }
 
 fn keeps(space: &CoreSpace, context: &Context<CoreSpace>, count: usize) -> bool
-    requires { Attends SpeaksFor own_at Knows space.now context.now }
+    requires { Attends core_space space.now context.now }
 {
     let who = context.who();
     let held = match space.held(who) {
@@ -154,10 +154,10 @@ fn are_kept(kept: &[Kept], held: &[Held]) -> bool {
 
 // Makes a call.
 fn make<S: LockSpace>(alloc: Global, space: &mut S, context: &mut Context<S>, act: Act) -> Reply
-    requires { Attends S.speaks_for S.own S.knows space.old context.old }
-    ensures attends { Attends S.speaks_for S.own S.knows space.new context.new }
+    requires { Attends S.LockSpace space.old context.old }
+    ensures attends { Attends S.LockSpace space.new context.new }
     ensures who { context.new.who ≡ context.old.who }
-    ensures others { LeavesOthers S.speaks_for S.own S.knows context.old.who space.old space.new }
+    ensures others { LeavesOthers S.LockSpace context.old.who space.old space.new }
 {
     match act {
         Act::Acquire(name, mode, duration) => {

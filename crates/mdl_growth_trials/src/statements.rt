@@ -2,7 +2,7 @@
 //! what the sessions hold, and what is told of the tables. A second pair of sessions, which is led as far and to which no memory is refused,
 //! shows how that is. Then the statement is made again.
 ghost use Rattle.std.specs.Prelude.{◌≡◌};
-ghost use Rattle.mdl_core.specs.CoreJoins.{SpeaksFor, own_at, Knows};
+ghost use Rattle.mdl_space.specs.CoreMembers.{core_space};
 ghost use Rattle.mdl_context.specs.Contexts.{Attends, LeavesOthers};
 
 use crate::spaces::new_space;
@@ -118,10 +118,10 @@ fn play<'s>(
     runner: &mut Runner<'s, CoreSpace>,
     statement: &'s Statement,
 ) -> Outcome
-    requires { Attends SpeaksFor own_at Knows space.old runner.old.context }
-    ensures attends { Attends SpeaksFor own_at Knows space.new runner.new.context }
+    requires { Attends core_space space.old runner.old.context }
+    ensures attends { Attends core_space space.new runner.new.context }
     ensures who { runner.new.context.who ≡ runner.old.context.who }
-    ensures others { LeavesOthers SpeaksFor own_at Knows runner.old.context.who space.old space.new }
+    ensures others { LeavesOthers core_space runner.old.context.who space.old space.new }
 {
     if runner.is_waiting() {
         return outcome_of(runner.go_on(space));

@@ -7,7 +7,8 @@ use Rattle.std.proofs.lemmas.List.FromFn.{length-map-range_with_len}
 use Rattle.mdl_calls.specs.Words.{Own}
 use Rattle.mdl_core.specs.Seats.{SeatView, empty_seat, own_of}
 use Rattle.mdl_core.specs.Words as core
-use Rattle.mdl_core.specs.Words.{Core, SpeaksFor, own_at, Knows}
+use Rattle.mdl_core.specs.Words.{Core, SpeaksFor, own_at}
+use Rattle.mdl_space.specs.CoreMembers.{core_space}
 use Rattle.mdl_context.specs.Contexts.{Attends}
 use Rattle.mdl_script.specs.declared.hall.Hall.{Hall}
 use Rattle.mdl_script.specs.declared.hall.Player as kept
@@ -61,7 +62,7 @@ first-own who = fresh-at first_core.seats (who - 1) (subst AreFresh (sym first-s
 
 -- ---- they are seated
 
-attended-first : (core : Core) (who : ℕ) → SpeaksFor core who → own_at core who ≡ nothing → Attends SpeaksFor own_at Knows core (new_player who).runner.context
+attended-first : (core : Core) (who : ℕ) → SpeaksFor core who → own_at core who ≡ nothing → Attends core_space core (new_player who).runner.context
 attended-first core who speaks has =
     record { speaks = speaks; serves = rw has (record { held = refl; wait = refl }); known = All-nil _; places = All-nil _; wish = tt }
 

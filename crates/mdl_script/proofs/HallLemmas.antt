@@ -7,7 +7,8 @@ use Rattle.std.proofs.lemmas.Bool.Decides.{eqb_tells}
 use Rattle.std.proofs.lemmas.List.{get_or-map, get_or-set_other}
 use Rattle.mdl_calls.specs.Words.{Answer, Call, outcome_of}
 use Rattle.mdl_core.specs.CoreCalls.{outcome}
-use Rattle.mdl_core.specs.Words.{Core, SpeaksFor, own_at, Knows}
+use Rattle.mdl_core.specs.Words.{Core, SpeaksFor}
+use Rattle.mdl_space.specs.CoreMembers.{core_space}
 use Rattle.mdl_core.specs.CoreJoins.{Joins}
 use Rattle.mdl_core.proofs.CallLaws.{core-keeps}
 use Rattle.mdl_core.proofs.CoreSound.{calls_keep-sound}
@@ -27,20 +28,20 @@ use Rattle.mdl_script.proofs.ListLemmas.{All-filter_range, filter-noted, filter-
 
 -- each of them is of its session, and attended to
 pub seated-at : (core : Core) (first i : ℕ) (xs : List kept.Player) (d : kept.Player) → AreSeated core first xs → i < length xs
-    → ((get_or xs i d).runner.context.who ≡ first + i) × Attends SpeaksFor own_at Knows core (get_or xs i d).runner.context
+    → ((get_or xs i d).runner.context.who ≡ first + i) × Attends core_space core (get_or xs i d).runner.context
 seated-at core first i [] d seated inside = absurd (omega arith)
 seated-at core first zero (x ∷ xs) d seated inside = (seated.0 ∙ omega arith, seated.1)
 seated-at core first (suc i) (x ∷ xs) d seated inside =
     let rest = seated-at core (first + 1) i xs d seated.2 (omega arith) in (rest.0 ∙ omega arith, rest.1)
 
 -- one of the others has made a call
-still-attended : (before after : Core) (x : ContextView) (who : ℕ) → LeavesOthers SpeaksFor own_at Knows who before after → x.who ≢ who
-    → Attends SpeaksFor own_at Knows before x → Attends SpeaksFor own_at Knows after x
+still-attended : (before after : Core) (x : ContextView) (who : ℕ) → LeavesOthers core_space who before after → x.who ≢ who
+    → Attends core_space before x → Attends core_space after x
 still-attended before after x who leaves other attends =
     let same = leaves x.who other attends.speaks in attends-same before after x attends same.2 same.0 same.1
 
 -- later sessions
-still-seated : (before after : Core) (first who : ℕ) (xs : List kept.Player) → LeavesOthers SpeaksFor own_at Knows who before after → who < first
+still-seated : (before after : Core) (first who : ℕ) (xs : List kept.Player) → LeavesOthers core_space who before after → who < first
     → AreSeated before first xs → AreSeated after first xs
 still-seated before after first who [] leaves later seated = tt
 still-seated before after first who (x ∷ xs) leaves later seated =
@@ -48,7 +49,7 @@ still-seated before after first who (x ∷ xs) leaves later seated =
 
 -- one of them has made calls
 pub seated-then : (before after : Core) (first i : ℕ) (xs : List kept.Player) (x : kept.Player) → AreSeated before first xs → i < length xs
-    → x.runner.context.who ≡ first + i → Attends SpeaksFor own_at Knows after x.runner.context → LeavesOthers SpeaksFor own_at Knows (first + i) before after
+    → x.runner.context.who ≡ first + i → Attends core_space after x.runner.context → LeavesOthers core_space (first + i) before after
     → AreSeated after first (set xs i x)
 seated-then before after first i [] x seated inside who attends leaves = absurd (omega arith)
 seated-then before after first zero (y ∷ ys) x seated inside who attends leaves =
@@ -58,7 +59,7 @@ seated-then before after first (suc i) (y ∷ ys) x seated inside who attends le
       seated.0,
       still-attended before after y.runner.context (first + suc i) leaves (λ e. omega (arith, seated.0, e)) seated.1,
       seated-then before after (first + 1) i ys x seated.2 (omega arith) (who ∙ sym same) attends
-          (subst (λ n. LeavesOthers SpeaksFor own_at Knows n before after) (sym same) leaves),
+          (subst (λ n. LeavesOthers core_space n before after) (sym same) leaves),
     )
 
 -- the space speaks for all

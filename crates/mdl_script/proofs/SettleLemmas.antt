@@ -8,7 +8,8 @@ use Rattle.std.proofs.lemmas.List.{drop_more}
 use Rattle.mdl_core.specs.CoreCalls.{has_settled}
 use Rattle.mdl_calls.specs.Words.{Answer, Own, Settle_timeout, own_after}
 use Rattle.mdl_core.specs.CoreJoins.{Joins}
-use Rattle.mdl_core.specs.Words.{Core, SpeaksFor, own_at, Knows}
+use Rattle.mdl_core.specs.Words.{Core, SpeaksFor, own_at}
+use Rattle.mdl_space.specs.CoreMembers.{core_space}
 use Rattle.mdl_core.proofs.CallLaws.{core-changes, core-keeps, core-others, core-remembers}
 use Rattle.mdl_core.proofs.CoreSound.{calls_keep-sound}
 use Rattle.mdl_context.specs.Contexts.{ContextView, Attends}
@@ -115,7 +116,7 @@ own-timed_out : (answer : Answer) (who : ℕ) (own : Own) → own_after (Settle_
 own-timed_out answer who own = refl
 
 -- it leaves to each what it has
-attended-still : (a b : Core) (who : ℕ) (answer : Answer) (context : ContextView) → Joins a (Settle_timeout who) answer b → Attends SpeaksFor own_at Knows a context → Attends SpeaksFor own_at Knows b context
+attended-still : (a b : Core) (who : ℕ) (answer : Answer) (context : ContextView) → Joins a (Settle_timeout who) answer b → Attends core_space a context → Attends core_space b context
 attended-still a b who answer context step attends =
     attends-same a b context attends (λ place key known. core-remembers a b (Settle_timeout who) answer context.who place key attends.speaks (λ e _. cc) step known)
     (core-keeps calls_keep-sound a b (Settle_timeout who) answer context.who attends.speaks step) (by (eqb_tells who context.who)) where

@@ -4,7 +4,8 @@ use Rattle.std.specs.Prelude.{Bool, is_some}
 use Rattle.std.proofs.lemmas.List.{map-set}
 use Rattle.mdl_calls.specs.Words.{Program, Runs}
 use Rattle.mdl_core.specs.CoreJoins.{Joins}
-use Rattle.mdl_core.specs.Words.{Core, SpeaksFor, own_at, Knows}
+use Rattle.mdl_core.specs.Words.{Core}
+use Rattle.mdl_space.specs.CoreMembers.{core_space}
 use Rattle.mdl_context.specs.Contexts.{Attends, LeavesOthers}
 use Rattle.mdl_context.specs.MemoryLaws.{IsSureUnless}
 use Rattle.mdl_lines.specs.Sessions.{IsScriptSession}
@@ -80,7 +81,7 @@ module _ (hall : Hall) (who n : ℕ) (player d : kept.Player) (manned : IsManned
   here = same ∙ ap (λ m. get_or hall.players.items (m - 1) d) from
 
   -- it is of its session, and attended to
-  pub attends-at : (player.runner.context.who ≡ who) × Attends SpeaksFor own_at Knows hall.space player.runner.context
+  pub attends-at : (player.runner.context.who ≡ who) × Attends core_space hall.space player.runner.context
   attends-at =
       let at = seated-at hall.space 1 (who - 1) hall.players.items d manned.seated inside in
       rw here (at.0 ∙ omega (arith, session.0), at.1)
@@ -90,14 +91,14 @@ module _ (hall : Hall) (who n : ℕ) (player d : kept.Player) (manned : IsManned
   work-at waits so = rw here (sym (waits-at hall.space hall.players.items who d session.0 (subst (λ l. who ≤ l) (sym manned.all) session.1)) ∙ so)
 
   -- it takes another runner
-  pub seated-after : (after : Core) (line : ℕ) (runner : RunnerView) → runner.context.who ≡ player.runner.context.who → Attends SpeaksFor own_at Knows after runner.context
-      → LeavesOthers SpeaksFor own_at Knows player.runner.context.who hall.space after
+  pub seated-after : (after : Core) (line : ℕ) (runner : RunnerView) → runner.context.who ≡ player.runner.context.who → Attends core_space after runner.context
+      → LeavesOthers core_space player.runner.context.who hall.space after
       → AreSeated after 1 (set hall.players.items (n - 1) (record { runner = runner; line = line }))
   seated-after after line runner whose attends leaves =
       let counted : who ≡ 1 + (who - 1) = omega (arith, session.0) in
       let me = attends-at.0 ∙ counted in
       rw from (seated-then hall.space after 1 (who - 1) hall.players.items (record { runner = runner; line = line }) manned.seated inside
-      (whose ∙ me) attends (subst (λ w. LeavesOthers SpeaksFor own_at Knows w hall.space after) me leaves))
+      (whose ∙ me) attends (subst (λ w. LeavesOthers core_space w hall.space after) me leaves))
 
   -- and a program of its comes so far
   pub came-at : (after : Core) (line : ℕ) (runner : RunnerView) (progress : Progress) (program : Session → Program Pause)

@@ -2,7 +2,7 @@
 use Rattle.std.specs.Prelude.{◌≡◌, ℕ, ◌+◌, List, [], ◌∷◌, length, map, nat_lt, None}
 use Rattle.std.specs.List.{position_or_len}
 use Rattle.mdl_key.specs.Words.{most_sessions}
-use Rattle.mdl_core.specs.CoreJoins.{SpeaksFor, own_at, Knows}
+use Rattle.mdl_space.specs.CoreMembers.{core_space}
 use Rattle.mdl_core.specs.Cores.{Core}
 use Rattle.mdl_context.specs.Contexts.{Attends}
 use Rattle.mdl_stmt.specs.Stages.{session_of}
@@ -26,7 +26,7 @@ new_player who = record { runner = record { context = record { who = who; kept =
 abbrev pub AreSeated : Core → ℕ → List kept.Player → Type 0
 AreSeated core who [] = Unit {0}
 AreSeated core who (player ∷ players) =
-    (player.runner.context.who ≡ who) × Attends SpeaksFor own_at Knows core player.runner.context × AreSeated core (who + 1) players
+    (player.runner.context.who ≡ who) × Attends core_space core player.runner.context × AreSeated core (who + 1) players
 
 -- the place of a session among others in rising order: that of the first greater one, or behind all
 abbrev pub place_of : ℕ → List ℕ → ℕ

@@ -5,7 +5,8 @@ use Rattle.std.specs.List.{range_with_len}
 use Rattle.std.proofs.lemmas.List.Elements.{All-nil}
 use Rattle.mdl_calls.specs.Words.{Own}
 use Rattle.mdl_core.specs.Seats.{SeatView, empty_seat, own_of}
-use Rattle.mdl_core.specs.Words.{Core, SpeaksFor, empty_core, own_at, Knows}
+use Rattle.mdl_core.specs.Words.{Core, SpeaksFor, empty_core, own_at}
+use Rattle.mdl_space.specs.CoreMembers.{core_space}
 use Rattle.mdl_context.specs.Contexts.{ContextView, Attends, LeavesOthers}
 use Rattle.mdl_context.proofs.AttendLemmas.{attends-same}
 use Rattle.mdl_stmt.specs.KeptStages.{OwnedView}
@@ -15,7 +16,7 @@ use Rattle.mdl_server_example.specs.Servers.{AreServed, newcomer}
 
 -- each of them is served
 served-at : (space : Core) (first i : ℕ) (xs : List OwnedView) (d : OwnedView) → AreServed space first xs → i < length xs
-    → ((get_or xs i d).context.who ≡ first + i) × Attends SpeaksFor own_at Knows space (get_or xs i d).context
+    → ((get_or xs i d).context.who ≡ first + i) × Attends core_space space (get_or xs i d).context
 served-at space first i [] d served inside = absurd (omega (arith, inside))
 served-at space first zero (x ∷ xs) d served inside = (served.0 ∙ omega arith, served.1)
 served-at space first (suc i) (x ∷ xs) d served inside =
@@ -23,18 +24,18 @@ served-at space first (suc i) (x ∷ xs) d served inside =
 
 -- so is the one of this index
 pub served-one : (space : Core) (i : ℕ) (xs : List OwnedView) (x : OwnedView) → AreServed space 1 xs → i < length xs → x ≡ get_or xs i x
-    → (x.context.who ≡ 1 + i) × Attends SpeaksFor own_at Knows space x.context
+    → (x.context.who ≡ 1 + i) × Attends core_space space x.context
 served-one space i xs x served inside here =
-    subst (λ (y : OwnedView). (y.context.who ≡ 1 + i) × Attends SpeaksFor own_at Knows space y.context) (sym here) (served-at space 1 i xs x served inside)
+    subst (λ (y : OwnedView). (y.context.who ≡ 1 + i) × Attends core_space space y.context) (sym here) (served-at space 1 i xs x served inside)
 
 -- another one has made calls
-still-attended : (before after : Core) (x : ContextView) (who : ℕ) → LeavesOthers SpeaksFor own_at Knows who before after → x.who ≢ who
-    → Attends SpeaksFor own_at Knows before x → Attends SpeaksFor own_at Knows after x
+still-attended : (before after : Core) (x : ContextView) (who : ℕ) → LeavesOthers core_space who before after → x.who ≢ who
+    → Attends core_space before x → Attends core_space after x
 still-attended before after x who leaves other attends =
     let same = leaves x.who other attends.speaks in attends-same before after x attends same.2 same.0 same.1
 
 -- an earlier one has
-still-served : (before after : Core) (first who : ℕ) (xs : List OwnedView) → LeavesOthers SpeaksFor own_at Knows who before after → who < first
+still-served : (before after : Core) (first who : ℕ) (xs : List OwnedView) → LeavesOthers core_space who before after → who < first
     → AreServed before first xs → AreServed after first xs
 still-served before after first who [] leaves later served = tt
 still-served before after first who (x ∷ xs) leaves later served = (
@@ -45,7 +46,7 @@ still-served before after first who (x ∷ xs) leaves later served = (
 
 -- one of them has
 served-then : (before after : Core) (first i : ℕ) (xs : List OwnedView) (x : OwnedView) → AreServed before first xs → i < length xs
-    → x.context.who ≡ first + i → Attends SpeaksFor own_at Knows after x.context → LeavesOthers SpeaksFor own_at Knows (first + i) before after
+    → x.context.who ≡ first + i → Attends core_space after x.context → LeavesOthers core_space (first + i) before after
     → AreServed after first (set xs i x)
 served-then before after first i [] x served inside who attends leaves = absurd (omega (arith, inside))
 served-then before after first zero (y ∷ ys) x served inside who attends leaves =
@@ -55,20 +56,20 @@ served-then before after first (suc i) (y ∷ ys) x served inside who attends le
       served.0,
       still-attended before after y.context (first + suc i) leaves (λ e. omega (arith, served.0, e)) served.1,
       served-then before after (first + 1) i ys x served.2 (omega (arith, inside)) (who ∙ sym same) attends
-          (subst (λ n. LeavesOthers SpeaksFor own_at Knows n before after) (sym same) leaves),
+          (subst (λ n. LeavesOthers core_space n before after) (sym same) leaves),
     )
 
 -- the one of this index has
 pub served-again : (before after : Core) (i : ℕ) (xs : List OwnedView) (x y : OwnedView) → AreServed before 1 xs → i < length xs → x ≡ get_or xs i x
-    → y.context.who ≡ x.context.who → Attends SpeaksFor own_at Knows after y.context → LeavesOthers SpeaksFor own_at Knows x.context.who before after
+    → y.context.who ≡ x.context.who → Attends core_space after y.context → LeavesOthers core_space x.context.who before after
     → AreServed after 1 (set xs i y)
 served-again before after i xs x y served inside here who attends leaves =
     let whose = (served-one before i xs x served inside here).0 in
-    served-then before after 1 i xs y served inside (who ∙ whose) attends (subst (λ n. LeavesOthers SpeaksFor own_at Knows n before after) whose leaves)
+    served-then before after 1 i xs y served inside (who ∙ whose) attends (subst (λ n. LeavesOthers core_space n before after) whose leaves)
 
 -- the first of them has left
 pub served-rest : (before after : Core) (first : ℕ) (x : OwnedView) (xs all : List OwnedView) → all ≡ x ∷ xs → AreServed before first all
-    → LeavesOthers SpeaksFor own_at Knows x.context.who before after → AreServed after (first + 1) xs
+    → LeavesOthers core_space x.context.who before after → AreServed after (first + 1) xs
 served-rest before after first x xs all same served leaves =
     let each = subst (AreServed before first) same served in
     still-served before after (first + 1) x.context.who xs leaves (omega (arith, each.0)) each.2
@@ -102,7 +103,7 @@ fresh-at [] i fresh = refl
 fresh-at (seat ∷ seats) zero fresh = fresh.0
 fresh-at (seat ∷ seats) (suc i) fresh = fresh-at seats i fresh.1
 
-attended-new : (space : Core) (who : ℕ) → SpeaksFor space who → own_at space who ≡ nothing → Attends SpeaksFor own_at Knows space (newcomer who).context
+attended-new : (space : Core) (who : ℕ) → SpeaksFor space who → own_at space who ≡ nothing → Attends core_space space (newcomer who).context
 attended-new space who speaks has =
     record { speaks = speaks; serves = rw has (record { held = refl; wait = refl }); known = All-nil _; places = All-nil _; wish = tt }
 

@@ -1,6 +1,7 @@
 -- Sessions over one lock space, that of one thread.
 use Rattle.std.specs.Prelude.{◌≡◌, ℕ, ◌+◌, List, [], ◌∷◌, None}
-use Rattle.mdl_core.specs.Words.{Core, SpeaksFor, own_at, Knows}
+use Rattle.mdl_core.specs.Words.{Core}
+use Rattle.mdl_space.specs.CoreMembers.{core_space}
 use Rattle.mdl_context.specs.Contexts.{Attends}
 use Rattle.mdl_stmt.specs.KeptStages.{OwnedView}
 use Rattle.mdl_rows.specs.States.{at_first}
@@ -13,4 +14,4 @@ newcomer who = record { context = record { who = who; kept = []; known = []; wai
 abbrev pub AreServed : Core → ℕ → List OwnedView → Type 0
 AreServed space who [] = Unit {0}
 AreServed space who (session ∷ sessions) =
-    (session.context.who ≡ who) × Attends SpeaksFor own_at Knows space session.context × AreServed space (who + 1) sessions
+    (session.context.who ≡ who) × Attends core_space space session.context × AreServed space (who + 1) sessions

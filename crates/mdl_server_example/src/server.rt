@@ -1,7 +1,7 @@
 //! The server: a lock space, and the statements of its sessions.
 ghost use Rattle.std.specs.Prelude.{◌≡◌, ◌<◌, IfOk, IfSome, length, map};
 ghost use Rattle.std.specs.List.{range_with_len};
-ghost use Rattle.mdl_core.specs.Words.{SpeaksFor, own_at, Knows};
+ghost use Rattle.mdl_space.specs.CoreMembers.{core_space};
 ghost use Rattle.mdl_context.specs.Contexts.{Attends, LeavesOthers};
 ghost use Rattle.mdl_server_example.specs.Servers.{AreServed, newcomer};
 
@@ -113,10 +113,10 @@ fn start(
     runner: &mut OwnedRunner<CoreSpace>,
     statement: &Statement,
 ) -> Answer
-    requires { Attends SpeaksFor own_at Knows space.old runner.old.context }
-    ensures attends { Attends SpeaksFor own_at Knows space.new runner.new.context }
+    requires { Attends core_space space.old runner.old.context }
+    ensures attends { Attends core_space space.new runner.new.context }
     ensures who { runner.new.context.who ≡ runner.old.context.who }
-    ensures others { LeavesOthers SpeaksFor own_at Knows runner.old.context.who space.old space.new }
+    ensures others { LeavesOthers core_space runner.old.context.who space.old space.new }
 {
     if runner.is_waiting() {
         return Answer::Busy;
@@ -126,10 +126,10 @@ fn start(
 
 // Goes on with a statement that waits. While its wait isn't settled there is nothing to answer.
 fn go_on(space: &mut CoreSpace, runner: &mut OwnedRunner<CoreSpace>) -> Option<Answer>
-    requires { Attends SpeaksFor own_at Knows space.old runner.old.context }
-    ensures attends { Attends SpeaksFor own_at Knows space.new runner.new.context }
+    requires { Attends core_space space.old runner.old.context }
+    ensures attends { Attends core_space space.new runner.new.context }
     ensures who { runner.new.context.who ≡ runner.old.context.who }
-    ensures others { LeavesOthers SpeaksFor own_at Knows runner.old.context.who space.old space.new }
+    ensures others { LeavesOthers core_space runner.old.context.who space.old space.new }
 {
     if !runner.is_waiting() {
         return None;

@@ -1,9 +1,27 @@
 -- Sessions of a space that threads share, each with a context of its own.
-use Rattle.mdl_session_laws.specs.SessionSpaces.{SpeaksFor, own_of, Knows}
+use Rattle.mdl_session_laws.specs.SessionJoins.{Joins}
+use Rattle.mdl_session_laws.specs.SessionSpaces.{SpeaksFor, own_of, numbers_of, Knows, IsSettledAs, HasRead, HasSeen, Pins, Owes}
+use Rattle.mdl_calls.specs.declared.lock_space.LockSpace.{Ghosts}
 use Rattle.mdl_context.specs.Contexts.{ContextView, Attends}
 use Rattle.mdl_shared.specs.declared.session.Session.{Session}
 use Rattle.mdl_shared.specs.SessionViews.{space_of}
+use Rattle.mdl_shared.specs.Showings.{Shows}
+
+-- what a session gives the trait
+abbrev pub session_space : {R : Type 0} → Ghosts (Session R)
+session_space = record {
+  speaks_for = λ s. SpeaksFor (space_of s);
+  own = λ s. own_of (space_of s);
+  knows = λ s. Knows (space_of s);
+  is_settled = λ s. IsSettledAs (space_of s);
+  numbers = λ s. numbers_of (space_of s);
+  has_read = λ s. HasRead (space_of s);
+  has_seen = λ s. HasSeen (space_of s);
+  pins = λ s. Pins (space_of s);
+  owes = λ s. Owes (space_of s);
+  joins = λ s call answer t. Joins (space_of s) call answer (space_of t) × Shows call answer s.member t.member;
+}
 
 -- the session attends to the context
 abbrev pub AttendsTo : {R : Type 0} → Session R → ContextView → Type 0
-AttendsTo session context = Attends (λ s. SpeaksFor (space_of s)) (λ s. own_of (space_of s)) (λ s. Knows (space_of s)) session context
+AttendsTo session context = Attends session_space session context

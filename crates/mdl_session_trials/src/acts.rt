@@ -53,8 +53,8 @@ pub(crate) fn make<S: LockSpace>(
     context: &mut Context<S>,
     act: Act,
 ) -> Reply
-    requires { Attends S.speaks_for S.own S.knows space.old context.old }
-    ensures { Attends S.speaks_for S.own S.knows space.new context.new }
+    requires { Attends S.LockSpace space.old context.old }
+    ensures { Attends S.LockSpace space.new context.new }
 {
     match act {
         Act::Acquire(lock, mode) => match lock.key(alloc) {

@@ -14,14 +14,14 @@ pub(crate) struct Alone<'s> {
 
 // The space attends to the runner's context, which is what the calls of the runner ask for.
 impl<'s> Model for Alone<'s> {
-    ghost use Rattle.mdl_core.specs.Words.{SpeaksFor, own_at, Knows};
+    ghost use Rattle.mdl_space.specs.CoreMembers.{core_space};
     ghost use Rattle.mdl_context.specs.Contexts.{Attends};
 
     ghost Value = { Unit };
 
     ghost view = { λ _. tt };
 
-    ghost invariant = { λ alone. Attends SpeaksFor own_at Knows alone.space alone.runner.context };
+    ghost invariant = { λ alone. Attends core_space alone.space alone.runner.context };
 }
 
 impl<'s> Alone<'s> {

@@ -26,8 +26,8 @@ pub(crate) fn say<'s, S: LockSpace>(
     runner: &mut Runner<'s, S>,
     statement: &'s Statement,
 ) -> Outcome
-    requires { Attends S.speaks_for S.own S.knows space.old runner.old.context }
-    ensures { Attends S.speaks_for S.own S.knows space.new runner.new.context }
+    requires { Attends S.LockSpace space.old runner.old.context }
+    ensures { Attends S.LockSpace space.new runner.new.context }
 {
     if runner.is_waiting() {
         return Outcome::OutOfTurn;
@@ -37,8 +37,8 @@ pub(crate) fn say<'s, S: LockSpace>(
 
 /// Goes on with the statement that waits.
 pub(crate) fn go_on<'s, S: LockSpace>(space: &mut S, runner: &mut Runner<'s, S>) -> Outcome
-    requires { Attends S.speaks_for S.own S.knows space.old runner.old.context }
-    ensures { Attends S.speaks_for S.own S.knows space.new runner.new.context }
+    requires { Attends S.LockSpace space.old runner.old.context }
+    ensures { Attends S.LockSpace space.new runner.new.context }
 {
     if !runner.is_waiting() {
         return Outcome::OutOfTurn;

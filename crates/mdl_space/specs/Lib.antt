@@ -17,4 +17,5 @@ pub use Rattle.mdl_system.specs.Deadlocks
 pub use Rattle.mdl_system.specs.Events
 pub use Rattle.mdl_system.specs.Strength
 pub use Rattle.mdl_system.specs.Systems
+pub mod CoreMembers
 pub mod KnownKeys

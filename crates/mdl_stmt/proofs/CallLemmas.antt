@@ -13,7 +13,8 @@ use Rattle.mdl_stmt.proofs.RunLemmas.{comes-then}
 use Rattle.std.proofs.Common.{◌≡◌, ℕ, Some, None, Result, Ok, Err, ap, sym, subst, inl, inr}
 use Rattle.mdl_key.specs.Keys.{KeyName}
 use Rattle.mdl_key.specs.declared.mode.Mode.{Mode}
-use Rattle.mdl_calls.specs.Words.{Answer, Done, Call, Unpin, caller, Own, Runs}
+use Rattle.mdl_calls.specs.Words.{Answer, Done, Call, Unpin, caller, Runs}
+use Rattle.mdl_calls.specs.declared.lock_space.LockSpace.{Ghosts}
 use Rattle.mdl_context.specs.Contexts.{ContextView, Attends}
 use Rattle.mdl_context.proofs.AttendLemmas.{attends-same}
 use Rattle.mdl_rows.specs.declared.ending.Ending.{Ending}
@@ -28,21 +29,21 @@ use Rattle.mdl_stmt.specs.Players.{PlayerView}
 abbrev pub KeepsPlaces : Call → Type 0
 KeepsPlaces call = (w place : ℕ) → call ≡ Unpin w place → ⊥
 
-module _ {S : Type 0} {speaks_for : S → ℕ → Type 0} {own : S → ℕ → Own} {knows : S → ℕ → ℕ → KeyName → Type 0} {joins : S → Call → Answer → S → Type 0}
-    (keeps : (a b : S) (call : Call) (answer : Answer) (w : ℕ) → speaks_for a w → joins a call answer b → speaks_for b w)
-    (remembers : (a b : S) (call : Call) (answer : Answer) (w place : ℕ) (key : KeyName) → speaks_for a w → (call ≡ Unpin w place → answer ≡ Done → ⊥) → joins a call answer b
-    → knows a w place key → knows b w place key) where
+module _ {S : Type 0} (members : Ghosts S)
+    (keeps : (a b : S) (call : Call) (answer : Answer) (w : ℕ) → members.speaks_for a w → members.joins a call answer b → members.speaks_for b w)
+    (remembers : (a b : S) (call : Call) (answer : Answer) (w place : ℕ) (key : KeyName) → members.speaks_for a w → (call ≡ Unpin w place → answer ≡ Done → ⊥) → members.joins a call answer b
+    → members.knows a w place key → members.knows b w place key) where
   -- a call after which the session has what it had
-  pub attends-call : (context : ContextView) (a b : S) (call : Call) (answer : Answer) → KeepsPlaces call → own b context.who ≡ own a context.who → joins a call answer b →
-      Attends speaks_for own knows a context → Attends speaks_for own knows b context
+  pub attends-call : (context : ContextView) (a b : S) (call : Call) (answer : Answer) → KeepsPlaces call → members.own b context.who ≡ members.own a context.who → members.joins a call answer b →
+      Attends members a context → Attends members b context
   attends-call context a b call answer kept same joined attends =
       attends-same a b context attends (λ place key known. remembers a b call answer context.who place key attends.speaks (λ e _. kept _ _ e) joined known)
       (keeps a b call answer context.who attends.speaks joined) same
 
   -- one that is nobody's
-  pub leaves-call : (others : (a b : S) (call : Call) (answer : Answer) (w : ℕ) → speaks_for a w → (caller call ≡ Some w → ⊥) → joins a call answer b → own b w ≡ own a w)
-      (a b : S) (call : Call) (answer : Answer) (w : ℕ) → KeepsPlaces call → (caller call ≡ Some w → ⊥) → joins a call answer b → speaks_for a w →
-      speaks_for b w × (own b w ≡ own a w) × ((place : ℕ) (key : KeyName) → knows a w place key → knows b w place key)
+  pub leaves-call : (others : (a b : S) (call : Call) (answer : Answer) (w : ℕ) → members.speaks_for a w → (caller call ≡ Some w → ⊥) → members.joins a call answer b → members.own b w ≡ members.own a w)
+      (a b : S) (call : Call) (answer : Answer) (w : ℕ) → KeepsPlaces call → (caller call ≡ Some w → ⊥) → members.joins a call answer b → members.speaks_for a w →
+      members.speaks_for b w × (members.own b w ≡ members.own a w) × ((place : ℕ) (key : KeyName) → members.knows a w place key → members.knows b w place key)
   leaves-call others a b call answer w kept nobody joined speaks =
       (keeps a b call answer w speaks joined, others a b call answer w speaks nobody joined, λ place key known. remembers a b call answer w place key speaks (λ e _. kept _ _ e) joined known)
 

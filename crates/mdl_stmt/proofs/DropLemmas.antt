@@ -1,7 +1,7 @@
 -- Loops over tickets: what was done so far, and what is left to do.
 use Rattle.std.proofs.Common.{◌≡◌, ℕ, suc, ◌+◌, arith, List, [], ◌∷◌, drop, Ok, Err, ap, ◌∙◌, subst}
-use Rattle.mdl_key.specs.Keys.{KeyName}
-use Rattle.mdl_calls.specs.Words.{Answer, Call, Own}
+use Rattle.mdl_calls.specs.Words.{Answer, Call}
+use Rattle.mdl_calls.specs.declared.lock_space.LockSpace.{Ghosts}
 use Rattle.mdl_context.specs.Contexts.{LeavesOthers}
 use Rattle.mdl_rows.specs.declared.ending.Ending.{Ending}
 use Rattle.mdl_rows.specs.declared.reply.Reply.{Reply}
@@ -14,9 +14,9 @@ use Rattle.mdl_stmt.proofs.RowLemmas.{bind-assoc}
 use Rattle.mdl_stmt.proofs.RunLemmas.{comes-then}
 
 -- others are left alone by one thing and the next
-pub leaves-then : {S : Type 0} (speaks_for : S → ℕ → Type 0) (own : S → ℕ → Own) (knows : S → ℕ → ℕ → KeyName → Type 0) (who w : ℕ) (a b c : S) → w ≡ who →
-    LeavesOthers speaks_for own knows who a b → LeavesOthers speaks_for own knows w b c → LeavesOthers speaks_for own knows who a c
-leaves-then speaks_for own knows who w a b c same first second x apart speaks =
+pub leaves-then : {S : Type 0} (members : Ghosts S) (who w : ℕ) (a b c : S) → w ≡ who →
+    LeavesOthers members who a b → LeavesOthers members w b c → LeavesOthers members who a c
+leaves-then members who w a b c same first second x apart speaks =
     let one = first x apart speaks in
     let two = second x (λ e. apart (e ∙ same)) one.0 in
     (two.0, two.1 ∙ one.1, λ place key known. two.2 place key (one.2 place key known))

@@ -4,7 +4,8 @@ use Rattle.std.proofs.Math.Seq.{drop-cons}
 use Rattle.mdl_key.specs.Keys.{KeyName}
 use Rattle.mdl_key.specs.declared.mode.Mode.TheVariants.{SR}
 use Rattle.mdl_key.specs.declared.mode.Duration.TheVariants as for
-use Rattle.mdl_calls.specs.Words.{Answer, Call, Own}
+use Rattle.mdl_calls.specs.Words.{Answer, Call}
+use Rattle.mdl_calls.specs.declared.lock_space.LockSpace.{Ghosts}
 use Rattle.mdl_context.specs.Contexts.{LeavesOthers}
 use Rattle.mdl_context.specs.Wishes.{Wish}
 use Rattle.mdl_rows.specs.declared.ending.Ending.{Ending}
@@ -36,9 +37,9 @@ none-left (x ∷ xs) zero past = absurd (omega (arith, past))
 none-left (x ∷ xs) (suc i) past = none-left xs i (omega (arith, past))
 
 -- the others are left as they are, once more
-pub still-left : {S : Type 0} (speaks_for : S → ℕ → Type 0) (own : S → ℕ → Own) (knows : S → ℕ → ℕ → KeyName → Type 0) (who now : ℕ) (a b c : S) → now ≡ who →
-    LeavesOthers speaks_for own knows who a b → LeavesOthers speaks_for own knows now b c → LeavesOthers speaks_for own knows who a c
-still-left speaks_for own knows who now a b c same first second w other speaks =
+pub still-left : {S : Type 0} (members : Ghosts S) (who now : ℕ) (a b c : S) → now ≡ who →
+    LeavesOthers members who a b → LeavesOthers members now b c → LeavesOthers members who a c
+still-left members who now a b c same first second w other speaks =
     let one = first w other speaks in
     let two = second w (subst (λ n. w ≢ n) (sym same) other) one.0 in
     (two.0, two.1 ∙ one.1, λ place key known. two.2 place key (one.2 place key known))

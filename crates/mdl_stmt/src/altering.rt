@@ -31,11 +31,11 @@ impl<S: LockSpace> Player<S> {
         table: &Key,
         statement: &'s Statement,
     ) -> Played<'s>
-        requires attends { Attends S.speaks_for S.own S.knows space.old self.old.context }
+        requires attends { Attends S.LockSpace space.old self.old.context }
         requires idle { self.old.context.wait ≡ None }
         ensures run { IsPlayed S.joins (alter_first table.now (after_commit statement.now)) space.old self.old result space.new self.new }
-        ensures attends { Attends S.speaks_for S.own S.knows space.new self.new.context }
-        ensures others { LeavesOthers S.speaks_for S.own S.knows self.old.context.who space.old space.new }
+        ensures attends { Attends S.LockSpace space.new self.new.context }
+        ensures others { LeavesOthers S.LockSpace self.old.context.who space.old space.new }
         ensures who { self.new.context.who ≡ self.old.context.who }
         ensures idle { IdleUnlessPlayed result self.new }
     {
@@ -50,11 +50,11 @@ impl<S: LockSpace> Player<S> {
 
     /// Alters a table, once no transaction is open.
     pub(crate) fn alter<'s>(&mut self, space: &mut S, alteration: &'s Alteration) -> Played<'s>
-        requires attends { Attends S.speaks_for S.own S.knows space.old self.old.context }
+        requires attends { Attends S.LockSpace space.old self.old.context }
         requires idle { self.old.context.wait ≡ None }
         ensures run { IsPlayed S.joins (alter_after_commit alteration.now) space.old self.old result space.new self.new }
-        ensures attends { Attends S.speaks_for S.own S.knows space.new self.new.context }
-        ensures others { LeavesOthers S.speaks_for S.own S.knows self.old.context.who space.old space.new }
+        ensures attends { Attends S.LockSpace space.new self.new.context }
+        ensures others { LeavesOthers S.LockSpace self.old.context.who space.old space.new }
         ensures who { self.new.context.who ≡ self.old.context.who }
         ensures idle { IdleUnlessPlayed result self.new }
     {
@@ -81,11 +81,11 @@ impl<S: LockSpace> Player<S> {
         space: &mut S,
         alteration: &'s Alteration,
     ) -> Played<'s>
-        requires attends { Attends S.speaks_for S.own S.knows space.old self.old.context }
+        requires attends { Attends S.LockSpace space.old self.old.context }
         requires idle { self.old.context.wait ≡ None }
         ensures run { IsPlayed S.joins (lock_schema_and_alter alteration.now) space.old self.old result space.new self.new }
-        ensures attends { Attends S.speaks_for S.own S.knows space.new self.new.context }
-        ensures others { LeavesOthers S.speaks_for S.own S.knows self.old.context.who space.old space.new }
+        ensures attends { Attends S.LockSpace space.new self.new.context }
+        ensures others { LeavesOthers S.LockSpace self.old.context.who space.old space.new }
         ensures who { self.new.context.who ≡ self.old.context.who }
         ensures idle { IdleUnlessPlayed result self.new }
     {
@@ -114,11 +114,11 @@ impl<S: LockSpace> Player<S> {
         space: &mut S,
         alteration: &'s Alteration,
     ) -> Played<'s>
-        requires attends { Attends S.speaks_for S.own S.knows space.old self.old.context }
+        requires attends { Attends S.LockSpace space.old self.old.context }
         requires idle { self.old.context.wait ≡ None }
         ensures run { IsPlayed S.joins (alter_in_schema alteration.now) space.old self.old result space.new self.new }
-        ensures attends { Attends S.speaks_for S.own S.knows space.new self.new.context }
-        ensures others { LeavesOthers S.speaks_for S.own S.knows self.old.context.who space.old space.new }
+        ensures attends { Attends S.LockSpace space.new self.new.context }
+        ensures others { LeavesOthers S.LockSpace self.old.context.who space.old space.new }
         ensures who { self.new.context.who ≡ self.old.context.who }
         ensures idle { IdleUnlessPlayed result self.new }
     {
@@ -130,11 +130,11 @@ impl<S: LockSpace> Player<S> {
 
     /// Locks a table against other changes, and alters it.
     fn alter_unlocked<'s>(&mut self, space: &mut S, alteration: &'s Alteration) -> Played<'s>
-        requires attends { Attends S.speaks_for S.own S.knows space.old self.old.context }
+        requires attends { Attends S.LockSpace space.old self.old.context }
         requires idle { self.old.context.wait ≡ None }
         ensures run { IsPlayed S.joins (alter_unlocked alteration.now) space.old self.old result space.new self.new }
-        ensures attends { Attends S.speaks_for S.own S.knows space.new self.new.context }
-        ensures others { LeavesOthers S.speaks_for S.own S.knows self.old.context.who space.old space.new }
+        ensures attends { Attends S.LockSpace space.new self.new.context }
+        ensures others { LeavesOthers S.LockSpace self.old.context.who space.old space.new }
         ensures who { self.new.context.who ≡ self.old.context.who }
         ensures idle { IdleUnlessPlayed result self.new }
     {
@@ -161,11 +161,11 @@ impl<S: LockSpace> Player<S> {
         alteration: &'s Alteration,
         ticket: TicketId,
     ) -> Played<'s>
-        requires attends { Attends S.speaks_for S.own S.knows space.old self.old.context }
+        requires attends { Attends S.LockSpace space.old self.old.context }
         requires idle { self.old.context.wait ≡ None }
         ensures run { IsPlayed S.joins (alter_under alteration.now ticket) space.old self.old result space.new self.new }
-        ensures attends { Attends S.speaks_for S.own S.knows space.new self.new.context }
-        ensures others { LeavesOthers S.speaks_for S.own S.knows self.old.context.who space.old space.new }
+        ensures attends { Attends S.LockSpace space.new self.new.context }
+        ensures others { LeavesOthers S.LockSpace self.old.context.who space.old space.new }
         ensures who { self.new.context.who ≡ self.old.context.who }
         ensures idle { IdleUnlessPlayed result self.new }
     {
@@ -185,11 +185,11 @@ impl<S: LockSpace> Player<S> {
         alteration: &'s Alteration,
         ticket: TicketId,
     ) -> Played<'s>
-        requires attends { Attends S.speaks_for S.own S.knows space.old self.old.context }
+        requires attends { Attends S.LockSpace space.old self.old.context }
         requires idle { self.old.context.wait ≡ None }
         ensures run { IsPlayed S.joins (alter_by_copy alteration.now ticket) space.old self.old result space.new self.new }
-        ensures attends { Attends S.speaks_for S.own S.knows space.new self.new.context }
-        ensures others { LeavesOthers S.speaks_for S.own S.knows self.old.context.who space.old space.new }
+        ensures attends { Attends S.LockSpace space.new self.new.context }
+        ensures others { LeavesOthers S.LockSpace self.old.context.who space.old space.new }
         ensures who { self.new.context.who ≡ self.old.context.who }
         ensures idle { IdleUnlessPlayed result self.new }
     {
@@ -211,11 +211,11 @@ impl<S: LockSpace> Player<S> {
         alteration: &'s Alteration,
         ticket: TicketId,
     ) -> Played<'s>
-        requires attends { Attends S.speaks_for S.own S.knows space.old self.old.context }
+        requires attends { Attends S.LockSpace space.old self.old.context }
         requires idle { self.old.context.wait ≡ None }
         ensures run { IsPlayed S.joins (alter_in_place alteration.now ticket) space.old self.old result space.new self.new }
-        ensures attends { Attends S.speaks_for S.own S.knows space.new self.new.context }
-        ensures others { LeavesOthers S.speaks_for S.own S.knows self.old.context.who space.old space.new }
+        ensures attends { Attends S.LockSpace space.new self.new.context }
+        ensures others { LeavesOthers S.LockSpace self.old.context.who space.old space.new }
         ensures who { self.new.context.who ≡ self.old.context.who }
         ensures idle { IdleUnlessPlayed result self.new }
     {
@@ -237,11 +237,11 @@ impl<S: LockSpace> Player<S> {
         alteration: &'s Alteration,
         ticket: TicketId,
     ) -> Played<'s>
-        requires attends { Attends S.speaks_for S.own S.knows space.old self.old.context }
+        requires attends { Attends S.LockSpace space.old self.old.context }
         requires idle { self.old.context.wait ≡ None }
         ensures run { IsPlayed S.joins (reopen_and_change alteration.now ticket) space.old self.old result space.new self.new }
-        ensures attends { Attends S.speaks_for S.own S.knows space.new self.new.context }
-        ensures others { LeavesOthers S.speaks_for S.own S.knows self.old.context.who space.old space.new }
+        ensures attends { Attends S.LockSpace space.new self.new.context }
+        ensures others { LeavesOthers S.LockSpace self.old.context.who space.old space.new }
         ensures who { self.new.context.who ≡ self.old.context.who }
         ensures idle { IdleUnlessPlayed result self.new }
     {
@@ -256,11 +256,11 @@ impl<S: LockSpace> Player<S> {
         alteration: &'s Alteration,
         ticket: TicketId,
     ) -> Played<'s>
-        requires attends { Attends S.speaks_for S.own S.knows space.old self.old.context }
+        requires attends { Attends S.LockSpace space.old self.old.context }
         requires idle { self.old.context.wait ≡ None }
         ensures run { IsPlayed S.joins (raise_and_change alteration.now ticket) space.old self.old result space.new self.new }
-        ensures attends { Attends S.speaks_for S.own S.knows space.new self.new.context }
-        ensures others { LeavesOthers S.speaks_for S.own S.knows self.old.context.who space.old space.new }
+        ensures attends { Attends S.LockSpace space.new self.new.context }
+        ensures others { LeavesOthers S.LockSpace self.old.context.who space.old space.new }
         ensures who { self.new.context.who ≡ self.old.context.who }
         ensures idle { IdleUnlessPlayed result self.new }
     {
@@ -282,11 +282,11 @@ impl<S: LockSpace> Player<S> {
         alteration: &'s Alteration,
         ticket: TicketId,
     ) -> Played<'s>
-        requires attends { Attends S.speaks_for S.own S.knows space.old self.old.context }
+        requires attends { Attends S.LockSpace space.old self.old.context }
         requires idle { self.old.context.wait ≡ None }
         ensures run { IsPlayed S.joins (change_table alteration.now ticket) space.old self.old result space.new self.new }
-        ensures attends { Attends S.speaks_for S.own S.knows space.new self.new.context }
-        ensures others { LeavesOthers S.speaks_for S.own S.knows self.old.context.who space.old space.new }
+        ensures attends { Attends S.LockSpace space.new self.new.context }
+        ensures others { LeavesOthers S.LockSpace self.old.context.who space.old space.new }
         ensures who { self.new.context.who ≡ self.old.context.who }
         ensures idle { IdleUnlessPlayed result self.new }
     {
@@ -303,11 +303,11 @@ impl<S: LockSpace> Player<S> {
         change: &Change,
         ticket: TicketId,
     ) -> Result<(), Ending>
-        requires attends { Attends S.speaks_for S.own S.knows space.old self.old.context }
+        requires attends { Attends S.LockSpace space.old self.old.context }
         requires idle { self.old.context.wait ≡ None }
         ensures run { IsStep S.joins (check_change change.now ticket) space.old self.old result space.new self.new }
-        ensures attends { Attends S.speaks_for S.own S.knows space.new self.new.context }
-        ensures others { LeavesOthers S.speaks_for S.own S.knows self.old.context.who space.old space.new }
+        ensures attends { Attends S.LockSpace space.new self.new.context }
+        ensures others { LeavesOthers S.LockSpace self.old.context.who space.old space.new }
         ensures who { self.new.context.who ≡ self.old.context.who }
         ensures idle { self.new.context.wait ≡ None }
     {
@@ -332,11 +332,11 @@ impl<S: LockSpace> Player<S> {
         at: Altering,
         ticket: TicketId,
     ) -> Played<'s>
-        requires attends { Attends S.speaks_for S.own S.knows space.old self.old.context }
+        requires attends { Attends S.LockSpace space.old self.old.context }
         requires idle { self.old.context.wait ≡ None }
         ensures run { IsPlayed S.joins (rest_of_altering alteration.now at ticket) space.old self.old result space.new self.new }
-        ensures attends { Attends S.speaks_for S.own S.knows space.new self.new.context }
-        ensures others { LeavesOthers S.speaks_for S.own S.knows self.old.context.who space.old space.new }
+        ensures attends { Attends S.LockSpace space.new self.new.context }
+        ensures others { LeavesOthers S.LockSpace self.old.context.who space.old space.new }
         ensures who { self.new.context.who ≡ self.old.context.who }
         ensures idle { IdleUnlessPlayed result self.new }
     {

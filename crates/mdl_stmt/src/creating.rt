@@ -31,11 +31,11 @@ impl<S: LockSpace> Player<S> {
         table: &'s Key,
         columns: &'s Columns,
     ) -> Played<'s>
-        requires attends { Attends S.speaks_for S.own S.knows space.old self.old.context }
+        requires attends { Attends S.LockSpace space.old self.old.context }
         requires idle { self.old.context.wait ≡ None }
         ensures run { IsPlayed S.joins (create_after_commit table.now columns.now) space.old self.old result space.new self.new }
-        ensures attends { Attends S.speaks_for S.own S.knows space.new self.new.context }
-        ensures others { LeavesOthers S.speaks_for S.own S.knows self.old.context.who space.old space.new }
+        ensures attends { Attends S.LockSpace space.new self.new.context }
+        ensures others { LeavesOthers S.LockSpace self.old.context.who space.old space.new }
         ensures who { self.new.context.who ≡ self.old.context.who }
         ensures idle { IdleUnlessPlayed result self.new }
     {
@@ -63,11 +63,11 @@ impl<S: LockSpace> Player<S> {
         table: &'s Key,
         columns: &'s Columns,
     ) -> Played<'s>
-        requires attends { Attends S.speaks_for S.own S.knows space.old self.old.context }
+        requires attends { Attends S.LockSpace space.old self.old.context }
         requires idle { self.old.context.wait ≡ None }
         ensures run { IsPlayed S.joins (lock_schema_and_create table.now columns.now) space.old self.old result space.new self.new }
-        ensures attends { Attends S.speaks_for S.own S.knows space.new self.new.context }
-        ensures others { LeavesOthers S.speaks_for S.own S.knows self.old.context.who space.old space.new }
+        ensures attends { Attends S.LockSpace space.new self.new.context }
+        ensures others { LeavesOthers S.LockSpace self.old.context.who space.old space.new }
         ensures who { self.new.context.who ≡ self.old.context.who }
         ensures idle { IdleUnlessPlayed result self.new }
     {
@@ -98,11 +98,11 @@ impl<S: LockSpace> Player<S> {
         columns: &'s Columns,
         schema: TicketId,
     ) -> Played<'s>
-        requires attends { Attends S.speaks_for S.own S.knows space.old self.old.context }
+        requires attends { Attends S.LockSpace space.old self.old.context }
         requires idle { self.old.context.wait ≡ None }
         ensures run { IsPlayed S.joins (lock_and_create table.now columns.now schema) space.old self.old result space.new self.new }
-        ensures attends { Attends S.speaks_for S.own S.knows space.new self.new.context }
-        ensures others { LeavesOthers S.speaks_for S.own S.knows self.old.context.who space.old space.new }
+        ensures attends { Attends S.LockSpace space.new self.new.context }
+        ensures others { LeavesOthers S.LockSpace self.old.context.who space.old space.new }
         ensures who { self.new.context.who ≡ self.old.context.who }
         ensures idle { IdleUnlessPlayed result self.new }
     {
@@ -130,11 +130,11 @@ impl<S: LockSpace> Player<S> {
         schema: TicketId,
         ticket: TicketId,
     ) -> Played<'s>
-        requires attends { Attends S.speaks_for S.own S.knows space.old self.old.context }
+        requires attends { Attends S.LockSpace space.old self.old.context }
         requires idle { self.old.context.wait ≡ None }
         ensures run { IsPlayed S.joins (create_under columns.now schema ticket) space.old self.old result space.new self.new }
-        ensures attends { Attends S.speaks_for S.own S.knows space.new self.new.context }
-        ensures others { LeavesOthers S.speaks_for S.own S.knows self.old.context.who space.old space.new }
+        ensures attends { Attends S.LockSpace space.new self.new.context }
+        ensures others { LeavesOthers S.LockSpace self.old.context.who space.old space.new }
         ensures who { self.new.context.who ≡ self.old.context.who }
         ensures idle { IdleUnlessPlayed result self.new }
     {
@@ -152,11 +152,11 @@ impl<S: LockSpace> Player<S> {
 
     /// Looks whether a schema is there.
     pub(crate) fn check_schema(&mut self, space: &mut S, schema: TicketId) -> Result<(), Ending>
-        requires attends { Attends S.speaks_for S.own S.knows space.old self.old.context }
+        requires attends { Attends S.LockSpace space.old self.old.context }
         requires idle { self.old.context.wait ≡ None }
         ensures run { IsStep S.joins (check_schema schema) space.old self.old result space.new self.new }
-        ensures attends { Attends S.speaks_for S.own S.knows space.new self.new.context }
-        ensures others { LeavesOthers S.speaks_for S.own S.knows self.old.context.who space.old space.new }
+        ensures attends { Attends S.LockSpace space.new self.new.context }
+        ensures others { LeavesOthers S.LockSpace self.old.context.who space.old space.new }
         ensures who { self.new.context.who ≡ self.old.context.who }
         ensures idle { self.new.context.wait ≡ None }
     {
@@ -178,11 +178,11 @@ impl<S: LockSpace> Player<S> {
         columns: &Columns,
         ticket: TicketId,
     ) -> Result<(), Ending>
-        requires attends { Attends S.speaks_for S.own S.knows space.old self.old.context }
+        requires attends { Attends S.LockSpace space.old self.old.context }
         requires idle { self.old.context.wait ≡ None }
         ensures run { IsStep S.joins (check_new columns.now ticket) space.old self.old result space.new self.new }
-        ensures attends { Attends S.speaks_for S.own S.knows space.new self.new.context }
-        ensures others { LeavesOthers S.speaks_for S.own S.knows self.old.context.who space.old space.new }
+        ensures attends { Attends S.LockSpace space.new self.new.context }
+        ensures others { LeavesOthers S.LockSpace self.old.context.who space.old space.new }
         ensures who { self.new.context.who ≡ self.old.context.who }
         ensures idle { self.new.context.wait ≡ None }
     {
@@ -209,11 +209,11 @@ impl<S: LockSpace> Player<S> {
         columns: &Columns,
         ticket: TicketId,
     ) -> Result<(), Ending>
-        requires attends { Attends S.speaks_for S.own S.knows space.old self.old.context }
+        requires attends { Attends S.LockSpace space.old self.old.context }
         requires idle { self.old.context.wait ≡ None }
         ensures run { IsStep S.joins (make_table columns.now ticket) space.old self.old result space.new self.new }
-        ensures attends { Attends S.speaks_for S.own S.knows space.new self.new.context }
-        ensures others { LeavesOthers S.speaks_for S.own S.knows self.old.context.who space.old space.new }
+        ensures attends { Attends S.LockSpace space.new self.new.context }
+        ensures others { LeavesOthers S.LockSpace self.old.context.who space.old space.new }
         ensures who { self.new.context.who ≡ self.old.context.who }
         ensures idle { self.new.context.wait ≡ None }
     {
@@ -233,11 +233,11 @@ impl<S: LockSpace> Player<S> {
         at: Creating<'s>,
         ticket: TicketId,
     ) -> Played<'s>
-        requires attends { Attends S.speaks_for S.own S.knows space.old self.old.context }
+        requires attends { Attends S.LockSpace space.old self.old.context }
         requires idle { self.old.context.wait ≡ None }
         ensures run { IsPlayed S.joins (rest_of_creating at.entry ticket) space.old self.old result space.new self.new }
-        ensures attends { Attends S.speaks_for S.own S.knows space.new self.new.context }
-        ensures others { LeavesOthers S.speaks_for S.own S.knows self.old.context.who space.old space.new }
+        ensures attends { Attends S.LockSpace space.new self.new.context }
+        ensures others { LeavesOthers S.LockSpace self.old.context.who space.old space.new }
         ensures who { self.new.context.who ≡ self.old.context.who }
         ensures idle { IdleUnlessPlayed result self.new }
     {

@@ -31,11 +31,11 @@ pub struct Turn {
 impl<S: LockSpace> Player<S> {
     /// Starts a statement.
     pub(crate) fn start_kept(&mut self, space: &mut S, statement: &Statement) -> Turn
-        requires attends { Attends S.speaks_for S.own S.knows space.old self.old.context }
+        requires attends { Attends S.LockSpace space.old self.old.context }
         requires idle { self.old.context.wait ≡ None }
         ensures run { Runs S.joins space.old (starting_kept statement.now (at_rest self.old)) (ran result.progress (session_with self.new result.work)) space.new }
-        ensures attends { Attends S.speaks_for S.own S.knows space.new self.new.context }
-        ensures others { LeavesOthers S.speaks_for S.own S.knows self.old.context.who space.old space.new }
+        ensures attends { Attends S.LockSpace space.new self.new.context }
+        ensures others { LeavesOthers S.LockSpace self.old.context.who space.old space.new }
         ensures who { self.new.context.who ≡ self.old.context.who }
         ensures idle { result.work ≡ None → self.new.context.wait ≡ None }
     {
@@ -46,10 +46,10 @@ impl<S: LockSpace> Player<S> {
 
     /// Goes on with a statement that waits.
     pub(crate) fn go_on_kept(&mut self, space: &mut S, work: KeptWork) -> Turn
-        requires attends { Attends S.speaks_for S.own S.knows space.old self.old.context }
+        requires attends { Attends S.LockSpace space.old self.old.context }
         ensures run { Runs S.joins space.old (going_on_kept (session_with self.old (Some work))) (ran result.progress (session_with self.new result.work)) space.new }
-        ensures attends { Attends S.speaks_for S.own S.knows space.new self.new.context }
-        ensures others { LeavesOthers S.speaks_for S.own S.knows self.old.context.who space.old space.new }
+        ensures attends { Attends S.LockSpace space.new self.new.context }
+        ensures others { LeavesOthers S.LockSpace self.old.context.who space.old space.new }
         ensures who { self.new.context.who ≡ self.old.context.who }
         ensures idle { result.work ≡ None → self.new.context.wait ≡ None }
     {
@@ -76,11 +76,11 @@ impl<S: LockSpace> Player<S> {
         ticket: TicketId,
         mark: Mark,
     ) -> Turn
-        requires attends { Attends S.speaks_for S.own S.knows space.old self.old.context }
+        requires attends { Attends S.LockSpace space.old self.old.context }
         requires idle { self.old.context.wait ≡ None }
         ensures run { Runs S.joins space.old (play_kept (rest_of_kept stage ticket) mark (at_rest self.old)) (ran result.progress (session_with self.new result.work)) space.new }
-        ensures attends { Attends S.speaks_for S.own S.knows space.new self.new.context }
-        ensures others { LeavesOthers S.speaks_for S.own S.knows self.old.context.who space.old space.new }
+        ensures attends { Attends S.LockSpace space.new self.new.context }
+        ensures others { LeavesOthers S.LockSpace self.old.context.who space.old space.new }
         ensures who { self.new.context.who ≡ self.old.context.who }
         ensures idle { result.work ≡ None → self.new.context.wait ≡ None }
     {
@@ -120,11 +120,11 @@ impl<S: LockSpace> Player<S> {
         ticket: TicketId,
         mark: Mark,
     ) -> Turn
-        requires attends { Attends S.speaks_for S.own S.knows space.old self.old.context }
+        requires attends { Attends S.LockSpace space.old self.old.context }
         requires idle { self.old.context.wait ≡ None }
         ensures run { Runs S.joins space.old (play_kept (rest_of_kept_dropping at ticket) mark (at_rest self.old)) (ran result.progress (session_with self.new result.work)) space.new }
-        ensures attends { Attends S.speaks_for S.own S.knows space.new self.new.context }
-        ensures others { LeavesOthers S.speaks_for S.own S.knows self.old.context.who space.old space.new }
+        ensures attends { Attends S.LockSpace space.new self.new.context }
+        ensures others { LeavesOthers S.LockSpace self.old.context.who space.old space.new }
         ensures who { self.new.context.who ≡ self.old.context.who }
         ensures idle { result.work ≡ None → self.new.context.wait ≡ None }
     {
@@ -147,11 +147,11 @@ impl<S: LockSpace> Player<S> {
         ticket: TicketId,
         mark: Mark,
     ) -> Turn
-        requires attends { Attends S.speaks_for S.own S.knows space.old self.old.context }
+        requires attends { Attends S.LockSpace space.old self.old.context }
         requires idle { self.old.context.wait ≡ None }
         ensures run { Runs S.joins space.old (play_kept (rest_of_kept_dropping_schema at ticket) mark (at_rest self.old)) (ran result.progress (session_with self.new result.work)) space.new }
-        ensures attends { Attends S.speaks_for S.own S.knows space.new self.new.context }
-        ensures others { LeavesOthers S.speaks_for S.own S.knows self.old.context.who space.old space.new }
+        ensures attends { Attends S.LockSpace space.new self.new.context }
+        ensures others { LeavesOthers S.LockSpace self.old.context.who space.old space.new }
         ensures who { self.new.context.who ≡ self.old.context.who }
         ensures idle { result.work ≡ None → self.new.context.wait ≡ None }
     {
@@ -173,11 +173,11 @@ impl<S: LockSpace> Player<S> {
 
     // Goes on with a statement at a stage.
     fn proceed_at(&mut self, space: &mut S, stage: Stage<'_>, ticket: TicketId, mark: Mark) -> Turn
-        requires attends { Attends S.speaks_for S.own S.knows space.old self.old.context }
+        requires attends { Attends S.LockSpace space.old self.old.context }
         requires idle { self.old.context.wait ≡ None }
         ensures run { Runs S.joins space.old (play_kept (rest_of stage.entry ticket) mark (at_rest self.old)) (ran result.progress (session_with self.new result.work)) space.new }
-        ensures attends { Attends S.speaks_for S.own S.knows space.new self.new.context }
-        ensures others { LeavesOthers S.speaks_for S.own S.knows self.old.context.who space.old space.new }
+        ensures attends { Attends S.LockSpace space.new self.new.context }
+        ensures others { LeavesOthers S.LockSpace self.old.context.who space.old space.new }
         ensures who { self.new.context.who ≡ self.old.context.who }
         ensures idle { result.work ≡ None → self.new.context.wait ≡ None }
     {
@@ -187,11 +187,11 @@ impl<S: LockSpace> Player<S> {
 
     /// Ends a statement that came so far, or keeps what is left of it while it waits.
     pub(crate) fn settle(&mut self, space: &mut S, played: Played<'_>, mark: Mark) -> Turn
-        requires attends { Attends S.speaks_for S.own S.knows space.old self.old.context }
+        requires attends { Attends S.LockSpace space.old self.old.context }
         requires idle { IdleUnlessPlayed played self.old }
         ensures run { IsSettled S.joins played.entry mark space.old self.old result space.new self.new }
-        ensures attends { Attends S.speaks_for S.own S.knows space.new self.new.context }
-        ensures others { LeavesOthers S.speaks_for S.own S.knows self.old.context.who space.old space.new }
+        ensures attends { Attends S.LockSpace space.new self.new.context }
+        ensures others { LeavesOthers S.LockSpace self.old.context.who space.old space.new }
         ensures who { self.new.context.who ≡ self.old.context.who }
         ensures idle { result.work ≡ None → self.new.context.wait ≡ None }
     {
@@ -213,11 +213,11 @@ impl<S: LockSpace> Player<S> {
         stage: Stage<'_>,
         mark: Mark,
     ) -> Turn
-        requires attends { Attends S.speaks_for S.own S.knows space.old self.old.context }
+        requires attends { Attends S.LockSpace space.old self.old.context }
         ensures run { Runs S.joins space.old (keeping (Begins_to_wait key mode (with_left (at_rest self.old) (record { rest = rest_of stage.entry; mark = mark }))))
             (ran result.progress (session_with self.new result.work)) space.new }
-        ensures attends { Attends S.speaks_for S.own S.knows space.new self.new.context }
-        ensures others { LeavesOthers S.speaks_for S.own S.knows self.old.context.who space.old space.new }
+        ensures attends { Attends S.LockSpace space.new self.new.context }
+        ensures others { LeavesOthers S.LockSpace self.old.context.who space.old space.new }
         ensures who { self.new.context.who ≡ self.old.context.who }
         ensures idle { result.work ≡ None → self.new.context.wait ≡ None }
     {

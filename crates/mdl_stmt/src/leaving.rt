@@ -9,12 +9,12 @@ use mdl_space::LockSpace;
 
 // Gives up the wait of a context, where there is one, and then all that it holds.
 pub(crate) fn give_all_up<S: LockSpace>(context: &mut Context<S>, space: &mut S)
-    requires { Attends S.speaks_for S.own S.knows space.old context.old }
+    requires { Attends S.LockSpace space.old context.old }
     ensures run { Runs S.joins space.old (leaving_from context.old.wait context.old) tt space.new }
     ensures kept { context.new.kept ≡ [] }
     ensures wait { context.new.wait ≡ None }
-    ensures attends { Attends S.speaks_for S.own S.knows space.new context.new }
-    ensures others { LeavesOthers S.speaks_for S.own S.knows context.old.who space.old space.new }
+    ensures attends { Attends S.LockSpace space.new context.new }
+    ensures others { LeavesOthers S.LockSpace context.old.who space.old space.new }
     ensures who { context.new.who ≡ context.old.who }
 {
     if context.wish().is_some() {

@@ -16,11 +16,11 @@ use mdl_space::LockSpace;
 impl<S: LockSpace> Player<S> {
     /// Gets the locks that are left of a list, for a change of definitions.
     pub(crate) fn lock_all(&mut self, space: &mut S, locks: LockList) -> Listed
-        requires attends { Attends S.speaks_for S.own S.knows space.old self.old.context }
+        requires attends { Attends S.LockSpace space.old self.old.context }
         requires idle { self.old.context.wait ≡ None }
         ensures run { IsListed S.joins locks space.old self.old result space.new self.new }
-        ensures attends { Attends S.speaks_for S.own S.knows space.new self.new.context }
-        ensures others { LeavesOthers S.speaks_for S.own S.knows self.old.context.who space.old space.new }
+        ensures attends { Attends S.LockSpace space.new self.new.context }
+        ensures others { LeavesOthers S.LockSpace self.old.context.who space.old space.new }
         ensures who { self.new.context.who ≡ self.old.context.who }
         ensures idle { IdleUnlessListed result self.new }
         ensures keys { KeepsKeys locks result }
@@ -35,11 +35,11 @@ impl<S: LockSpace> Player<S> {
         locking: Locking<'_>,
         locks: LockList,
     ) -> Listed
-        requires attends { Attends S.speaks_for S.own S.knows space.old self.old.context }
+        requires attends { Attends S.LockSpace space.old self.old.context }
         requires idle { self.old.context.wait ≡ None }
         ensures run { IsListedBy S.joins (wish_by locking.entry) locks space.old self.old result space.new self.new }
-        ensures attends { Attends S.speaks_for S.own S.knows space.new self.new.context }
-        ensures others { LeavesOthers S.speaks_for S.own S.knows self.old.context.who space.old space.new }
+        ensures attends { Attends S.LockSpace space.new self.new.context }
+        ensures others { LeavesOthers S.LockSpace self.old.context.who space.old space.new }
         ensures who { self.new.context.who ≡ self.old.context.who }
         ensures idle { IdleUnlessListed result self.new }
         ensures keys { KeepsKeys locks result }

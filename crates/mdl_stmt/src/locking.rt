@@ -26,11 +26,11 @@ impl<S: LockSpace> Player<S> {
         statement: &'s Statement,
         tables: &TableLocks,
     ) -> Played<'s>
-        requires attends { Attends S.speaks_for S.own S.knows space.old self.old.context }
+        requires attends { Attends S.LockSpace space.old self.old.context }
         requires idle { self.old.context.wait ≡ None }
         ensures run { IsPlayed S.joins (lock_first tables.now (after_commit statement.now)) space.old self.old result space.new self.new }
-        ensures attends { Attends S.speaks_for S.own S.knows space.new self.new.context }
-        ensures others { LeavesOthers S.speaks_for S.own S.knows self.old.context.who space.old space.new }
+        ensures attends { Attends S.LockSpace space.new self.new.context }
+        ensures others { LeavesOthers S.LockSpace self.old.context.who space.old space.new }
         ensures who { self.new.context.who ≡ self.old.context.who }
         ensures idle { IdleUnlessPlayed result self.new }
     {
@@ -49,11 +49,11 @@ impl<S: LockSpace> Player<S> {
 
     /// Gives up tables that were locked before, and locks these, once no transaction is open.
     pub(crate) fn lock_these<'s>(&mut self, space: &mut S, tables: &'s TableLocks) -> Played<'s>
-        requires attends { Attends S.speaks_for S.own S.knows space.old self.old.context }
+        requires attends { Attends S.LockSpace space.old self.old.context }
         requires idle { self.old.context.wait ≡ None }
         ensures run { IsPlayed S.joins (lock_tables_after_commit tables.now) space.old self.old result space.new self.new }
-        ensures attends { Attends S.speaks_for S.own S.knows space.new self.new.context }
-        ensures others { LeavesOthers S.speaks_for S.own S.knows self.old.context.who space.old space.new }
+        ensures attends { Attends S.LockSpace space.new self.new.context }
+        ensures others { LeavesOthers S.LockSpace self.old.context.who space.old space.new }
         ensures who { self.new.context.who ≡ self.old.context.who }
         ensures idle { IdleUnlessPlayed result self.new }
     {
@@ -71,11 +71,11 @@ impl<S: LockSpace> Player<S> {
         tables: &'s TableLocks,
         locks: LockList,
     ) -> Played<'s>
-        requires attends { Attends S.speaks_for S.own S.knows space.old self.old.context }
+        requires attends { Attends S.LockSpace space.old self.old.context }
         requires idle { self.old.context.wait ≡ None }
         ensures run { IsPlayed S.joins (lock_rest locks (lock_named tables.now)) space.old self.old result space.new self.new }
-        ensures attends { Attends S.speaks_for S.own S.knows space.new self.new.context }
-        ensures others { LeavesOthers S.speaks_for S.own S.knows self.old.context.who space.old space.new }
+        ensures attends { Attends S.LockSpace space.new self.new.context }
+        ensures others { LeavesOthers S.LockSpace self.old.context.who space.old space.new }
         ensures who { self.new.context.who ≡ self.old.context.who }
         ensures idle { IdleUnlessPlayed result self.new }
     {
@@ -95,11 +95,11 @@ impl<S: LockSpace> Player<S> {
         tables: &'s TableLocks,
         scopes: Vec<TicketId>,
     ) -> Played<'s>
-        requires attends { Attends S.speaks_for S.own S.knows space.old self.old.context }
+        requires attends { Attends S.LockSpace space.old self.old.context }
         requires idle { self.old.context.wait ≡ None }
         ensures run { IsPlayed S.joins (lock_named tables.now scopes.items) space.old self.old result space.new self.new }
-        ensures attends { Attends S.speaks_for S.own S.knows space.new self.new.context }
-        ensures others { LeavesOthers S.speaks_for S.own S.knows self.old.context.who space.old space.new }
+        ensures attends { Attends S.LockSpace space.new self.new.context }
+        ensures others { LeavesOthers S.LockSpace self.old.context.who space.old space.new }
         ensures who { self.new.context.who ≡ self.old.context.who }
         ensures idle { IdleUnlessPlayed result self.new }
     {
@@ -117,11 +117,11 @@ impl<S: LockSpace> Player<S> {
         scopes: Vec<TicketId>,
         locks: LockList,
     ) -> Played<'s>
-        requires attends { Attends S.speaks_for S.own S.knows space.old self.old.context }
+        requires attends { Attends S.LockSpace space.old self.old.context }
         requires idle { self.old.context.wait ≡ None }
         ensures run { IsPlayed S.joins (lock_rest_by (table_lock tables.now) locks (keep_locked tables.now locks.keys scopes.items)) space.old self.old result space.new self.new }
-        ensures attends { Attends S.speaks_for S.own S.knows space.new self.new.context }
-        ensures others { LeavesOthers S.speaks_for S.own S.knows self.old.context.who space.old space.new }
+        ensures attends { Attends S.LockSpace space.new self.new.context }
+        ensures others { LeavesOthers S.LockSpace self.old.context.who space.old space.new }
         ensures who { self.new.context.who ≡ self.old.context.who }
         ensures idle { IdleUnlessPlayed result self.new }
     {
@@ -146,11 +146,11 @@ impl<S: LockSpace> Player<S> {
         scopes: Vec<TicketId>,
         locks: LockList,
     ) -> Ending
-        requires attends { Attends S.speaks_for S.own S.knows space.old self.old.context }
+        requires attends { Attends S.LockSpace space.old self.old.context }
         requires idle { self.old.context.wait ≡ None }
         ensures run { IsPlayed S.joins (keep_locked tables.now locks.keys scopes.items locks.tickets) space.old self.old (played.Ends result) space.new self.new }
-        ensures attends { Attends S.speaks_for S.own S.knows space.new self.new.context }
-        ensures others { LeavesOthers S.speaks_for S.own S.knows self.old.context.who space.old space.new }
+        ensures attends { Attends S.LockSpace space.new self.new.context }
+        ensures others { LeavesOthers S.LockSpace self.old.context.who space.old space.new }
         ensures who { self.new.context.who ≡ self.old.context.who }
         ensures idle { self.new.context.wait ≡ None }
     {
@@ -176,11 +176,11 @@ impl<S: LockSpace> Player<S> {
         at: LockingTables,
         ticket: TicketId,
     ) -> Played<'s>
-        requires attends { Attends S.speaks_for S.own S.knows space.old self.old.context }
+        requires attends { Attends S.LockSpace space.old self.old.context }
         requires idle { self.old.context.wait ≡ None }
         ensures run { IsPlayed S.joins (rest_of_locking tables.now at ticket) space.old self.old result space.new self.new }
-        ensures attends { Attends S.speaks_for S.own S.knows space.new self.new.context }
-        ensures others { LeavesOthers S.speaks_for S.own S.knows self.old.context.who space.old space.new }
+        ensures attends { Attends S.LockSpace space.new self.new.context }
+        ensures others { LeavesOthers S.LockSpace self.old.context.who space.old space.new }
         ensures who { self.new.context.who ≡ self.old.context.who }
         ensures idle { IdleUnlessPlayed result self.new }
     {

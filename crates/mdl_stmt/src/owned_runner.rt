@@ -61,11 +61,11 @@ impl<S: LockSpace> OwnedRunner<S> {
     /// If the statement begins to wait and there is no memory for the copy, its wait is given up, and the statement ends for want of
     /// memory.
     pub fn start(&mut self, space: &mut S, statement: &Statement) -> Result<Progress, OutOfMemory>
-        requires attends { Attends S.speaks_for S.own S.knows space.old self.old.context }
+        requires attends { Attends S.LockSpace space.old self.old.context }
         requires idle { self.old.work ≡ None }
         ensures run { Runs S.joins space.old (starting_kept statement.now (session_kept self.old)) (ran result (session_kept self.new)) space.new }
-        ensures attends { Attends S.speaks_for S.own S.knows space.new self.new.context }
-        ensures others { LeavesOthers S.speaks_for S.own S.knows self.old.context.who space.old space.new }
+        ensures attends { Attends S.LockSpace space.new self.new.context }
+        ensures others { LeavesOthers S.LockSpace self.old.context.who space.old space.new }
         ensures who { self.new.context.who ≡ self.old.context.who }
     {
         let turn = self.player.start_kept(space, statement);
@@ -77,11 +77,11 @@ impl<S: LockSpace> OwnedRunner<S> {
     ///
     /// If the statement begins to wait again, what it needs is copied again.
     pub fn go_on(&mut self, space: &mut S) -> Result<Progress, OutOfMemory>
-        requires attends { Attends S.speaks_for S.own S.knows space.old self.old.context }
+        requires attends { Attends S.LockSpace space.old self.old.context }
         requires waits { IsSome self.old.work }
         ensures run { Runs S.joins space.old (going_on_kept (session_kept self.old)) (ran result (session_kept self.new)) space.new }
-        ensures attends { Attends S.speaks_for S.own S.knows space.new self.new.context }
-        ensures others { LeavesOthers S.speaks_for S.own S.knows self.old.context.who space.old space.new }
+        ensures attends { Attends S.LockSpace space.new self.new.context }
+        ensures others { LeavesOthers S.LockSpace self.old.context.who space.old space.new }
         ensures who { self.new.context.who ≡ self.old.context.who }
     {
         let work = self.work.take().unwrap();
@@ -92,11 +92,11 @@ impl<S: LockSpace> OwnedRunner<S> {
 
     /// Ends the session: a statement that waits is lost, and all that the session holds is given up. It takes no memory.
     pub fn leave(self, space: &mut S)
-        requires attends { Attends S.speaks_for S.own S.knows space.old self.context }
+        requires attends { Attends S.LockSpace space.old self.context }
         ensures run { Runs S.joins space.old (leaving (session_kept self)) tt space.new }
         ensures nothing { S.own space.new self.context.who ≡ record { held = []; wait = None } }
         ensures speaks { S.speaks_for space.new self.context.who }
-        ensures others { LeavesOthers S.speaks_for S.own S.knows self.context.who space.old space.new }
+        ensures others { LeavesOthers S.LockSpace self.context.who space.old space.new }
     {
         let OwnedRunner { player, work: _ } = self;
         let mut context = player.context;

@@ -25,11 +25,11 @@ pub(crate) fn failing(number: ErrorNumber) -> Ending
 impl<S: LockSpace> Player<S> {
     /// What stands under the key of a ticket.
     pub(crate) fn read(&mut self, space: &mut S, ticket: TicketId) -> Result<Standing, Ending>
-        requires attends { Attends S.speaks_for S.own S.knows space.old self.old.context }
+        requires attends { Attends S.LockSpace space.old self.old.context }
         requires idle { self.old.context.wait ≡ None }
         ensures run { IsStep S.joins (read ticket) space.old self.old result space.new self.new }
-        ensures attends { Attends S.speaks_for S.own S.knows space.new self.new.context }
-        ensures others { LeavesOthers S.speaks_for S.own S.knows self.old.context.who space.old space.new }
+        ensures attends { Attends S.LockSpace space.new self.new.context }
+        ensures others { LeavesOthers S.LockSpace self.old.context.who space.old space.new }
         ensures who { self.new.context.who ≡ self.old.context.who }
         ensures idle { self.new.context.wait ≡ None }
     {
@@ -46,11 +46,11 @@ impl<S: LockSpace> Player<S> {
         ticket: TicketId,
         change: &Change,
     ) -> Result<(), Ending>
-        requires attends { Attends S.speaks_for S.own S.knows space.old self.old.context }
+        requires attends { Attends S.LockSpace space.old self.old.context }
         requires idle { self.old.context.wait ≡ None }
         ensures run { IsStep S.joins (redefine ticket change.now) space.old self.old result space.new self.new }
-        ensures attends { Attends S.speaks_for S.own S.knows space.new self.new.context }
-        ensures others { LeavesOthers S.speaks_for S.own S.knows self.old.context.who space.old space.new }
+        ensures attends { Attends S.LockSpace space.new self.new.context }
+        ensures others { LeavesOthers S.LockSpace self.old.context.who space.old space.new }
         ensures who { self.new.context.who ≡ self.old.context.who }
         ensures idle { self.new.context.wait ≡ None }
     {
@@ -62,11 +62,11 @@ impl<S: LockSpace> Player<S> {
 
     /// The places of a schema's tables that have a definition, in key order.
     pub(crate) fn tables_of(&mut self, space: &mut S, schema: &str) -> Result<Vec<Place>, Ending>
-        requires attends { Attends S.speaks_for S.own S.knows space.old self.old.context }
+        requires attends { Attends S.LockSpace space.old self.old.context }
         requires idle { self.old.context.wait ≡ None }
         ensures run { IsStep S.joins (tables_within schema.now) space.old self.old (items_told result) space.new self.new }
-        ensures attends { Attends S.speaks_for S.own S.knows space.new self.new.context }
-        ensures others { LeavesOthers S.speaks_for S.own S.knows self.old.context.who space.old space.new }
+        ensures attends { Attends S.LockSpace space.new self.new.context }
+        ensures others { LeavesOthers S.LockSpace self.old.context.who space.old space.new }
         ensures who { self.new.context.who ≡ self.old.context.who }
         ensures idle { self.new.context.wait ≡ None }
     {
@@ -78,11 +78,11 @@ impl<S: LockSpace> Player<S> {
 
     /// The key of a place.
     pub(crate) fn key_of(&mut self, space: &mut S, place: Place) -> Result<Key, Ending>
-        requires attends { Attends S.speaks_for S.own S.knows space.old self.old.context }
+        requires attends { Attends S.LockSpace space.old self.old.context }
         requires idle { self.old.context.wait ≡ None }
         ensures run { IsStep S.joins (key_of place) space.old self.old result space.new self.new }
-        ensures attends { Attends S.speaks_for S.own S.knows space.new self.new.context }
-        ensures others { LeavesOthers S.speaks_for S.own S.knows self.old.context.who space.old space.new }
+        ensures attends { Attends S.LockSpace space.new self.new.context }
+        ensures others { LeavesOthers S.LockSpace self.old.context.who space.old space.new }
         ensures who { self.new.context.who ≡ self.old.context.who }
         ensures idle { self.new.context.wait ≡ None }
     {
@@ -94,11 +94,11 @@ impl<S: LockSpace> Player<S> {
 
     /// Kills the wait that a session has.
     pub(crate) fn kill(&mut self, space: &mut S, target: u16)
-        requires attends { Attends S.speaks_for S.own S.knows space.old self.old.context }
+        requires attends { Attends S.LockSpace space.old self.old.context }
         requires idle { self.old.context.wait ≡ None }
         ensures run { IsStep S.joins (kill target) space.old self.old (Ok tt) space.new self.new }
-        ensures attends { Attends S.speaks_for S.own S.knows space.new self.new.context }
-        ensures others { LeavesOthers S.speaks_for S.own S.knows self.old.context.who space.old space.new }
+        ensures attends { Attends S.LockSpace space.new self.new.context }
+        ensures others { LeavesOthers S.LockSpace self.old.context.who space.old space.new }
         ensures who { self.new.context.who ≡ self.old.context.who }
         ensures idle { self.new.context.wait ≡ None }
     {
@@ -109,11 +109,11 @@ impl<S: LockSpace> Player<S> {
 
     /// What stands under the key of a table's ticket, if there is such a table.
     pub(crate) fn exists(&mut self, space: &mut S, ticket: TicketId) -> Result<Standing, Ending>
-        requires attends { Attends S.speaks_for S.own S.knows space.old self.old.context }
+        requires attends { Attends S.LockSpace space.old self.old.context }
         requires idle { self.old.context.wait ≡ None }
         ensures run { IsStep S.joins (exists ticket) space.old self.old result space.new self.new }
-        ensures attends { Attends S.speaks_for S.own S.knows space.new self.new.context }
-        ensures others { LeavesOthers S.speaks_for S.own S.knows self.old.context.who space.old space.new }
+        ensures attends { Attends S.LockSpace space.new self.new.context }
+        ensures others { LeavesOthers S.LockSpace self.old.context.who space.old space.new }
         ensures who { self.new.context.who ≡ self.old.context.who }
         ensures idle { self.new.context.wait ≡ None }
     {
@@ -135,11 +135,11 @@ impl<S: LockSpace> Player<S> {
         table: &Key,
         ticket: TicketId,
     ) -> Result<TablesShown, Ending>
-        requires attends { Attends S.speaks_for S.own S.knows space.old self.old.context }
+        requires attends { Attends S.LockSpace space.old self.old.context }
         requires idle { self.old.context.wait ≡ None }
         ensures run { IsStep S.joins (show shown table.now ticket) space.old self.old result space.new self.new }
-        ensures attends { Attends S.speaks_for S.own S.knows space.new self.new.context }
-        ensures others { LeavesOthers S.speaks_for S.own S.knows self.old.context.who space.old space.new }
+        ensures attends { Attends S.LockSpace space.new self.new.context }
+        ensures others { LeavesOthers S.LockSpace self.old.context.who space.old space.new }
         ensures who { self.new.context.who ≡ self.old.context.who }
         ensures idle { self.new.context.wait ≡ None }
     {

@@ -70,11 +70,11 @@ impl<'s, S: LockSpace> Runner<'s, S> {
         space: &mut S,
         statement: &'s Statement,
     ) -> Result<Progress, OutOfMemory>
-        requires attends { Attends S.speaks_for S.own S.knows space.old self.old.context }
+        requires attends { Attends S.LockSpace space.old self.old.context }
         requires idle { self.old.work ≡ None }
         ensures run { Runs S.joins space.old (starting statement.now (session_of self.old)) (ran result (session_of self.new)) space.new }
-        ensures attends { Attends S.speaks_for S.own S.knows space.new self.new.context }
-        ensures others { LeavesOthers S.speaks_for S.own S.knows self.old.context.who space.old space.new }
+        ensures attends { Attends S.LockSpace space.new self.new.context }
+        ensures others { LeavesOthers S.LockSpace self.old.context.who space.old space.new }
         ensures who { self.new.context.who ≡ self.old.context.who }
     {
         let mark = self.player.context.savepoint();
@@ -89,11 +89,11 @@ impl<'s, S: LockSpace> Runner<'s, S> {
 
     /// Goes on with the statement that waits. One has to be waiting.
     pub fn go_on(&mut self, space: &mut S) -> Result<Progress, OutOfMemory>
-        requires attends { Attends S.speaks_for S.own S.knows space.old self.old.context }
+        requires attends { Attends S.LockSpace space.old self.old.context }
         requires waits { IsSome self.old.work }
         ensures run { Runs S.joins space.old (going_on (session_of self.old)) (ran result (session_of self.new)) space.new }
-        ensures attends { Attends S.speaks_for S.own S.knows space.new self.new.context }
-        ensures others { LeavesOthers S.speaks_for S.own S.knows self.old.context.who space.old space.new }
+        ensures attends { Attends S.LockSpace space.new self.new.context }
+        ensures others { LeavesOthers S.LockSpace self.old.context.who space.old space.new }
         ensures who { self.new.context.who ≡ self.old.context.who }
     {
         match self.player.context.resume(space) {
@@ -108,11 +108,11 @@ impl<'s, S: LockSpace> Runner<'s, S> {
     ///
     /// After MySQL 5.7, `THD::cleanup` of `sql/sql_class.cc`.
     pub fn leave(self, space: &mut S)
-        requires attends { Attends S.speaks_for S.own S.knows space.old self.context }
+        requires attends { Attends S.LockSpace space.old self.context }
         ensures run { Runs S.joins space.old (leaving (session_of self.entry)) tt space.new }
         ensures nothing { S.own space.new self.entry.context.who ≡ record { held = []; wait = None } }
         ensures speaks { S.speaks_for space.new self.entry.context.who }
-        ensures others { LeavesOthers S.speaks_for S.own S.knows self.entry.context.who space.old space.new }
+        ensures others { LeavesOthers S.LockSpace self.entry.context.who space.old space.new }
     {
         let Runner { player, work: _ } = self;
         let mut context = player.context;
@@ -121,12 +121,12 @@ impl<'s, S: LockSpace> Runner<'s, S> {
 
     // Ends the statement that waited.
     fn end_with(&mut self, space: &mut S, ending: Ending) -> Result<Progress, OutOfMemory>
-        requires attends { Attends S.speaks_for S.own S.knows space.old self.old.context }
+        requires attends { Attends S.LockSpace space.old self.old.context }
         requires waited { IsSome self.old.work }
         requires idle { self.old.context.wait ≡ None }
         ensures run { IfSome self.old.work (λ work. Runs S.joins space.old (closing ending work.mark (session_of self.old)) (ran result (session_of self.new)) space.new) }
-        ensures attends { Attends S.speaks_for S.own S.knows space.new self.new.context }
-        ensures others { LeavesOthers S.speaks_for S.own S.knows self.old.context.who space.old space.new }
+        ensures attends { Attends S.LockSpace space.new self.new.context }
+        ensures others { LeavesOthers S.LockSpace self.old.context.who space.old space.new }
         ensures who { self.new.context.who ≡ self.old.context.who }
     {
         let work = self.work.take().unwrap();
@@ -135,12 +135,12 @@ impl<'s, S: LockSpace> Runner<'s, S> {
 
     // Goes on with a statement that has the lock that it waited for.
     fn go_on_with(&mut self, space: &mut S, ticket: TicketId) -> Result<Progress, OutOfMemory>
-        requires attends { Attends S.speaks_for S.own S.knows space.old self.old.context }
+        requires attends { Attends S.LockSpace space.old self.old.context }
         requires waited { IsSome self.old.work }
         requires idle { self.old.context.wait ≡ None }
         ensures run { IfSome self.old.work (λ work. Runs S.joins space.old (play (rest_of work.stage ticket) work.mark (session_of (record self.old { work = None }))) (ran result (session_of self.new)) space.new) }
-        ensures attends { Attends S.speaks_for S.own S.knows space.new self.new.context }
-        ensures others { LeavesOthers S.speaks_for S.own S.knows self.old.context.who space.old space.new }
+        ensures attends { Attends S.LockSpace space.new self.new.context }
+        ensures others { LeavesOthers S.LockSpace self.old.context.who space.old space.new }
         ensures who { self.new.context.who ≡ self.old.context.who }
     {
         let Work { stage, mark } = self.work.take().unwrap();

@@ -18,11 +18,11 @@ use mdl_syntax::{Name, Statement};
 impl<S: LockSpace> Player<S> {
     /// Ends the transaction: its tickets go, and those of the statement.
     pub(crate) fn end_transaction(&mut self, space: &mut S)
-        requires attends { Attends S.speaks_for S.own S.knows space.old self.old.context }
+        requires attends { Attends S.LockSpace space.old self.old.context }
         requires idle { self.old.context.wait ≡ None }
         ensures run { IsStep S.joins end_transaction space.old self.old (Ok tt) space.new self.new }
-        ensures attends { Attends S.speaks_for S.own S.knows space.new self.new.context }
-        ensures others { LeavesOthers S.speaks_for S.own S.knows self.old.context.who space.old space.new }
+        ensures attends { Attends S.LockSpace space.new self.new.context }
+        ensures others { LeavesOthers S.LockSpace self.old.context.who space.old space.new }
         ensures who { self.new.context.who ≡ self.old.context.who }
         ensures idle { self.new.context.wait ≡ None }
     {
@@ -34,11 +34,11 @@ impl<S: LockSpace> Player<S> {
 
     /// Ends the transaction under the COMMIT lock, which goes then.
     pub(crate) fn end_under(&mut self, space: &mut S, lock: TicketId)
-        requires attends { Attends S.speaks_for S.own S.knows space.old self.old.context }
+        requires attends { Attends S.LockSpace space.old self.old.context }
         requires idle { self.old.context.wait ≡ None }
         ensures run { IsStep S.joins (end_under lock) space.old self.old (Ok tt) space.new self.new }
-        ensures attends { Attends S.speaks_for S.own S.knows space.new self.new.context }
-        ensures others { LeavesOthers S.speaks_for S.own S.knows self.old.context.who space.old space.new }
+        ensures attends { Attends S.LockSpace space.new self.new.context }
+        ensures others { LeavesOthers S.LockSpace self.old.context.who space.old space.new }
         ensures who { self.new.context.who ≡ self.old.context.who }
         ensures idle { self.new.context.wait ≡ None }
     {
@@ -48,11 +48,11 @@ impl<S: LockSpace> Player<S> {
 
     /// Commits a transaction that wrote.
     pub(crate) fn commit_writes(&mut self, space: &mut S) -> Got<()>
-        requires attends { Attends S.speaks_for S.own S.knows space.old self.old.context }
+        requires attends { Attends S.LockSpace space.old self.old.context }
         requires idle { self.old.context.wait ≡ None }
         ensures run { IsCommitted S.joins commit_writes space.old self.old result space.new self.new }
-        ensures attends { Attends S.speaks_for S.own S.knows space.new self.new.context }
-        ensures others { LeavesOthers S.speaks_for S.own S.knows self.old.context.who space.old space.new }
+        ensures attends { Attends S.LockSpace space.new self.new.context }
+        ensures others { LeavesOthers S.LockSpace self.old.context.who space.old space.new }
         ensures who { self.new.context.who ≡ self.old.context.who }
         ensures idle { IdleUnlessGot result self.new }
     {
@@ -74,11 +74,11 @@ impl<S: LockSpace> Player<S> {
 
     /// Commits an open transaction.
     fn commit(&mut self, space: &mut S) -> Got<()>
-        requires attends { Attends S.speaks_for S.own S.knows space.old self.old.context }
+        requires attends { Attends S.LockSpace space.old self.old.context }
         requires idle { self.old.context.wait ≡ None }
         ensures run { IsCommitted S.joins commit space.old self.old result space.new self.new }
-        ensures attends { Attends S.speaks_for S.own S.knows space.new self.new.context }
-        ensures others { LeavesOthers S.speaks_for S.own S.knows self.old.context.who space.old space.new }
+        ensures attends { Attends S.LockSpace space.new self.new.context }
+        ensures others { LeavesOthers S.LockSpace self.old.context.who space.old space.new }
         ensures who { self.new.context.who ≡ self.old.context.who }
         ensures idle { IdleUnlessGot result self.new }
     {
@@ -94,11 +94,11 @@ impl<S: LockSpace> Player<S> {
 
     /// Commits an open transaction, and then does what is left of the statement.
     pub(crate) fn commit_first<'s>(&mut self, space: &mut S, statement: &'s Statement) -> Played<'s>
-        requires attends { Attends S.speaks_for S.own S.knows space.old self.old.context }
+        requires attends { Attends S.LockSpace space.old self.old.context }
         requires idle { self.old.context.wait ≡ None }
         ensures run { IsPlayed S.joins (commit_first (after_commit statement.now)) space.old self.old result space.new self.new }
-        ensures attends { Attends S.speaks_for S.own S.knows space.new self.new.context }
-        ensures others { LeavesOthers S.speaks_for S.own S.knows self.old.context.who space.old space.new }
+        ensures attends { Attends S.LockSpace space.new self.new.context }
+        ensures others { LeavesOthers S.LockSpace self.old.context.who space.old space.new }
         ensures who { self.new.context.who ≡ self.old.context.who }
         ensures idle { IdleUnlessPlayed result self.new }
     {
@@ -111,11 +111,11 @@ impl<S: LockSpace> Player<S> {
 
     /// Does what is left of a statement once the transaction that was open is committed.
     pub(crate) fn after_commit<'s>(&mut self, space: &mut S, statement: &'s Statement) -> Played<'s>
-        requires attends { Attends S.speaks_for S.own S.knows space.old self.old.context }
+        requires attends { Attends S.LockSpace space.old self.old.context }
         requires idle { self.old.context.wait ≡ None }
         ensures run { IsPlayed S.joins (after_commit statement.now) space.old self.old result space.new self.new }
-        ensures attends { Attends S.speaks_for S.own S.knows space.new self.new.context }
-        ensures others { LeavesOthers S.speaks_for S.own S.knows self.old.context.who space.old space.new }
+        ensures attends { Attends S.LockSpace space.new self.new.context }
+        ensures others { LeavesOthers S.LockSpace self.old.context.who space.old space.new }
         ensures who { self.new.context.who ≡ self.old.context.who }
         ensures idle { IdleUnlessPlayed result self.new }
     {
@@ -135,11 +135,11 @@ impl<S: LockSpace> Player<S> {
 
     /// Opens a transaction: tables that are locked are given up.
     fn begin(&mut self, space: &mut S) -> Ending
-        requires attends { Attends S.speaks_for S.own S.knows space.old self.old.context }
+        requires attends { Attends S.LockSpace space.old self.old.context }
         requires idle { self.old.context.wait ≡ None }
         ensures run { IsPlayed S.joins begin_after_commit space.old self.old (played.Ends result) space.new self.new }
-        ensures attends { Attends S.speaks_for S.own S.knows space.new self.new.context }
-        ensures others { LeavesOthers S.speaks_for S.own S.knows self.old.context.who space.old space.new }
+        ensures attends { Attends S.LockSpace space.new self.new.context }
+        ensures others { LeavesOthers S.LockSpace self.old.context.who space.old space.new }
         ensures who { self.new.context.who ≡ self.old.context.who }
         ensures idle { self.new.context.wait ≡ None }
     {
@@ -150,11 +150,11 @@ impl<S: LockSpace> Player<S> {
 
     /// Rolls an open transaction back.
     pub(crate) fn rollback(&mut self, space: &mut S)
-        requires attends { Attends S.speaks_for S.own S.knows space.old self.old.context }
+        requires attends { Attends S.LockSpace space.old self.old.context }
         requires idle { self.old.context.wait ≡ None }
         ensures run { IsStep S.joins rollback space.old self.old (Ok tt) space.new self.new }
-        ensures attends { Attends S.speaks_for S.own S.knows space.new self.new.context }
-        ensures others { LeavesOthers S.speaks_for S.own S.knows self.old.context.who space.old space.new }
+        ensures attends { Attends S.LockSpace space.new self.new.context }
+        ensures others { LeavesOthers S.LockSpace self.old.context.who space.old space.new }
         ensures who { self.new.context.who ≡ self.old.context.who }
         ensures idle { self.new.context.wait ≡ None }
     {
@@ -165,11 +165,11 @@ impl<S: LockSpace> Player<S> {
 
     /// Marks the session's place in an open transaction by a name.
     pub(crate) fn save(&mut self, space: &mut S, name: &Name) -> Ending
-        requires attends { Attends S.speaks_for S.own S.knows space.old self.old.context }
+        requires attends { Attends S.LockSpace space.old self.old.context }
         requires idle { self.old.context.wait ≡ None }
         ensures run { IsPlayed S.joins (save name.now) space.old self.old (played.Ends result) space.new self.new }
-        ensures attends { Attends S.speaks_for S.own S.knows space.new self.new.context }
-        ensures others { LeavesOthers S.speaks_for S.own S.knows self.old.context.who space.old space.new }
+        ensures attends { Attends S.LockSpace space.new self.new.context }
+        ensures others { LeavesOthers S.LockSpace self.old.context.who space.old space.new }
         ensures who { self.new.context.who ≡ self.old.context.who }
         ensures idle { self.new.context.wait ≡ None }
     {
@@ -185,11 +185,11 @@ impl<S: LockSpace> Player<S> {
 
     /// Goes back to the savepoint of a name.
     pub(crate) fn rollback_to(&mut self, space: &mut S, name: &Name) -> Ending
-        requires attends { Attends S.speaks_for S.own S.knows space.old self.old.context }
+        requires attends { Attends S.LockSpace space.old self.old.context }
         requires idle { self.old.context.wait ≡ None }
         ensures run { IsPlayed S.joins (rollback_to name.now) space.old self.old (played.Ends result) space.new self.new }
-        ensures attends { Attends S.speaks_for S.own S.knows space.new self.new.context }
-        ensures others { LeavesOthers S.speaks_for S.own S.knows self.old.context.who space.old space.new }
+        ensures attends { Attends S.LockSpace space.new self.new.context }
+        ensures others { LeavesOthers S.LockSpace self.old.context.who space.old space.new }
         ensures who { self.new.context.who ≡ self.old.context.who }
         ensures idle { self.new.context.wait ≡ None }
     {

@@ -16,11 +16,11 @@ use mdl_space::{LockSpace, TicketId};
 impl<S: LockSpace> Player<S> {
     /// Gives locked tables up, with their scopes.
     pub(crate) fn unlock_tables(&mut self, space: &mut S)
-        requires attends { Attends S.speaks_for S.own S.knows space.old self.old.context }
+        requires attends { Attends S.LockSpace space.old self.old.context }
         requires idle { self.old.context.wait ≡ None }
         ensures run { IsStep S.joins unlock_tables space.old self.old (Ok tt) space.new self.new }
-        ensures attends { Attends S.speaks_for S.own S.knows space.new self.new.context }
-        ensures others { LeavesOthers S.speaks_for S.own S.knows self.old.context.who space.old space.new }
+        ensures attends { Attends S.LockSpace space.new self.new.context }
+        ensures others { LeavesOthers S.LockSpace self.old.context.who space.old space.new }
         ensures who { self.new.context.who ≡ self.old.context.who }
         ensures idle { self.new.context.wait ≡ None }
         ensures unlocked { (self.new.state.locked ≡ []) × (self.new.state.scopes ≡ []) }
@@ -32,11 +32,11 @@ impl<S: LockSpace> Player<S> {
 
     /// Gives locked tables up, and the global read lock.
     pub(crate) fn unlock(&mut self, space: &mut S) -> Ending
-        requires attends { Attends S.speaks_for S.own S.knows space.old self.old.context }
+        requires attends { Attends S.LockSpace space.old self.old.context }
         requires idle { self.old.context.wait ≡ None }
         ensures run { IsPlayed S.joins unlock space.old self.old (played.Ends result) space.new self.new }
-        ensures attends { Attends S.speaks_for S.own S.knows space.new self.new.context }
-        ensures others { LeavesOthers S.speaks_for S.own S.knows self.old.context.who space.old space.new }
+        ensures attends { Attends S.LockSpace space.new self.new.context }
+        ensures others { LeavesOthers S.LockSpace self.old.context.who space.old space.new }
         ensures who { self.new.context.who ≡ self.old.context.who }
         ensures idle { self.new.context.wait ≡ None }
     {
@@ -47,11 +47,11 @@ impl<S: LockSpace> Player<S> {
 
     /// Gives the global read lock up.
     fn give_up_read_lock(&mut self, space: &mut S)
-        requires attends { Attends S.speaks_for S.own S.knows space.old self.old.context }
+        requires attends { Attends S.LockSpace space.old self.old.context }
         requires idle { self.old.context.wait ≡ None }
         ensures run { IsStep S.joins give_up_read_lock space.old self.old (Ok tt) space.new self.new }
-        ensures attends { Attends S.speaks_for S.own S.knows space.new self.new.context }
-        ensures others { LeavesOthers S.speaks_for S.own S.knows self.old.context.who space.old space.new }
+        ensures attends { Attends S.LockSpace space.new self.new.context }
+        ensures others { LeavesOthers S.LockSpace self.old.context.who space.old space.new }
         ensures who { self.new.context.who ≡ self.old.context.who }
         ensures idle { self.new.context.wait ≡ None }
     {
@@ -62,11 +62,11 @@ impl<S: LockSpace> Player<S> {
 
     /// Releases the tickets of a global read lock.
     fn release_read_lock(&mut self, space: &mut S, lock: Option<ReadLock>)
-        requires attends { Attends S.speaks_for S.own S.knows space.old self.old.context }
+        requires attends { Attends S.LockSpace space.old self.old.context }
         requires idle { self.old.context.wait ≡ None }
         ensures run { IsStep S.joins (release_read_lock lock) space.old self.old (Ok tt) space.new self.new }
-        ensures attends { Attends S.speaks_for S.own S.knows space.new self.new.context }
-        ensures others { LeavesOthers S.speaks_for S.own S.knows self.old.context.who space.old space.new }
+        ensures attends { Attends S.LockSpace space.new self.new.context }
+        ensures others { LeavesOthers S.LockSpace self.old.context.who space.old space.new }
         ensures who { self.new.context.who ≡ self.old.context.who }
         ensures idle { self.new.context.wait ≡ None }
     {
@@ -78,11 +78,11 @@ impl<S: LockSpace> Player<S> {
 
     /// Releases the ticket of the COMMIT lock, if there is one.
     fn release_commits(&mut self, space: &mut S, commit: Option<TicketId>)
-        requires attends { Attends S.speaks_for S.own S.knows space.old self.old.context }
+        requires attends { Attends S.LockSpace space.old self.old.context }
         requires idle { self.old.context.wait ≡ None }
         ensures run { IsStep S.joins (release_commits commit) space.old self.old (Ok tt) space.new self.new }
-        ensures attends { Attends S.speaks_for S.own S.knows space.new self.new.context }
-        ensures others { LeavesOthers S.speaks_for S.own S.knows self.old.context.who space.old space.new }
+        ensures attends { Attends S.LockSpace space.new self.new.context }
+        ensures others { LeavesOthers S.LockSpace self.old.context.who space.old space.new }
         ensures who { self.new.context.who ≡ self.old.context.who }
         ensures idle { self.new.context.wait ≡ None }
     {
@@ -93,11 +93,11 @@ impl<S: LockSpace> Player<S> {
 
     /// Releases a ticket.
     fn release(&mut self, space: &mut S, ticket: TicketId)
-        requires attends { Attends S.speaks_for S.own S.knows space.old self.old.context }
+        requires attends { Attends S.LockSpace space.old self.old.context }
         requires idle { self.old.context.wait ≡ None }
         ensures run { IsStep S.joins (release ticket) space.old self.old (Ok tt) space.new self.new }
-        ensures attends { Attends S.speaks_for S.own S.knows space.new self.new.context }
-        ensures others { LeavesOthers S.speaks_for S.own S.knows self.old.context.who space.old space.new }
+        ensures attends { Attends S.LockSpace space.new self.new.context }
+        ensures others { LeavesOthers S.LockSpace self.old.context.who space.old space.new }
         ensures who { self.new.context.who ≡ self.old.context.who }
         ensures idle { self.new.context.wait ≡ None }
     {
@@ -107,11 +107,11 @@ impl<S: LockSpace> Player<S> {
 
 // Releases the tickets of locked tables, one after the other.
 fn release_tables<S: LockSpace>(context: &mut Context<S>, space: &mut S, tables: &[Locked])
-    requires attends { Attends S.speaks_for S.own S.knows space.old context.old }
+    requires attends { Attends S.LockSpace space.old context.old }
     requires idle { context.old.wait ≡ None }
     ensures run { (state : State) → IsStep S.joins (for_each release (map (λ table. table.ticket) tables.now)) space.old (record { context = context.old; state = state }) (Ok tt) space.new (record { context = context.new; state = state }) }
-    ensures attends { Attends S.speaks_for S.own S.knows space.new context.new }
-    ensures others { LeavesOthers S.speaks_for S.own S.knows context.old.who space.old space.new }
+    ensures attends { Attends S.LockSpace space.new context.new }
+    ensures others { LeavesOthers S.LockSpace context.old.who space.old space.new }
     ensures who { context.new.who ≡ context.old.who }
     ensures idle { context.new.wait ≡ None }
 {
@@ -122,11 +122,11 @@ fn release_tables<S: LockSpace>(context: &mut Context<S>, space: &mut S, tables:
 
 // Releases tickets, one after the other.
 fn release_each<S: LockSpace>(context: &mut Context<S>, space: &mut S, tickets: &[TicketId])
-    requires attends { Attends S.speaks_for S.own S.knows space.old context.old }
+    requires attends { Attends S.LockSpace space.old context.old }
     requires idle { context.old.wait ≡ None }
     ensures run { (state : State) → IsStep S.joins (for_each release tickets.now) space.old (record { context = context.old; state = state }) (Ok tt) space.new (record { context = context.new; state = state }) }
-    ensures attends { Attends S.speaks_for S.own S.knows space.new context.new }
-    ensures others { LeavesOthers S.speaks_for S.own S.knows context.old.who space.old space.new }
+    ensures attends { Attends S.LockSpace space.new context.new }
+    ensures others { LeavesOthers S.LockSpace context.old.who space.old space.new }
     ensures who { context.new.who ≡ context.old.who }
     ensures idle { context.new.wait ≡ None }
 {

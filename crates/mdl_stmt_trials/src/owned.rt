@@ -1,7 +1,7 @@
 //! Statements that are dropped as soon as they have started. Each waits for a lock that the other session has, once at each of its
 //! stages, and is done after that session has released the lock.
 ghost use Rattle.std.specs.Prelude.{◌≡◌};
-ghost use Rattle.mdl_core.specs.CoreJoins.{SpeaksFor, own_at, Knows};
+ghost use Rattle.mdl_space.specs.CoreMembers.{core_space};
 ghost use Rattle.mdl_context.specs.Contexts.{Attends, LeavesOthers};
 
 use crate::room::{Lock, OTHER, Outcome, held, leave, outcome_of, place, take};
@@ -121,10 +121,10 @@ fn start(
     runner: &mut OwnedRunner<CoreSpace>,
     statement: &Statement,
 ) -> Option<Outcome>
-    requires { Attends SpeaksFor own_at Knows space.old runner.old.context }
-    ensures attends { Attends SpeaksFor own_at Knows space.new runner.new.context }
+    requires { Attends core_space space.old runner.old.context }
+    ensures attends { Attends core_space space.new runner.new.context }
     ensures who { runner.new.context.who ≡ runner.old.context.who }
-    ensures others { LeavesOthers SpeaksFor own_at Knows runner.old.context.who space.old space.new }
+    ensures others { LeavesOthers core_space runner.old.context.who space.old space.new }
 {
     if runner.is_waiting() {
         return None;
@@ -133,10 +133,10 @@ fn start(
 }
 
 fn go_on(space: &mut CoreSpace, runner: &mut OwnedRunner<CoreSpace>) -> Option<Outcome>
-    requires { Attends SpeaksFor own_at Knows space.old runner.old.context }
-    ensures attends { Attends SpeaksFor own_at Knows space.new runner.new.context }
+    requires { Attends core_space space.old runner.old.context }
+    ensures attends { Attends core_space space.new runner.new.context }
     ensures who { runner.new.context.who ≡ runner.old.context.who }
-    ensures others { LeavesOthers SpeaksFor own_at Knows runner.old.context.who space.old space.new }
+    ensures others { LeavesOthers core_space runner.old.context.who space.old space.new }
 {
     if !runner.is_waiting() {
         return None;

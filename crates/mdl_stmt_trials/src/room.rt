@@ -1,6 +1,6 @@
 //! A lock space with a session whose statements are tried, and another one that has locks.
 ghost use Rattle.std.specs.Prelude.{◌≡◌};
-ghost use Rattle.mdl_core.specs.CoreJoins.{SpeaksFor, own_at, Knows};
+ghost use Rattle.mdl_space.specs.CoreMembers.{core_space};
 ghost use Rattle.mdl_context.specs.Contexts.{Attends, LeavesOthers};
 
 use mdl_defs::Change;
@@ -117,10 +117,10 @@ fn say<'s>(
     runner: &mut Runner<'s, CoreSpace>,
     statement: &'s Statement,
 ) -> Outcome
-    requires { Attends SpeaksFor own_at Knows space.old runner.old.context }
-    ensures attends { Attends SpeaksFor own_at Knows space.new runner.new.context }
+    requires { Attends core_space space.old runner.old.context }
+    ensures attends { Attends core_space space.new runner.new.context }
     ensures who { runner.new.context.who ≡ runner.old.context.who }
-    ensures others { LeavesOthers SpeaksFor own_at Knows runner.old.context.who space.old space.new }
+    ensures others { LeavesOthers core_space runner.old.context.who space.old space.new }
 {
     if runner.is_waiting() {
         return Outcome::Waits;
@@ -157,7 +157,7 @@ pub(crate) fn held<S: LockSpace>(space: &S, who: u16) -> Option<usize>
 pub(crate) fn place<S: LockSpace>(space: &mut S, who: u16, key: &Key) -> Option<Place>
     requires { S.speaks_for space.old who }
     ensures speaks { S.speaks_for space.new who }
-    ensures others { LeavesOthers S.speaks_for S.own S.knows who space.old space.new }
+    ensures others { LeavesOthers S.LockSpace who space.old space.new }
 {
     space.resolve(who, key).ok()
 }
@@ -170,7 +170,7 @@ pub(crate) fn take<S: LockSpace>(
 ) -> Option<TicketId>
     requires { S.speaks_for space.old who }
     ensures speaks { S.speaks_for space.new who }
-    ensures others { LeavesOthers S.speaks_for S.own S.knows who space.old space.new }
+    ensures others { LeavesOthers S.LockSpace who space.old space.new }
 {
     granted(space.try_now(who, place, mode))
 }
@@ -185,7 +185,7 @@ fn granted(outcome: Result<Attempt, SpaceError>) -> Option<TicketId> {
 fn copy<S: LockSpace>(space: &mut S, who: u16, id: TicketId, mode: Mode) -> Option<TicketId>
     requires { S.speaks_for space.old who }
     ensures speaks { S.speaks_for space.new who }
-    ensures others { LeavesOthers S.speaks_for S.own S.knows who space.old space.new }
+    ensures others { LeavesOthers S.LockSpace who space.old space.new }
 {
     space.clone_ticket(who, id, mode).ok()
 }
@@ -193,7 +193,7 @@ fn copy<S: LockSpace>(space: &mut S, who: u16, id: TicketId, mode: Mode) -> Opti
 fn changed<S: LockSpace>(space: &mut S, who: u16, id: TicketId, change: &Change) -> Option<u64>
     requires { S.speaks_for space.old who }
     ensures speaks { S.speaks_for space.new who }
-    ensures others { LeavesOthers S.speaks_for S.own S.knows who space.old space.new }
+    ensures others { LeavesOthers S.LockSpace who space.old space.new }
 {
     space.change_definition(who, id, change).ok()
 }
@@ -201,7 +201,7 @@ fn changed<S: LockSpace>(space: &mut S, who: u16, id: TicketId, change: &Change)
 pub(crate) fn leave<S: LockSpace>(space: &mut S, who: u16, id: TicketId) -> bool
     requires { S.speaks_for space.old who }
     ensures speaks { S.speaks_for space.new who }
-    ensures others { LeavesOthers S.speaks_for S.own S.knows who space.old space.new }
+    ensures others { LeavesOthers S.LockSpace who space.old space.new }
 {
     space.release(who, id).is_ok()
 }

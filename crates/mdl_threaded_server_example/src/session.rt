@@ -70,9 +70,9 @@ fn answer_all<S: LockSpace>(
     who: u16,
     requests: &[Request<'_>],
 ) -> Result<String, AllocError>
-    requires attends { Attends S.speaks_for S.own S.knows space.old runner.old.context }
+    requires attends { Attends S.LockSpace space.old runner.old.context }
     requires who { runner.old.context.who ≡ who }
-    ensures attends { Attends S.speaks_for S.own S.knows space.new runner.new.context }
+    ensures attends { Attends S.LockSpace space.new runner.new.context }
     ensures who { runner.new.context.who ≡ who }
 {
     let mut text = String::new(alloc);
@@ -91,9 +91,9 @@ fn answer<S: LockSpace>(
     request: &Request<'_>,
     text: &mut String,
 ) -> Result<(), AllocError>
-    requires attends { Attends S.speaks_for S.own S.knows space.old runner.old.context }
+    requires attends { Attends S.LockSpace space.old runner.old.context }
     requires who { runner.old.context.who ≡ who }
-    ensures attends { Attends S.speaks_for S.own S.knows space.new runner.new.context }
+    ensures attends { Attends S.LockSpace space.new runner.new.context }
     ensures who { runner.new.context.who ≡ who }
 {
     write!(text, "session {who}, line {}: ", request.number)?;
@@ -114,8 +114,8 @@ fn start<S: LockSpace>(
     runner: &mut OwnedRunner<S>,
     request: &[u8],
 ) -> Result<Progress, Fault>
-    requires { Attends S.speaks_for S.own S.knows space.old runner.old.context }
-    ensures attends { Attends S.speaks_for S.own S.knows space.new runner.new.context }
+    requires { Attends S.LockSpace space.old runner.old.context }
+    ensures attends { Attends S.LockSpace space.new runner.new.context }
     ensures who { runner.new.context.who ≡ runner.old.context.who }
 {
     let script = parse(alloc, request)?;
@@ -135,9 +135,9 @@ fn finish<S: LockSpace>(
     who: u16,
     progress: Progress,
 ) -> Result<Progress, OutOfMemory>
-    requires attends { Attends S.speaks_for S.own S.knows space.old runner.old.context }
+    requires attends { Attends S.LockSpace space.old runner.old.context }
     requires who { runner.old.context.who ≡ who }
-    ensures attends { Attends S.speaks_for S.own S.knows space.new runner.new.context }
+    ensures attends { Attends S.LockSpace space.new runner.new.context }
     ensures who { runner.new.context.who ≡ who }
 {
     let mut progress = progress;
@@ -156,10 +156,10 @@ fn wait_out<S: LockSpace>(
     runner: &mut OwnedRunner<S>,
     who: u16,
 ) -> Result<Progress, OutOfMemory>
-    requires attends { Attends S.speaks_for S.own S.knows space.old runner.old.context }
+    requires attends { Attends S.LockSpace space.old runner.old.context }
     requires who { runner.old.context.who ≡ who }
     requires waits { IsSome runner.old.work }
-    ensures attends { Attends S.speaks_for S.own S.knows space.new runner.new.context }
+    ensures attends { Attends S.LockSpace space.new runner.new.context }
     ensures who { runner.new.context.who ≡ who }
 {
     for _poll in 0..PATIENCE {

@@ -46,10 +46,10 @@ fn acquires_alike<S: LockSpace>(
     trial: &mut Trial,
     who: u16,
 ) -> bool
-    requires { Attends S.speaks_for S.own S.knows space.old context.old }
-    ensures attends { Attends S.speaks_for S.own S.knows space.new context.new }
+    requires { Attends S.LockSpace space.old context.old }
+    ensures attends { Attends S.LockSpace space.new context.new }
     ensures who { context.new.who ≡ context.old.who }
-    ensures others { LeavesOthers S.speaks_for S.own S.knows context.old.who space.old space.new }
+    ensures others { LeavesOthers S.LockSpace context.old.who space.old space.new }
 {
     let Ok(key) = trial.chance.draw_key(trial.alloc) else {
         return false;
@@ -72,10 +72,10 @@ fn releases_name_alike<S: LockSpace>(
     trial: &mut Trial,
     who: u16,
 ) -> bool
-    requires { Attends S.speaks_for S.own S.knows space.old context.old }
-    ensures attends { Attends S.speaks_for S.own S.knows space.new context.new }
+    requires { Attends S.LockSpace space.old context.old }
+    ensures attends { Attends S.LockSpace space.new context.new }
     ensures who { context.new.who ≡ context.old.who }
-    ensures others { LeavesOthers S.speaks_for S.own S.knows context.old.who space.old space.new }
+    ensures others { LeavesOthers S.LockSpace context.old.who space.old space.new }
 {
     let Ok(key) = trial.chance.draw_key(trial.alloc) else {
         return false;
@@ -90,10 +90,10 @@ fn alters_alike<S: LockSpace>(
     trial: &mut Trial,
     who: u16,
 ) -> bool
-    requires { Attends S.speaks_for S.own S.knows space.old context.old }
-    ensures attends { Attends S.speaks_for S.own S.knows space.new context.new }
+    requires { Attends S.LockSpace space.old context.old }
+    ensures attends { Attends S.LockSpace space.new context.new }
     ensures who { context.new.who ≡ context.old.who }
-    ensures others { LeavesOthers S.speaks_for S.own S.knows context.old.who space.old space.new }
+    ensures others { LeavesOthers S.LockSpace context.old.who space.old space.new }
 {
     if trial.chance.draw(3) == 0 {
         let id = trial.chance.draw_id_in(&trial.plain, who, &FALLING);
@@ -112,10 +112,10 @@ pub(crate) fn acts_alike<S: LockSpace>(
     trial: &mut Trial,
     who: u16,
 ) -> bool
-    requires { Attends S.speaks_for S.own S.knows space.old context.old }
-    ensures attends { Attends S.speaks_for S.own S.knows space.new context.new }
+    requires { Attends S.LockSpace space.old context.old }
+    ensures attends { Attends S.LockSpace space.new context.new }
     ensures who { context.new.who ≡ context.old.who }
-    ensures others { LeavesOthers S.speaks_for S.own S.knows context.old.who space.old space.new }
+    ensures others { LeavesOthers S.LockSpace context.old.who space.old space.new }
 {
     let call = draw_call(trial, who);
     match call {

@@ -5,8 +5,9 @@ use Rattle.std.proofs.lemmas.Bool.{eq-eqb, ne_eqb}
 use Rattle.std.proofs.lemmas.List.{append-nil, append_assoc, drop_more, map-append}
 use Rattle.std.specs.Option.{option_map}
 use Rattle.mdl_key.specs.Keys.{KeyName}
-use Rattle.mdl_calls.specs.Words.{Answer, Call, Done, Unpin, Pending, Poll_wait, Settle_timeout, Own, caller, own_after, Program, Give, Runs, ◌>>◌}
+use Rattle.mdl_calls.specs.Words.{Answer, Call, Done, Unpin, Pending, Poll_wait, Settle_timeout, caller, own_after, Program, Give, Runs, ◌>>◌}
 use Rattle.mdl_calls.proofs.RunLemmas.{runs_bind}
+use Rattle.mdl_calls.specs.declared.lock_space.LockSpace.{Ghosts}
 use Rattle.mdl_context.specs.Contexts.{ContextView, Attends}
 use Rattle.mdl_context.proofs.AttendLemmas.{attends-still}
 use Rattle.mdl_context.proofs.OthersLemmas.{IsFor}
@@ -52,26 +53,26 @@ module _ {S : Type 0} (joins : S → Call → Answer → S → Type 0) where
   unfolding waiting_out
   patience-over who answer a b step = (answer, b, step, (refl, refl))
 
-module _ {S : Type 0} {speaks_for : S → ℕ → Type 0} {own : S → ℕ → Own} {knows : S → ℕ → ℕ → KeyName → Type 0} {joins : S → Call → Answer → S → Type 0}
-    (keeps : (a b : S) (call : Call) (answer : Answer) (w : ℕ) → speaks_for a w → joins a call answer b → speaks_for b w)
-    (changes : (a b : S) (call : Call) (answer : Answer) (who : ℕ) → caller call ≡ Some who → joins a call answer b → own b who ≡ own_after call answer (own a who))
-    (remembers : (a b : S) (call : Call) (answer : Answer) (w place : ℕ) (key : KeyName) → speaks_for a w → (call ≡ Unpin w place → answer ≡ Done → ⊥) → joins a call answer b
-    → knows a w place key → knows b w place key) where
+module _ {S : Type 0} (members : Ghosts S)
+    (keeps : (a b : S) (call : Call) (answer : Answer) (w : ℕ) → members.speaks_for a w → members.joins a call answer b → members.speaks_for b w)
+    (changes : (a b : S) (call : Call) (answer : Answer) (who : ℕ) → caller call ≡ Some who → members.joins a call answer b → members.own b who ≡ own_after call answer (members.own a who))
+    (remembers : (a b : S) (call : Call) (answer : Answer) (w place : ℕ) (key : KeyName) → members.speaks_for a w → (call ≡ Unpin w place → answer ≡ Done → ⊥) → members.joins a call answer b
+    → members.knows a w place key → members.knows b w place key) where
   -- a wait was looked at: what is so now stays so if more follows, or nothing does
-  after-looked : (P : S → Type 0) (more : Program (Unit {0})) (answer : Answer) (a b : S) → P a → (Runs joins a more tt b → P b) → Runs joins a (while_pending more answer) tt b → P b
+  after-looked : (P : S → Type 0) (more : Program (Unit {0})) (answer : Answer) (a b : S) → P a → (Runs members.joins a more tt b → P b) → Runs members.joins a (while_pending more answer) tt b → P b
   after-looked P more Pending a b now later run = later run
   after-looked P more answer a b now later (same, here) = subst P here now
 
   -- a session that waits its wait out has what it had
-  pub attends-waited : (polls : ℕ) (context : ContextView) (a b : S) → Attends speaks_for own knows a context → Runs joins a (waiting_out context.who polls) tt b →
-      Attends speaks_for own knows b context
+  pub attends-waited : (polls : ℕ) (context : ContextView) (a b : S) → Attends members a context → Runs members.joins a (waiting_out context.who polls) tt b →
+      Attends members b context
   unfolding waiting_out
   attends-waited zero context a b attends (answer, mid, step, (same, here)) =
-      subst (λ (s : S). Attends speaks_for own knows s context) here
-      (attends-still keeps changes remembers a mid (Settle_timeout context.who) answer context attends refl refl refl step)
+      subst (λ (s : S). Attends members s context) here
+      (attends-still members keeps changes remembers a mid (Settle_timeout context.who) answer context attends refl refl refl step)
   attends-waited (suc polls) context a b attends (answer, mid, step, run) =
-      let now = attends-still keeps changes remembers a mid (Poll_wait context.who) answer context attends refl refl refl step in
-      after-looked (λ (s : S). Attends speaks_for own knows s context) (waiting_out context.who polls) answer mid b now (attends-waited polls context mid b now) run
+      let now = attends-still members keeps changes remembers a mid (Poll_wait context.who) answer context attends refl refl refl step in
+      after-looked (λ (s : S). Attends members s context) (waiting_out context.who polls) answer mid b now (attends-waited polls context mid b now) run
 
 -- ---- statements
 

@@ -50,13 +50,13 @@ impl<'s, S: LockSpace> Worker<'s, S> {
         lines: &'s [Line],
         gate: &G,
     ) -> Result<Vec<(u64, Reply)>, AllocError>
-        requires attends { Attends S.speaks_for S.own S.knows space.old self.old.runner.context }
+        requires attends { Attends S.LockSpace space.old self.old.runner.context }
         requires who { self.old.runner.context.who ≡ self.old.who }
         requires idle { self.old.runner.work ≡ None }
         ensures run { Runs S.joins space.old (working self.old.patience (lines_of self.old.who lines.now) (session_of self.old.runner)) (worked_as result (session_of self.new.runner)) space.new }
         ensures lines { IfOk result (λ answers. map (λ answer. answer.0) answers.items ≡ map (λ line. line.number) (lines_of self.old.who lines.now)) }
-        ensures attends { Attends S.speaks_for S.own S.knows space.new self.new.runner.context }
-        ensures others { LeavesOthers S.speaks_for S.own S.knows self.old.who space.old space.new }
+        ensures attends { Attends S.LockSpace space.new self.new.runner.context }
+        ensures others { LeavesOthers S.LockSpace self.old.who space.old space.new }
         ensures who { self.new.runner.context.who ≡ self.old.who }
     {
         let mut answers = Vec::new(alloc);
@@ -73,24 +73,24 @@ impl<'s, S: LockSpace> Worker<'s, S> {
 
     /// Ends the session: all that it has is given up. It takes no memory.
     pub(crate) fn leave(self, space: &mut S)
-        requires attends { Attends S.speaks_for S.own S.knows space.old self.runner.context }
+        requires attends { Attends S.LockSpace space.old self.runner.context }
         ensures run { Runs S.joins space.old (leaving (session_of self.entry.runner)) tt space.new }
         ensures nothing { S.own space.new self.entry.runner.context.who ≡ record { held = []; wait = None } }
         ensures speaks { S.speaks_for space.new self.entry.runner.context.who }
-        ensures others { LeavesOthers S.speaks_for S.own S.knows self.entry.runner.context.who space.old space.new }
+        ensures others { LeavesOthers S.LockSpace self.entry.runner.context.who space.old space.new }
     {
         self.runner.leave(space);
     }
 
     /// Makes a statement, and waits whatever it waits for.
     fn answer(&mut self, space: &mut S, statement: &'s Statement) -> Result<Reply, OutOfMemory>
-        requires attends { Attends S.speaks_for S.own S.knows space.old self.old.runner.context }
+        requires attends { Attends S.LockSpace space.old self.old.runner.context }
         requires who { self.old.runner.context.who ≡ self.old.who }
         requires idle { self.old.runner.work ≡ None }
         ensures run { Runs S.joins space.old (making self.old.patience statement.now (session_of self.old.runner))
             (came_to result (session_of self.new.runner)) space.new }
-        ensures attends { Attends S.speaks_for S.own S.knows space.new self.new.runner.context }
-        ensures others { LeavesOthers S.speaks_for S.own S.knows self.old.who space.old space.new }
+        ensures attends { Attends S.LockSpace space.new self.new.runner.context }
+        ensures others { LeavesOthers S.LockSpace self.old.who space.old space.new }
         ensures who { self.new.runner.context.who ≡ self.old.who }
         ensures idle { OnOk result (self.new.runner.work ≡ None) }
         ensures same { self.new.who ≡ self.old.who }
@@ -102,13 +102,13 @@ impl<'s, S: LockSpace> Worker<'s, S> {
 
     /// Brings a statement that came so far to its end.
     fn finish(&mut self, space: &mut S, progress: Progress) -> Result<Reply, OutOfMemory>
-        requires attends { Attends S.speaks_for S.own S.knows space.old self.old.runner.context }
+        requires attends { Attends S.LockSpace space.old self.old.runner.context }
         requires who { self.old.runner.context.who ≡ self.old.who }
         requires left { LeftWhileWaiting (paused progress (session_of self.old.runner)) }
         ensures run { Runs S.joins space.old (finishing self.old.patience most_waits (paused progress (session_of self.old.runner)))
             (came_to result (session_of self.new.runner)) space.new }
-        ensures attends { Attends S.speaks_for S.own S.knows space.new self.new.runner.context }
-        ensures others { LeavesOthers S.speaks_for S.own S.knows self.old.who space.old space.new }
+        ensures attends { Attends S.LockSpace space.new self.new.runner.context }
+        ensures others { LeavesOthers S.LockSpace self.old.who space.old space.new }
         ensures who { self.new.runner.context.who ≡ self.old.who }
         ensures idle { OnOk result (self.new.runner.work ≡ None) }
         ensures same { self.new.who ≡ self.old.who }
@@ -129,12 +129,12 @@ impl<'s, S: LockSpace> Worker<'s, S> {
 
     /// Waits the wait of a statement out, and goes on with it.
     fn go_further(&mut self, space: &mut S) -> Result<Progress, OutOfMemory>
-        requires attends { Attends S.speaks_for S.own S.knows space.old self.old.runner.context }
+        requires attends { Attends S.LockSpace space.old self.old.runner.context }
         requires who { self.old.runner.context.who ≡ self.old.who }
         requires waits { IsSome self.old.runner.work }
         ensures run { Runs S.joins space.old (going_further self.old.patience (session_of self.old.runner)) (ran result (session_of self.new.runner)) space.new }
-        ensures attends { Attends S.speaks_for S.own S.knows space.new self.new.runner.context }
-        ensures others { LeavesOthers S.speaks_for S.own S.knows self.old.who space.old space.new }
+        ensures attends { Attends S.LockSpace space.new self.new.runner.context }
+        ensures others { LeavesOthers S.LockSpace self.old.who space.old space.new }
         ensures who { self.new.runner.context.who ≡ self.old.who }
         ensures left { LeftWhileWaiting (ran result (session_of self.new.runner)) }
         ensures same { self.new.who ≡ self.old.who }

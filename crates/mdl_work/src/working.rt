@@ -33,7 +33,7 @@ pub fn work<S: LockSpace, G: Gate>(
     ensures lines { IfOk result (λ answers. map (λ answer. answer.0) answers.items ≡ map (λ line. line.number) (lines_of who script.now)) }
     ensures nothing { S.own space.new who ≡ record { held = []; wait = None } }
     ensures speaks { S.speaks_for space.new who }
-    ensures others { LeavesOthers S.speaks_for S.own S.knows who space.old space.new }
+    ensures others { LeavesOthers S.LockSpace who space.old space.new }
 {
     work_lines(alloc, space, who, script.lines(), patience, gate)
 }
@@ -54,7 +54,7 @@ pub fn work_lines<S: LockSpace, G: Gate>(
     ensures lines { IfOk result (λ answers. map (λ answer. answer.0) answers.items ≡ map (λ line. line.number) (lines_of who lines.now)) }
     ensures nothing { S.own space.new who ≡ record { held = []; wait = None } }
     ensures speaks { S.speaks_for space.new who }
-    ensures others { LeavesOthers S.speaks_for S.own S.knows who space.old space.new }
+    ensures others { LeavesOthers S.LockSpace who space.old space.new }
 {
     let mut worker = Worker::new(alloc, who, patience);
     let answers = worker.answer_lines(alloc, space, lines, gate);

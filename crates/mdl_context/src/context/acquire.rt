@@ -24,10 +24,10 @@ impl<S: LockSpace> Context<S> {
     ///
     /// After MySQL 5.7, `MDL_context::acquire_lock` of `sql/mdl.cc`.
     pub fn acquire(&mut self, space: &mut S, request: Request<'_>) -> Result<Acquire, ContextError>
-        requires { Attends S.speaks_for S.own S.knows space.old self.old }
+        requires { Attends S.LockSpace space.old self.old }
         ensures run { Runs S.joins space.old (acquiring (wish_of request.entry) self.old) (result, self.new) space.new }
-        ensures attends { Attends S.speaks_for S.own S.knows space.new self.new }
-        ensures others { LeavesOthers S.speaks_for S.own S.knows self.old.who space.old space.new }
+        ensures attends { Attends S.LockSpace space.new self.new }
+        ensures others { LeavesOthers S.LockSpace self.old.who space.old space.new }
         ensures who { self.new.who ≡ self.old.who }
         ensures unchanged { OnErr result (LearnsAtMost request.entry.key.now self.old self.new) }
         ensures own { OnErr result (S.own space.new self.old.who ≡ S.own space.old self.old.who) }
@@ -44,11 +44,11 @@ impl<S: LockSpace> Context<S> {
 
     // Comes by a lock of a key whose place isn't known yet.
     fn look_up(&mut self, space: &mut S, request: Request<'_>) -> Result<Acquire, ContextError>
-        requires attends { Attends S.speaks_for S.own S.knows space.old self.old }
+        requires attends { Attends S.LockSpace space.old self.old }
         requires idle { self.old.wait ≡ None }
         requires new { place_known request.key.now self.old.known ≡ None }
         ensures run { Runs S.joins space.old (finding None (wish_of request.entry) self.old) (result, self.new) space.new }
-        ensures attends { Attends S.speaks_for S.own S.knows space.new self.new }
+        ensures attends { Attends S.LockSpace space.new self.new }
         ensures who { self.new.who ≡ self.old.who }
         ensures unchanged { OnErr result (LearnsAtMost request.entry.key.now self.old self.new) }
         ensures own { OnErr result (S.own space.new self.old.who ≡ S.own space.old self.old.who) }
@@ -71,11 +71,11 @@ impl<S: LockSpace> Context<S> {
         place: Place,
         request: Request<'_>,
     ) -> Result<Acquire, ContextError>
-        requires attends { Attends S.speaks_for S.own S.knows space.old self.old }
+        requires attends { Attends S.LockSpace space.old self.old }
         requires idle { self.old.wait ≡ None }
         requires known { place_known request.key.now self.old.known ≡ Some place }
         ensures run { Runs S.joins space.old (acquiring_at place (wish_of request.entry) self.old) (result, self.new) space.new }
-        ensures attends { Attends S.speaks_for S.own S.knows space.new self.new }
+        ensures attends { Attends S.LockSpace space.new self.new }
         ensures who { self.new.who ≡ self.old.who }
         ensures unchanged { OnErr result (self.new ≡ self.old) }
         ensures own { OnErr result (S.own space.new self.old.who ≡ S.own space.old self.old.who) }

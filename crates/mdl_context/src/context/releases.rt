@@ -23,11 +23,11 @@ impl<S: LockSpace> Context<S> {
     ///
     /// After MySQL 5.7, `MDL_context::release_lock` of `sql/mdl.cc`.
     pub fn release(&mut self, space: &mut S, id: TicketId) -> Result<(), ContextError>
-        requires { Attends S.speaks_for S.own S.knows space.old self.old }
+        requires { Attends S.LockSpace space.old self.old }
         ensures refused { RefusesJust (release_fault id self.old) result }
         ensures run { Runs S.joins space.old (releasing id self.old) (result, self.new) space.new }
-        ensures attends { Attends S.speaks_for S.own S.knows space.new self.new }
-        ensures others { LeavesOthers S.speaks_for S.own S.knows self.old.who space.old space.new }
+        ensures attends { Attends S.LockSpace space.new self.new }
+        ensures others { LeavesOthers S.LockSpace self.old.who space.old space.new }
         ensures who { self.new.who ≡ self.old.who }
     {
         let Some(at) = self.holdings.position(id) else {
@@ -45,11 +45,11 @@ impl<S: LockSpace> Context<S> {
     ///
     /// After MySQL 5.7, `MDL_context::release_all_locks_for_name` of `sql/mdl.cc`.
     pub fn release_name(&mut self, space: &mut S, key: &Key) -> Result<(), ContextError>
-        requires { Attends S.speaks_for S.own S.knows space.old self.old }
+        requires { Attends S.LockSpace space.old self.old }
         ensures refused { RefusesJust (waiting_fault self.old) result }
         ensures run { Runs S.joins space.old (releasing_name key.now self.old) (result, self.new) space.new }
-        ensures attends { Attends S.speaks_for S.own S.knows space.new self.new }
-        ensures others { LeavesOthers S.speaks_for S.own S.knows self.old.who space.old space.new }
+        ensures attends { Attends S.LockSpace space.new self.new }
+        ensures others { LeavesOthers S.LockSpace self.old.who space.old space.new }
         ensures who { self.new.who ≡ self.old.who }
     {
         if self.holdings.is_waiting() {
@@ -77,11 +77,11 @@ impl<S: LockSpace> Context<S> {
     ///
     /// After MySQL 5.7, `MDL_context::rollback_to_savepoint` of `sql/mdl.cc`.
     pub fn rollback_to(&mut self, space: &mut S, mark: Mark) -> Result<(), ContextError>
-        requires { Attends S.speaks_for S.own S.knows space.old self.old }
+        requires { Attends S.LockSpace space.old self.old }
         ensures refused { RefusesJust (rollback_fault mark self.old) result }
         ensures run { Runs S.joins space.old (rolling_back mark self.old) (result, self.new) space.new }
-        ensures attends { Attends S.speaks_for S.own S.knows space.new self.new }
-        ensures others { LeavesOthers S.speaks_for S.own S.knows self.old.who space.old space.new }
+        ensures attends { Attends S.LockSpace space.new self.new }
+        ensures others { LeavesOthers S.LockSpace self.old.who space.old space.new }
         ensures who { self.new.who ≡ self.old.who }
     {
         let stands = self.savepoint();
@@ -99,11 +99,11 @@ impl<S: LockSpace> Context<S> {
     ///
     /// After MySQL 5.7, `MDL_context::release_statement_locks` of `sql/mdl.cc`.
     pub fn end_statement(&mut self, space: &mut S) -> Result<(), ContextError>
-        requires { Attends S.speaks_for S.own S.knows space.old self.old }
+        requires { Attends S.LockSpace space.old self.old }
         ensures refused { RefusesJust (waiting_fault self.old) result }
         ensures run { Runs S.joins space.old (ending_statement self.old) (result, self.new) space.new }
-        ensures attends { Attends S.speaks_for S.own S.knows space.new self.new }
-        ensures others { LeavesOthers S.speaks_for S.own S.knows self.old.who space.old space.new }
+        ensures attends { Attends S.LockSpace space.new self.new }
+        ensures others { LeavesOthers S.LockSpace self.old.who space.old space.new }
         ensures who { self.new.who ≡ self.old.who }
     {
         if self.holdings.is_waiting() {
@@ -118,11 +118,11 @@ impl<S: LockSpace> Context<S> {
     ///
     /// After MySQL 5.7, `MDL_context::release_transactional_locks` of `sql/mdl.cc`.
     pub fn end_transaction(&mut self, space: &mut S) -> Result<(), ContextError>
-        requires { Attends S.speaks_for S.own S.knows space.old self.old }
+        requires { Attends S.LockSpace space.old self.old }
         ensures refused { RefusesJust (waiting_fault self.old) result }
         ensures run { Runs S.joins space.old (ending_transaction self.old) (result, self.new) space.new }
-        ensures attends { Attends S.speaks_for S.own S.knows space.new self.new }
-        ensures others { LeavesOthers S.speaks_for S.own S.knows self.old.who space.old space.new }
+        ensures attends { Attends S.LockSpace space.new self.new }
+        ensures others { LeavesOthers S.LockSpace self.old.who space.old space.new }
         ensures who { self.new.who ≡ self.old.who }
     {
         if self.holdings.is_waiting() {
@@ -135,11 +135,11 @@ impl<S: LockSpace> Context<S> {
     /// As [`Context::rollback_to`], of a session that is known to have no wait. Where fewer tickets are kept than the
     /// mark counted, all of these stay. It takes no memory.
     pub fn return_to(&mut self, space: &mut S, mark: Mark)
-        requires attends { Attends S.speaks_for S.own S.knows space.old self.old }
+        requires attends { Attends S.LockSpace space.old self.old }
         requires idle { self.old.wait ≡ None }
         ensures run { Runs S.joins space.old (giving_up (beyond_mark mark self.old.kept) self.old) (Ok tt, self.new) space.new }
-        ensures attends { Attends S.speaks_for S.own S.knows space.new self.new }
-        ensures others { LeavesOthers S.speaks_for S.own S.knows self.old.who space.old space.new }
+        ensures attends { Attends S.LockSpace space.new self.new }
+        ensures others { LeavesOthers S.LockSpace self.old.who space.old space.new }
         ensures who { self.new.who ≡ self.old.who }
         ensures wait { self.new.wait ≡ None }
     {
@@ -149,11 +149,11 @@ impl<S: LockSpace> Context<S> {
 
     /// As [`Context::end_statement`], of a session that is known to have no wait. It takes no memory.
     pub fn finish_statement(&mut self, space: &mut S)
-        requires attends { Attends S.speaks_for S.own S.knows space.old self.old }
+        requires attends { Attends S.LockSpace space.old self.old }
         requires idle { self.old.wait ≡ None }
         ensures run { Runs S.joins space.old (giving_up (held_for Statement self.old.kept) self.old) (Ok tt, self.new) space.new }
-        ensures attends { Attends S.speaks_for S.own S.knows space.new self.new }
-        ensures others { LeavesOthers S.speaks_for S.own S.knows self.old.who space.old space.new }
+        ensures attends { Attends S.LockSpace space.new self.new }
+        ensures others { LeavesOthers S.LockSpace self.old.who space.old space.new }
         ensures who { self.new.who ≡ self.old.who }
         ensures wait { self.new.wait ≡ None }
     {
@@ -162,11 +162,11 @@ impl<S: LockSpace> Context<S> {
 
     /// As [`Context::end_transaction`], of a session that is known to have no wait. It takes no memory.
     pub fn finish_transaction(&mut self, space: &mut S)
-        requires attends { Attends S.speaks_for S.own S.knows space.old self.old }
+        requires attends { Attends S.LockSpace space.old self.old }
         requires idle { self.old.wait ≡ None }
         ensures run { Runs S.joins space.old (giving_up (of_transaction self.old.kept) self.old) (Ok tt, self.new) space.new }
-        ensures attends { Attends S.speaks_for S.own S.knows space.new self.new }
-        ensures others { LeavesOthers S.speaks_for S.own S.knows self.old.who space.old space.new }
+        ensures attends { Attends S.LockSpace space.new self.new }
+        ensures others { LeavesOthers S.LockSpace self.old.who space.old space.new }
         ensures who { self.new.who ≡ self.old.who }
         ensures wait { self.new.wait ≡ None }
     {
@@ -178,12 +178,12 @@ impl<S: LockSpace> Context<S> {
     ///
     /// After MySQL 5.7, `THD::cleanup` of `sql/sql_class.cc`.
     pub fn finish_all(&mut self, space: &mut S)
-        requires attends { Attends S.speaks_for S.own S.knows space.old self.old }
+        requires attends { Attends S.LockSpace space.old self.old }
         requires idle { self.old.wait ≡ None }
         ensures run { Runs S.joins space.old (giving_up_all self.old) (Ok tt, self.new) space.new }
         ensures kept { self.new.kept ≡ [] }
-        ensures attends { Attends S.speaks_for S.own S.knows space.new self.new }
-        ensures others { LeavesOthers S.speaks_for S.own S.knows self.old.who space.old space.new }
+        ensures attends { Attends S.LockSpace space.new self.new }
+        ensures others { LeavesOthers S.LockSpace self.old.who space.old space.new }
         ensures who { self.new.who ≡ self.old.who }
         ensures wait { self.new.wait ≡ None }
     {
@@ -193,11 +193,11 @@ impl<S: LockSpace> Context<S> {
 
     // Releases the tickets of a duration behind so many.
     fn release_beyond(&mut self, space: &mut S, duration: Duration, most: usize)
-        requires attends { Attends S.speaks_for S.own S.knows space.old self.old }
+        requires attends { Attends S.LockSpace space.old self.old }
         requires idle { self.old.wait ≡ None }
         ensures run { Runs S.joins space.old (releasing_all self.old.who (beyond duration most self.old.kept)) tt space.new }
         ensures kept { self.new ≡ record self.old { kept = without (beyond duration most self.old.kept) self.old.kept } }
-        ensures attends { Attends S.speaks_for S.own S.knows space.new self.new }
+        ensures attends { Attends S.LockSpace space.new self.new }
     {
         if let Some(first) = self.holdings.nth_for(duration, most) {
             let going = Going::From(duration, first);

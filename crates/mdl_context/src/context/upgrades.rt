@@ -32,11 +32,11 @@ impl<S: LockSpace> Context<S> {
         id: TicketId,
         mode: Mode,
     ) -> Result<Acquire, ContextError>
-        requires { Attends S.speaks_for S.own S.knows space.old self.old }
+        requires { Attends S.LockSpace space.old self.old }
         ensures refused { IfSome (release_fault id self.old) (λ fault. result ≡ Err fault) }
         ensures run { Runs S.joins space.old (upgrading id mode self.old) (result, self.new) space.new }
-        ensures attends { Attends S.speaks_for S.own S.knows space.new self.new }
-        ensures others { LeavesOthers S.speaks_for S.own S.knows self.old.who space.old space.new }
+        ensures attends { Attends S.LockSpace space.new self.new }
+        ensures others { LeavesOthers S.LockSpace self.old.who space.old space.new }
         ensures who { self.new.who ≡ self.old.who }
         ensures outcome { UpgradeComesTo id mode self.old (result, self.new) }
         ensures unchanged { OnErr result (self.new ≡ self.old) }
@@ -63,11 +63,11 @@ impl<S: LockSpace> Context<S> {
     ///
     /// After MySQL 5.7, `MDL_ticket::downgrade_lock` of `sql/mdl.cc`.
     pub fn downgrade(&mut self, space: &mut S, id: TicketId, mode: Mode) -> Result<(), ContextError>
-        requires { Attends S.speaks_for S.own S.knows space.old self.old }
+        requires { Attends S.LockSpace space.old self.old }
         ensures refused { IfSome (release_fault id self.old) (λ fault. result ≡ Err fault) }
         ensures run { Runs S.joins space.old (downgrading id mode self.old) (result, self.new) space.new }
-        ensures attends { Attends S.speaks_for S.own S.knows space.new self.new }
-        ensures others { LeavesOthers S.speaks_for S.own S.knows self.old.who space.old space.new }
+        ensures attends { Attends S.LockSpace space.new self.new }
+        ensures others { LeavesOthers S.LockSpace self.old.who space.old space.new }
         ensures who { self.new.who ≡ self.old.who }
         ensures done { OnOk result (self.new ≡ with_mode id (λ _. mode) self.old) }
         ensures unchanged { OnErr result (self.new ≡ self.old) }
@@ -95,11 +95,11 @@ impl<S: LockSpace> Context<S> {
         id: TicketId,
         wanted: Wanted,
     ) -> Result<Acquire, ContextError>
-        requires attends { Attends S.speaks_for S.own S.knows space.old self.old }
+        requires attends { Attends S.LockSpace space.old self.old }
         requires idle { self.old.wait ≡ None }
         requires kept { MatchOption (ticket_kept id self.old.kept) ⊥ (λ ticket. (wanted ≡ wanted_upgrade ticket wanted.mode false) × (covers wanted.mode ticket.mode ≡ true)) }
         ensures run { (ticket : Kept) → ticket_kept id self.old.kept ≡ Some ticket → Runs S.joins space.old (waiting_to_upgrade ticket wanted.mode self.old) (result, self.new) space.new }
-        ensures attends { Attends S.speaks_for S.own S.knows space.new self.new }
+        ensures attends { Attends S.LockSpace space.new self.new }
         ensures who { self.new.who ≡ self.old.who }
         ensures unchanged { OnErr result (self.new ≡ self.old) }
         ensures own { OnErr result (S.own space.new self.old.who ≡ S.own space.old self.old.who) }
@@ -130,10 +130,10 @@ impl<S: LockSpace> Context<S> {
         mode: Mode,
     ) -> Result<(), SpaceError>
         requires idle { self.old.wait ≡ None }
-        requires second { HasSecond S.speaks_for S.own S.knows id new mode space.old self.old }
+        requires second { HasSecond S.LockSpace id new mode space.old self.old }
         ensures refused { IfErr result (λ refusal. is_merge_refusal refusal ≡ true) }
         ensures run { Runs S.joins space.old (merging self.old.who id new) result space.new }
-        ensures attends { Attends S.speaks_for S.own S.knows space.new self.new }
+        ensures attends { Attends S.LockSpace space.new self.new }
         ensures who { self.new.who ≡ self.old.who }
         ensures done { OnOk result (self.new ≡ with_mode id (λ _. mode) self.old) }
         ensures unchanged { OnErr result (self.new ≡ self.old) }

@@ -22,13 +22,13 @@ impl<S: LockSpace> Context<S> {
     ///
     /// After MySQL 5.7, `MDL_context::acquire_lock` of `sql/mdl.cc`, from its wait on.
     pub fn resume(&mut self, space: &mut S) -> Result<Resume, ContextError>
-        requires { Attends S.speaks_for S.own S.knows space.old self.old }
+        requires { Attends S.LockSpace space.old self.old }
         ensures refused { IfSome (no_wait_fault self.old) (λ fault. result ≡ Err fault) }
         ensures fails { is_some self.old.wait ≡ true → FailsByMergeOrWant (upgrade_of self.old.wait) result }
         ensures searched { is_searched self.old.wait ≡ Some true → FailsByMerge (upgrade_of self.old.wait) result }
         ensures run { Runs S.joins space.old (resuming self.old) (result, self.new) space.new }
-        ensures attends { Attends S.speaks_for S.own S.knows space.new self.new }
-        ensures others { LeavesOthers S.speaks_for S.own S.knows self.old.who space.old space.new }
+        ensures attends { Attends S.LockSpace space.new self.new }
+        ensures others { LeavesOthers S.LockSpace self.old.who space.old space.new }
         ensures who { self.new.who ≡ self.old.who }
         ensures outcome { WaitComesTo self.old (result, self.new) }
         ensures failed { OnErr result (self.new ≡ without_wait self.old) }
@@ -47,12 +47,12 @@ impl<S: LockSpace> Context<S> {
     /// Gives the wait up, unless it is settled already, and ends it. It takes no memory, unless the wait was for an upgrade and is
     /// granted already; then the tickets are merged as by [`Context::resume`].
     pub fn give_up(&mut self, space: &mut S) -> Result<Resume, ContextError>
-        requires { Attends S.speaks_for S.own S.knows space.old self.old }
+        requires { Attends S.LockSpace space.old self.old }
         ensures refused { IfSome (no_wait_fault self.old) (λ fault. result ≡ Err fault) }
         ensures fails { is_some self.old.wait ≡ true → FailsByMerge (upgrade_of self.old.wait) result }
         ensures run { Runs S.joins space.old (giving_up_wait self.old) (result, self.new) space.new }
-        ensures attends { Attends S.speaks_for S.own S.knows space.new self.new }
-        ensures others { LeavesOthers S.speaks_for S.own S.knows self.old.who space.old space.new }
+        ensures attends { Attends S.LockSpace space.new self.new }
+        ensures others { LeavesOthers S.LockSpace self.old.who space.old space.new }
         ensures who { self.new.who ≡ self.old.who }
         ensures ended { self.new.wait ≡ None }
         ensures outcome { WaitComesTo self.old (result, self.new) }
@@ -67,11 +67,11 @@ impl<S: LockSpace> Context<S> {
 
     // Searches on for deadlocks, and then sees how the wait stands.
     fn search_on(&mut self, space: &mut S) -> Result<Resume, ContextError>
-        requires attends { Attends S.speaks_for S.own S.knows space.old self.old }
+        requires attends { Attends S.LockSpace space.old self.old }
         requires waits { is_some self.old.wait ≡ true }
         ensures fails { FailsByMergeOrWant (upgrade_of self.old.wait) result }
         ensures run { Runs S.joins space.old (searching_on self.old) (result, self.new) space.new }
-        ensures attends { Attends S.speaks_for S.own S.knows space.new self.new }
+        ensures attends { Attends S.LockSpace space.new self.new }
         ensures who { self.new.who ≡ self.old.who }
         ensures failed { OnErr result (self.new ≡ without_wait self.old) }
         ensures wait { WaitsOn result self.new.wait }
@@ -92,11 +92,11 @@ impl<S: LockSpace> Context<S> {
 
     // Sees how the wait stands, and ends it once it is settled.
     fn look(&mut self, space: &mut S) -> Result<Resume, ContextError>
-        requires attends { Attends S.speaks_for S.own S.knows space.old self.old }
+        requires attends { Attends S.LockSpace space.old self.old }
         requires waits { is_some self.old.wait ≡ true }
         ensures fails { FailsByMerge (upgrade_of self.old.wait) result }
         ensures run { Runs S.joins space.old (looking self.old) (result, self.new) space.new }
-        ensures attends { Attends S.speaks_for S.own S.knows space.new self.new }
+        ensures attends { Attends S.LockSpace space.new self.new }
         ensures who { self.new.who ≡ self.old.who }
         ensures failed { OnErr result (self.new ≡ without_wait self.old) }
         ensures wait { WaitsOn result self.new.wait }
@@ -109,11 +109,11 @@ impl<S: LockSpace> Context<S> {
 
     // Ends the wait, which is settled.
     fn end_wait(&mut self, space: &mut S) -> Result<Resume, ContextError>
-        requires attends { Attends S.speaks_for S.own S.knows space.old self.old }
+        requires attends { Attends S.LockSpace space.old self.old }
         requires settled { IsSettled S.is_settled space.old self.old.who }
         ensures fails { FailsByMerge (upgrade_of self.old.wait) result }
         ensures run { Runs S.joins space.old (ending self.old) (result, self.new) space.new }
-        ensures attends { Attends S.speaks_for S.own S.knows space.new self.new }
+        ensures attends { Attends S.LockSpace space.new self.new }
         ensures who { self.new.who ≡ self.old.who }
         ensures ended { self.new.wait ≡ None }
         ensures failed { OnErr result (self.new ≡ without_wait self.old) }
@@ -129,11 +129,11 @@ impl<S: LockSpace> Context<S> {
 
     // Ends a wait that is granted: keeps the ticket, or merges it into the one that it is to upgrade.
     fn win(&mut self, space: &mut S, new: TicketId) -> Result<Resume, ContextError>
-        requires attends { Attends S.speaks_for S.own S.knows space.old (taking_up new self.old) }
+        requires attends { Attends S.LockSpace space.old (taking_up new self.old) }
         requires awaited { IfSome self.old.wait (IsAwaited self.old.known self.old.kept) }
         ensures fails { FailsByMerge (upgrade_of self.old.wait) result }
         ensures run { Runs S.joins space.old (wait_won (upgrade_of self.old.wait) new self.old) (result, self.new) space.new }
-        ensures attends { Attends S.speaks_for S.own S.knows space.new self.new }
+        ensures attends { Attends S.LockSpace space.new self.new }
         ensures who { self.new.who ≡ self.old.who }
         ensures ended { self.new.wait ≡ None }
         ensures failed { OnErr result (self.new ≡ without_wait self.old) }

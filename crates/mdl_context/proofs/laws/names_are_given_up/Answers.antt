@@ -4,4 +4,4 @@ use Rattle.mdl_context.proofs.laws.names_are_given_up.Goals as goal
 pub returns : goal.returns
 returns g c =
     let laws = g.met.S.LockSpace in
-    names-given-up g.S.LockSpace.speaks_for g.S.LockSpace.own g.S.LockSpace.knows laws.rising laws.one_key laws.one_place
+    names-given-up g.S.LockSpace laws.rising laws.one_key laws.one_place

@@ -19,4 +19,4 @@ returns-clause-own g c =
 pub returns-clause-remembers : goal.returns-clause-remembers
 returns-clause-remembers g c =
     let laws = g.met.S.LockSpace in
-    known-still laws.keeps laws.changes laws.remembers _ _ _ _ _ c.requires.speaks refl c.release.ensures
+    known-still g.S.LockSpace laws.keeps laws.changes laws.remembers _ _ _ _ _ c.requires.speaks refl c.release.ensures

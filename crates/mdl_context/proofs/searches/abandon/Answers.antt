@@ -46,7 +46,7 @@ returns-in_default g c =
     record {
       run = abandon-lost g.S.LockSpace.joins c.args.who _ _ _ _ lost.0 step ended;
       speaks = laws.keeps _ _ _ _ _ then_speaks ended;
-      remembers = λ place key knew. known-still laws.keeps laws.changes laws.remembers _ _ _ _ _ then_speaks refl ended place key
-          (known-still laws.keeps laws.changes laws.remembers _ _ _ _ _ c.requires.speaks refl step place key knew);
+      remembers = λ place key knew. known-still g.S.LockSpace laws.keeps laws.changes laws.remembers _ _ _ _ _ then_speaks refl ended place key
+          (known-still g.S.LockSpace laws.keeps laws.changes laws.remembers _ _ _ _ _ c.requires.speaks refl step place key knew);
       own = laws.changes _ _ _ _ _ refl ended ∙ ap ending (laws.changes _ _ _ _ _ refl step);
     }

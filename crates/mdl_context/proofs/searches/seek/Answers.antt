@@ -49,7 +49,7 @@ loop-turn-preserved g c =
     let other : (c.in-Victim.victim == who) ≡ false = grind (arith, nat_tests, c.if-victim-who.false) in
     record {
       speaks = laws.keeps _ _ _ _ _ kept.speaks c.in_ok-search.ensures;
-      remembers = λ place key knew. known-still laws.keeps laws.changes laws.remembers _ _ _ _ _ kept.speaks refl c.in_ok-search.ensures place key (kept.remembers place key knew);
+      remembers = λ place key knew. known-still g.S.LockSpace laws.keeps laws.changes laws.remembers _ _ _ _ _ kept.speaks refl c.in_ok-search.ensures place key (kept.remembers place key knew);
       own = laws.changes _ _ _ _ _ refl c.in_ok-search.ensures ∙ kept.own;
       run = λ b end rest. kept.run b end (subst (λ n. Runs joins c.loop-turn.space (seeking n who) end b) count
           (seek-on joins who _ _ _ b c.in-Victim.victim end other (rw c.in-Victim.is at c.in_ok-search.ensures) rest));

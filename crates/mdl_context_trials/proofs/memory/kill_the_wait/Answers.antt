@@ -5,5 +5,5 @@ use Rattle.mdl_context_trials.proofs.memory.kill_the_wait.Goals as goal
 pub returns-in-Some : goal.returns-in-Some
 returns-in-Some g c =
     let laws = g.met.S.LockSpace in
-    let told = attended_over _ _ _ g.S.LockSpace.joins laws.keeps laws.others laws.remembers _ _ _ _ _ (λ e. cc) c.wait_of.ensures c.requires in
-    attended_over _ _ _ g.S.LockSpace.joins laws.keeps laws.others laws.remembers _ _ _ _ _ (λ e. cc) c.kill.ensures told
+    let told = attended_over g.S.LockSpace laws.keeps laws.others laws.remembers _ _ _ _ _ (λ e. cc) c.wait_of.ensures c.requires in
+    attended_over g.S.LockSpace laws.keeps laws.others laws.remembers _ _ _ _ _ (λ e. cc) c.kill.ensures told

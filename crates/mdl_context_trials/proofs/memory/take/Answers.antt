@@ -5,5 +5,5 @@ use Rattle.mdl_context_trials.proofs.memory.take.Goals as goal
 pub returns-clause-attends : goal.returns-clause-attends
 returns-clause-attends g c =
     let laws = g.met.S.LockSpace in
-    let resolved = attended_over _ _ _ g.S.LockSpace.joins laws.keeps laws.others laws.remembers _ _ _ _ _ (λ e. c.requires.other (cc)) c.resolve.ensures c.requires.attends in
-    attended_over _ _ _ g.S.LockSpace.joins laws.keeps laws.others laws.remembers _ _ _ _ _ (λ e. c.requires.other (cc)) c.try_now.ensures resolved
+    let resolved = attended_over g.S.LockSpace laws.keeps laws.others laws.remembers _ _ _ _ _ (λ e. c.requires.other (cc)) c.resolve.ensures c.requires.attends in
+    attended_over g.S.LockSpace laws.keeps laws.others laws.remembers _ _ _ _ _ (λ e. c.requires.other (cc)) c.try_now.ensures resolved

@@ -1,6 +1,6 @@
 -- One context makes a call, and the others are served as before.
 use Rattle.std.proofs.Common.{◌<◌, ◌-◌, ◌∙◌, length, arith, subst}
-use Rattle.mdl_core.specs.CoreJoins.{SpeaksFor, own_at, Knows}
+use Rattle.mdl_space.specs.CoreMembers.{core_space}
 use Rattle.mdl_context.specs.Contexts.{LeavesOthers}
 use Rattle.mdl_context_trials.proofs.HallLemmas.{served_at, served_then}
 use Rattle.mdl_context_trials.proofs.unmerged.make_among.Goals as goal
@@ -14,5 +14,5 @@ returns c =
     let at = served_at c.args.space.now 1 (c.from.result - 1) c.args.contexts.now c.index-contexts-from.result c.requires.served inside in
     record {
       served = served_then c.args.space.now c.make.new.space 1 (c.from.result - 1) c.args.contexts.now c.make.new.context c.requires.served inside
-          (c.make.ensures.who ∙ at.0) c.make.ensures.attends (subst (λ n. LeavesOthers SpeaksFor own_at Knows n c.args.space.now c.make.new.space) at.0 c.make.ensures.others);
+          (c.make.ensures.who ∙ at.0) c.make.ensures.attends (subst (λ n. LeavesOthers core_space n c.args.space.now c.make.new.space) at.0 c.make.ensures.others);
     }

@@ -13,7 +13,7 @@ loop-ticket-preserved g c = record {
   attends = c.release-released.ensures.attends;
   idle = search rules;
   who = c.release-released.ensures.who ∙ c.loop-ticket.invariant.who;
-  others = leaves-then g.S.LockSpace.speaks_for g.S.LockSpace.own g.S.LockSpace.knows c.args.context.now.who c.loop-ticket.context.who c.args.space.now c.loop-ticket.space c.release-released.new.space c.loop-ticket.invariant.who c.loop-ticket.invariant.others c.release-released.ensures.others;
+  others = leaves-then g.S.LockSpace c.args.context.now.who c.loop-ticket.context.who c.args.space.now c.loop-ticket.space c.release-released.new.space c.loop-ticket.invariant.who c.loop-ticket.invariant.others c.release-released.ensures.others;
   run = λ state.
       each-done g.S.LockSpace.joins release c.args.tickets.now c.args.space.now (seat state c.args.context.now) c.loop-ticket.ticket-index _ c.loop-ticket.space c.release-released.new.space (seat state c.loop-ticket.context) (seat state c.release-released.new.self)
       (drop-cons c.args.tickets.now c.loop-ticket.ticket-index 0 c.loop-ticket-test.true) (c.loop-ticket.invariant.run state)

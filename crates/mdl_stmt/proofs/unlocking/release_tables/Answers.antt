@@ -14,7 +14,7 @@ loop-table-preserved g c = record {
   attends = c.release-released.ensures.attends;
   idle = search rules;
   who = c.release-released.ensures.who ∙ c.loop-table.invariant.who;
-  others = leaves-then g.S.LockSpace.speaks_for g.S.LockSpace.own g.S.LockSpace.knows c.args.context.now.who c.loop-table.context.who c.args.space.now c.loop-table.space c.release-released.new.space c.loop-table.invariant.who c.loop-table.invariant.others c.release-released.ensures.others;
+  others = leaves-then g.S.LockSpace c.args.context.now.who c.loop-table.context.who c.args.space.now c.loop-table.space c.release-released.new.space c.loop-table.invariant.who c.loop-table.invariant.others c.release-released.ensures.others;
   run = λ state.
       each-done g.S.LockSpace.joins release (tickets_of c.args.tables.now) c.args.space.now (seat state c.args.context.now) c.loop-table.table-index _ c.loop-table.space c.release-released.new.space (seat state c.loop-table.context) (seat state c.release-released.new.self)
       (ticket-at c.args.tables.now c.loop-table.table-index c.table-item.result c.loop-table-test.true c.table-item.is) (c.loop-table.invariant.run state)

@@ -11,9 +11,9 @@ use Rattle.mdl_stmt.proofs.unlocking.release_tables.Given as goal
 
 abbrev pub invariant-loop-table : goal.invariant-loop-table
 invariant-loop-table g l = record {
-  attends : Attends g.S.LockSpace.speaks_for g.S.LockSpace.own g.S.LockSpace.knows l.space l.context;
+  attends : Attends g.S.LockSpace l.space l.context;
   idle : l.context.wait ≡ None;
   who : l.context.who ≡ l.fn.context.who;
-  others : LeavesOthers g.S.LockSpace.speaks_for g.S.LockSpace.own g.S.LockSpace.knows l.fn.context.who l.fn.space l.space;
+  others : LeavesOthers g.S.LockSpace l.fn.context.who l.fn.space l.space;
   run : (state : State) (rest : Unit {0} → Row Reply) → Comes g.S.LockSpace.joins l.fn.space (seat state l.fn.context) (play (for_each release (tickets_of l.tables) >>= rest)) l.space (seat state l.context) (play (for_each release (drop l.table-index (tickets_of l.tables)) >>= rest));
 }

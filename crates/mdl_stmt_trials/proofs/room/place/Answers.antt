@@ -9,4 +9,4 @@ returns-clause-speaks g c = g.met.S.LockSpace.keeps _ _ _ _ _ c.requires c.resol
 pub returns-clause-others : goal.returns-clause-others
 returns-clause-others g c =
     let laws = g.met.S.LockSpace in
-    one_call _ _ _ g.S.LockSpace.joins laws.keeps laws.others laws.remembers _ _ _ _ _ refl c.resolve.ensures
+    one_call g.S.LockSpace laws.keeps laws.others laws.remembers _ _ _ _ _ refl c.resolve.ensures

@@ -5,6 +5,6 @@ use Rattle.mdl_threaded_server_example.proofs.session.finish.Given as goal
 
 abbrev pub invariant-loop-wait : goal.invariant-loop-wait
 invariant-loop-wait g l = record {
-  attends : Attends g.S.LockSpace.speaks_for g.S.LockSpace.own g.S.LockSpace.knows l.space l.runner.context;
+  attends : Attends g.S.LockSpace l.space l.runner.context;
   who : l.runner.context.who ≡ l.who;
 }

@@ -14,4 +14,4 @@ go_on-requires-2-clause-attends g c =
     let laws = g.met.S.LockSpace in
     let kept = c.loop-poll.invariant in
     let step = subst (λ (w : ℕ). g.S.LockSpace.joins c.loop-poll.space (Settle_timeout w) (timed_out c.settle_timeout-settled.result) c.settle_timeout-settled.new.self) (sym kept.who) c.settle_timeout-settled.ensures in
-    attends-still laws.keeps laws.changes laws.remembers _ _ _ _ c.loop-poll.runner.context kept.attends refl refl refl step
+    attends-still g.S.LockSpace laws.keeps laws.changes laws.remembers _ _ _ _ c.loop-poll.runner.context kept.attends refl refl refl step

@@ -5,7 +5,7 @@ use Rattle.mdl_threaded_server_example.proofs.session.wait_out.Given as goal
 
 abbrev pub invariant-loop-poll : goal.invariant-loop-poll
 invariant-loop-poll g l = record {
-  attends : Attends g.S.LockSpace.speaks_for g.S.LockSpace.own g.S.LockSpace.knows l.space l.runner.context;
+  attends : Attends g.S.LockSpace l.space l.runner.context;
   who : l.runner.context.who ≡ l.who;
   waits : IsSome l.runner.work;
 }

@@ -16,25 +16,25 @@ win-requires-clause-attends g c =
     let same : c.self.inside.who ≡ c.args.self.now.who = ap (λ (v : ContextView). v.who) c.self.view_is in
     let laws = g.met.S.LockSpace in
     let step = rw (same, c.unwrap.ensures, c.in-Granted.is) at c.end_wait.ensures in
-    attends-won laws.keeps laws.changes laws.remembers _ _ c.in-Granted.id c.args.self.now (taking_up c.in-Granted.id c.args.self.now) c.requires.attends step refl refl refl refl
+    attends-won g.S.LockSpace laws.keeps laws.changes laws.remembers _ _ c.in-Granted.id c.args.self.now (taking_up c.in-Granted.id c.args.self.now) c.requires.attends step refl refl refl refl
 
 pub returns-in-Victim-clause-attends : goal.returns-in-Victim-clause-attends
 returns-in-Victim-clause-attends g c =
     let same : c.self.inside.who ≡ c.args.self.now.who = ap (λ (v : ContextView). v.who) c.self.view_is in
     let laws = g.met.S.LockSpace in
     let step = rw (same, c.unwrap.ensures, c.in-Victim.is) at c.end_wait.ensures in
-    attends-lost laws.keeps laws.changes laws.remembers _ _ _ _ _ c.requires.attends step c.lose.ensures.lost
+    attends-lost g.S.LockSpace laws.keeps laws.changes laws.remembers _ _ _ _ _ c.requires.attends step c.lose.ensures.lost
 
 pub returns-in-Timeout-clause-attends : goal.returns-in-Timeout-clause-attends
 returns-in-Timeout-clause-attends g c =
     let same : c.self.inside.who ≡ c.args.self.now.who = ap (λ (v : ContextView). v.who) c.self.view_is in
     let laws = g.met.S.LockSpace in
     let step = rw (same, c.unwrap.ensures, c.in-Timeout.is) at c.end_wait.ensures in
-    attends-lost laws.keeps laws.changes laws.remembers _ _ _ _ _ c.requires.attends step c.lose-in-Timeout.ensures.lost
+    attends-lost g.S.LockSpace laws.keeps laws.changes laws.remembers _ _ _ _ _ c.requires.attends step c.lose-in-Timeout.ensures.lost
 
 pub returns-in-Killed-clause-attends : goal.returns-in-Killed-clause-attends
 returns-in-Killed-clause-attends g c =
     let same : c.self.inside.who ≡ c.args.self.now.who = ap (λ (v : ContextView). v.who) c.self.view_is in
     let laws = g.met.S.LockSpace in
     let step = rw (same, c.unwrap.ensures, c.in-Killed.is) at c.end_wait.ensures in
-    attends-lost laws.keeps laws.changes laws.remembers _ _ _ _ _ c.requires.attends step c.lose-in-Killed.ensures.lost
+    attends-lost g.S.LockSpace laws.keeps laws.changes laws.remembers _ _ _ _ _ c.requires.attends step c.lose-in-Killed.ensures.lost

@@ -16,10 +16,10 @@ pub end_wait-requires-clause-attends : goal.end_wait-requires-clause-attends
 end_wait-requires-clause-attends g c =
     let same : c.self.inside.who ≡ c.args.self.now.who = ap (λ (v : ContextView). v.who) c.self.view_is in
     let laws = g.met.S.LockSpace in
-    attends-still laws.keeps laws.changes laws.remembers _ _ _ _ c.args.self.now c.requires.attends refl refl refl (rw (same, c.unwrap.ensures, c.in-Settled.is) at c.poll_wait.ensures)
+    attends-still g.S.LockSpace laws.keeps laws.changes laws.remembers _ _ _ _ c.args.self.now c.requires.attends refl refl refl (rw (same, c.unwrap.ensures, c.in-Settled.is) at c.poll_wait.ensures)
 
 pub returns-in-Pending-clause-attends : goal.returns-in-Pending-clause-attends
 returns-in-Pending-clause-attends g c =
     let same : c.self.inside.who ≡ c.args.self.now.who = ap (λ (v : ContextView). v.who) c.self.view_is in
     let laws = g.met.S.LockSpace in
-    attends-still laws.keeps laws.changes laws.remembers _ _ _ _ c.args.self.now c.requires.attends refl refl refl (rw (same, c.unwrap.ensures, c.in-Pending.is) at c.poll_wait.ensures)
+    attends-still g.S.LockSpace laws.keeps laws.changes laws.remembers _ _ _ _ c.args.self.now c.requires.attends refl refl refl (rw (same, c.unwrap.ensures, c.in-Pending.is) at c.poll_wait.ensures)

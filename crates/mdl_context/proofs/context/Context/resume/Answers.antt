@@ -24,31 +24,31 @@ pub end_wait-requires-clause-attends : goal.end_wait-requires-clause-attends
 end_wait-requires-clause-attends g c =
     let same : c.self.inside.who ≡ c.args.self.now.who = ap (λ (v : ContextView). v.who) c.self.view_is in
     let laws = g.met.S.LockSpace in
-    attends-still laws.keeps laws.changes laws.remembers _ _ _ _ c.args.self.now c.requires refl refl refl (rw (same, c.unwrap.ensures, c.in-Settled.is) at c.poll_wait.ensures)
+    attends-still g.S.LockSpace laws.keeps laws.changes laws.remembers _ _ _ _ c.args.self.now c.requires refl refl refl (rw (same, c.unwrap.ensures, c.in-Settled.is) at c.poll_wait.ensures)
 
 pub search_on-requires-clause-attends : goal.search_on-requires-clause-attends
 search_on-requires-clause-attends g c =
     let same : c.self.inside.who ≡ c.args.self.now.who = ap (λ (v : ContextView). v.who) c.self.view_is in
     let laws = g.met.S.LockSpace in
-    attends-still laws.keeps laws.changes laws.remembers _ _ _ _ c.args.self.now c.requires refl refl refl (rw (same, c.unwrap.ensures, c.in-Pending.is) at c.poll_wait.ensures)
+    attends-still g.S.LockSpace laws.keeps laws.changes laws.remembers _ _ _ _ c.args.self.now c.requires refl refl refl (rw (same, c.unwrap.ensures, c.in-Pending.is) at c.poll_wait.ensures)
 
 pub returns-in-Some-true-clause-others : goal.returns-in-Some-true-clause-others
 returns-in-Some-true-clause-others g c =
     let laws = g.met.S.LockSpace in
-    leaves laws.keeps laws.others laws.remembers c.args.self.now.who (looking c.args.self.now) _ _ (c.look.result, c.look.new.self) (for_looking c.args.self.now) c.look.ensures.run
+    leaves g.S.LockSpace laws.keeps laws.others laws.remembers c.args.self.now.who (looking c.args.self.now) _ _ (c.look.result, c.look.new.self) (for_looking c.args.self.now) c.look.ensures.run
 
 pub returns-in-Pending-clause-others : goal.returns-in-Pending-clause-others
 returns-in-Pending-clause-others g c =
     let same : c.self.inside.who ≡ c.args.self.now.who = ap (λ (v : ContextView). v.who) c.self.view_is in
     let laws = g.met.S.LockSpace in
-    leaves laws.keeps laws.others laws.remembers c.args.self.now.who (Ask (Poll_wait c.args.self.now.who) (λ _. searching_on c.args.self.now)) _ _ (c.search_on.result, c.search_on.new.self) (refl, λ _. for_searching_on c.args.self.now)
+    leaves g.S.LockSpace laws.keeps laws.others laws.remembers c.args.self.now.who (Ask (Poll_wait c.args.self.now.who) (λ _. searching_on c.args.self.now)) _ _ (c.search_on.result, c.search_on.new.self) (refl, λ _. for_searching_on c.args.self.now)
     (_, _, rw same at c.poll_wait.ensures, c.search_on.ensures.run)
 
 pub returns-in-Settled-clause-others : goal.returns-in-Settled-clause-others
 returns-in-Settled-clause-others g c =
     let same : c.self.inside.who ≡ c.args.self.now.who = ap (λ (v : ContextView). v.who) c.self.view_is in
     let laws = g.met.S.LockSpace in
-    leaves laws.keeps laws.others laws.remembers c.args.self.now.who (Ask (Poll_wait c.args.self.now.who) (λ _. ending c.args.self.now)) _ _ (c.end_wait.result, c.end_wait.new.self) (refl, λ _. for_ending c.args.self.now)
+    leaves g.S.LockSpace laws.keeps laws.others laws.remembers c.args.self.now.who (Ask (Poll_wait c.args.self.now.who) (λ _. ending c.args.self.now)) _ _ (c.end_wait.result, c.end_wait.new.self) (refl, λ _. for_ending c.args.self.now)
     (_, _, rw same at c.poll_wait.ensures, c.end_wait.ensures.run)
 
 pub returns-in-Pending-clause-outcome : goal.returns-in-Pending-clause-outcome

@@ -34,7 +34,7 @@ pub wait_to_upgrade-requires-clause-attends : goal.wait_to_upgrade-requires-clau
 wait_to_upgrade-requires-clause-attends g c =
     let same : c.self.inside.who ≡ c.args.self.now.who = ap (λ (v : ContextView). v.who) c.self.view_is in
     let laws = g.met.S.LockSpace in
-    attends-still laws.keeps laws.changes laws.remembers _ _ _ _ c.args.self.now c.requires refl refl refl (rw (same, c.in-Ok-WouldWait.is, c.in-Ok-WouldWait.field-0-is) at c.upgrade_now.ensures)
+    attends-still g.S.LockSpace laws.keeps laws.changes laws.remembers _ _ _ _ c.args.self.now c.requires refl refl refl (rw (same, c.in-Ok-WouldWait.is, c.in-Ok-WouldWait.field-0-is) at c.upgrade_now.ensures)
 
 pub wait_to_upgrade-requires-clause-kept : goal.wait_to_upgrade-requires-clause-kept
 wait_to_upgrade-requires-clause-kept g c =
@@ -65,7 +65,7 @@ returns-in-Ok-Upgraded-clause-run g c =
 pub returns-in-Ok-Upgraded-clause-attends : goal.returns-in-Ok-Upgraded-clause-attends
 returns-in-Ok-Upgraded-clause-attends g c =
     let laws = g.met.S.LockSpace in
-    attends-in_mode laws.keeps laws.changes laws.remembers _ _ _ _ c.args.id (upgraded c.args.mode) _ _ (rw (← c.self.view_is) at c.requires) refl refl
+    attends-in_mode g.S.LockSpace laws.keeps laws.changes laws.remembers _ _ _ _ c.args.id (upgraded c.args.mode) _ _ (rw (← c.self.view_is) at c.requires) refl refl
     (rw (c.in-Ok-Upgraded.is, c.in-Ok-Upgraded.field-0-is) at c.upgrade_now.ensures) refl refl c.strengthen.ensures.known c.strengthen.ensures.kept c.strengthen.ensures.wait (sym c.is_waiting.ensures ∙ c.if-is_waiting.false)
 
 pub returns-in-Ok-WouldWait-clause-refused : goal.returns-in-Ok-WouldWait-clause-refused
@@ -88,7 +88,7 @@ returns-in-Ok-WouldWait-clause-run g c =
 pub returns-in-Ok-WouldWait-clause-others : goal.returns-in-Ok-WouldWait-clause-others
 returns-in-Ok-WouldWait-clause-others g c =
     let laws = g.met.S.LockSpace in
-    leaves laws.keeps laws.others laws.remembers c.args.self.now.who (upgrading c.args.id c.args.mode c.args.self.now) _ _ (c.wait_to_upgrade.result, c.wait_to_upgrade.new.self)
+    leaves g.S.LockSpace laws.keeps laws.others laws.remembers c.args.self.now.who (upgrading c.args.id c.args.mode c.args.self.now) _ _ (c.wait_to_upgrade.result, c.wait_to_upgrade.new.self)
     (for_upgrading c.args.id c.args.mode c.args.self.now) (returns-in-Ok-WouldWait-clause-run g c)
 
 pub returns-in-Err-clause-refused : goal.returns-in-Err-clause-refused
@@ -107,7 +107,7 @@ pub returns-in-Err-clause-attends : goal.returns-in-Err-clause-attends
 returns-in-Err-clause-attends g c =
     let same : c.self.inside.who ≡ c.args.self.now.who = ap (λ (v : ContextView). v.who) c.self.view_is in
     let laws = g.met.S.LockSpace in
-    attends-still laws.keeps laws.changes laws.remembers _ _ _ _ c.args.self.now c.requires refl refl refl (rw (same, c.in-Err.is) at c.upgrade_now.ensures)
+    attends-still g.S.LockSpace laws.keeps laws.changes laws.remembers _ _ _ _ c.args.self.now c.requires refl refl refl (rw (same, c.in-Err.is) at c.upgrade_now.ensures)
 
 pub returns-in-Err-clause-own : goal.returns-in-Err-clause-own
 returns-in-Err-clause-own g c =

@@ -15,7 +15,7 @@ merge_ticket-requires-clause-second g c =
     let space = g.S.LockSpace in
     let idle = rw (← c.self.view_is) at c.requires.idle in
     let same = same-context c.self.inside.who _ _ _ _ _ _ c.reserve.ensures.kept c.reserve.ensures.known (c.reserve.ensures.wait ∙ sym idle) in
-    subst (HasSecond space.speaks_for space.own space.knows c.args.id c.in-Ok-Granted.new c.args.wanted.mode c.wait_at.new.space) (sym same)
+    subst (HasSecond space c.args.id c.in-Ok-Granted.new c.args.wanted.mode c.wait_at.new.space) (sym same)
     (has-gained c.args.space.now c.wait_at.new.space _ c.args.id c.in-Ok-Granted.new c.args.wanted (rw (← c.self.view_is) at c.requires.attends) c.wait_at.ensures.remembers c.wait_at.ensures.speaks
     (rw (c.in-Ok-Granted.is, c.in-Ok-Granted.field-0-is) at c.wait_at.ensures.own) (ap is_some idle) (rw (← c.self.view_is) at c.requires.kept))
 

@@ -1,10 +1,11 @@
 -- The space attends to the session, which has nothing.
 use Rattle.std.proofs.Common.{ap, arith}
-use Rattle.mdl_core.specs.Words.{SpeaksFor, own_at, Knows}
+use Rattle.mdl_core.specs.Words.{own_at}
+use Rattle.mdl_space.specs.CoreMembers.{core_space}
 use Rattle.mdl_session_trials.proofs.AttendLemmas.{attends-new}
 use Rattle.mdl_session_trials.proofs.alone.Alone.new.Goals as goal
 
 pub invariant_of-result : goal.invariant_of-result
 invariant_of-result c =
     let made = c.in_ok-space.ensures in
-    attends-new SpeaksFor own_at Knows c.in_ok-space.space 1 _ (ap (λ runner. runner.context) c.new-2.ensures) (made.speaks 1 (omega arith) (omega arith)) (ap (λ s. own_at s 1) made.made)
+    attends-new core_space c.in_ok-space.space 1 _ (ap (λ runner. runner.context) c.new-2.ensures) (made.speaks 1 (omega arith) (omega arith)) (ap (λ s. own_at s 1) made.made)

@@ -16,7 +16,7 @@ loop-ticket-preserved g c = record {
   attends = c.can_change.ensures.attends;
   idle = c.can_change.ensures.idle;
   who = c.can_change.ensures.who ∙ c.loop-ticket.invariant.who;
-  others = leaves-then g.S.LockSpace.speaks_for g.S.LockSpace.own g.S.LockSpace.knows c.args.self.now.context.who c.loop-ticket.self.context.who c.args.space.now c.loop-ticket.space c.can_change.new.space c.loop-ticket.invariant.who c.loop-ticket.invariant.others c.can_change.ensures.others;
+  others = leaves-then g.S.LockSpace c.args.self.now.context.who c.loop-ticket.self.context.who c.args.space.now c.loop-ticket.space c.can_change.new.space c.loop-ticket.invariant.who c.loop-ticket.invariant.others c.can_change.ensures.others;
   run = each-done g.S.LockSpace.joins can_change c.args.tickets.now c.args.space.now c.args.self.now c.loop-ticket.ticket-index _ c.loop-ticket.space c.can_change.new.space c.loop-ticket.self c.can_change.new.self
       (drop-cons c.args.tickets.now c.loop-ticket.ticket-index 0 c.loop-ticket-test.true) c.loop-ticket.invariant.run (rw c.in_default.is at c.can_change.ensures.run);
 }

@@ -10,9 +10,9 @@ use Rattle.mdl_stmt.proofs.player.Player.all_stand.Given as goal
 
 abbrev pub invariant-loop-ticket : goal.invariant-loop-ticket
 invariant-loop-ticket g l = record {
-  attends : Attends g.S.LockSpace.speaks_for g.S.LockSpace.own g.S.LockSpace.knows l.space l.self.context;
+  attends : Attends g.S.LockSpace l.space l.self.context;
   idle : l.self.context.wait ≡ None;
   who : l.self.context.who ≡ l.fn.self.context.who;
-  others : LeavesOthers g.S.LockSpace.speaks_for g.S.LockSpace.own g.S.LockSpace.knows l.fn.self.context.who l.fn.space l.space;
+  others : LeavesOthers g.S.LockSpace l.fn.self.context.who l.fn.space l.space;
   run : (rest : Unit {0} → Row Reply) → Comes g.S.LockSpace.joins l.fn.space l.fn.self (play (for_each stands l.tickets >>= rest)) l.space l.self (play (for_each stands (drop l.ticket-index l.tickets) >>= rest));
 }

@@ -8,5 +8,5 @@ pub returns-clause-attends : goal.returns-clause-attends
 returns-clause-attends g c =
     let laws = g.met.S.LockSpace in
     let who : c.who.result ≡ c.args.self.now.context.who = c.who.ensures ∙ ap (λ (p : PlayerView). p.context.who) c.self.view_is in
-    attends-call laws.keeps laws.remembers c.args.self.now.context c.args.space.now c.key_of.new.self _ _ (λ w place e. cc)
+    attends-call g.S.LockSpace laws.keeps laws.remembers c.args.self.now.context c.args.space.now c.key_of.new.self _ _ (λ w place e. cc)
     (laws.changes c.args.space.now c.key_of.new.self _ _ c.args.self.now.context.who (ap (λ (n : ℕ). Some n) who) c.key_of.ensures) c.key_of.ensures c.requires.attends

@@ -23,7 +23,7 @@ loop-place-preserved g c =
       attends = c.key_of.ensures.attends;
       idle = c.key_of.ensures.idle;
       who = c.key_of.ensures.who ∙ c.loop-place.invariant.who;
-      others = leaves-then g.S.LockSpace.speaks_for g.S.LockSpace.own g.S.LockSpace.knows c.args.self.now.context.who c.loop-place.self.context.who c.args.space.now c.loop-place.space c.key_of.new.space c.loop-place.invariant.who c.loop-place.invariant.others c.key_of.ensures.others;
+      others = leaves-then g.S.LockSpace c.args.self.now.context.who c.loop-place.self.context.who c.args.space.now c.loop-place.space c.key_of.new.space c.loop-place.invariant.who c.loop-place.invariant.others c.key_of.ensures.others;
       run = subst (λ (l : List KeyName). ToldTo g.S.LockSpace.joins c.args.places.now c.args.space.now c.args.self.now l (c.loop-place.place-index + 1) c.key_of.new.space c.key_of.new.self) (sym pushed)
           (key-told g.S.LockSpace.joins c.args.places.now c.args.space.now c.args.self.now c.loop-place.keys.items c.loop-place.place-index _ c.in-Ok.key c.loop-place.space c.key_of.new.space c.loop-place.self c.key_of.new.self
           (drop-cons c.args.places.now c.loop-place.place-index 0 c.loop-place-test.true) c.loop-place.invariant.run (rw c.in-Ok.is at c.key_of.ensures.run));

@@ -11,9 +11,9 @@ use Rattle.mdl_stmt.proofs.player.Player.keys_of.Given as goal
 
 abbrev pub invariant-loop-place : goal.invariant-loop-place
 invariant-loop-place g l = record {
-  attends : Attends g.S.LockSpace.speaks_for g.S.LockSpace.own g.S.LockSpace.knows l.space l.self.context;
+  attends : Attends g.S.LockSpace l.space l.self.context;
   idle : l.self.context.wait ≡ None;
   who : l.self.context.who ≡ l.fn.self.context.who;
-  others : LeavesOthers g.S.LockSpace.speaks_for g.S.LockSpace.own g.S.LockSpace.knows l.fn.self.context.who l.fn.space l.space;
+  others : LeavesOthers g.S.LockSpace l.fn.self.context.who l.fn.space l.space;
   run : (rest : List KeyName → Row Reply) → Comes g.S.LockSpace.joins l.fn.space l.fn.self (play (keys_of [] l.places >>= rest)) l.space l.self (play (keys_of l.keys.items (drop l.place-index l.places) >>= rest));
 }

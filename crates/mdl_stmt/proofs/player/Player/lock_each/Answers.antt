@@ -11,7 +11,7 @@ loop-key-preserved g c = record {
   attends = c.get.ensures.attends;
   idle = rw c.in-Had.is at c.get.ensures.idle;
   who = c.get.ensures.who ∙ c.loop-key.invariant.who;
-  others = leaves-then g.S.LockSpace.speaks_for g.S.LockSpace.own g.S.LockSpace.knows c.args.self.now.context.who c.loop-key.self.context.who c.args.space.now c.loop-key.space c.get.new.space c.loop-key.invariant.who c.loop-key.invariant.others c.get.ensures.others;
+  others = leaves-then g.S.LockSpace c.args.self.now.context.who c.loop-key.self.context.who c.args.space.now c.loop-key.space c.get.new.space c.loop-key.invariant.who c.loop-key.invariant.others c.get.ensures.others;
   keys = ap (λ (l : LockList). l.keys) c.with-locks.ensures ∙ keys-stay c.in-Had.ticket c.loop-key.locks ∙ c.loop-key.invariant.keys;
   run = list-had g.S.LockSpace.joins (wish_by c.args.locking) c.args.locks c.args.space.now c.args.self.now c.loop-key.locks c.with-locks.result c.in-Some.key.now _ c.in-Had.ticket c.loop-key.space c.get.new.space c.loop-key.self c.get.new.self
       (sym (rw c.in-Some.is at c.next.ensures)) (wish-so c.args.locking c.in-Some.key.now c.mode_of-mode.result c.duration_of.result c.mode_of-mode.ensures c.duration_of.ensures)

@@ -10,10 +10,10 @@ use Rattle.mdl_stmt.proofs.player.Player.lock_each.Given as goal
 
 abbrev pub invariant-loop-key : goal.invariant-loop-key
 invariant-loop-key g l = record {
-  attends : Attends g.S.LockSpace.speaks_for g.S.LockSpace.own g.S.LockSpace.knows l.space l.self.context;
+  attends : Attends g.S.LockSpace l.space l.self.context;
   idle : l.self.context.wait ≡ None;
   who : l.self.context.who ≡ l.fn.self.context.who;
-  others : LeavesOthers g.S.LockSpace.speaks_for g.S.LockSpace.own g.S.LockSpace.knows l.fn.self.context.who l.fn.space l.space;
+  others : LeavesOthers g.S.LockSpace l.fn.self.context.who l.fn.space l.space;
   keys : l.locks.keys ≡ l.fn.locks.keys;
   run : (rest : List ℕ → Row Reply) → Comes g.S.LockSpace.joins l.fn.space l.fn.self (play (lock_rest_by (wish_by l.fn.locking) l.fn.locks rest)) l.space l.self (play (lock_rest_by (wish_by l.fn.locking) l.locks rest));
 }

@@ -33,8 +33,8 @@ loop-at-preserved g c =
           (show-had g.S.LockSpace.joins c.loop-at.shown c.index-tables-at.result (drop c.loop-at.at c.args.tables.now) _ same c.loop-at.space c.get.new.space c.show.new.space c.loop-at.self c.get.new.self c.show.new.self c.in-Had.ticket c.in-Ok.more
           (rw c.in-Had.is at c.get.ensures.run) (rw c.in-Ok.is at c.show.ensures.run));
       attends = c.show.ensures.attends;
-      others = still-left space.speaks_for space.own space.knows c.args.self.now.context.who c.get.new.self.context.who c.args.space.now c.get.new.space c.show.new.space (c.get.ensures.who ∙ known.who)
-          (still-left space.speaks_for space.own space.knows c.args.self.now.context.who c.loop-at.self.context.who c.args.space.now c.loop-at.space c.get.new.space known.who known.others c.get.ensures.others) c.show.ensures.others;
+      others = still-left space c.args.self.now.context.who c.get.new.self.context.who c.args.space.now c.get.new.space c.show.new.space (c.get.ensures.who ∙ known.who)
+          (still-left space c.args.self.now.context.who c.loop-at.self.context.who c.args.space.now c.loop-at.space c.get.new.space known.who known.others c.get.ensures.others) c.show.ensures.others;
       who = c.show.ensures.who ∙ c.get.ensures.who ∙ known.who;
       idle = c.show.ensures.idle;
     }

@@ -9,8 +9,8 @@ use Rattle.mdl_stmt.proofs.player.Player.show_from.Given as goal
 abbrev pub invariant-loop-at : goal.invariant-loop-at
 invariant-loop-at g l = record {
   run : Comes g.S.LockSpace.joins l.fn.space l.fn.self (play (show_all lock_to_read l.fn.shown (drop l.from l.tables))) l.space l.self (play (show_all lock_to_read l.shown (drop l.at l.tables)));
-  attends : Attends g.S.LockSpace.speaks_for g.S.LockSpace.own g.S.LockSpace.knows l.space l.self.context;
-  others : LeavesOthers g.S.LockSpace.speaks_for g.S.LockSpace.own g.S.LockSpace.knows l.fn.self.context.who l.fn.space l.space;
+  attends : Attends g.S.LockSpace l.space l.self.context;
+  others : LeavesOthers g.S.LockSpace l.fn.self.context.who l.fn.space l.space;
   who : l.self.context.who ≡ l.fn.self.context.who;
   idle : l.self.context.wait ≡ None;
 }

@@ -20,7 +20,7 @@ loop-table-preserved g c =
       run = comes-then known.run
           (held-shown g.S.LockSpace.joins c.loop-table.shown c.table-item.result (drop c.loop-table.table-index c.args.tables.now) _ same c.loop-table.space c.show_held.new.space c.loop-table.self c.show_held.new.self c.in-Ok.more (rw c.in-Ok.is at c.show_held.ensures.run));
       attends = c.show_held.ensures.attends;
-      others = still-left space.speaks_for space.own space.knows c.args.self.now.context.who c.loop-table.self.context.who c.args.space.now c.loop-table.space c.show_held.new.space known.who known.others c.show_held.ensures.others;
+      others = still-left space c.args.self.now.context.who c.loop-table.self.context.who c.args.space.now c.loop-table.space c.show_held.new.space known.who known.others c.show_held.ensures.others;
       who = c.show_held.ensures.who ∙ known.who;
       idle = c.show_held.ensures.idle;
     }

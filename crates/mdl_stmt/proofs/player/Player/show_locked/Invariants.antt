@@ -9,8 +9,8 @@ use Rattle.mdl_stmt.proofs.player.Player.show_locked.Given as goal
 abbrev pub invariant-loop-table : goal.invariant-loop-table
 invariant-loop-table g l = record {
   run : Comes g.S.LockSpace.joins l.fn.space l.fn.self (play (show_all lock_held [] l.tables)) l.space l.self (play (show_all lock_held l.shown (drop l.table-index l.tables)));
-  attends : Attends g.S.LockSpace.speaks_for g.S.LockSpace.own g.S.LockSpace.knows l.space l.self.context;
-  others : LeavesOthers g.S.LockSpace.speaks_for g.S.LockSpace.own g.S.LockSpace.knows l.fn.self.context.who l.fn.space l.space;
+  attends : Attends g.S.LockSpace l.space l.self.context;
+  others : LeavesOthers g.S.LockSpace l.fn.self.context.who l.fn.space l.space;
   who : l.self.context.who ≡ l.fn.self.context.who;
   idle : l.self.context.wait ≡ None;
 }

@@ -57,8 +57,8 @@ loop-line-preserved g c =
           let made = subst (λ (n : ℕ). Runs joins c.loop-line.space (making n line.statement before) (Ends reply after) w.answer-reply.new.space) kept.patience w.in_ok-reply.ensures.run in
           rw (w.self-is, w.space-is, w.answers-is, w.in_ok-push.ensures.items) (record {
             attends = w.answer-reply.ensures.attends;
-            others = both-leave lock.speaks_for lock.own lock.knows self.who _ _ _ kept.others
-                (subst (λ (v : ℕ). LeavesOthers lock.speaks_for lock.own lock.knows v c.loop-line.space w.answer-reply.new.space) kept.same w.answer-reply.ensures.others);
+            others = both-leave lock self.who _ _ _ kept.others
+                (subst (λ (v : ℕ). LeavesOthers lock v c.loop-line.space w.answer-reply.new.space) kept.same w.answer-reply.ensures.others);
             who = w.answer-reply.ensures.who ∙ kept.same;
             idle = w.in_ok-reply.ensures.idle;
             same = w.answer-reply.ensures.same ∙ kept.same;

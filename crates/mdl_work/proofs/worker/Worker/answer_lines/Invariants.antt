@@ -14,8 +14,8 @@ invariant-loop-line g l =
     let rest = lines_of session (drop l.line-index l.lines) in
     let whole = lines_of session l.lines in
     record {
-      attends : Attends g.S.LockSpace.speaks_for g.S.LockSpace.own g.S.LockSpace.knows l.space l.self.runner.context;
-      others : LeavesOthers g.S.LockSpace.speaks_for g.S.LockSpace.own g.S.LockSpace.knows session l.fn.space l.space;
+      attends : Attends g.S.LockSpace l.space l.self.runner.context;
+      others : LeavesOthers g.S.LockSpace session l.fn.space l.space;
       who : l.self.runner.context.who ≡ session;
       idle : l.self.runner.work ≡ None;
       same : l.self.who ≡ session;

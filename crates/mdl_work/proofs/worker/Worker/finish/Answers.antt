@@ -38,8 +38,8 @@ returns-in_err-progress g c =
           (subst (λ (n : ℕ). Runs joins c.loop-wait.space (finishing patience n (paused c.loop-wait.progress before)) (Faults after) c.go_further.new.space) fewer
           (goes-further joins patience left c.loop-wait.progress before (Faults after) (Faults after) _ _ _ c.in_default.not-Done further (stays-starved joins patience left after _))));
       attends = c.go_further.ensures.attends;
-      others = both-leave lock.speaks_for lock.own lock.knows c.args.self.now.who _ _ _ kept.others
-          (subst (λ (w : ℕ). LeavesOthers lock.speaks_for lock.own lock.knows w c.loop-wait.space c.go_further.new.space) kept.same c.go_further.ensures.others);
+      others = both-leave lock c.args.self.now.who _ _ _ kept.others
+          (subst (λ (w : ℕ). LeavesOthers lock w c.loop-wait.space c.go_further.new.space) kept.same c.go_further.ensures.others);
       who = c.go_further.ensures.who ∙ kept.same;
       idle = rw refused tt;
       same = c.go_further.ensures.same ∙ kept.same;
@@ -60,8 +60,8 @@ loop-wait-preserved g c =
     let further = subst (λ (n : ℕ). Runs joins c.loop-wait.space (going_further n before) next c.go_further.new.space) kept.patience c.in_ok-progress.ensures.run in
     record {
       attends = c.go_further.ensures.attends;
-      others = both-leave lock.speaks_for lock.own lock.knows c.args.self.now.who _ _ _ kept.others
-          (subst (λ (w : ℕ). LeavesOthers lock.speaks_for lock.own lock.knows w c.loop-wait.space c.go_further.new.space) kept.same c.go_further.ensures.others);
+      others = both-leave lock c.args.self.now.who _ _ _ kept.others
+          (subst (λ (w : ℕ). LeavesOthers lock w c.loop-wait.space c.go_further.new.space) kept.same c.go_further.ensures.others);
       who = c.go_further.ensures.who ∙ kept.same;
       left = c.in_ok-progress.ensures.left;
       same = c.go_further.ensures.same ∙ kept.same;

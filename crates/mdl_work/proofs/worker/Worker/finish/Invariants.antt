@@ -11,8 +11,8 @@ use Rattle.mdl_work.proofs.worker.Worker.finish.Given as goal
 
 abbrev pub invariant-loop-wait : goal.invariant-loop-wait
 invariant-loop-wait g l = record {
-  attends : Attends g.S.LockSpace.speaks_for g.S.LockSpace.own g.S.LockSpace.knows l.space l.self.runner.context;
-  others : LeavesOthers g.S.LockSpace.speaks_for g.S.LockSpace.own g.S.LockSpace.knows l.fn.self.who l.fn.space l.space;
+  attends : Attends g.S.LockSpace l.space l.self.runner.context;
+  others : LeavesOthers g.S.LockSpace l.fn.self.who l.fn.space l.space;
   who : l.self.runner.context.who ≡ l.fn.self.who;
   left : LeftWhileWaiting (paused l.progress (session_of l.self.runner));
   same : l.self.who ≡ l.fn.self.who;

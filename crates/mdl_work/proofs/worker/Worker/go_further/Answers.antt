@@ -18,7 +18,7 @@ go_on-requires-clause-attends g c =
     let laws = g.met.S.LockSpace in
     let self = c.args.self.now in
     let waited = subst (λ (w : ℕ). Runs g.S.LockSpace.joins c.args.space.now (waiting_out w self.patience) tt c.wait_out.new.space) (sym c.requires.who) c.wait_out.ensures in
-    attends-waited laws.keeps laws.changes laws.remembers self.patience self.runner.context _ _ c.requires.attends waited
+    attends-waited g.S.LockSpace laws.keeps laws.changes laws.remembers self.patience self.runner.context _ _ c.requires.attends waited
 
 pub returns-clause-run : goal.returns-clause-run
 returns-clause-run g c =
@@ -32,9 +32,9 @@ returns-clause-others g c =
     let laws = g.met.S.LockSpace in
     let lock = g.S.LockSpace in
     let self = c.args.self.now in
-    both-leave lock.speaks_for lock.own lock.knows self.who _ _ _
-    (leaves laws.keeps laws.others laws.remembers self.who (waiting_out self.who self.patience) _ _ tt (for_waiting_out self.who self.patience) c.wait_out.ensures)
-    (subst (λ (w : ℕ). LeavesOthers lock.speaks_for lock.own lock.knows w c.wait_out.new.space c.go_on.new.space) c.requires.who c.go_on.ensures.others)
+    both-leave lock self.who _ _ _
+    (leaves g.S.LockSpace laws.keeps laws.others laws.remembers self.who (waiting_out self.who self.patience) _ _ tt (for_waiting_out self.who self.patience) c.wait_out.ensures)
+    (subst (λ (w : ℕ). LeavesOthers lock w c.wait_out.new.space c.go_on.new.space) c.requires.who c.go_on.ensures.others)
 
 pub returns-clause-left : goal.returns-clause-left
 returns-clause-left g c =
