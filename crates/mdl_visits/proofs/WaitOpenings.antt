@@ -23,6 +23,7 @@ use Rattle.mdl_steps.specs.Rule.{TellsLists}
 use Rattle.mdl_steps.specs.Seats.{Holds, MayPut, written}
 use Rattle.mdl_steps.specs.WaitPlays.{asked_ticket, opened, with_waiting}
 use Rattle.mdl_steps.specs.WaitSeats.{MayOpen}
+use Rattle.mdl_steps.specs.WaitStates.{idle_state, wait_in}
 use Rattle.mdl_steps.proofs.Hands.{holds_written, elsewhere-stepped}
 use Rattle.mdl_steps.proofs.Views.{held_at-changed}
 use Rattle.mdl_visits.specs.WaitOpenings.{MayQueue, MeetsOpening, Opens, awaiting}
@@ -130,7 +131,7 @@ module _ (slots place : ℕ) (mode : Mode) (m m′ m″ : Mine) (inside : IsInsi
   held = map (λ (h : Held). cond (h.place == place) (with_waiting (asked_ticket mode m.0) h) h) inside.latches
 
   opens_step : Met
-  opens_step = record { kind = OpenWait; deeds = []; word = wait_word slots m.0.number; found = 8 * m.0.waits; held = held; directory = m.0.directory }
+  opens_step = record { kind = OpenWait; deeds = []; word = wait_word slots m.0.number; found = wait_in m.0.waits idle_state; held = held; directory = m.0.directory }
 
   puts_step : Met
   puts_step = record { kind = PutLatch; deeds = []; word = latch_word place; found = m.0.number; held = held; directory = m.0.directory }
@@ -151,7 +152,7 @@ module _ (slots place : ℕ) (mode : Mode) (m m′ m″ : Mine) (inside : IsInsi
 
   -- the two steps of it, by what the session had before
   abbrev opens_there : Met
-  opens_there = record { kind = OpenWait; deeds = []; word = wait_word slots m′.0.number; found = 8 * m′.0.waits; held = (opened slots place mode m′).0.latches; directory = m′.0.directory }
+  opens_there = record { kind = OpenWait; deeds = []; word = wait_word slots m′.0.number; found = wait_in m′.0.waits idle_state; held = (opened slots place mode m′).0.latches; directory = m′.0.directory }
 
   abbrev puts_there : Met
   puts_there = record { kind = PutLatch; deeds = []; word = latch_word place; found = m′.0.number; held = (opened slots place mode m′).0.latches; directory = m′.0.directory }
@@ -167,7 +168,7 @@ module _ (slots place : ℕ) (mode : Mode) (m m′ m″ : Mine) (inside : IsInsi
   opening h recorded = record {
     kind = refl;
     word = ap (λ (x : Mine). wait_word slots x.0.number) inside.now;
-    idle = ap (λ (x : Mine). 8 * x.0.waits) inside.now;
+    idle = ap (λ (x : Mine). wait_in x.0.waits idle_state) inside.now;
     latch = with_waiting (asked_ticket mode m′.0) h;
     held = held_at-changed place (with_waiting (asked_ticket mode m′.0)) (λ x. refl) m′.0.latches h recorded;
     before = h.book.waiting;
