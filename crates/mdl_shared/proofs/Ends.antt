@@ -12,7 +12,7 @@ use Rattle.mdl_steps.specs.Plays.{Mine}
 use Rattle.mdl_shared.specs.Endings.{EndMakesWay, end_of, lost_end, ticket_asked, tickets_after}
 use Rattle.mdl_visits.specs.Grantings.{MadeWay}
 use Rattle.mdl_visits.specs.Polls.{state_of}
-use Rattle.mdl_visits.specs.Visits.{GoesOn, IsStepOf}
+use Rattle.mdl_visits.specs.Visits.{GoesOn, IsStepOf, StaysOn}
 use Rattle.mdl_visits.specs.WaitEndings.{without_wait}
 use Rattle.mdl_visits.proofs.WayOut.{way_after}
 
@@ -57,7 +57,6 @@ lost_way id place m m′ how ended_as.Timeout is way = way
 lost_way id place m m′ how ended_as.Killed is way = way
 
 -- as it did where the wait was only met before
-pub way_met_before : (id : TableId) (place : ℕ) (m m′ m″ : Mine) (e : Met) → IsStepOf m m′ e → m′.0.settles ≡ m.0.settles → m′.0.number ≡ m.0.number → MadeWay id place (without_wait m′) m″
+pub way_met_before : (id : TableId) (place : ℕ) (m m′ m″ : Mine) → StaysOn m m′ → m′.0.settles ≡ m.0.settles → m′.0.number ≡ m.0.number → MadeWay id place (without_wait m′) m″
     → MadeWay id place (without_wait m) m″
-way_met_before id place m m′ m″ e step settles number way =
-    way_after id place (without_wait m) (without_wait m′) m″ (step.0 ++ e ∷ step.1, step.2 ∙ append_assoc m.0.log step.0 (e ∷ step.1)) settles refl number refl way
+way_met_before id place m m′ m″ stays settles number way = way_after id place (without_wait m) (without_wait m′) m″ stays settles refl number refl way

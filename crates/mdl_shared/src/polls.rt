@@ -13,7 +13,7 @@ ghost use Rattle.mdl_calls.specs.Limits.{is_within};
 ghost use Rattle.mdl_visits.specs.Polls.{MeetsNumber, MeetsWait, MeetsWord, SettlesNothing, number_in, state_of};
 ghost use Rattle.mdl_shared.specs.Waitings.{own_number, wait_fault};
 ghost use Rattle.mdl_visits.specs.Readings.{ReadsNothing};
-ghost use Rattle.mdl_visits.specs.Visits.{Does, IsStepOf};
+ghost use Rattle.mdl_visits.specs.Visits.{Does, IsStepOf, StaysOn};
 
 use crate::Session;
 use crate::member::Member;
@@ -55,6 +55,7 @@ impl Member {
         ensures reads { ReadsNothing self.old.worker.seat.me self.new.worker.seat.me }
         ensures settles { SettlesNothing self.old.worker.seat.me self.new.worker.seat.me }
         ensures did { Does [] self.old.worker.seat.me self.new.worker.seat.me }
+        ensures stayed { StaysOn self.old.worker.seat.me self.new.worker.seat.me }
         ensures met { (e : Met) × IsStepOf self.old.worker.seat.me self.new.worker.seat.me e
             × MeetsWord (arc_value self.old.table).shared.table_id.slots session result.0 e }
         ensures own { TellsOwn (arc_value self.old.table).shared.table_id.slots session result.0 self.old.worker.seat.me.0 }
@@ -73,6 +74,7 @@ impl Member {
         ensures reads { ReadsNothing self.old.worker.seat.me self.new.worker.seat.me }
         ensures settles { SettlesNothing self.old.worker.seat.me self.new.worker.seat.me }
         ensures did { Does [] self.old.worker.seat.me self.new.worker.seat.me }
+        ensures stayed { StaysOn self.old.worker.seat.me self.new.worker.seat.me }
         ensures pending { result ≡ poll.Pending → (e : Met) × IsStepOf self.old.worker.seat.me self.new.worker.seat.me e
             × MeetsWait (arc_value self.old.table).shared.table_id.slots self.old.worker.number self.old.waits 1 e }
         ensures settled { (how : Settled) → result ≡ poll.Settled how → (self.new.worker.seat.me.0.told ≡ Some (state_of how))

@@ -57,7 +57,6 @@ pub returns-in-Some-clause-way : goal.returns-in-Some-clause-way
 returns-in-Some-clause-way g c =
     let self = c.args.self.now in
     let how : Settled = c.in-Settled.how in
-    let met = (c.poll.ensures.settled how c.in-Settled.is).1 in
     let m : Mine = self.worker.seat.me in
     let polled : Mine = c.poll.new.self.worker.seat.me in
     let went : Mine = c.withdraw.new.self.worker.seat.me in
@@ -66,7 +65,7 @@ returns-in-Some-clause-way g c =
     let same : (arc_value c.poll.new.self.table).shared.table_id ≡ (arc_value self.table).shared.table_id = λ i. (arc_value (c.poll.ensures.same.0 i)).shared.table_id in
     let way = subst (λ (x : TableId). MadeWay x c.args.ask.place (without_wait polled) went) same c.withdraw.ensures.way in
     lost_way id c.args.ask.place m went how c.in-Some.ended (sym c.lost_end.ensures ∙ c.in-Some.is)
-    (way_met_before id c.args.ask.place m polled went met.0 met.1 c.poll.ensures.settles number way)
+    (way_met_before id c.args.ask.place m polled went c.poll.ensures.stayed c.poll.ensures.settles number way)
 
 pub returns-in-Some-clause-did : goal.returns-in-Some-clause-did
 returns-in-Some-clause-did g c =
