@@ -63,6 +63,6 @@ returns-clause-missed c = λ none audited are.
     ∙ ap (λ (n : ℕ). victim_in (settled_by c.deref.result.now) (books_of audited) n) (sym (c.number.ensures ∙ heard.seat.1))
     ∙ sym (c.in_ok-find_victim.ensures audited are)
     ∙ c.in-Some.is in
-    let other = subst (λ (ws : List Heard). IfSome (heard_of victim ws) (WasOther id.slots m′ m″)) c.deref-in-Some-1.ensures.value (c.fell.ensures.missed c.if-fell.false).1 in
+    let other = subst (λ (ws : List Heard). IfSome (heard_of victim ws) (WasOther id.slots m′ m″)) (search) (c.fell.ensures.missed c.if-fell.false).1 in
     misses id who victim m.0.latches audited words m m′ m″ heard.all
     (all_within id.slots m.0.latches m m m′ m″ words (goes_nowhere m) (goes_hearing m′ m″ c.fell.ensures.hears) heard.heard) found (goes_hearing m m′ heard.hears) other
