@@ -360,7 +360,7 @@ pub trait LockSpace {
         → pins a w wait.place };
 
     // No call leaves a new debt.
-    ghost debts_stay: { (a b : Self) (call : Call) (answer : Answer) (w place : ℕ) → speaks_for a w
+    ghost no_new_debts: { (a b : Self) (call : Call) (answer : Answer) (w place : ℕ) → speaks_for a w
         → joins a call answer b → owes b w place → owes a w place };
 
     // Only where there is no pin is none found to be given up.

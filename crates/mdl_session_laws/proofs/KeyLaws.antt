@@ -125,9 +125,9 @@ pub session-wait_pinned : (a : Space) (w : ℕ) (wait : Wait) → SpeaksFor a w 
 session-wait_pinned = wait-here
 
 -- no call leaves a new debt
-pub session-debts_stay : (a b : Space) (call : Call) (answer : Answer) (w place : ℕ) → SpeaksFor a w → Joins a call answer b → Owes b w place
+pub session-no_new_debts : (a b : Space) (call : Call) (answer : Answer) (w place : ℕ) → SpeaksFor a w → Joins a call answer b → Owes b w place
     → Owes a w place
-session-debts_stay a b call answer w place speaks_for joins owes = owes
+session-no_new_debts a b call answer w place speaks_for joins owes = owes
 
 -- no pin is given up yet
 no-unpin : {A : Type 0} → false ≡ true → A

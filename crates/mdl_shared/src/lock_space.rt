@@ -2,7 +2,7 @@
 ghost use Rattle.mdl_session_laws.specs.SessionJoins.{Joins};
 ghost use Rattle.mdl_session_laws.specs.SessionSpaces.{SpeaksFor, own_of, numbers_of, Knows, IsSettledAs, HasRead, HasSeen, Pins, Owes};
 ghost use Rattle.mdl_session_laws.proofs.CallLaws.{session-allowed, session-keeps, session-changes, session-others, session-rising, session-draws, session-others_draw, session-fits, session-lists, session-explains, session-upgrades};
-ghost use Rattle.mdl_session_laws.proofs.KeyLaws.{session-resolves, session-remembers, session-one_key, session-one_place, session-tells_key, session-held_places, session-wait_place, session-tells_tables, session-resolved_pinned, session-pins_stay, session-pinned_known, session-held_pinned, session-wait_pinned, session-debts_stay, session-unpins_none, session-unpins_in_use, session-unpins};
+ghost use Rattle.mdl_session_laws.proofs.KeyLaws.{session-resolves, session-remembers, session-one_key, session-one_place, session-tells_key, session-held_places, session-wait_place, session-tells_tables, session-resolved_pinned, session-pins_stay, session-pinned_known, session-held_pinned, session-wait_pinned, session-no_new_debts, session-unpins_none, session-unpins_in_use, session-unpins};
 ghost use Rattle.mdl_session_laws.proofs.WaitLaws.{session-tells, session-waits_settled, session-settled_once, session-stays, session-agrees, session-victims, session-counts, session-kills, session-kills_or_settled};
 ghost use Rattle.mdl_session_laws.proofs.ReadLaws.{session-reads, session-redefines, session-redefines_so, session-reads_one, session-stands, session-reads_fit, session-sees, session-seen_stays, session-seen_below};
 ghost use Rattle.mdl_shared.specs.SessionViews.{space_of};
@@ -215,7 +215,7 @@ impl<R: Wait> LockSpace for Session<R> {
 
     ghost wait_pinned = { λ a. session-wait_pinned (space_of a) };
 
-    ghost debts_stay = { λ a b call answer w place speaks j. session-debts_stay (space_of a) (space_of b) call answer w place speaks j.0 };
+    ghost no_new_debts = { λ a b call answer w place speaks j. session-no_new_debts (space_of a) (space_of b) call answer w place speaks j.0 };
 
     ghost unpins_none = { λ a b who place j. session-unpins_none (space_of a) (space_of b) who place j.0 };
 

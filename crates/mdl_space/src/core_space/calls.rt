@@ -201,7 +201,7 @@ impl LockSpace for CoreSpace {
 
     ghost wait_pinned = { λ a w wait speaks its. (core-wait_place a w wait speaks its).1.0 };
 
-    ghost debts_stay = { λ a b call answer w place speaks j owes. owes };
+    ghost no_new_debts = { λ a b call answer w place speaks j owes. owes };
 
     ghost unpins_none = { λ a b who place j pins. has_not j.1 };
 

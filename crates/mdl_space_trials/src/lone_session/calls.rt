@@ -117,7 +117,7 @@ impl LockSpace for LoneSession {
 
     ghost wait_pinned = { λ a w wait speaks its. (speaks.0, wait-at_one (a.own.wait) wait speaks.1.wait its) };
 
-    ghost debts_stay = { λ a b call answer w place speaks j owes. owes };
+    ghost no_new_debts = { λ a b call answer w place speaks j owes. owes };
 
     ghost unpins_none = { λ a b who place j pins. has_not j.has };
 
