@@ -18,8 +18,8 @@ use Rattle.mdl_steps.specs.Plays.{Mine, unlatched}
 use Rattle.mdl_steps.specs.Seats.{Holds, elsewhere, rest, written}
 use Rattle.mdl_steps.proofs.Hands.{elsewhere-settled}
 use Rattle.mdl_visits.specs.Grantings.{ForgetsNobody, IsLowered, LeavesWay, MadeWay, MakesWay, StandsOnce, VisitsForWay, WaitsOnce}
-use Rattle.mdl_visits.specs.Visits.{GoesOn, IsInside, IsStepOf, StaysOn, StaysThere}
-use Rattle.mdl_visits.proofs.Steps.{each_append, goes_staying, leaves_after, none_then, step_after, step_before}
+use Rattle.mdl_visits.specs.Visits.{GoesOn, IsInside, IsStepOf, StaysOn}
+use Rattle.mdl_visits.proofs.Steps.{goes_staying, leaves_after, none_then, step_after, step_before}
 use Rattle.mdl_visits.proofs.Way.{granted_after, granted_before, granted_since, looked_within, stays_of}
 
 -- ---- of what went before
