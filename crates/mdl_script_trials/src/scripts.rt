@@ -300,7 +300,7 @@ pub(crate) fn replayed(alloc: Global, script: &[u8]) -> Result<String, Fail> {
 }
 
 // So many scripts are made by chance.
-const BY_CHANCE: u64 = 5_000;
+const BY_CHANCE: u64 = 2_500;
 
 // The first of the scripts by chance for which the two don't write the same.
 fn first_apart(alloc: Global) -> Result<Option<u64>, Fail> {
@@ -336,11 +336,11 @@ fn scripts_by_chance_are_replayed_alike(rt: HostRuntime) -> Result<(), Fail> {
 }
 
 // Rounds in which a session reads, another one waits for it, and goes on when it is done.
-const ROUNDS: u64 = 250_000;
+const ROUNDS: u64 = 125_000;
 
 // However many lines there are, all are answered.
 #[test]
-fn a_million_lines_are_answered(rt: HostRuntime) -> Result<(), Fail> {
+fn half_a_million_lines_are_answered(rt: HostRuntime) -> Result<(), Fail> {
     let mut script = String::from_str(rt.alloc(), "1 CREATE TABLE t x\n")?;
     let mut answers = String::from_str(rt.alloc(), "1 1 OK\n")?;
     let mut line = 1_u64;
@@ -498,8 +498,8 @@ fn scripts_by_chance_wait_in_earnest(rt: HostRuntime) -> Result<(), Fail> {
             lost = lost.wrapping_add(1);
         }
     }
-    assert!(rt; waits >= 3_500, "{waits} scripts wait");
-    assert!(rt; victims >= 400, "{victims} scripts meet a deadlock");
-    assert!(rt; lost >= 1_000, "{lost} scripts lose a wait otherwise");
+    assert!(rt; waits >= 1_750, "{waits} scripts wait");
+    assert!(rt; victims >= 200, "{victims} scripts meet a deadlock");
+    assert!(rt; lost >= 500, "{lost} scripts lose a wait otherwise");
     Ok(())
 }

@@ -23,9 +23,9 @@ const TABLES: [&str; 8] = [
 ];
 
 // How many calls a session makes, and how many of them go by between two looks at all.
-const CALLS: u32 = 25_000;
+const CALLS: u32 = 12_500;
 
-const UNWATCHED: u32 = 2_500;
+const UNWATCHED: u32 = 1_250;
 
 const MOST_HELD: usize = 4;
 
