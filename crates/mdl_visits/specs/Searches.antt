@@ -1,5 +1,5 @@
 -- A search for a deadlock: what a session meets and does while it has the latches of all places that have a key.
-use Rattle.std.specs.Prelude.{◌≡◌, ◌≢◌, ◌⊎◌, ℕ, zero, suc, ◌≤◌, ◌%◌, ◌==◌, ◌&&◌, nat_lt, not, true, if◌then◌else◌, List, [], ◌∷◌, ◌++◌, length, map, find, All, Option, Some, None, IfSome}
+use Rattle.std.specs.Prelude.{◌≡◌, ◌≢◌, ◌⊎◌, ℕ, zero, suc, ◌≤◌, ◌==◌, ◌&&◌, nat_lt, not, true, if◌then◌else◌, List, [], ◌∷◌, ◌++◌, length, map, find, All, Option, Some, None, IfSome}
 use Rattle.std.specs.List.{list_any}
 use Rattle.atomic_table.specs.Seated.{TableId}
 use Rattle.mdl_book.specs.declared.book_view.BookView.{BookView}
@@ -13,11 +13,12 @@ use Rattle.mdl_steps.specs.declared.view.Held.{Held}
 use Rattle.mdl_steps.specs.declared.view.Keys.{Keys}
 use Rattle.mdl_steps.specs.declared.view.Met.{Met}
 use Rattle.mdl_steps.specs.declared.view.Settlement.{Settlement}
+use Rattle.mdl_steps.specs.declared.wait_word.Loss.TheVariants as loss
 use Rattle.mdl_steps.specs.Copies.{Queues, queues_of}
 use Rattle.mdl_steps.specs.Layout.{wait_word}
 use Rattle.mdl_steps.specs.Plays.{Mine}
 use Rattle.mdl_steps.specs.WaitSeats.{IsSession}
-use Rattle.mdl_steps.specs.WaitStates.{unsettled_state, wait_state}
+use Rattle.mdl_steps.specs.WaitStates.{lost_state, unsettled_state, wait_state}
 use Rattle.mdl_visits.specs.declared.audited.Audited.{Audited}
 use Rattle.mdl_visits.specs.declared.hearing.Heard.{Heard}
 use Rattle.mdl_visits.specs.Audits.{AreRecorded, Gathers}
@@ -29,7 +30,7 @@ use Rattle.mdl_visits.specs.Visits.{AllQuiet, IsStepOf, deeds_of}
 
 -- whether a session has no open wait by one of these words: it has none, or it is settled
 abbrev pub settled_by : List Heard → SessionTest
-settled_by words session = list_any (λ (h : Heard). h.session == session && not (h.word.0 % 8 == 1)) words
+settled_by words session = list_any (λ (h : Heard). h.session == session && not (wait_state h.word.0 == unsettled_state)) words
 
 -- the sessions from 1 to so many
 unfoldable pub sessions_to : ℕ → List ℕ
@@ -87,7 +88,7 @@ IsOutcome slots who latches audited words m m′ (Victim victim) =
 -- a session whose own wait was settled as the victim's knows that
 abbrev pub KnowsFall : ℕ → Search → Mine → Type 0
 KnowsFall who NoCycle m = Unit {0}
-KnowsFall who (Victim victim) m = victim ≡ who → m.0.told ≡ Some 3
+KnowsFall who (Victim victim) m = victim ≡ who → m.0.told ≡ Some (lost_state loss.Victim)
 
 -- that came of the words of all sessions, as steps between the two met them, while the session had just these latches, and of these books
 pub record Judges (id : TableId) (who : ℕ) (latches : List Held) (audited : List Audited) (found : Search) (m m′ : Mine) : Type 0 where

@@ -3,6 +3,8 @@ ghost use Rattle.std.specs.Prelude.{◌≡◌, List, Some, None, Ok, true, false
 ghost use Rattle.mdl_book.specs.SessionSets.{is_session};
 ghost use Rattle.mdl_steps.specs.Seats.{IsSized};
 ghost use Rattle.mdl_steps.specs.WaitSeats.{IsSession};
+ghost use Rattle.mdl_steps.specs.WaitStates.{lost_state};
+ghost use Rattle.mdl_steps.specs.declared.wait_word.Loss.TheVariants as loss;
 ghost use Rattle.mdl_visits.specs.declared.audited.Audited.{Audited};
 ghost use Rattle.mdl_visits.specs.declared.hearing.Heard.{Heard};
 ghost use Rattle.mdl_visits.specs.Polls.{SettlesNothing};
@@ -73,7 +75,7 @@ fn fell(worker: &mut Worker, table: &OwnedTable, victim: u16, words: &[Heard]) -
     requires sessions { All (λ (h : Heard). IsSession table.now.shared.table_id h.session × (is_session h.session ≡ true)) words.now }
     ensures seat { (worker.new.seat.table_id ≡ worker.old.seat.table_id) × (worker.new.number ≡ worker.old.number) }
     ensures hears { Hears worker.old.seat.me worker.new.seat.me }
-    ensures own { result ≡ true → victim ≡ worker.old.number → worker.new.seat.me.0.told ≡ Some 3 }
+    ensures own { result ≡ true → victim ≡ worker.old.number → worker.new.seat.me.0.told ≡ Some (lost_state loss.Victim) }
     ensures felled { result ≡ true → Fells table.now.shared.table_id.slots victim worker.old.seat.me.0.latches worker.old.seat.me worker.new.seat.me }
     ensures missed { result ≡ false → SettlesNothing worker.old.seat.me worker.new.seat.me
         × IfSome (heard_of victim words.now) (WasOther table.now.shared.table_id.slots worker.old.seat.me worker.new.seat.me) }
@@ -92,7 +94,7 @@ fn settle(worker: &mut Worker, table: &OwnedTable, heard: Heard) -> bool
     requires session { IsSession table.now.shared.table_id heard.session }
     ensures seat { (worker.new.seat.table_id ≡ worker.old.seat.table_id) × (worker.new.number ≡ worker.old.number) }
     ensures hears { Hears worker.old.seat.me worker.new.seat.me }
-    ensures own { result ≡ true → heard.session ≡ worker.old.number → worker.new.seat.me.0.told ≡ Some 3 }
+    ensures own { result ≡ true → heard.session ≡ worker.old.number → worker.new.seat.me.0.told ≡ Some (lost_state loss.Victim) }
     ensures felled { result ≡ true → Fells table.now.shared.table_id.slots heard.session worker.old.seat.me.0.latches worker.old.seat.me worker.new.seat.me }
     ensures missed { result ≡ false → SettlesNothing worker.old.seat.me worker.new.seat.me
         × WasOther table.now.shared.table_id.slots worker.old.seat.me worker.new.seat.me heard }
