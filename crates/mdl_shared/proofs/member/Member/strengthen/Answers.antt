@@ -6,7 +6,7 @@ use Rattle.mdl_steps.specs.Plays.{Mine}
 use Rattle.mdl_visits.specs.Idle.{IsIdle, HasSlowAlone}
 use Rattle.mdl_visits.specs.Leavings.{HasTicket}
 use Rattle.mdl_shared.specs.Members.{are_placed, kind_known}
-use Rattle.mdl_visits.specs.Numbers.{numbered, is_ask_apart}
+use Rattle.mdl_visits.specs.Numbers.{is_ask_apart}
 use Rattle.mdl_shared.specs.Modes.{in_mode_at}
 use Rattle.mdl_shared.specs.Waitings.{are_below, are_rising, is_ask_told}
 use Rattle.mdl_shared.proofs.Awaiting.{altered, apart_altered}
