@@ -21,7 +21,7 @@ use Rattle.mdl_steps.specs.declared.view.Known.{Known}
 use Rattle.mdl_steps.specs.declared.view.Met.{Met}
 use Rattle.mdl_steps.specs.declared.view.Own.{Own}
 use Rattle.mdl_steps.specs.Plays.{Mine}
-use Rattle.mdl_steps.specs.WaitStates.{unsettled_state, wait_in}
+use Rattle.mdl_steps.specs.WaitStates.{granted_state, unsettled_state, wait_in}
 use Rattle.mdl_visits.specs.declared.resolve_error.ResolveError.{ResolveError}
 use Rattle.mdl_visits.specs.declared.resolve_error.ResolveError.TheVariants as resolve_error
 use Rattle.mdl_visits.specs.Grantings.{MadeWay}
@@ -141,19 +141,19 @@ MeetsSo (Begin_wait who place mode) (Refused why) m m′ =
 MeetsSo (Search who) No_cycle m m′ = (m.asks ≡ None → MakesNoStep m m′) × (is_some m.asks ≡ true → SearchesFor found.NoCycle m m′)
 MeetsSo (Search who) (Victim_is victim) m m′ = (is_some m.asks ≡ true) × SearchesFor (found.Victim victim) m m′
 MeetsSo (Search who) (Refused why) m m′ = (is_some m.asks ≡ true) × LooksAtKeys m m′
-MeetsSo (Poll_wait who) Pending m m′ = MeetsOwnWait 1 m m′
+MeetsSo (Poll_wait who) Pending m m′ = MeetsOwnWait unsettled_state m m′
 MeetsSo (Poll_wait who) (Is_settled how) m m′ = MeetsOwnWait (state_of how) m m′
-MeetsSo (Settle_timeout who) (Timed_out ByThisCall) m m′ = MeetsOwnWait 1 m m′
+MeetsSo (Settle_timeout who) (Timed_out ByThisCall) m m′ = MeetsOwnWait unsettled_state m m′
 MeetsSo (Settle_timeout who) (Timed_out (Already how)) m m′ = MeetsOwnWait (state_of how) m m′
-MeetsSo (End_wait who) (Granted id) m m′ = MeetsOwnWait 2 m m′
+MeetsSo (End_wait who) (Granted id) m m′ = MeetsOwnWait granted_state m m′
 MeetsSo (End_wait who) (Lost how) m m′ =
     MeetsOwnWait (state_of how) m m′
     × ((a : Ask) × (m.asks ≡ Some a) × MadeWay (table_at m) a.place (without_wait (mine m)) (mine m′))
-MeetsSo (End_wait who) (Refused why) m m′ = (wait_fault m.asks ≡ Some why) ⊎ ((why ≡ cause.Unsettled) × MeetsOwnWait 1 m m′)
+MeetsSo (End_wait who) (Refused why) m m′ = (wait_fault m.asks ≡ Some why) ⊎ ((why ≡ cause.Unsettled) × MeetsOwnWait unsettled_state m m′)
 MeetsSo (Wait_of target) (Has_wait number) m m′ =
     (is_within m.sessions target ≡ false → (number ≡ None) × MakesNoStep m m′)
     × (is_within m.sessions target ≡ true → HasStep m m′ (MeetsNumber (table_at m).slots target number))
-MeetsSo (Kill target number) (Has_killed true) m m′ = HasStep m m′ (MeetsWait (table_at m).slots target number 1)
+MeetsSo (Kill target number) (Has_killed true) m m′ = HasStep m m′ (MeetsWait (table_at m).slots target number unsettled_state)
 MeetsSo (Kill target number) (Has_killed false) m m′ =
     is_within m.sessions target ≡ true → HasStep m m′ (MeetsOther (table_at m).slots target (wait_in number unsettled_state))
 MeetsSo (Release who id) Done m m′ = OfTicket id m (MeetsTicket id (Lose id ∷ []) m m′) × OfTicket id m (MakesWay m m′)

@@ -5,7 +5,7 @@ ghost use Rattle.mdl_calls.specs.declared.answers.Settled.{Settled};
 ghost use Rattle.mdl_calls.specs.declared.space_error.SpaceError.TheVariants as cause;
 ghost use Rattle.mdl_steps.specs.declared.view.Ask.{Ask};
 ghost use Rattle.mdl_steps.specs.declared.view.Met.{Met};
-ghost use Rattle.mdl_steps.specs.WaitStates.{IsLost, granted_state};
+ghost use Rattle.mdl_steps.specs.WaitStates.{IsLost, granted_state, unsettled_state};
 ghost use Rattle.mdl_shared.specs.Endings.{EndMakesWay, EndsWith, end_of, lost_end, ticket_asked, tickets_after};
 ghost use Rattle.mdl_visits.specs.WaitEndings.{without_wait};
 ghost use Rattle.mdl_visits.specs.Grantings.{MadeWay};
@@ -92,7 +92,7 @@ impl Member {
         ensures stays { (state : ℕ) → self.old.worker.seat.me.0.told ≡ Some state → (how : Settled) × (result ≡ Ok (end_of ask.number how)) × (state_of how ≡ state) }
         ensures unchanged { OnErr result ((self.new.tickets.items ≡ self.old.tickets.items) × SeesWait self.old self.new) }
         ensures refused { IfErr result (λ why. (why ≡ cause.Unsettled) × ((e : Met) × IsStepOf self.old.worker.seat.me self.new.worker.seat.me e
-            × MeetsWait (arc_value self.old.table).shared.table_id.slots self.old.worker.number self.old.waits 1 e)) }
+            × MeetsWait (arc_value self.old.table).shared.table_id.slots self.old.worker.number self.old.waits unsettled_state e)) }
     {
         let Poll::Settled(how) = self.poll() else {
             return Err(SpaceError::Unsettled);
@@ -128,7 +128,7 @@ impl<R: Wait> Session<R> {
         ensures unfit { IfSome (wait_fault self.old.member.asks) (λ why. result ≡ Err why) }
         ensures refused { IfErr result (λ why. (wait_fault self.old.member.asks ≡ Some why)
             ⊎ ((why ≡ cause.Unsettled) × ((e : Met) × IsStepOf self.old.member.worker.seat.me self.new.member.worker.seat.me e
-            × MeetsWait (arc_value self.old.member.table).shared.table_id.slots self.old.member.worker.number self.old.member.waits 1 e))) }
+            × MeetsWait (arc_value self.old.member.table).shared.table_id.slots self.old.member.worker.number self.old.member.waits unsettled_state e))) }
     {
         let Some(ask) = self.member.asks else {
             return Err(SpaceError::NoWait);

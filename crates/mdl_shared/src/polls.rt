@@ -6,7 +6,7 @@ ghost use Rattle.mdl_calls.specs.declared.answers.Poll.TheVariants as poll;
 ghost use Rattle.mdl_calls.specs.declared.answers.Settled.{Settled};
 ghost use Rattle.mdl_steps.specs.declared.view.Met.{Met};
 ghost use Rattle.mdl_steps.specs.WaitPlays.{TellsOwn};
-ghost use Rattle.mdl_steps.specs.WaitStates.{IsSettled, granted_state, lost_state, wait_state};
+ghost use Rattle.mdl_steps.specs.WaitStates.{IsSettled, granted_state, lost_state, unsettled_state, wait_state};
 ghost use Rattle.mdl_steps.specs.declared.wait_word.Loss.TheVariants as loss;
 ghost use Rattle.mdl_shared.specs.Keepings.{SeesWait};
 ghost use Rattle.mdl_calls.specs.Limits.{is_within};
@@ -76,7 +76,7 @@ impl Member {
         ensures did { Does [] self.old.worker.seat.me self.new.worker.seat.me }
         ensures stayed { StaysOn self.old.worker.seat.me self.new.worker.seat.me }
         ensures pending { result ≡ poll.Pending → (e : Met) × IsStepOf self.old.worker.seat.me self.new.worker.seat.me e
-            × MeetsWait (arc_value self.old.table).shared.table_id.slots self.old.worker.number self.old.waits 1 e }
+            × MeetsWait (arc_value self.old.table).shared.table_id.slots self.old.worker.number self.old.waits unsettled_state e }
         ensures settled { (how : Settled) → result ≡ poll.Settled how → (self.new.worker.seat.me.0.told ≡ Some (state_of how))
             × ((e : Met) × IsStepOf self.old.worker.seat.me self.new.worker.seat.me e
             × MeetsWait (arc_value self.old.table).shared.table_id.slots self.old.worker.number self.old.waits (state_of how) e) }
@@ -101,7 +101,7 @@ impl<R> Session<R> {
         ensures settles { SettlesNothing self.old.member.worker.seat.me self.new.member.worker.seat.me }
         ensures did { Does [] self.old.member.worker.seat.me self.new.member.worker.seat.me }
         ensures pending { result ≡ Ok poll.Pending → (e : Met) × IsStepOf self.old.member.worker.seat.me self.new.member.worker.seat.me e
-            × MeetsWait (arc_value self.old.member.table).shared.table_id.slots self.old.member.worker.number self.old.member.waits 1 e }
+            × MeetsWait (arc_value self.old.member.table).shared.table_id.slots self.old.member.worker.number self.old.member.waits unsettled_state e }
         ensures settled { (how : Settled) → result ≡ Ok (poll.Settled how) → (self.new.member.worker.seat.me.0.told ≡ Some (state_of how))
             × ((e : Met) × IsStepOf self.old.member.worker.seat.me self.new.member.worker.seat.me e
             × MeetsWait (arc_value self.old.member.table).shared.table_id.slots self.old.member.worker.number self.old.member.waits (state_of how) e) }

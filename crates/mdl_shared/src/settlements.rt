@@ -63,7 +63,7 @@ impl Member {
         ensures by_this_call { result ≡ ByThisCall → Settles self.old.worker.number self.old.waits 4 self.old.worker.seat.me self.new.worker.seat.me
             × (self.new.worker.seat.me.0.told ≡ Some (lost_state loss.Timeout))
             × ((e : Met) × IsStepOf self.old.worker.seat.me self.new.worker.seat.me e
-            × MeetsWait (arc_value self.old.table).shared.table_id.slots self.old.worker.number self.old.waits 1 e) }
+            × MeetsWait (arc_value self.old.table).shared.table_id.slots self.old.worker.number self.old.waits unsettled_state e) }
         ensures already { (how : Settled) → result ≡ Already how → SettlesNothing self.old.worker.seat.me self.new.worker.seat.me
             × (self.new.worker.seat.me.0.told ≡ Some (state_of how))
             × ((e : Met) × IsStepOf self.old.worker.seat.me self.new.worker.seat.me e
@@ -90,7 +90,7 @@ impl Member {
         ensures did { Does [] self.old.worker.seat.me self.new.worker.seat.me }
         ensures killed { result ≡ true → Settles session number 5 self.old.worker.seat.me self.new.worker.seat.me
             × ((e : Met) × IsStepOf self.old.worker.seat.me self.new.worker.seat.me e
-            × MeetsWait (arc_value self.old.table).shared.table_id.slots session number 1 e) }
+            × MeetsWait (arc_value self.old.table).shared.table_id.slots session number unsettled_state e) }
         ensures missed { result ≡ false → SettlesNothing self.old.worker.seat.me self.new.worker.seat.me
             × ((e : Met) × IsStepOf self.old.worker.seat.me self.new.worker.seat.me e
             × MeetsOther (arc_value self.old.table).shared.table_id.slots session (wait_in number unsettled_state) e) }
@@ -118,7 +118,7 @@ impl<R> Session<R> {
         ensures by_this_call { result ≡ Ok ByThisCall → Settles self.old.member.worker.number self.old.member.waits 4 self.old.member.worker.seat.me self.new.member.worker.seat.me
             × (self.new.member.worker.seat.me.0.told ≡ Some (lost_state loss.Timeout))
             × ((e : Met) × IsStepOf self.old.member.worker.seat.me self.new.member.worker.seat.me e
-            × MeetsWait (arc_value self.old.member.table).shared.table_id.slots self.old.member.worker.number self.old.member.waits 1 e) }
+            × MeetsWait (arc_value self.old.member.table).shared.table_id.slots self.old.member.worker.number self.old.member.waits unsettled_state e) }
         ensures already { (how : Settled) → result ≡ Ok (Already how) → SettlesNothing self.old.member.worker.seat.me self.new.member.worker.seat.me
             × (self.new.member.worker.seat.me.0.told ≡ Some (state_of how))
             × ((e : Met) × IsStepOf self.old.member.worker.seat.me self.new.member.worker.seat.me e
@@ -143,7 +143,7 @@ impl<R> Session<R> {
         ensures nobody { is_within self.old.member.sessions target ≡ false → (result ≡ false) × (self.new ≡ self.old) }
         ensures killed { result ≡ true → Settles target number 5 self.old.member.worker.seat.me self.new.member.worker.seat.me
             × ((e : Met) × IsStepOf self.old.member.worker.seat.me self.new.member.worker.seat.me e
-            × MeetsWait (arc_value self.old.member.table).shared.table_id.slots target number 1 e) }
+            × MeetsWait (arc_value self.old.member.table).shared.table_id.slots target number unsettled_state e) }
         ensures missed { result ≡ false → SettlesNothing self.old.member.worker.seat.me self.new.member.worker.seat.me
             × (is_within self.old.member.sessions target ≡ true → (e : Met) × IsStepOf self.old.member.worker.seat.me self.new.member.worker.seat.me e
             × MeetsOther (arc_value self.old.member.table).shared.table_id.slots target (wait_in number unsettled_state) e) }

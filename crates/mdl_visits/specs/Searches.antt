@@ -74,7 +74,7 @@ pub record Fells (slots victim : ℕ) (latches : List Held) (m m′ : Mine) : Ty
   pub moment : Met
   pub step : IsStepOf m m′ moment
   pub kind : moment.kind ≡ SettleWait
-  pub met : MeetsWait slots victim wait 1 moment
+  pub met : MeetsWait slots victim wait unsettled_state moment
   pub held : moment.held ≡ latches
 
 -- by these words and books the session waits in no cycle, and nothing was settled; or this is the victim of the cycle that is chosen, and its wait was
