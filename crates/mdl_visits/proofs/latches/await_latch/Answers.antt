@@ -9,21 +9,21 @@ returns-in-Some-take_latch-clause-inside g c =
     let place = c.args.place in
     let told = c.in-Some-take_latch.ensures.taken.1 in
     let steps = c.loop.invariant.steps in
-    inside_taken place told.0 c.args.worker.now.seat.me c.take_latch.new.self.seat.me steps.0 c.requires.rising told.1.here (◌∙◌ {A = Mine} told.3 (ap (latched place told.0) steps.1)) steps.3
+    inside_taken place told.0 c.args.seat.now.me c.take_latch.new.self.me steps.0 c.requires.rising told.1.here (◌∙◌ {A = Mine} told.3 (ap (latched place told.0) steps.1)) steps.3
 
 pub returns-in-Some-take_latch-clause-taken : goal.returns-in-Some-take_latch-clause-taken
 returns-in-Some-take_latch-clause-taken g c =
     let place = c.args.place in
     let told = c.in-Some-take_latch.ensures.taken.1 in
     let steps = c.loop.invariant.steps in
-    (told.0, fresh_before place told.0 c.args.worker.now.seat.me _ (steps.0, steps.1, steps.3) told.1, told.2, (steps.0, ◌∙◌ {A = Mine} told.3 (ap (latched place told.0) steps.1), steps.2, steps.3))
+    (told.0, fresh_before place told.0 c.args.seat.now.me _ (steps.0, steps.1, steps.3) told.1, told.2, (steps.0, ◌∙◌ {A = Mine} told.3 (ap (latched place told.0) steps.1), steps.2, steps.3))
 
 pub returns-in-Some-take_latch-clause-stays : goal.returns-in-Some-take_latch-clause-stays
 returns-in-Some-take_latch-clause-stays g c =
     let place = c.args.place in
     let told = c.in-Some-take_latch.ensures.taken.1 in
     let steps = c.loop.invariant.steps in
-    stays_taken place told.0 c.args.worker.now.seat.me c.take_latch.new.self.seat.me steps.0 (◌∙◌ {A = Mine} told.3 (ap (latched place told.0) steps.1)) steps.4
+    stays_taken place told.0 c.args.seat.now.me c.take_latch.new.self.me steps.0 (◌∙◌ {A = Mine} told.3 (ap (latched place told.0) steps.1)) steps.4
 
 pub loop-preserved : goal.loop-preserved
 loop-preserved g c =
@@ -32,5 +32,5 @@ loop-preserved g c =
     record {
       seat = c.take_latch.ensures.seat.0 ∙ inv.seat;
       number = c.take_latch.ensures.seat.1 ∙ inv.number;
-      steps = lingers_one c.args.place met.0 c.args.worker.now.seat.me c.loop.worker.seat.me c.take_latch.new.self.seat.me inv.steps met.2;
+      steps = lingers_one c.args.place met.0 c.args.seat.now.me c.loop.seat.me c.take_latch.new.self.me inv.steps met.2;
     }
