@@ -34,51 +34,37 @@
 //! ```
 #![tactic(auto)]
 
-mod audit;
 mod audited;
-mod begin_wait;
-mod change_definition;
-mod clone_ticket;
-mod covered;
-mod downgrade;
-mod end_lost_wait;
+mod calls;
 mod enter_and_leave;
 mod grant_waiters;
 mod latches;
 mod laws;
-mod merge;
-mod read_definition;
-mod release;
-mod reschedule;
-mod resolve;
+mod no_fast_tickets;
 mod resolve_error;
-mod search;
 mod settle_victim;
-mod tables_of;
-mod try_now;
-mod upgrade_now;
 mod victim;
 mod waits_read;
 
-pub use audit::audit;
 pub use audited::Audited;
-pub use begin_wait::{Queued, begin_wait};
-pub use change_definition::change_definition;
-pub use clone_ticket::clone_ticket;
-pub use downgrade::downgrade;
-pub use end_lost_wait::end_lost_wait;
+pub use calls::audit::audit;
+pub use calls::begin_wait::{Queued, begin_wait};
+pub use calls::change_definition::change_definition;
+pub use calls::clone_ticket::clone_ticket;
+pub use calls::downgrade::downgrade;
+pub use calls::end_lost_wait::end_lost_wait;
+pub use calls::merge::merge;
+pub use calls::read_definition::read_definition;
+pub use calls::release::release;
+pub use calls::reschedule::reschedule;
+pub use calls::resolve::resolve;
+pub use calls::search::search_deadlock;
+pub use calls::tables_of::{find_tables, tables_defined};
+pub use calls::try_now::{Tried, try_now};
+pub use calls::upgrade_now::upgrade_now;
 pub use laws::{
     blocked_wishes_werent_grantable, granted_waits_were_grantable, granted_wishes_were_grantable,
     waits_left_werent_grantable,
 };
-pub use merge::merge;
-pub use read_definition::read_definition;
-pub use release::release;
-pub use reschedule::reschedule;
-pub use resolve::resolve;
 pub use resolve_error::ResolveError;
-pub use search::search_deadlock;
-pub use tables_of::{find_tables, tables_defined};
-pub use try_now::{Tried, try_now};
-pub use upgrade_now::upgrade_now;
 pub use waits_read::WaitRead;
