@@ -20,9 +20,10 @@
 //! use mdl_key::Key;
 //! use mdl_steps::Maker;
 //! use mdl_visits::resolve;
+//! use std::sync::Arc;
 //!
 //! let (table, mut maker) = Maker::of_places(rt.alloc(), 3, 2)?; // places and sessions
-//! let Some(mut seat) = maker.enrol(table) else {
+//! let Some(mut seat) = maker.enrol(Arc::new(rt.alloc(), table)?) else {
 //!     panic!(rt; "there is room for two");
 //! };
 //! let orders = Key::table(rt.alloc(), "test", "orders")?;

@@ -9,6 +9,7 @@ use Rattle.mdl_steps.specs.Seats.{Holds, rest}
 use Rattle.mdl_visits.specs.Leavings.{Leaves}
 use Rattle.mdl_visits.specs.Visits.{IsStepOf}
 use Rattle.mdl_visits.proofs.Leaving.{needed, leaves, first_step}
+use Rattle.mdl_visits.proofs.Seats.{mine, table_of}
 use Rattle.mdl_visits.proofs.enter_and_leave.lower_flags_and_put.Goals as goal
 
 pub put_latch-requires-clause-put : goal.put_latch-requires-clause-put
@@ -20,7 +21,7 @@ put_latch-requires-clause-put c =
     let book = all_booked m.0.number c.args.deeds.now h.book in
     let needs = c.needs-needs.result in
     let told = c.needs-needs.ensures.told book done.1.holds.carried in
-    let same = subst (λ (m′ : Mine). Holds place h book m′) (sym c.needs-needs.ensures.same) done.1.holds in
+    let same = subst (λ (m′ : Mine). Holds place h book m′) (sym (mine c.needs-needs.ensures.same)) done.1.holds in
     let down = c.lower_flags.ensures.keeps h book same in (
       lowered book needs.slow needs.obtrusive h,
       record { holds = down; act = inr refl; may = tt },
@@ -38,11 +39,14 @@ returns-clause-left c =
     let done = c.requires.done in
     let book = all_booked m.0.number ds done.0.book in
     let needs = c.needs-needs.result in
-    let same = c.needs-needs.ensures.same in
+    let same = mine c.needs-needs.ensures.same in
     let made = c.lower_flags.ensures.made in
     let low = made.1 book (subst (λ (m′ : Mine). m′.1 ≡ (place, slot.Place book) ∷ rest m′.1) (sym same) done.1.holds.carried) in
-    subst (λ (m′ : Mine). Leaves place ds m m′) (sym (c.put_latch.ensures.made ∙ ap (unlatched place []) (low ∙ ap (λ (x : Mine). settled place ds made.0 book needs.slow needs.obtrusive x) same)))
-    (leaves place ds made.0 book needs.slow needs.obtrusive m)
+    (
+      table_of c.put_latch.ensures.made ∙ table_of low ∙ table_of c.needs-needs.ensures.same,
+      subst (λ (m′ : Mine). Leaves place ds m m′) (sym (mine c.put_latch.ensures.made ∙ ap (unlatched place []) (mine low ∙ ap (λ (x : Mine). settled place ds made.0 book needs.slow needs.obtrusive x) same)))
+      (leaves place ds made.0 book needs.slow needs.obtrusive m),
+    )
 
 pub returns-clause-step : goal.returns-clause-step
 returns-clause-step c =
@@ -52,9 +56,9 @@ returns-clause-step c =
     let done = c.requires.done in
     let book = all_booked m.0.number ds done.0.book in
     let needs = c.needs-needs.result in
-    let same = c.needs-needs.ensures.same in
+    let same = mine c.needs-needs.ensures.same in
     let made = c.lower_flags.ensures.made in
     let low = made.1 book (subst (λ (m′ : Mine). m′.1 ≡ (place, slot.Place book) ∷ rest m′.1) (sym same) done.1.holds.carried) in
-    let whole = c.put_latch.ensures.made ∙ ap (unlatched place []) (low ∙ ap (λ (x : Mine). settled place ds made.0 book needs.slow needs.obtrusive x) same) in
+    let whole = mine c.put_latch.ensures.made ∙ ap (unlatched place []) (mine low ∙ ap (λ (x : Mine). settled place ds made.0 book needs.slow needs.obtrusive x) same) in
     subst (λ (m′ : Mine). (e : Met) × IsStepOf m m′ e × (e.word ≡ lock_word place) × (e.held ≡ m.0.latches) × (e.deeds ≡ ds)) (sym whole)
     (first_step place ds made.0 book needs.slow needs.obtrusive m)

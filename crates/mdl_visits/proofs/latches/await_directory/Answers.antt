@@ -1,6 +1,7 @@
 -- The steps of the loop take no latch.
 use Rattle.std.proofs.Common.{length, ap, ◌∙◌}
 use Rattle.mdl_steps.specs.Plays.{Mine}
+use Rattle.mdl_visits.proofs.Seats.{mine, table_of}
 use Rattle.mdl_visits.proofs.Visiting.{lingers_one}
 use Rattle.mdl_visits.proofs.latches.await_directory.Goals as goal
 
@@ -14,6 +15,6 @@ loop-preserved g c =
     record {
       next = tt;
       finite = tt;
-      seat = (c.take_directory.ensures.seat.0 ∙ inv.seat.0, c.take_directory.ensures.seat.1 ∙ inv.seat.1);
-      met = lingers_one 0 met.0 c.args.seat.now.me c.loop.seat.me c.take_directory.new.self.me inv.met met.2;
+      table = table_of met.2 ∙ inv.table;
+      met = lingers_one 0 met.0 c.args.seat.now.me c.loop.seat.me c.take_directory.new.self.me inv.met (mine met.2);
     }

@@ -7,6 +7,6 @@ abbrev pub invariant-loop : goal.invariant-loop
 invariant-loop g l = record {
   next : (goal.iterator-loop g).can_next l.iterator';
   finite : (goal.iterator-loop g).is_finite l.iterator';
-  seat : (l.seat.table ≡ l.fn.seat.table) × (l.seat.me.0.number ≡ l.fn.seat.me.0.number);
+  table : l.seat.table ≡ l.fn.seat.table;
   met : Lingers l.fn.seat.me l.seat.me;
 }

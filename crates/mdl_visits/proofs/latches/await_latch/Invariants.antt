@@ -5,7 +5,6 @@ use Rattle.mdl_visits.proofs.latches.await_latch.Given as goal
 
 abbrev pub invariant-loop : goal.invariant-loop
 invariant-loop g l = record {
-  seat : l.seat.table ≡ l.fn.seat.table;
-  number : l.seat.me.0.number ≡ l.fn.seat.me.0.number;
+  table : l.seat.table ≡ l.fn.seat.table;
   steps : Lingers l.fn.seat.me l.seat.me;
 }

@@ -23,8 +23,8 @@ returns-clause-learnt g c =
     let has = subst (λ (q : ℕ). Holds q h h.book came) (sym latch.ensures.place) taken.2 in
     ok_told c.read_latched.result (λ standing e.
     let read : went ≡ read_and_put place standing came = e.1 ∙ ap (λ (q : ℕ). read_and_put q standing came) latch.ensures.place in (
-      learns place standing seat.me came went latch.ensures.inside read,
-      meets_standing place standing seat.me came went latch.ensures.inside read h seat.me.0.number refl taken.1 taken.2.recorded e.0,
+      learns place standing seat.me came went latch.ensures.inside.1 read,
+      meets_standing place standing seat.me came went latch.ensures.inside.1 read h seat.me.0.number refl taken.1 taken.2.recorded e.0,
     )) (c.read_latched.ensures.told h has)
 
 pub returns-clause-unchanged : goal.returns-clause-unchanged
@@ -32,7 +32,7 @@ returns-clause-unchanged g c =
     let latch = c.await_latch-latch in
     let came : Mine = latch.new.seat.me in
     let went : Mine = c.read_latched.new.seat.me in
-    on_err_weaker c.read_latched.result (λ left. visits_left c.args.place c.args.seat.now.me came went latch.ensures.inside [] (subst (λ (q : ℕ). Leaves q [] came went) latch.ensures.place left)) c.read_latched.ensures.unchanged
+    on_err_weaker c.read_latched.result (λ left. visits_left c.args.place c.args.seat.now.me came went latch.ensures.inside.1 [] (subst (λ (q : ℕ). Leaves q [] came went) latch.ensures.place left)) c.read_latched.ensures.unchanged
 
 pub returns-clause-follows : goal.returns-clause-follows
 returns-clause-follows g c =
@@ -50,4 +50,7 @@ returns-clause-quiet g c =
     let taken = latch.ensures.taken in
     let came : Mine = latch.new.seat.me in
     let went : Mine = c.read_latched.new.seat.me in
-    quiet_on m came went (quiet_taken c.args.place taken.0 taken.3.0 m came taken.3.2 taken.3.1) (ap (λ (x : Mine). x.0.directory) taken.3.1) c.read_latched.ensures.quiet
+    (
+      c.read_latched.ensures.quiet.0 ∙ latch.ensures.inside.0,
+      quiet_on m came went (quiet_taken c.args.place taken.0 taken.3.0 m came taken.3.2 taken.3.1) (ap (λ (x : Mine). x.0.directory) taken.3.1) c.read_latched.ensures.quiet.1,
+    )
