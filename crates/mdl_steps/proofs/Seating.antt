@@ -24,3 +24,10 @@ sits {s} {table} {that} {of} {number} {me} view_is seat table_is = record {
   here = λ P p. subst P (ap (λ (x : SeatState). x.table) (sym view_is) ∙ sym table_is) p;
   mine = λ P p. subst P (ap (λ (x : SeatState). x.me) (sym view_is)) p;
 }
+
+abbrev with_view : TableId → Mine → SeatState
+with_view table me = record { table = table; me = me }
+
+-- the seat's value follows its view
+pub value_is : {table : TableId} {me me′ : Mine} → me ≡ me′ → with_view table me ≡ with_view table me′
+value_is {table} same = ap (with_view table) same

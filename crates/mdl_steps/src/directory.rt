@@ -34,11 +34,10 @@ impl TableSeat {
                 0,
                 self.number as u64,
             );
-        if found == 0 {
-            Some(LatchedDirectory { marker: () })
-        } else {
-            None
+        if found != 0 {
+            return None;
         }
+        Some(LatchedDirectory { marker: () })
     }
 
     /// Gives the directory's latch back. From then on the session knows the key of a place, if it has one; place 0 has none.

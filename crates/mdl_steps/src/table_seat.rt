@@ -93,11 +93,10 @@ impl TableSeat {
                 0,
                 self.number as u64,
             );
-        if found == 0 {
-            Some(Latched { place })
-        } else {
-            None
+        if found != 0 {
+            return None;
         }
+        Some(Latched { place })
     }
 
     /// Raises flags of the place's word.

@@ -35,7 +35,7 @@ returns-clause-keeps c =
     let place = c.args.latch.now.place in
     let made = c.load.ensures.2.1 place c.lock_word.ensures in
     rw (← c.self.view_is) (λ h book has. subst (λ (m : Mine). Holds place (noting c.load.result h) book m) (sym made)
-        (holds_stepped step_kind.ReadWord place c.load.result (noting c.load.result) h book c.self.inside.seat.me (λ x. refl) has))
+    (holds_stepped step_kind.ReadWord place c.load.result (noting c.load.result) h book c.self.inside.seat.me (λ x. refl) has))
 
 pub returns-clause-apart : goal.returns-clause-apart
 returns-clause-apart c =

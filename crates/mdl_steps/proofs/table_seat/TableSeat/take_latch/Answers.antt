@@ -9,7 +9,7 @@ use Rattle.mdl_steps.specs.Rule.{Rule}
 use Rattle.mdl_steps.specs.Seats.{Holds, IsPlace, IsRising, elsewhere}
 use Rattle.mdl_steps.proofs.Latch.{takes_latch_allowed}
 use Rattle.mdl_steps.proofs.Hands.{holds_taken, elsewhere-taken}
-use Rattle.mdl_steps.proofs.Seating.{sits}
+use Rattle.mdl_steps.proofs.Seating.{sits, value_is}
 use Rattle.mdl_steps.proofs.table_seat.TableSeat.take_latch.Goals as goal
 
 pub compare_exchange-found-requires : goal.compare_exchange-found-requires
@@ -28,3 +28,21 @@ compare_exchange-found-requires c =
           (subst (λ (k : ℕ). Allows Rule table.slots seat.id seat.me (8 * place) (λ n. either (n == 0) k n) (takes_latch (step table.slots (8 * place) 0 k none) seat.me)) c.self.invariant.numbered
           (takes_latch_allowed table.slots seat.id place seat.me at.positive here.0 here.1)),
     )
+
+pub returns-clause-taken : goal.returns-clause-taken
+returns-clause-taken c =
+    let place = c.args.place in
+    let told = (c.compare_exchange-found.ensures.2.1 place c.latch_word.ensures).0 c.if-found-ne0.false in
+    let h = told.0 in
+    rw (← c.self.view_is) (refl, (h, told.1, subst (λ (m : Mine). Holds place h h.book m) (sym told.2) (holds_taken place h c.self.inside.seat.me told.1.here), value_is told.2))
+
+pub returns-clause-apart : goal.returns-clause-apart
+returns-clause-apart c =
+    let place = c.args.place in
+    let told = (c.compare_exchange-found.ensures.2.1 place c.latch_word.ensures).0 c.if-found-ne0.false in
+    rw (← c.self.view_is) (ap (elsewhere place) told.2 ∙ elsewhere-taken place told.0 c.self.inside.seat.me told.1.here)
+
+pub returns-then-found-ne0-clause-apart : goal.returns-then-found-ne0-clause-apart
+returns-then-found-ne0-clause-apart c =
+    let told = (c.compare_exchange-found.ensures.2.1 c.args.place c.latch_word.ensures).1 c.if-found-ne0.true in
+    rw (← c.self.view_is) (ap (elsewhere c.args.place) told)
