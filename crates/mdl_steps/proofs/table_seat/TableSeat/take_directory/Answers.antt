@@ -26,8 +26,10 @@ compare_exchange-found-requires c =
           (takes_directory_allowed slots seat.id seat.me some),
     )
 
-pub returns-clause-taken : goal.returns-clause-taken
-returns-clause-taken c =
+pub returns : goal.returns
+returns c =
     let told = (c.compare_exchange-found.ensures.2.1 refl).0 c.if-found-ne0.false in
     let k = told.0 in
-    rw (← c.self.view_is) (k, told.1, subst (λ (m : Mine). HasDirectory k m) (sym told.2) (record { recorded = refl; carried = refl }), value_is told.2)
+    rw (← c.self.view_is) (record {
+      taken = (k, told.1, subst (λ (m : Mine). HasDirectory k m) (sym told.2) (record { recorded = refl; carried = refl }), value_is told.2);
+    })
