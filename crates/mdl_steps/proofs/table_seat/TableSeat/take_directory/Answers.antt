@@ -4,7 +4,7 @@ use mathlib.Core.Option.{none}
 use prog.Atomic.{either}
 use Rattle.atomic_table.specs.Seated.{TableId}
 use Rattle.atomic_table.specs.Table.{Allows, step}
-use Rattle.mdl_steps.specs.Plays.{Mine, takes_directory}
+use Rattle.mdl_steps.specs.Plays.{IsDirectory, Mine, takes_directory}
 use Rattle.mdl_steps.specs.Rule.{Rule}
 use Rattle.mdl_steps.specs.Seats.{HasDirectory}
 use Rattle.mdl_steps.proofs.Desks.{takes_directory_allowed}
@@ -26,8 +26,10 @@ compare_exchange-found-requires c =
           (takes_directory_allowed slots seat.id seat.me some),
     )
 
-pub returns-clause-taken : goal.returns-clause-taken
-returns-clause-taken c =
+pub returns : goal.returns
+returns c =
     let told = (c.compare_exchange-found.ensures.2.1 refl).0 c.if-found-ne0.false in
     let k = told.0 in
-    rw (← c.self.view_is) (k, told.1, subst (λ (m : Mine). HasDirectory k m) (sym told.2) (record { recorded = refl; carried = refl }), value_is told.2)
+    rw (← c.self.view_is) (record {
+      taken = (k, subst (λ (n : ℕ). IsDirectory n k c.self.inside.seat.me) (ap (λ t. t.shared.table_id.slots) c.deref.ensures) told.1, subst (λ (m : Mine). HasDirectory k m) (sym told.2) (record { recorded = refl; carried = refl }), value_is told.2);
+    })

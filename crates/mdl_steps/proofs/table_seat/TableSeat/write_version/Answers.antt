@@ -28,7 +28,7 @@ store-requires c =
     let here = at.here (λ (t : TableId). IsPlace t place) (subst (λ (s : SeatState). IsPlace s.table place) same c.requires.place) in
     let inside : c.version_word.result < c.deref.result.now.shared.table_id.words = omega arith in
     let was = c.requires.written in
-    let may : MayWriteVersion place seat.me = at.mine (MayWriteVersion place) (subst (λ (s : SeatState). MayWriteVersion place s.me) same was) in
+    let may : MayWriteVersion place seat.me = subst (λ (s : SeatState). MayWriteVersion place s.me) (same ∙ sym c.self.view_is) was in
     let told : version ≡ was.0.book.standing.version + 1 = c.version-version.ensures.told (redefining was.1 was.0.book) was.2.holds.carried in (
       at.same,
       inside,
