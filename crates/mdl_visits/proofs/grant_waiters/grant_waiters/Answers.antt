@@ -30,8 +30,8 @@ loop-session-init c =
       way = way_read id place m word h.book m a held.1.carried made;
     }
 
-pub next_grantable-requires-clause-carried : goal.next_grantable-requires-clause-carried
-next_grantable-requires-clause-carried c = let held = c.loop-session.invariant.held in (held.0.book, held.1.carried)
+pub next_grantable-requires : goal.next_grantable-requires
+next_grantable-requires c = let held = c.loop-session.invariant.held in record { carried = (held.0.book, held.1.carried) }
 
 pub grant_waiter-requires-clause-place : goal.grant_waiter-requires-clause-place
 grant_waiter-requires-clause-place c = place_there c.args.latch.now.place (table_of c.next_grantable.ensures.same ∙ c.loop-session.invariant.table) c.requires.place
