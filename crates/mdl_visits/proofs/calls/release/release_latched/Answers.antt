@@ -8,7 +8,7 @@ use Rattle.mdl_steps.specs.Deeds.{booked}
 use Rattle.mdl_steps.specs.Plays.{Mine}
 use Rattle.mdl_visits.specs.Grantings.{LeavesWay}
 use Rattle.mdl_visits.proofs.Losing.{taken_out, has_lost, met_own}
-use Rattle.mdl_visits.proofs.Seats.{mine, table_of}
+use Rattle.mdl_visits.proofs.Seats.{mine, place_there, table_kept, table_of}
 use Rattle.mdl_visits.proofs.WayOut.{waits_written, way_before_write}
 use Rattle.mdl_visits.proofs.calls.release.release_latched.Goals as goal
 
@@ -20,6 +20,11 @@ lower_flags_and_reschedule-requires-clause-done c =
     let out = taken_out (ticket_of m.0.number c.args.number h.book.granted) NotHere c.write_loss-gone.result held.3 (c.write_loss-gone.ensures.refused h.book held.1.carried)
     (c.write_loss-gone.ensures.written h.book held.1.carried) in
     has_lost c.args.latch.place m.0.number c.args.number h m c.write_loss-gone.new.self.me refl held.1 held.2 c.requires.known c.requires.unwaited held.3 (mine out)
+
+pub lower_flags_and_reschedule-requires-clause-place : goal.lower_flags_and_reschedule-requires-clause-place
+lower_flags_and_reschedule-requires-clause-place c =
+    let h = c.requires.held.0 in
+    place_there c.args.latch.place (table_kept c.write_loss-gone.result _ _ _ (c.write_loss-gone.ensures.written h.book c.requires.held.1.carried) c.write_loss-gone.ensures.unchanged) c.requires.place
 
 pub returns-clause-left : goal.returns-clause-left
 returns-clause-left c =
