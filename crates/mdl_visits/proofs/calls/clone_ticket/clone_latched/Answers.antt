@@ -8,8 +8,13 @@ use Rattle.mdl_visits.proofs.Losing.{left_written}
 use Rattle.mdl_visits.proofs.Meeting.{StepUnder, full_told, step_written}
 use Rattle.mdl_visits.proofs.Trying.{refusal}
 use Rattle.mdl_visits.proofs.Weaker.{has_gained}
-use Rattle.mdl_visits.proofs.Seats.{mine, table_of}
+use Rattle.mdl_visits.proofs.Seats.{mine, place_there, table_of}
 use Rattle.mdl_visits.proofs.calls.clone_ticket.clone_latched.Goals as goal
+
+pub lower_flags_and_put-requires-clause-place : goal.lower_flags_and_put-requires-clause-place
+lower_flags_and_put-requires-clause-place c =
+    let has = c.requires.covered in
+    place_there c.args.latch.place (table_of (c.in-Ok.ensures.written has.0.book has.1.carried)) c.requires.place
 
 pub lower_flags_and_put-requires-clause-done : goal.lower_flags_and_put-requires-clause-done
 lower_flags_and_put-requires-clause-done c =
@@ -27,7 +32,7 @@ returns-in-Ok-clause-cloned c =
     let wrote = c.in-Ok.ensures.written h.book has.1.carried in (
       c.lower_flags_and_put.ensures.left.0 ∙ table_of wrote,
       left_written c.args.latch.place (Gain c.args.number c.args.mode ∷ []) (booked seat.me.0.number (Gain c.args.number c.args.mode) h.book) seat.me c.write_gain.new.self.me c.lower_flags_and_put.new.seat.me
-      (mine wrote) c.lower_flags_and_put.ensures.left.1,
+          (mine wrote) c.lower_flags_and_put.ensures.left.1,
     )
 
 pub returns-in-Ok-clause-step : goal.returns-in-Ok-clause-step
