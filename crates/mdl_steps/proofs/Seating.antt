@@ -4,6 +4,7 @@ use Rattle.atomic_table.specs.Seated.{TableId}
 use Rattle.mdl_steps.specs.Plays.{Mine}
 use Rattle.mdl_steps.specs.Seats.{IsSized}
 use Rattle.mdl_steps.specs.SeatStates.{IsSeat, SeatState}
+use Rattle.mdl_steps.specs.WaitSeats.{IsSession}
 
 -- the seat has this view, and is of this table, of which the same goes as of that of the seat's value
 pub record Sits (s : SeatState) (that of : TableId) (me : Mine) : Type 1 where
@@ -11,6 +12,7 @@ pub record Sits (s : SeatState) (that of : TableId) (me : Mine) : Type 1 where
   pub sized : IsSized that
   pub some : 0 < that.slots
   pub positive : 0 < me.0.number
+  pub own : IsSession that me.0.number
   pub here : (P : TableId → Type 0) → P s.table → P that
   pub mine : (P : Mine → Type 0) → P s.me → P me
 
@@ -21,6 +23,7 @@ sits {s} {table} {that} {of} {number} {me} view_is seat table_is = record {
   sized = subst IsSized (sym table_is) seat.sized;
   some = subst (λ (t : TableId). 0 < t.slots) (sym table_is) seat.some;
   positive = subst (λ (n : ℕ). 0 < n) (sym seat.numbered) seat.session.0;
+  own = subst (λ (n : ℕ). IsSession that n) (sym seat.numbered) (subst (λ (t : TableId). IsSession t number) (sym table_is) seat.session);
   here = λ P p. subst P (ap (λ (x : SeatState). x.table) (sym view_is) ∙ sym table_is) p;
   mine = λ P p. subst P (ap (λ (x : SeatState). x.me) (sym view_is)) p;
 }

@@ -1,14 +1,15 @@
 //! The steps of a session.
-ghost use Rattle.std.specs.Prelude.{◌≡◌, ◌≢◌, ℕ, ◌+◌, ◌*◌, ◌^◌, ◌<◌, ◌∷◌, [], Some, MatchOption};
+ghost use Rattle.std.specs.Prelude.{◌≡◌, ◌≢◌, ℕ, nat_lt, ◌&&◌, ◌+◌, ◌*◌, ◌^◌, ◌<◌, ◌∷◌, [], Some, MatchOption};
 ghost use Rattle.mdl_book.specs.declared.book_view.BookView.{BookView};
 ghost use Rattle.mdl_steps.specs.declared.slot.Slot.TheVariants as slot;
 ghost use Rattle.mdl_steps.specs.declared.step_kind.StepKind.TheVariants as step;
 ghost use Rattle.mdl_steps.specs.declared.view.Held.{Held};
 ghost use Rattle.mdl_steps.specs.Cells.{held_at};
+ghost use Rattle.mdl_steps.specs.Layout.{session_count, wait_word};
 ghost use Rattle.mdl_steps.specs.Plays.{IsFresh, latched, unlatched, missed_latch, stepped, settled, raised, noting, lowered, redefined, restood, read_and_put};
 ghost use Rattle.mdl_steps.specs.Seats.{IsPlace, IsRising, Holds, MayPut, MayLower, MayWriteVersion, rest, elsewhere};
 
-use crate::layout::{latch_word, lock_word, version_word};
+use crate::layout::{latch_word, lock_word, session_count, version_word, wait_word};
 use crate::plays::{
     Doing, LowerFlags, Order, PutLatch, PutReading, RaiseFlags, ReadWord, TakeLatch, WriteVersion,
 };
@@ -73,6 +74,27 @@ impl TableSeat {
         ensures { result ≡ self.now.me.0.number }
     {
         self.number
+    }
+
+    /// How many slots the table has: one for each of its places, and one for the directory.
+    pub fn slot_count(&self) -> usize
+        ensures { result ≡ self.now.table.slots }
+    {
+        self.table.slot_count()
+    }
+
+    /// Whether the table has the word of a session's wait.
+    pub fn has_session(&self, session: u16) -> bool
+        ensures { result ≡ (nat_lt 0 session && nat_lt (wait_word self.now.table.slots session) self.now.table.words) }
+    {
+        session > 0 && wait_word(self.table.slot_count(), session) < self.table.word_count()
+    }
+
+    /// For how many sessions the table has a wait's word.
+    pub fn session_count(&self) -> usize
+        ensures { result ≡ session_count self.now.table.slots self.now.table.words }
+    {
+        session_count(self.table.slot_count(), self.table.word_count())
     }
 
     /// Takes the latch of a place, if it is free. Latches are taken in rising order of their places.
