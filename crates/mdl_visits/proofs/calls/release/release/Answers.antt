@@ -1,6 +1,7 @@
 -- The book that is met under the latch has the session's ticket.
 use Rattle.std.proofs.Common.{◌≡◌, ℕ, true, sym, ap, ◌∙◌, subst, [], ◌∷◌}
 use Rattle.std.specs.Prelude.{is_some}
+use Rattle.atomic_table.specs.Seated.{TableId}
 use Rattle.mdl_book.specs.Tickets.{ticket_of}
 use Rattle.mdl_steps.specs.declared.deed.Deed.TheVariants.{Lose}
 use Rattle.mdl_steps.specs.Deeds.{KnowsPlace, NotWaited}
@@ -10,6 +11,7 @@ use Rattle.mdl_visits.specs.Grantings.{LeavesWay, WaitsOnce}
 use Rattle.mdl_visits.specs.Leavings.{MeetsOwn}
 use Rattle.mdl_visits.proofs.Leaving.{own_found, step_later}
 use Rattle.mdl_visits.proofs.WayOut.{visits_for_way, waits_once}
+use Rattle.mdl_visits.proofs.Seats.{place_there}
 use Rattle.mdl_visits.proofs.calls.release.release.Goals as goal
 
 pub release_latched-requires-clause-held : goal.release_latched-requires-clause-held
@@ -20,7 +22,7 @@ release_latched-requires-clause-held g c =
     let h = taken.0 in
     let m = c.await_latch-latch.new.seat.me in
     let found = ap is_some (taken.1.own number c.requires.unwaited) ∙ own_found seat.me.0.number c.args.place number seat.me.0.slow c.requires.held in
-    let who = refl ∙ sym c.await_latch-latch.ensures.seat.1 in (
+    let who = sym (ap (λ (x : Mine). x.0.number) c.await_latch-latch.ensures.inside.1.now) in (
       h,
       subst (λ (q : ℕ). Holds q h h.book m) (sym c.await_latch-latch.ensures.place) taken.2,
       taken.1.exact,
@@ -28,15 +30,18 @@ release_latched-requires-clause-held g c =
     )
 
 pub release_latched-requires-clause-place : goal.release_latched-requires-clause-place
-release_latched-requires-clause-place g c = subst (IsPlace c.args.seat.now.table) (sym c.await_latch-latch.ensures.place) c.requires.place
+release_latched-requires-clause-place g c = place_there c.await_latch-latch.result.place c.await_latch-latch.ensures.inside.0 (subst (IsPlace c.args.seat.now.table) (sym c.await_latch-latch.ensures.place) c.requires.place)
 
 pub returns-clause-released : goal.returns-clause-released
 returns-clause-released g c =
     let came : Mine = c.await_latch-latch.new.seat.me in
     let went : Mine = c.release_latched.new.seat.me in
     let id = c.args.seat.now.table in
-    let left = subst (λ (q : ℕ). LeavesWay id q (Lose c.args.number ∷ []) came went) c.await_latch-latch.ensures.place c.release_latched.ensures.left in
-    visits_for_way id c.args.place (Lose c.args.number ∷ []) c.args.seat.now.me came went c.await_latch-latch.ensures.inside c.await_latch-latch.ensures.stays left
+    let out = subst (λ (t : TableId). LeavesWay t c.await_latch-latch.result.place (Lose c.args.number ∷ []) came went) c.await_latch-latch.ensures.inside.0 c.release_latched.ensures.left.1 in
+    let left = subst (λ (q : ℕ). LeavesWay id q (Lose c.args.number ∷ []) came went) c.await_latch-latch.ensures.place out in (
+      c.release_latched.ensures.left.0 ∙ c.await_latch-latch.ensures.inside.0,
+      visits_for_way id c.args.place (Lose c.args.number ∷ []) c.args.seat.now.me came went c.await_latch-latch.ensures.inside.1 c.await_latch-latch.ensures.stays left,
+    )
 
 pub returns-clause-step : goal.returns-clause-step
 returns-clause-step g c =
@@ -45,19 +50,19 @@ returns-clause-step g c =
     let came : Mine = latch.new.seat.me in
     let went : Mine = c.release_latched.new.seat.me in
     let step = c.release_latched.ensures.step in
-    let own = subst (λ (w : ℕ). MeetsOwn latch.result.place w c.args.number step.0) latch.ensures.seat.1 step.2 in (
+    let own = subst (λ (w : ℕ). MeetsOwn latch.result.place w c.args.number step.0) (ap (λ (x : Mine). x.0.number) latch.ensures.inside.1.now) step.2 in (
       step.0,
-      step_later c.args.place seat.me came went latch.ensures.inside step.0 step.1,
+      step_later c.args.place seat.me came went latch.ensures.inside.1 step.0 step.1,
       subst (λ (q : ℕ). MeetsOwn q seat.me.0.number c.args.number step.0) latch.ensures.place own,
       step.3,
     )
 
 pub release_latched-requires-clause-unwaited : goal.release_latched-requires-clause-unwaited
-release_latched-requires-clause-unwaited g c = subst (λ (x : Mine). NotWaited x.0 c.args.number) (sym c.await_latch-latch.ensures.inside.now) c.requires.unwaited
+release_latched-requires-clause-unwaited g c = subst (λ (x : Mine). NotWaited x.0 c.args.number) (sym c.await_latch-latch.ensures.inside.1.now) c.requires.unwaited
 
 pub release_latched-requires-clause-known : goal.release_latched-requires-clause-known
 release_latched-requires-clause-known g c =
-    let known = subst (λ (x : Mine). KnowsPlace x.0 c.args.place) (sym c.await_latch-latch.ensures.inside.now) c.requires.known in
+    let known = subst (λ (x : Mine). KnowsPlace x.0 c.args.place) (sym c.await_latch-latch.ensures.inside.1.now) c.requires.known in
     subst (KnowsPlace c.await_latch-latch.new.seat.me.0) (sym c.await_latch-latch.ensures.place) known
 
 pub release_latched-requires-clause-once : goal.release_latched-requires-clause-once
