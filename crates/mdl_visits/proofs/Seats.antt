@@ -15,9 +15,9 @@ pub table_of : {s t : SeatState} → s ≡ t → s.table ≡ t.table
 table_of told = ap (λ (x : SeatState). x.table) told
 
 -- which it is also where the call may fail, and changes nothing then
-pub table_kept : {T E : Type 0} (result : Result T E) {s t : SeatState} {m : Mine} → OnOk result (t ≡ record s { me = m }) → OnErr result (t ≡ s) → t.table ≡ s.table
-table_kept (Ok x) done failed = table_of done
-table_kept (Err e) done failed = table_of failed
+pub table_kept : {T E : Type 0} (result : Result T E) (s t : SeatState) (m : Mine) → OnOk result (t ≡ record s { me = m }) → OnErr result (t ≡ s) → t.table ≡ s.table
+table_kept (Ok x) s t m done failed = table_of done
+table_kept (Err e) s t m done failed = table_of failed
 
 -- two facts of a result
 pub both_ok : {T E : Type 0} (result : Result T E) (P Q : T → Type 0) → IfOk result P → IfOk result Q → IfOk result (λ x. P x × Q x)

@@ -5,8 +5,8 @@ use Rattle.mdl_visits.proofs.Seats.{mine, table_of}
 use Rattle.mdl_visits.proofs.Visiting.{lingers_one}
 use Rattle.mdl_visits.proofs.latches.await_directory.Goals as goal
 
-pub take_directory-requires-clause-first : goal.take_directory-requires-clause-first
-take_directory-requires-clause-first g c = ap (λ (m : Mine). length m.0.latches) c.loop.invariant.met.1 ∙ c.requires.first
+pub take_directory-requires : goal.take_directory-requires
+take_directory-requires g c = record { first = ap (λ (m : Mine). length m.0.latches) c.loop.invariant.met.1 ∙ c.requires.first }
 
 pub loop-preserved : goal.loop-preserved
 loop-preserved g c =

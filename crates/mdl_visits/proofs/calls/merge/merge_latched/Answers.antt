@@ -53,7 +53,7 @@ returns-clause-left c =
     c.write_mode-altered.new.self.me.0.number c.write_loss-gone.new.self.me c.write_loss-gone.result (ap (λ (x : Mine). x.0.number) first) c.requires.two (ap is_some has.4.1) c.write_loss-gone.ensures.refused
     (λ b has. on_ok_weaker c.write_loss-gone.result (λ e. mine e) (c.write_loss-gone.ensures.written b has)) in
     let has_first = carried place seat.me.0.number c.args.kept gone.number gone.mode h.book seat.me c.write_mode-altered.new.self.me first in
-    let lost = table_kept c.write_loss-gone.result (c.write_loss-gone.ensures.written (booked seat.me.0.number (Alter c.args.kept gone.mode) h.book) has_first) c.write_loss-gone.ensures.unchanged in (
+    let lost = table_kept c.write_loss-gone.result _ _ _ (c.write_loss-gone.ensures.written (booked seat.me.0.number (Alter c.args.kept gone.mode) h.book) has_first) c.write_loss-gone.ensures.unchanged in (
       c.lower_flags_and_put.ensures.left.0 ∙ lost ∙ table_of did,
       left_written place (Alter c.args.kept gone.mode ∷ Lose gone.number ∷ []) (booked seat.me.0.number (Lose gone.number) (booked seat.me.0.number (Alter c.args.kept gone.mode) h.book))
     seat.me c.write_loss-gone.new.self.me c.lower_flags_and_put.new.seat.me both c.lower_flags_and_put.ensures.left.1,
