@@ -66,7 +66,7 @@ returns-clause-missed c = λ none audited are.
     ∙ ap (λ (n : ℕ). victim_in (settled_by c.deref.result.now) (books_of audited) n) (sym (c.number.ensures ∙ same_number m m′ heard.hears.1))
     ∙ sym (c.in_ok-find_victim.ensures audited are)
     ∙ c.in-Some.is in
-    let here = subst (λ (table : TableId). IfSome (heard_of victim c.deref-2.result.now) (WasOther table.slots m′ m″)) heard.hears.0 (c.settle_wait_of.ensures.missed c.if-settle_wait_of.false).1 in
-    let other = subst (λ (ws : List WaitRead). IfSome (heard_of victim ws) (WasOther id.slots m′ m″)) (search) here in
+    let here = subst (λ (ws : List WaitRead). IfSome (heard_of victim ws) (WasOther c.read_waits.new.seat.table.slots m′ m″)) (search) (c.settle_wait_of.ensures.missed c.if-settle_wait_of.false).1 in
+    let other = subst (λ (table : TableId). IfSome (heard_of victim words) (WasOther table.slots m′ m″)) heard.hears.0 here in
     misses id who victim m.0.latches audited words m m′ m″ heard.all
     (all_within id.slots m.0.latches m m m′ m″ words (goes_nowhere m) (goes_hearing m′ m″ c.settle_wait_of.ensures.hears.1) heard.heard) found (goes_hearing m m′ heard.hears.1) other

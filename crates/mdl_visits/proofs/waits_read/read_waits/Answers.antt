@@ -1,7 +1,9 @@
 -- One session's word more.
-use Rattle.std.proofs.Common.{refl, ◌∙◌, arith}
+use Rattle.std.proofs.Common.{refl, ◌∙◌, subst, arith}
 use Rattle.std.proofs.lemmas.Bool.Decides.{nat_tests}
+use Rattle.atomic_table.specs.Seated.{TableId}
 use Rattle.mdl_steps.specs.Plays.{Mine}
+use Rattle.mdl_visits.specs.Searches.{WasHeard}
 use Rattle.mdl_visits.proofs.Words.{hears_none, hears_on, none_heard, one_heard}
 use Rattle.mdl_visits.proofs.waits_read.read_waits.Goals as goal
 
@@ -23,7 +25,7 @@ loop-before-preserved c =
       hears = hears_on c.args.seat.now c.loop-before.seat c.add_wait.new.seat inv.hears heard.hears;
       settles = heard.settles ∙ inv.settles;
       words = one_heard c.args.seat.now.table c.loop-before.before c.loop-before.words.items c.add_wait.new.words.items one.0 m m′ m″ inv.words inv.hears.1 heard.hears.1
-          one.1 (omega arith, grind (arith, nat_tests)) (grind (arith, nat_tests)) one.2 one.3;
+          one.1 (omega arith, grind (arith, nat_tests)) (grind (arith, nat_tests)) one.2 (subst (λ (table : TableId). WasHeard table.slots m′.0.latches m′ m″ one.0) inv.hears.0 one.3);
     }
 
 pub returns-in_err-reserve-clause-hears : goal.returns-in_err-reserve-clause-hears

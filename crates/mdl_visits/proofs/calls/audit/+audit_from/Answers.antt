@@ -54,7 +54,7 @@ audit_from-outcome-requires g t c =
     let there = table_of c.add_book.ensures.same ∙ c.await_latch-latch.ensures.inside.0 in
     let inside = subst (λ (table : TableId). c.args.last < table.slots) (sym there) places.2 in
     let nearer = c.if-place-last.false in
-    λ κs live. (search rules, (search rules, (search rules, ((omega arith, omega arith, inside, places.3), rising))))
+    λ κs live. (search rules, (search rules, ((omega arith, omega arith, inside, places.3), rising)))
 
 pub returns-then-place-last-clause-gathered : goal.returns-then-place-last-clause-gathered
 returns-then-place-last-clause-gathered g t c =

@@ -16,12 +16,12 @@ use Rattle.mdl_visits.proofs.Outcomes.{knows_on}
 use Rattle.mdl_visits.proofs.Words.{hears_none}
 use Rattle.mdl_visits.proofs.calls.search.+search_from.Goals as goal
 
-pub add_if_waited-requires-clause-carried : goal.add_if_waited-requires-clause-carried
-add_if_waited-requires-clause-carried g t c =
+pub add_if_waited-requires : goal.add_if_waited-requires
+add_if_waited-requires g t c =
     let at = c.await_latch-latch.ensures.place in
     let taken = c.await_latch-latch.ensures.taken in
     let has = subst (λ (q : ℕ). Holds q taken.0 taken.0.book c.await_latch-latch.new.seat.me) (sym at) taken.2 in
-    (taken.0.book, has.carried)
+    record { carried = (taken.0.book, has.carried) }
 
 pub put_latch-requires-clause-put : goal.put_latch-requires-clause-put
 put_latch-requires-clause-put g t c =
@@ -52,7 +52,7 @@ search_from-outcome-requires g t c =
     let there = table_of c.add_if_waited.ensures.same ∙ c.await_latch-latch.ensures.inside.0 in
     let inside = subst (λ (table : TableId). c.args.last < table.slots) (sym there) places.2 in
     let nearer = c.if-place-last.false in
-    λ κs live. (search rules, (search rules, (search rules, ((omega arith, omega arith, inside, places.3), rising))))
+    λ κs live. (search rules, (search rules, ((omega arith, omega arith, inside, places.3), rising)))
 
 pub returns-then-place-last-clause-searched : goal.returns-then-place-last-clause-searched
 returns-then-place-last-clause-searched g t c =
