@@ -28,14 +28,13 @@ returns-clause-entered g c =
     let taken = c.await_latch-latch.ensures.taken in
     let h = taken.0 in
     let has = subst (λ (q : ℕ). Holds q h h.book in_hand) (sym at) taken.2 in
-    let raise = c.raise_flags.ensures.made in
-    (
+    let raise = c.raise_flags.ensures.made in (
       table_of c.read_word-word.ensures.made ∙ table_of raise.1 ∙ c.await_latch-latch.ensures.inside.0,
       subst (λ (q : ℕ). Enters q obtrusive word m noted) at
-      (enters p raise.0 word obtrusive h m in_hand up noted
-      (subst (λ (q : ℕ). IsFresh q h m) (sym at) taken.1)
-      (subst (λ (q : ℕ). IsInside q m in_hand) (sym at) c.await_latch-latch.ensures.inside.1)
-      (mine raise.1)
-      (mine c.read_word-word.ensures.made)
-      (c.read_word-word.ensures.keeps (raised true obtrusive h) h.book (c.raise_flags.ensures.keeps h h.book has))),
+          (enters p raise.0 word obtrusive h m in_hand up noted
+          (subst (λ (q : ℕ). IsFresh q h m) (sym at) taken.1)
+          (subst (λ (q : ℕ). IsInside q m in_hand) (sym at) c.await_latch-latch.ensures.inside.1)
+          (mine raise.1)
+          (mine c.read_word-word.ensures.made)
+          (c.read_word-word.ensures.keeps (raised true obtrusive h) h.book (c.raise_flags.ensures.keeps h h.book has))),
     )

@@ -41,11 +41,10 @@ returns-clause-left c =
     let needs = c.needs-needs.result in
     let same = mine c.needs-needs.ensures.same in
     let made = c.lower_flags.ensures.made in
-    let low = made.1 book (subst (λ (m′ : Mine). m′.1 ≡ (place, slot.Place book) ∷ rest m′.1) (sym same) done.1.holds.carried) in
-    (
+    let low = made.1 book (subst (λ (m′ : Mine). m′.1 ≡ (place, slot.Place book) ∷ rest m′.1) (sym same) done.1.holds.carried) in (
       table_of c.put_latch.ensures.made ∙ table_of low ∙ table_of c.needs-needs.ensures.same,
       subst (λ (m′ : Mine). Leaves place ds m m′) (sym (mine c.put_latch.ensures.made ∙ ap (unlatched place []) (mine low ∙ ap (λ (x : Mine). settled place ds made.0 book needs.slow needs.obtrusive x) same)))
-      (leaves place ds made.0 book needs.slow needs.obtrusive m),
+          (leaves place ds made.0 book needs.slow needs.obtrusive m),
     )
 
 pub returns-clause-step : goal.returns-clause-step

@@ -31,10 +31,11 @@ returns-in-Err-clause-steps g t c =
     let latch = c.await_latch-latch in
     let came = latch.new.seat.me in
     let copied = c.add_book.new.seat.me in
-    let went = c.put_latch.new.self.me in
-    (table_of c.put_latch.ensures.made ∙ table_of c.add_book.ensures.same ∙ latch.ensures.inside.0,
-    there_and_back c.args.place c.args.seat.now.me came copied went latch.ensures.inside.1 (makes_same came copied (mine c.add_book.ensures.same))
-    (unlatched_at c.args.place latch.result.place copied went latch.ensures.place (mine c.put_latch.ensures.made)))
+    let went = c.put_latch.new.self.me in (
+      table_of c.put_latch.ensures.made ∙ table_of c.add_book.ensures.same ∙ latch.ensures.inside.0,
+      there_and_back c.args.place c.args.seat.now.me came copied went latch.ensures.inside.1 (makes_same came copied (mine c.add_book.ensures.same))
+          (unlatched_at c.args.place latch.result.place copied went latch.ensures.place (mine c.put_latch.ensures.made)),
+    )
 
 pub returns-in-Err-clause-directory : goal.returns-in-Err-clause-directory
 returns-in-Err-clause-directory g t c =
@@ -76,10 +77,11 @@ returns-clause-steps g t c =
     let copied = c.add_book.new.seat.me in
     let gathered = c.audit_from-outcome.new.seat.me in
     let went = c.put_latch-2.new.self.me in
-    let inside = subst (λ (m : Mine). IsInside c.args.place c.args.seat.now.me m) (sym (mine c.add_book.ensures.same)) latch.ensures.inside.1 in
-    (table_of c.put_latch-2.ensures.made ∙ c.audit_from-outcome.ensures.steps.0 ∙ table_of c.add_book.ensures.same ∙ latch.ensures.inside.0,
-    there_and_back c.args.place c.args.seat.now.me copied gathered went inside c.audit_from-outcome.ensures.steps.1
-    (unlatched_at c.args.place latch.result.place gathered went latch.ensures.place (mine c.put_latch-2.ensures.made)))
+    let inside = subst (λ (m : Mine). IsInside c.args.place c.args.seat.now.me m) (sym (mine c.add_book.ensures.same)) latch.ensures.inside.1 in (
+      table_of c.put_latch-2.ensures.made ∙ c.audit_from-outcome.ensures.steps.0 ∙ table_of c.add_book.ensures.same ∙ latch.ensures.inside.0,
+      there_and_back c.args.place c.args.seat.now.me copied gathered went inside c.audit_from-outcome.ensures.steps.1
+          (unlatched_at c.args.place latch.result.place gathered went latch.ensures.place (mine c.put_latch-2.ensures.made)),
+    )
 
 pub returns-clause-directory : goal.returns-clause-directory
 returns-clause-directory g t c =

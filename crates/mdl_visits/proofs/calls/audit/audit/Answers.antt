@@ -1,6 +1,7 @@
 -- All of it happens while the directory's latch is held, by the keys that its record has.
-use Rattle.std.proofs.Common.{List, sym, ◌∙◌, subst, arith}
+use Rattle.std.proofs.Common.{List, sym, ap, ◌∙◌, subst, arith}
 use Rattle.std.proofs.lemmas.Result.{on_ok_weaker}
+use Rattle.atomic_table.specs.Seated.{TableId}
 use Rattle.mdl_steps.specs.Plays.{Mine}
 use Rattle.mdl_steps.specs.Seats.{HasDirectory, IsRising}
 use Rattle.mdl_visits.specs.declared.audited.Audited.{Audited}
@@ -18,6 +19,7 @@ audit_from-outcome-requires-clause-places g c =
     let count = c.key_count-last.ensures.told taken.1 has.carried in
     let fit = taken.2.fit in
     let few = c.requires.slots in
+    let there = ap (λ (t : TableId). t.slots) (table_of c.key_count-last.ensures.same ∙ table_of taken.3) in
     (omega arith, omega arith, omega arith, omega arith)
 
 pub audit_from-outcome-requires-clause-rising : goal.audit_from-outcome-requires-clause-rising
@@ -26,22 +28,25 @@ audit_from-outcome-requires-clause-rising g c =
     let then = mine c.key_count-last.ensures.same ∙ mine taken.3 in
     subst (IsRising 1) (sym then) (none_rising c.args.seat.now.me taken.1 taken.0 c.requires.idle)
 
-pub put_directory-requires-clause-put : goal.put_directory-requires-clause-put
-put_directory-requires-clause-put g c =
+pub put_directory-requires : goal.put_directory-requires
+put_directory-requires g c =
     let taken = c.await_directory-directory.ensures.taken in
-    let then = mine c.key_count-last.ensures.same ∙ mine taken.3 in (
-      taken.1,
-      has_still c.args.seat.now.table.slots taken.1 taken.0 c.args.seat.now.me c.key_count-last.new.self.me c.audit_from-outcome.new.seat.me
-          then c.audit_from-outcome.ensures.steps.1,
-    )
+    let then = mine c.key_count-last.ensures.same ∙ mine taken.3 in record {
+      put = (
+        taken.1,
+        has_still c.args.seat.now.table.slots taken.1 taken.0 c.args.seat.now.me c.key_count-last.new.self.me c.audit_from-outcome.new.seat.me
+            then c.audit_from-outcome.ensures.steps.1,
+      );
+    }
 
 pub returns-clause-steps : goal.returns-clause-steps
 returns-clause-steps g c =
     let taken = c.await_directory-directory.ensures.taken in
-    let then = mine c.key_count-last.ensures.same ∙ mine taken.3 in
-    (table_of c.put_directory.ensures.made ∙ c.audit_from-outcome.ensures.steps.0 ∙ table_of c.key_count-last.ensures.same ∙ table_of taken.3,
-    makes_all c.args.seat.now.table.slots taken.1 taken.0 c.args.seat.now.me c.key_count-last.new.self.me c.audit_from-outcome.new.seat.me
-    then c.audit_from-outcome.ensures.steps.1 c.put_directory.new.self.me (mine c.put_directory.ensures.made) c.requires.idle taken.2 taken.5)
+    let then = mine c.key_count-last.ensures.same ∙ mine taken.3 in (
+      table_of c.put_directory.ensures.made ∙ c.audit_from-outcome.ensures.steps.0 ∙ table_of c.key_count-last.ensures.same ∙ table_of taken.3,
+      makes_all c.args.seat.now.table.slots taken.1 taken.0 c.args.seat.now.me c.key_count-last.new.self.me c.audit_from-outcome.new.seat.me
+          then c.audit_from-outcome.ensures.steps.1 c.put_directory.new.self.me (mine c.put_directory.ensures.made) c.requires.idle taken.2 taken.5,
+    )
 
 pub returns-clause-told : goal.returns-clause-told
 returns-clause-told g c =

@@ -27,7 +27,7 @@ returns-in-Ok-clause-cloned c =
     let wrote = c.in-Ok.ensures.written h.book has.1.carried in (
       c.lower_flags_and_put.ensures.left.0 ∙ table_of wrote,
       left_written c.args.latch.place (Gain c.args.number c.args.mode ∷ []) (booked seat.me.0.number (Gain c.args.number c.args.mode) h.book) seat.me c.write_gain.new.self.me c.lower_flags_and_put.new.seat.me
-      (mine wrote) c.lower_flags_and_put.ensures.left.1,
+          (mine wrote) c.lower_flags_and_put.ensures.left.1,
     )
 
 pub returns-in-Ok-clause-step : goal.returns-in-Ok-clause-step

@@ -29,8 +29,7 @@ returns-clause-left c =
     let h = has.0 in
     let wrote = altered seat.me.0.number c.args.mode h has.2 c.args.number c.write_mode-altered.result (ap is_some has.3.1) (c.write_mode-altered.ensures.refused h.book has.1.carried)
     (c.write_mode-altered.ensures.written h.book has.1.carried) in
-    let out = mine wrote in
-    (
+    let out = mine wrote in (
       c.lower_flags_and_reschedule.ensures.left.0 ∙ table_of wrote,
       way_before_write c.args.seat.now.table c.args.latch.place (Alter c.args.number c.args.mode ∷ []) (booked seat.me.0.number (Alter c.args.number c.args.mode) h.book) seat.me c.write_mode-altered.new.self.me c.lower_flags_and_reschedule.new.seat.me out (subst (λ (t : TableId). LeavesWay t c.args.latch.place (Alter c.args.number c.args.mode ∷ []) c.write_mode-altered.new.self.me c.lower_flags_and_reschedule.new.seat.me) (table_of wrote) c.lower_flags_and_reschedule.ensures.left.1),
     )

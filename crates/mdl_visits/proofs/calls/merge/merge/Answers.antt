@@ -43,8 +43,7 @@ returns-clause-merged g c =
     let ds : List Deed = Alter c.args.kept.number c.args.gone.mode ∷ Lose c.args.gone.number ∷ [] in
     let latch = c.await_latch-latch in
     let came : Mine = latch.new.seat.me in
-    let went : Mine = c.merge_latched.new.seat.me in
-    (
+    let went : Mine = c.merge_latched.new.seat.me in (
       c.merge_latched.ensures.left.0 ∙ latch.ensures.inside.0,
       visits_left place c.args.seat.now.me came went latch.ensures.inside.1 ds (subst (λ (q : ℕ). Leaves q ds came went) latch.ensures.place c.merge_latched.ensures.left.1),
     )

@@ -56,7 +56,7 @@ returns-clause-left c =
     let lost = table_kept c.write_loss-gone.result _ _ _ (c.write_loss-gone.ensures.written (booked seat.me.0.number (Alter c.args.kept gone.mode) h.book) has_first) c.write_loss-gone.ensures.unchanged in (
       c.lower_flags_and_put.ensures.left.0 ∙ lost ∙ table_of did,
       left_written place (Alter c.args.kept gone.mode ∷ Lose gone.number ∷ []) (booked seat.me.0.number (Lose gone.number) (booked seat.me.0.number (Alter c.args.kept gone.mode) h.book))
-    seat.me c.write_loss-gone.new.self.me c.lower_flags_and_put.new.seat.me both c.lower_flags_and_put.ensures.left.1,
+          seat.me c.write_loss-gone.new.self.me c.lower_flags_and_put.new.seat.me both c.lower_flags_and_put.ensures.left.1,
     )
 
 pub returns-clause-step : goal.returns-clause-step

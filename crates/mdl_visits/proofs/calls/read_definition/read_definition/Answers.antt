@@ -49,8 +49,7 @@ returns-clause-quiet g c =
     let latch = c.await_latch-latch in
     let taken = latch.ensures.taken in
     let came : Mine = latch.new.seat.me in
-    let went : Mine = c.read_latched.new.seat.me in
-    (
+    let went : Mine = c.read_latched.new.seat.me in (
       c.read_latched.ensures.quiet.0 ∙ latch.ensures.inside.0,
       quiet_on m came went (quiet_taken c.args.place taken.0 taken.3.0 m came taken.3.2 taken.3.1) (ap (λ (x : Mine). x.0.directory) taken.3.1) c.read_latched.ensures.quiet.1,
     )

@@ -30,8 +30,7 @@ returns-clause-left c =
     let h = held.0 in
     let wrote = taken_out (ticket_of seat.me.0.number c.args.number h.book.granted) NotHere c.write_loss-gone.result held.3 (c.write_loss-gone.ensures.refused h.book held.1.carried)
     (c.write_loss-gone.ensures.written h.book held.1.carried) in
-    let out = mine wrote in
-    (
+    let out = mine wrote in (
       c.lower_flags_and_reschedule.ensures.left.0 ∙ table_of wrote,
       way_before_write c.args.seat.now.table place (Lose c.args.number ∷ []) (booked seat.me.0.number (Lose c.args.number) h.book) seat.me c.write_loss-gone.new.self.me c.lower_flags_and_reschedule.new.seat.me out (subst (λ (t : TableId). LeavesWay t place (Lose c.args.number ∷ []) c.write_loss-gone.new.self.me c.lower_flags_and_reschedule.new.seat.me) (table_of wrote) c.lower_flags_and_reschedule.ensures.left.1),
     )

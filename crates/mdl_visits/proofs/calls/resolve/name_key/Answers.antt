@@ -2,7 +2,7 @@
 use Rattle.std.proofs.Common.{ap, ◌∙◌}
 use Rattle.mdl_steps.specs.Plays.{Mine}
 use Rattle.mdl_visits.proofs.Naming.{listed_at}
-use Rattle.mdl_visits.proofs.Seats.{mine, table_of}
+use Rattle.mdl_visits.proofs.Seats.{mine, place_there, table_of}
 use Rattle.mdl_visits.proofs.calls.resolve.name_key.Goals as goal
 
 pub name_place-requires-clause-listed : goal.name_place-requires-clause-listed
@@ -18,3 +18,8 @@ pub name_place-requires-clause-alone : goal.name_place-requires-clause-alone
 name_place-requires-clause-alone g c =
     let new = c.requires.new in
     ap (λ (m : Mine). m.0.latches) (mine (c.in_ok-list_key.ensures.listed new.0 new.1.carried)) ∙ c.requires.alone
+
+pub name_place-requires-clause-place : goal.name_place-requires-clause-place
+name_place-requires-clause-place g c =
+    let new = c.requires.new in
+    place_there c.args.place (table_of (c.in_ok-list_key.ensures.listed new.0 new.1.carried)) c.requires.place

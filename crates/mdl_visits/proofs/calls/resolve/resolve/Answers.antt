@@ -12,15 +12,15 @@ use Rattle.mdl_visits.proofs.Lookups.{has_looked, has_taken, idle_then, knows_no
 use Rattle.mdl_visits.proofs.Seats.{mine, table_of}
 use Rattle.mdl_visits.proofs.calls.resolve.resolve.Goals as goal
 
-pub put_directory-requires-clause-put : goal.put_directory-requires-clause-put
-put_directory-requires-clause-put g c =
+pub put_directory-requires : goal.put_directory-requires
+put_directory-requires g c =
     let old = c.args.seat.now.me in
     let first = c.await_directory-directory.new.seat.me in
     let taken = c.await_directory-directory.ensures.taken in
     let has = subst (λ (m : Mine). HasDirectory taken.1 m) (sym (mine taken.3)) (has_taken taken.1 (and_made taken.0 old)) in
     let found = c.place_for.ensures.looked taken.1 has in
     let looked = subst (λ (table : TableId). HasLooked table.slots c.args.key.now taken.1 c.place_for.result first c.place_for.new.seat.me) (table_of taken.3) found.1 in
-    (looked.left, has_looked c.args.seat.now.table.slots c.args.key.now taken.1 c.place_for.result first c.place_for.new.seat.me looked)
+    record { put = (looked.left, has_looked c.args.seat.now.table.slots c.args.key.now taken.1 c.place_for.result first c.place_for.new.seat.me looked) }
 
 pub returns-in-Ok-clause-known : goal.returns-in-Ok-clause-known
 returns-in-Ok-clause-known g c =

@@ -38,10 +38,11 @@ returns-in-Err-clause-hears g t c =
     let m : Mine = c.args.seat.now.me in
     let copied : Mine = c.add_if_waited.new.seat.me in
     let went : Mine = c.put_latch.new.self.me in
-    let inside = subst (λ (x : Mine). IsInside c.args.place m x) (sym (mine c.add_if_waited.ensures.same)) latch.ensures.inside.1 in
-    (table_of c.put_latch.ensures.made ∙ table_of c.add_if_waited.ensures.same ∙ latch.ensures.inside.0,
-    back_heard c.args.place taken.0 taken.3.0 m copied copied went inside taken.3.2 (mine c.add_if_waited.ensures.same ∙ taken.3.1) (hears_none copied)
-    (unlatched_at c.args.place latch.result.place copied went latch.ensures.place (mine c.put_latch.ensures.made)))
+    let inside = subst (λ (x : Mine). IsInside c.args.place m x) (sym (mine c.add_if_waited.ensures.same)) latch.ensures.inside.1 in (
+      table_of c.put_latch.ensures.made ∙ table_of c.add_if_waited.ensures.same ∙ latch.ensures.inside.0,
+      back_heard c.args.place taken.0 taken.3.0 m copied copied went inside taken.3.2 (mine c.add_if_waited.ensures.same ∙ taken.3.1) (hears_none copied)
+          (unlatched_at c.args.place latch.result.place copied went latch.ensures.place (mine c.put_latch.ensures.made)),
+    )
 
 pub search_from-outcome-requires : goal.search_from-outcome-requires
 search_from-outcome-requires g t c =
@@ -72,10 +73,11 @@ returns-clause-hears g t c =
     let copied : Mine = c.add_if_waited.new.seat.me in
     let searched : Mine = c.search_from-outcome.new.seat.me in
     let went : Mine = c.put_latch-2.new.self.me in
-    let inside = subst (λ (x : Mine). IsInside c.args.place m x) (sym (mine c.add_if_waited.ensures.same)) latch.ensures.inside.1 in
-    (table_of c.put_latch-2.ensures.made ∙ c.search_from-outcome.ensures.hears.0 ∙ table_of c.add_if_waited.ensures.same ∙ latch.ensures.inside.0,
-    back_heard c.args.place taken.0 taken.3.0 m copied searched went inside taken.3.2 (mine c.add_if_waited.ensures.same ∙ taken.3.1) c.search_from-outcome.ensures.hears.1
-    (unlatched_at c.args.place latch.result.place searched went latch.ensures.place (mine c.put_latch-2.ensures.made)))
+    let inside = subst (λ (x : Mine). IsInside c.args.place m x) (sym (mine c.add_if_waited.ensures.same)) latch.ensures.inside.1 in (
+      table_of c.put_latch-2.ensures.made ∙ c.search_from-outcome.ensures.hears.0 ∙ table_of c.add_if_waited.ensures.same ∙ latch.ensures.inside.0,
+      back_heard c.args.place taken.0 taken.3.0 m copied searched went inside taken.3.2 (mine c.add_if_waited.ensures.same ∙ taken.3.1) c.search_from-outcome.ensures.hears.1
+          (unlatched_at c.args.place latch.result.place searched went latch.ensures.place (mine c.put_latch-2.ensures.made)),
+    )
 
 pub returns-clause-searched : goal.returns-clause-searched
 returns-clause-searched g t c =

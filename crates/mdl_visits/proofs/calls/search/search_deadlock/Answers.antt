@@ -53,7 +53,8 @@ returns-clause-own g c =
 pub returns-clause-hears : goal.returns-clause-hears
 returns-clause-hears g c =
     let taken = c.await_directory-directory.ensures.taken in
-    let then = mine c.key_count-last.ensures.same ∙ mine taken.3 in
-    (table_of c.put_directory.ensures.made ∙ c.search_from-outcome.ensures.hears.0 ∙ table_of c.key_count-last.ensures.same ∙ table_of taken.3,
-    hears_all c.args.seat.now.table taken.1 taken.0 c.args.seat.now.me c.key_count-last.new.self.me c.search_from-outcome.new.seat.me then
-    c.search_from-outcome.ensures.hears.1 c.put_directory.new.self.me (mine c.put_directory.ensures.made) c.requires.idle taken.2 taken.5)
+    let then = mine c.key_count-last.ensures.same ∙ mine taken.3 in (
+      table_of c.put_directory.ensures.made ∙ c.search_from-outcome.ensures.hears.0 ∙ table_of c.key_count-last.ensures.same ∙ table_of taken.3,
+      hears_all c.args.seat.now.table taken.1 taken.0 c.args.seat.now.me c.key_count-last.new.self.me c.search_from-outcome.new.seat.me then
+          c.search_from-outcome.ensures.hears.1 c.put_directory.new.self.me (mine c.put_directory.ensures.made) c.requires.idle taken.2 taken.5,
+    )

@@ -11,16 +11,18 @@ use Rattle.mdl_visits.proofs.Seats.{mine, table_of}
 use Rattle.mdl_visits.proofs.Sorting.{are_tables}
 use Rattle.mdl_visits.proofs.calls.tables_of.find_tables.Goals as goal
 
-pub put_directory_telling-requires-clause-put : goal.put_directory_telling-requires-clause-put
-put_directory_telling-requires-clause-put g c =
+pub put_directory_telling-requires : goal.put_directory_telling-requires
+put_directory_telling-requires g c =
     let taken = c.await_directory-directory.ensures.taken in
     let has = subst (λ (m : Mine). HasDirectory taken.1 m) (sym (mine taken.3)) (has_taken taken.1 (and_made taken.0 c.args.seat.now.me)) in
     let schema : List ℕ = c.args.schema.now in
-    let tables : List Known = c.in-Ok.found.0.items in (
-      taken.1,
-      subst (λ (m : Mine). HasDirectory taken.1 m) (sym (mine c.list_tables.ensures.same.0)) has,
-      subst (StandThere taken.1) (sym c.deref.ensures.value) (all_stand schema taken.1 tables (are_tables schema taken.1 tables taken.2.distinct (c.in-Ok.ensures.listed taken.1 has))),
-    )
+    let tables : List Known = c.in-Ok.found.0.items in record {
+      put = (
+        taken.1,
+        subst (λ (m : Mine). HasDirectory taken.1 m) (sym (mine c.list_tables.ensures.same.0)) has,
+        subst (StandThere taken.1) (sym c.deref.ensures.value) (all_stand schema taken.1 tables (are_tables schema taken.1 tables taken.2.distinct (c.in-Ok.ensures.listed taken.1 has))),
+      );
+    }
 
 pub returns-in-Ok-clause-found : goal.returns-in-Ok-clause-found
 returns-in-Ok-clause-found g c =
@@ -52,8 +54,7 @@ returns-in-Err-clause-found g c =
     let listed : Mine = c.list_tables.new.seat.me in
     let new : Mine = c.put_directory_telling-in-Err.new.self.me in
     let taken = c.await_directory-directory.ensures.taken in
-    let e = told_after taken.1 taken.0 [] old first listed new (mine taken.3) (mine c.list_tables.ensures.same.0) (mine c.put_directory_telling-in-Err.ensures.made) in
-    (
+    let e = told_after taken.1 taken.0 [] old first listed new (mine taken.3) (mine c.list_tables.ensures.same.0) (mine c.put_directory_telling-in-Err.ensures.made) in (
       taken.1,
       (
         table_of c.put_directory_telling-in-Err.ensures.made ∙ table_of c.list_tables.ensures.same.0 ∙ table_of taken.3,
