@@ -27,3 +27,12 @@ both_ok (Err e) P Q one other = tt
 -- a place of a seat's table is one of the table that it is at later
 pub place_there : (place : ℕ) {table later : TableId} → later ≡ table → IsPlace table place → IsPlace later place
 place_there place same is_place = subst (λ (t : TableId). IsPlace t place) (sym same) is_place
+
+-- what the session knows and has there, where the call may fail
+pub mine_ok : {T E : Type 0} (result : Result T E) (s t : SeatState) → OnOk result (t ≡ s) → OnOk result (t.me ≡ s.me)
+mine_ok (Ok x) s t done = mine done
+mine_ok (Err e) s t done = tt
+
+pub mine_err : {T E : Type 0} (result : Result T E) (s t : SeatState) → OnErr result (t ≡ s) → OnErr result (t.me ≡ s.me)
+mine_err (Ok x) s t failed = tt
+mine_err (Err e) s t failed = mine failed

@@ -9,8 +9,18 @@ use Rattle.mdl_steps.specs.Seats.{Holds, rest}
 use Rattle.mdl_visits.specs.Leavings.{Leaves}
 use Rattle.mdl_visits.specs.Visits.{IsStepOf}
 use Rattle.mdl_visits.proofs.Leaving.{needed, leaves, first_step}
-use Rattle.mdl_visits.proofs.Seats.{mine, table_of}
+use Rattle.mdl_visits.proofs.Seats.{mine, place_there, table_of}
 use Rattle.mdl_visits.proofs.enter_and_leave.lower_flags_and_put.Goals as goal
+
+pub put_latch-requires-clause-place : goal.put_latch-requires-clause-place
+put_latch-requires-clause-place c =
+    let place = c.args.latch.place in
+    let m = c.args.seat.now.me in
+    let done = c.requires.done in
+    let book = all_booked m.0.number c.args.deeds.now done.0.book in
+    let same = c.needs-needs.ensures.same in
+    let low = c.lower_flags.ensures.made.1 book (subst (λ (m′ : Mine). m′.1 ≡ (place, slot.Place book) ∷ rest m′.1) (sym (mine same)) done.1.holds.carried) in
+    place_there place (table_of low ∙ table_of same) c.requires.place
 
 pub put_latch-requires-clause-put : goal.put_latch-requires-clause-put
 put_latch-requires-clause-put c =

@@ -2,10 +2,12 @@
 use Rattle.std.proofs.Common.{◌≡◌, ◌<◌, sym, ◌∙◌, subst}
 use Rattle.std.specs.FinSet as set
 use Rattle.std.specs.Ordering.{nat_cmp}
+use Rattle.atomic_table.specs.Seated.{TableId}
 use Rattle.mdl_steps.specs.declared.view.Held.{Held}
 use Rattle.mdl_steps.specs.Plays.{Mine, noting}
 use Rattle.mdl_steps.specs.Seats.{Holds}
-use Rattle.mdl_visits.specs.Grantings.{AreTried, ForgetsNobody, IsOrderly, MakesWay}
+use Rattle.mdl_visits.specs.Grantings.{AreTried, ForgetsNobody, IsOrderly, IsServed, MakesWay, MakesWayInTurn}
+use Rattle.mdl_visits.proofs.Seats.{mine, place_there, table_of}
 use Rattle.mdl_visits.proofs.Serving.{WasRead, fewer_untried, forgets_nobody, looks_ahead, read_before, read_first, tried_first, turn_done}
 use Rattle.mdl_visits.proofs.Waiting.{is_next, serves_read}
 use Rattle.mdl_visits.proofs.Way.{steps_of, way_read, way_then}
@@ -20,28 +22,26 @@ loop-session-init c =
     let id = c.args.seat.now.table in
     let place = c.args.latch.now.place in
     let word = c.read_word-word.result.0 in
+    let made = mine c.read_word-word.ensures.made in
     record {
-      seat = c.read_word-word.ensures.seat;
+      table = table_of c.read_word-word.ensures.made;
       held = (noting word h, c.read_word-word.ensures.keeps h h.book held.1, serves_read word h held.2, tried_first id place c.all-untried.result (noting word h) m a c.all-untried.ensures);
-      read = read_first place word m a c.read_word-word.ensures.made;
-      way = way_read id place m word h.book m a held.1.carried c.read_word-word.ensures.made;
+      read = read_first place word m a made;
+      way = way_read id place m word h.book m a held.1.carried made;
     }
 
-pub next_grantable-requires-clause-table : goal.next_grantable-requires-clause-table
-next_grantable-requires-clause-table c = c.loop-session.invariant.seat.0 ∙ c.requires.table.0
+pub next_grantable-requires : goal.next_grantable-requires
+next_grantable-requires c = let held = c.loop-session.invariant.held in record { carried = (held.0.book, held.1.carried) }
 
-pub next_grantable-requires-clause-carried : goal.next_grantable-requires-clause-carried
-next_grantable-requires-clause-carried c = let held = c.loop-session.invariant.held in (held.0.book, held.1.carried)
-
-pub grant_waiter-requires-clause-table : goal.grant_waiter-requires-clause-table
-grant_waiter-requires-clause-table c = (c.next_grantable.ensures.seat.0 ∙ c.loop-session.invariant.seat.0 ∙ c.requires.table.0, c.requires.table.1)
+pub grant_waiter-requires-clause-place : goal.grant_waiter-requires-clause-place
+grant_waiter-requires-clause-place c = place_there c.args.latch.now.place (table_of c.next_grantable.ensures.same ∙ c.loop-session.invariant.table) c.requires.place
 
 pub grant_waiter-requires-clause-ready : goal.grant_waiter-requires-clause-ready
 grant_waiter-requires-clause-ready c =
     let held = c.loop-session.invariant.held in
     let h = held.0 in (
       h,
-      subst (λ (x : Mine). Holds c.args.latch.now.place h h.book x) (sym c.next_grantable.ensures.same) held.1,
+      subst (λ (x : Mine). Holds c.args.latch.now.place h h.book x) (sym {A = Mine} (mine c.next_grantable.ensures.same)) held.1,
       (is_next c.read_word-word.result.0 c.in-Some.session c.in-Some.number c.loop-session.untried h held.2 (c.in-Some.ensures.told h.book held.1.carried)).0,
     )
 
@@ -63,7 +63,8 @@ loop-session-preserved c =
     let m : Mine = c.args.seat.now.me in
     let a : Mine = c.next_grantable.new.self.me in
     let b : Mine = c.grant_waiter.new.seat.me in
-    let same : a ≡ c.loop-session.seat.me = c.next_grantable.ensures.same in
+    let same : a ≡ c.loop-session.seat.me = mine c.next_grantable.ensures.same in
+    let table = table_of c.next_grantable.ensures.same ∙ c.loop-session.invariant.table in
     let held = c.loop-session.invariant.held in
     let h = held.0 in
     let has = subst (λ (x : Mine). Holds place h h.book x) (sym same) held.1 in
@@ -72,18 +73,17 @@ loop-session-preserved c =
     let tried = subst (λ (x : Mine). AreTried id place untried h m x) (sym same) held.3 in
     let told = c.in-Some.ensures.told h.book held.1.carried in
     let ready = (is_next word session number untried h held.2 told).0 in
-    let more = c.grant_waiter.ensures.way m h has (looks_ahead id place word untried h m a held.2 read tried session number told) in
+    let in_turn : MakesWayInTurn id place session number a b = subst (λ (t : TableId). MakesWayInTurn t place session number a b) table c.grant_waiter.ensures.way.1 in
+    let more = in_turn m h has (looks_ahead id place word untried h m a held.2 read tried session number told) in
     let goes = steps_of id place m a b more in
-    let done = turn_done id place session number word h m a b untried (steps_of id place m m a way) goes has held.2 ready (c.grant_waiter.ensures.served h has) tried in
+    let served : IsServed id place session number h a b = subst (λ (t : TableId). IsServed t place session number h a b) table (c.grant_waiter.ensures.served h has) in
+    let done = turn_done id place session number word h m a b untried (steps_of id place m m a way) goes has held.2 ready served tried in
     record {
-      seat = (c.grant_waiter.ensures.seat.0 ∙ c.next_grantable.ensures.seat.0 ∙ c.loop-session.invariant.seat.0, c.grant_waiter.ensures.seat.1 ∙ c.next_grantable.ensures.seat.1 ∙ c.loop-session.invariant.seat.1);
+      table = c.grant_waiter.ensures.way.0 ∙ table;
       held = (done.0, done.1, done.2, subst (λ (s : set.FinSet nat_cmp). AreTried id place s done.0 m b) (sym c.remove.ensures) done.3);
       read = read_before place word m a b goes read;
       way = way_then id place m m a b way more;
     }
-
-pub returns-clause-seat : goal.returns-clause-seat
-returns-clause-seat c = (c.next_grantable.ensures.seat.0 ∙ c.loop-session.invariant.seat.0, c.next_grantable.ensures.seat.1 ∙ c.loop-session.invariant.seat.1)
 
 pub returns-clause-served : goal.returns-clause-served
 returns-clause-served c =
@@ -94,10 +94,13 @@ returns-clause-served c =
     let held = c.loop-session.invariant.held in
     let h = held.0 in
     let none = c.in_default.ensures.told h.book held.1.carried in
-    subst (λ (x : Mine). (g : Held) × Holds place g g.book x × IsOrderly g × ForgetsNobody id place g m x) (sym c.next_grantable.ensures.same)
+    subst (λ (x : Mine). (g : Held) × Holds place g g.book x × IsOrderly g × ForgetsNobody id place g m x) (sym {A = Mine} (mine c.next_grantable.ensures.same))
     (h, held.1, held.2.0, forgets_nobody id place word c.loop-session.untried h m c.loop-session.seat.me held.2 c.loop-session.invariant.read held.3 none)
 
 pub returns-clause-way : goal.returns-clause-way
 returns-clause-way c =
     let m : Mine = c.args.seat.now.me in
-    subst (MakesWay c.args.seat.now.table c.args.latch.now.place m m) (sym c.next_grantable.ensures.same) c.loop-session.invariant.way
+    let same = c.next_grantable.ensures.same in (
+      table_of same ∙ c.loop-session.invariant.table,
+      subst (MakesWay c.args.seat.now.table c.args.latch.now.place m m) (sym {A = Mine} (mine same)) c.loop-session.invariant.way,
+    )

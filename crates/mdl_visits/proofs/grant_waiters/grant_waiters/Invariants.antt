@@ -9,7 +9,7 @@ use Rattle.mdl_visits.proofs.grant_waiters.grant_waiters.Given as goal
 
 abbrev pub invariant-loop-session : goal.invariant-loop-session
 invariant-loop-session l = record {
-  seat : (l.seat.table ≡ l.fn.seat.table) × (l.seat.me.0.number ≡ l.fn.seat.me.0.number);
+  table : l.seat.table ≡ l.fn.seat.table;
   held : (h : Held) × Holds l.latch.place h h.book l.seat.me × MayServe l.word.0 h
       × AreTried l.fn.seat.table l.latch.place l.untried h l.fn.seat.me l.seat.me;
   read : WasRead l.latch.place l.word.0 l.fn.seat.me l.seat.me;

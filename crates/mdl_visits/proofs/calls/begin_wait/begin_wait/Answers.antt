@@ -1,5 +1,5 @@
 -- A wish, by the record of the latch as it was entered.
-use Rattle.std.proofs.Common.{◌≡◌, ℕ, true, false, [], ◌∷◌, sym, ◌∙◌, ap, subst}
+use Rattle.std.proofs.Common.{◌≡◌, ℕ, true, false, [], ◌∷◌, refl, sym, ◌∙◌, ap, subst}
 use Rattle.atomic_table.specs.Seated.{TableId}
 use Rattle.mdl_book.specs.declared.book_view.BookView.{BookView}
 use Rattle.mdl_book.specs.Books.{lock_kind}
@@ -9,12 +9,12 @@ use Rattle.mdl_steps.specs.declared.view.Held.{Held}
 use Rattle.mdl_steps.specs.Deeds.{booked}
 use Rattle.mdl_steps.specs.Plays.{Mine, noting, raised, unlatched}
 use Rattle.mdl_steps.specs.SeatStates.{SeatState}
-use Rattle.mdl_steps.specs.Seats.{Holds, MayPut, written}
+use Rattle.mdl_steps.specs.Seats.{Holds, IsPlace, MayPut, written}
 use Rattle.mdl_steps.specs.WaitPlays.{opened}
 use Rattle.mdl_visits.specs.declared.calls.begin_wait.Queued.TheVariants.{Granted, Waiting}
 use Rattle.mdl_visits.specs.WaitOpenings.{MayQueue, MeetsOpening}
 use Rattle.mdl_visits.specs.Visits.{GoesOn, MayLeave}
-use Rattle.mdl_visits.proofs.Seats.{mine, table_of}
+use Rattle.mdl_visits.proofs.Seats.{mine, place_there, table_of}
 use Rattle.mdl_visits.proofs.Visiting.{inside_written, visits_put}
 use Rattle.mdl_visits.proofs.Trying.{may_leave, ready, grantable, refused}
 use Rattle.mdl_visits.proofs.WaitOpenings.{blocked_then, full, if_err, if_ok, may_queue, on_err, opens}
@@ -59,7 +59,7 @@ returns-then-not-can_grant-clause-waiting g c =
     let at_table = subst (λ (t : TableId). went ≡ unlatched c.enter.result.0.place [] (opened t.slots c.enter.result.0.place mode came)) c.enter.ensures.entered.0 at_latch in
     let here = subst (λ (p : ℕ). went ≡ unlatched p [] (opened slots p mode came)) c.enter.ensures.place at_table in
     let steps = blocked_then slots place mode m came went entered.inside here word seat.me.0.number asks entered never in
-    let opening = subst (λ (s : ℕ). MeetsOpening slots place s m.0.waits m.0.next mode steps.1) refl steps.4 in (
+    let opening = steps.4 in (
       (table_of told_whole ∙ table_of c.can_grant.ensures.same ∙ c.enter.ensures.entered.0, opens slots place mode m came went entered.inside here),
       (steps.0, steps.1, steps.2, steps.3, subst (λ (n : ℕ). MeetsOpening slots place seat.me.0.number m.0.waits n mode steps.1) (sym c.requires.number) opening),
     )
@@ -105,6 +105,17 @@ returns-in-Err-clause-refused g c =
     let went = subst (λ (m : Mine). GoesOn m c.leave.new.seat.me) (◌∙◌ {A = Mine} (mine c.in-Err.ensures.unchanged) (mine c.can_grant.ensures.same)) c.leave.ensures.steps.1 in
     refused place word asks c.args.seat.now.me came entered _ (record { session = c.can_grant.new.self.me.0.number; number = c.args.number; mode = c.args.mode })
     c.in-Err.cause c.leave.new.seat.me went can (c.in-Err.ensures.refused book has_still.carried)
+
+pub put_latch-requires-clause-place : goal.put_latch-requires-clause-place
+put_latch-requires-clause-place g c =
+    let here = c.enter.result.0.place in
+    let entered = c.enter.ensures.entered in
+    let book : BookView = entered.1.found.book in
+    let h : Held = noting c.enter.result.1.0 (raised true c.is_obtrusive.result entered.1.found) in
+    let has = subst (λ (p : ℕ). Holds p h book c.enter.new.seat.me) (sym c.enter.ensures.place) entered.1.holds in
+    let has_still = subst (λ (m : Mine). Holds here h book m) (sym {A = Mine} (mine c.can_grant.ensures.same)) has in
+    let table = table_of (c.in_default.ensures.written book has_still.carried) ∙ table_of c.can_grant.ensures.same ∙ entered.0 in
+    place_there here table (subst (IsPlace c.args.seat.now.table) (sym c.enter.ensures.place) c.requires.place)
 
 pub put_latch-requires-clause-put : goal.put_latch-requires-clause-put
 put_latch-requires-clause-put g c =

@@ -6,8 +6,13 @@ use Rattle.mdl_steps.specs.SeatStates.{SeatState}
 use Rattle.mdl_steps.specs.Seats.{HasExclusive}
 use Rattle.mdl_visits.specs.Redefinitions.{redefined_and_put}
 use Rattle.mdl_visits.proofs.Changing.{one_record, has_redefined, no_fault}
-use Rattle.mdl_visits.proofs.Seats.{mine}
+use Rattle.mdl_visits.proofs.Seats.{mine, place_there, table_of}
 use Rattle.mdl_visits.proofs.calls.change_definition.change_latched.Goals as goal
+
+pub publish_version-requires-clause-place : goal.publish_version-requires-clause-place
+publish_version-requires-clause-place c =
+    let held = c.requires.held in
+    place_there c.args.latch.place (table_of (c.in-Ok.ensures.written held.0.book held.1.carried).0) c.requires.place
 
 pub publish_version-requires-clause-changed : goal.publish_version-requires-clause-changed
 publish_version-requires-clause-changed c =

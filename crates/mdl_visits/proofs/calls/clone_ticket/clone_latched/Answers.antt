@@ -8,8 +8,13 @@ use Rattle.mdl_visits.proofs.Losing.{left_written}
 use Rattle.mdl_visits.proofs.Meeting.{StepUnder, full_told, step_written}
 use Rattle.mdl_visits.proofs.Trying.{refusal}
 use Rattle.mdl_visits.proofs.Weaker.{has_gained}
-use Rattle.mdl_visits.proofs.Seats.{mine, table_of}
+use Rattle.mdl_visits.proofs.Seats.{mine, place_there, table_of}
 use Rattle.mdl_visits.proofs.calls.clone_ticket.clone_latched.Goals as goal
+
+pub lower_flags_and_put-requires-clause-place : goal.lower_flags_and_put-requires-clause-place
+lower_flags_and_put-requires-clause-place c =
+    let has = c.requires.covered in
+    place_there c.args.latch.place (table_of (c.in-Ok.ensures.written has.0.book has.1.carried)) c.requires.place
 
 pub lower_flags_and_put-requires-clause-done : goal.lower_flags_and_put-requires-clause-done
 lower_flags_and_put-requires-clause-done c =

@@ -9,8 +9,17 @@ use Rattle.mdl_visits.proofs.Covered.{altered}
 use Rattle.mdl_visits.proofs.Losing.{met_own}
 use Rattle.mdl_visits.proofs.WayOut.{waits_written, way_before_write}
 use Rattle.mdl_visits.proofs.Weaker.{has_altered}
-use Rattle.mdl_visits.proofs.Seats.{mine, table_of}
+use Rattle.mdl_visits.proofs.Seats.{mine, place_there, table_of}
 use Rattle.mdl_visits.proofs.calls.downgrade.downgrade_latched.Goals as goal
+
+pub lower_flags_and_reschedule-requires-clause-place : goal.lower_flags_and_reschedule-requires-clause-place
+lower_flags_and_reschedule-requires-clause-place c =
+    let seat = c.args.seat.now in
+    let has = c.requires.covered in
+    let h = has.0 in
+    let wrote = altered seat.me.0.number c.args.mode h has.2 c.args.number c.write_mode-altered.result (ap is_some has.3.1) (c.write_mode-altered.ensures.refused h.book has.1.carried)
+    (c.write_mode-altered.ensures.written h.book has.1.carried) in
+    place_there c.args.latch.place (table_of wrote) c.requires.place
 
 pub lower_flags_and_reschedule-requires-clause-done : goal.lower_flags_and_reschedule-requires-clause-done
 lower_flags_and_reschedule-requires-clause-done c =

@@ -10,11 +10,11 @@ use Rattle.mdl_visits.proofs.Losing.{left_written}
 use Rattle.mdl_visits.proofs.Meeting.{met_both, step_written}
 use Rattle.mdl_visits.proofs.Uniting.{both_written, carried}
 use Rattle.mdl_visits.proofs.Weaker.{has_folded}
-use Rattle.mdl_visits.proofs.Seats.{mine, table_kept, table_of}
+use Rattle.mdl_visits.proofs.Seats.{mine, place_there, table_kept, table_of}
 use Rattle.mdl_visits.proofs.calls.merge.merge_latched.Goals as goal
 
-pub write_loss-gone-requires-clause-carried : goal.write_loss-gone-requires-clause-carried
-write_loss-gone-requires-clause-carried c =
+pub write_loss-gone-requires : goal.write_loss-gone-requires
+write_loss-gone-requires c =
     let seat = c.args.seat.now in
     let gone = c.args.gone in
     let has = c.requires.covered in
@@ -22,7 +22,19 @@ write_loss-gone-requires-clause-carried c =
     let wrote = c.write_mode-altered.ensures in
     let did = altered seat.me.0.number gone.mode h has.2 c.args.kept c.write_mode-altered.result (ap is_some has.3.1) (wrote.refused h.book has.1.carried) (wrote.written h.book has.1.carried) in
     let first = mine did in
-    (booked seat.me.0.number (Alter c.args.kept gone.mode) h.book, carried c.args.latch.place seat.me.0.number c.args.kept gone.number gone.mode h.book seat.me c.write_mode-altered.new.self.me first)
+    record { carried = (booked seat.me.0.number (Alter c.args.kept gone.mode) h.book, carried c.args.latch.place seat.me.0.number c.args.kept gone.number gone.mode h.book seat.me c.write_mode-altered.new.self.me first) }
+
+pub lower_flags_and_put-requires-clause-place : goal.lower_flags_and_put-requires-clause-place
+lower_flags_and_put-requires-clause-place c =
+    let seat = c.args.seat.now in
+    let gone = c.args.gone in
+    let has = c.requires.covered in
+    let h = has.0 in
+    let wrote = c.write_mode-altered.ensures in
+    let did = altered seat.me.0.number gone.mode h has.2 c.args.kept c.write_mode-altered.result (ap is_some has.3.1) (wrote.refused h.book has.1.carried) (wrote.written h.book has.1.carried) in
+    let has_first = carried c.args.latch.place seat.me.0.number c.args.kept gone.number gone.mode h.book seat.me c.write_mode-altered.new.self.me (mine did) in
+    let lost = table_kept c.write_loss-gone.result _ _ _ (c.write_loss-gone.ensures.written (booked seat.me.0.number (Alter c.args.kept gone.mode) h.book) has_first) c.write_loss-gone.ensures.unchanged in
+    place_there c.args.latch.place (lost ∙ table_of did) c.requires.place
 
 pub lower_flags_and_put-requires-clause-done : goal.lower_flags_and_put-requires-clause-done
 lower_flags_and_put-requires-clause-done c =

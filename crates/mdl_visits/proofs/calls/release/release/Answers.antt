@@ -1,8 +1,8 @@
 -- The book that is met under the latch has the session's ticket.
 use Rattle.std.proofs.Common.{◌≡◌, ℕ, true, sym, ap, ◌∙◌, subst, [], ◌∷◌}
 use Rattle.std.specs.Prelude.{is_some}
-use Rattle.atomic_table.specs.Seated.{TableId}
 use Rattle.mdl_book.specs.Tickets.{ticket_of}
+use Rattle.atomic_table.specs.Seated.{TableId}
 use Rattle.mdl_steps.specs.declared.deed.Deed.TheVariants.{Lose}
 use Rattle.mdl_steps.specs.Deeds.{KnowsPlace, NotWaited}
 use Rattle.mdl_steps.specs.Plays.{Mine}
@@ -10,8 +10,8 @@ use Rattle.mdl_steps.specs.Seats.{Holds, IsPlace}
 use Rattle.mdl_visits.specs.Grantings.{LeavesWay, WaitsOnce}
 use Rattle.mdl_visits.specs.Leavings.{MeetsOwn}
 use Rattle.mdl_visits.proofs.Leaving.{own_found, step_later}
-use Rattle.mdl_visits.proofs.WayOut.{visits_for_way, waits_once}
 use Rattle.mdl_visits.proofs.Seats.{place_there}
+use Rattle.mdl_visits.proofs.WayOut.{visits_for_way, waits_once}
 use Rattle.mdl_visits.proofs.calls.release.release.Goals as goal
 
 pub release_latched-requires-clause-held : goal.release_latched-requires-clause-held

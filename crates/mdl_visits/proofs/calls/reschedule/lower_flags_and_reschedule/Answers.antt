@@ -8,20 +8,19 @@ use Rattle.mdl_visits.proofs.calls.reschedule.lower_flags_and_reschedule.Goals a
 
 pub returns-clause-left : goal.returns-clause-left
 returns-clause-left c =
-    let id = c.args.seat.now.table in
     let place = c.args.latch.place in
-    let low : Mine = c.lower_flags.new.seat.me in
-    let went : Mine = c.reschedule_and_put.new.seat.me in
+    let a : Mine = c.lower_flags.new.seat.me in
+    let b : Mine = c.reschedule_and_put.new.seat.me in
     let lowered = c.lower_flags.ensures.lowered in
-    let left = subst (λ (t : TableId). LeavesWay t place [] low went) lowered.0 c.reschedule_and_put.ensures.left.1 in
-    (c.reschedule_and_put.ensures.left.0 ∙ lowered.0, leaves_lowered id place c.args.deeds.now c.args.seat.now.me low went lowered.1 left)
+    let left = c.reschedule_and_put.ensures.left in (
+      left.0 ∙ lowered.0,
+      leaves_lowered c.args.seat.now.table place c.args.deeds.now c.args.seat.now.me a b lowered.1 (subst (λ (t : TableId). LeavesWay t place [] a b) lowered.0 left.1),
+    )
 
 pub returns-clause-step : goal.returns-clause-step
 returns-clause-step c =
-    let id = c.args.seat.now.table in
     let place = c.args.latch.place in
-    let low : Mine = c.lower_flags.new.seat.me in
-    let went : Mine = c.reschedule_and_put.new.seat.me in
+    let a : Mine = c.lower_flags.new.seat.me in
+    let b : Mine = c.reschedule_and_put.new.seat.me in
     let lowered = c.lower_flags.ensures.lowered in
-    let left = subst (λ (t : TableId). LeavesWay t place [] low went) lowered.0 c.reschedule_and_put.ensures.left.1 in
-    step_lowered id place c.args.deeds.now c.args.seat.now.me low went lowered.1 left
+    step_lowered c.args.seat.now.table place c.args.deeds.now c.args.seat.now.me a b lowered.1 (subst (λ (t : TableId). LeavesWay t place [] a b) lowered.0 c.reschedule_and_put.ensures.left.1)
