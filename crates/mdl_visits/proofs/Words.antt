@@ -11,6 +11,7 @@ use Rattle.mdl_steps.specs.declared.view.Held.{Held}
 use Rattle.mdl_steps.specs.declared.view.Keys.{Keys}
 use Rattle.mdl_steps.specs.declared.view.Met.{Met}
 use Rattle.mdl_steps.specs.Layout.{wait_word}
+use Rattle.mdl_steps.specs.SeatStates.{AtItsTable, SeatState}
 use Rattle.mdl_steps.specs.Plays.{Mine}
 use Rattle.mdl_steps.specs.WaitPlays.{TellsOwn, meeting, met_wait_by, met_wait, missed_wait}
 use Rattle.mdl_steps.specs.WaitSeats.{IsSession}
@@ -54,6 +55,13 @@ pub goes_hearing : (m m′ : Mine) → Hears m m′ → GoesOn m m′
 goes_hearing m m′ hears = (hears.made, ap (λ (x : Mine). x.0.log) hears.now)
 
 -- the latches stay
+pub same_number : (m m′ : Mine) → Hears m m′ → m′.0.number ≡ m.0.number
+same_number m m′ h = ap (λ (x : Mine). x.0.number) h.now
+
+-- of seats
+pub hears_on : (a b c : SeatState) → AtItsTable a b Hears → AtItsTable b c Hears → AtItsTable a c Hears
+hears_on a b c first second = (second.0 ∙ first.0, hears_then a.me b.me c.me first.1 second.1)
+
 pub same_latches : (m m′ : Mine) → Hears m m′ → m′.0.latches ≡ m.0.latches
 same_latches m m′ hears = ap (λ (x : Mine). x.0.latches) hears.now
 

@@ -58,8 +58,9 @@ fn place_for<R: Wait>(
     if let Some(place) = seat.place_of(directory, key) {
         return Ok(place);
     }
+    let slots = seat.slot_count();
     let place = seat.key_count(directory) + 1;
-    if place >= seat.slot_count() {
+    if place >= slots {
         return Err(ResolveError::NoPlace);
     }
     match name_key(rt, seat, directory, alloc, key, place) {

@@ -4,13 +4,13 @@ use Rattle.std.specs.Prelude.{◌%◌, ◌/◌}
 use Rattle.std.proofs.lemmas.Bool.{eq-eqb, eqb-true, false≢true}
 use Rattle.std.proofs.lemmas.Bool.Decides.{nat_tests}
 use Rattle.mdl_steps.specs.Plays.{Mine}
-use Rattle.mdl_steps.specs.WaitPlays.{missed_wait, settled_lost}
 use Rattle.mdl_visits.proofs.Outcomes.{fells_one, knows_lost, other_met}
+use Rattle.mdl_visits.proofs.Seats.{mine}
 use Rattle.mdl_visits.proofs.Words.{hears_none}
 use Rattle.mdl_visits.proofs.settle_victim.settle_by_word.Goals as goal
 
 pub returns-then-state-ne-UNSETTLED-clause-hears : goal.returns-then-state-ne-UNSETTLED-clause-hears
-returns-then-state-ne-UNSETTLED-clause-hears c = hears_none c.args.seat.now.me
+returns-then-state-ne-UNSETTLED-clause-hears c = (refl, hears_none c.args.seat.now.me)
 
 pub returns-clause-settled : goal.returns-clause-settled
 returns-clause-settled c = λ hit.
@@ -24,7 +24,7 @@ returns-clause-settled c = λ hit.
     let whole : number ≡ word / 8 = c.number.ensures in
     let at : found ≡ 8 * number + 1 = omega arith in
     fells_one c.args.seat.now.table.slots session number m c.settle_wait.new.self.me
-    (c.settle_wait.ensures.settled at ∙ ap (λ (n : ℕ). settled_lost n session number 3 m) c.slot_count-slots.ensures)
+    (mine (c.settle_wait.ensures.settled at))
 
 pub returns-clause-own : goal.returns-clause-own
 returns-clause-own c = λ hit own.
@@ -38,7 +38,7 @@ returns-clause-own c = λ hit own.
     let unsettled : word % 8 ≡ 1 = grind (arith, nat_tests) in
     let whole : number ≡ word / 8 = c.number.ensures in
     let at : found ≡ 8 * number + 1 = omega arith in
-    knows_lost c.slot_count-slots.result session number m c.settle_wait.new.self.me (c.settle_wait.ensures.settled at) (own ∙ sym refl)
+    knows_lost seat.table.slots session number m c.settle_wait.new.self.me (mine (c.settle_wait.ensures.settled at)) own
 
 pub returns-then-state-ne-UNSETTLED-clause-missed : goal.returns-then-state-ne-UNSETTLED-clause-missed
 returns-then-state-ne-UNSETTLED-clause-missed c = λ no. let so = c.state.ensures in (refl, inl (grind (arith, nat_tests)))
@@ -54,4 +54,4 @@ returns-clause-missed c = λ no.
     let differs : found ≢ word = λ same. false≢true (sym (sym c.eq.ensures ∙ no) ∙ eq-eqb found word same) in
     let other : found ≢ 8 * number + 1 = λ same. differs (omega arith) in
     other_met c.args.seat.now.table.slots found c.args.heard m c.settle_wait.new.self.me
-    (c.settle_wait.ensures.missed other ∙ ap (λ (n : ℕ). missed_wait n c.args.heard.session found m) c.slot_count-slots.ensures) differs
+    (mine (c.settle_wait.ensures.missed other)) differs

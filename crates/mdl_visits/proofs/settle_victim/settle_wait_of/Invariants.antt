@@ -5,6 +5,6 @@ use Rattle.mdl_visits.proofs.settle_victim.settle_wait_of.Given as goal
 
 abbrev pub invariant-loop-heard : goal.invariant-loop-heard
 invariant-loop-heard l = record {
-  same : l.worker ≡ l.fn.worker;
+  same : l.seat ≡ l.fn.seat;
   none : heard_of l.victim (take l.heard-index l.words) ≡ None;
 }

@@ -1,8 +1,8 @@
 -- One step met the word.
-use Rattle.std.proofs.Common.{ℕ, refl, ap, ◌∙◌}
+use Rattle.std.proofs.Common.{refl}
 use Rattle.mdl_steps.specs.Plays.{Mine}
-use Rattle.mdl_steps.specs.WaitPlays.{met_wait}
 use Rattle.mdl_visits.specs.declared.waits_read.WaitRead.{WaitRead}
+use Rattle.mdl_visits.proofs.Seats.{mine}
 use Rattle.mdl_visits.proofs.Words.{was_heard}
 use Rattle.mdl_visits.proofs.waits_read.add_wait.Goals as goal
 
@@ -16,5 +16,5 @@ returns-clause-heard c =
       refl,
       c.in_ok-push.ensures.items,
       was_heard c.args.seat.now.table.slots session h m c.read_wait-word.new.self.me refl
-          (c.read_wait-word.ensures.made ∙ ap (λ (n : ℕ). met_wait n session word.0 m) c.slot_count.ensures),
+          (mine c.read_wait-word.ensures.made),
     )

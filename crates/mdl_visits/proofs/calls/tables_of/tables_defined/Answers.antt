@@ -21,16 +21,15 @@ loop-table-preserved g c =
     let who : ℕ = c.args.seat.now.me.0.number in
     let asked = c.add_if_defined.ensures.asked in
     let one : Asked = record { table = table; defined = asked.0 } in
-    let was : WasAsked who came went one = subst (λ (n : ℕ). WasAsked n came went one) inv.seat.1 asked.1 in
+    let was : WasAsked who came went one = subst (λ (n : ℕ). WasAsked n came went one) (ap (λ (x : Mine). x.0.number) inv.steps.1.1) asked.1 in
     let more : take i tables ++ table ∷ [] ≡ take (i + 1) tables =
     ap (λ (t : Known). take i tables ++ t ∷ []) c.table-item.is ∙ sym (take_more tables i table inside) in
     let room = c.add_if_defined.ensures.room in
     let before = inv.room in record {
-      seat = (c.add_if_defined.ensures.seat.0 ∙ inv.seat.0, c.add_if_defined.ensures.seat.1 ∙ inv.seat.1);
       idle = c.add_if_defined.ensures.idle;
-      steps = steps_then first came went inv.steps c.add_if_defined.ensures.steps;
-      directory = quiet_on first came went inv.directory (ap (λ (m : Mine). m.0.directory) inv.steps.1) c.add_if_defined.ensures.directory;
+      steps = (c.add_if_defined.ensures.steps.0 ∙ inv.steps.0, steps_then first came went inv.steps.1 c.add_if_defined.ensures.steps.1);
+      directory = quiet_on first came went inv.directory (ap (λ (m : Mine). m.0.directory) inv.steps.1.1) c.add_if_defined.ensures.directory;
       asked = subst (λ (ts : List Known). HasAsked who ts c.add_if_defined.new.places.items first went) more
-          (asked_more who (take i tables) table c.loop-table.places.items c.add_if_defined.new.places.items asked.0 first came went inv.asked inv.steps c.add_if_defined.ensures.steps was asked.2);
+          (asked_more who (take i tables) table c.loop-table.places.items c.add_if_defined.new.places.items asked.0 first came went inv.asked inv.steps.1 c.add_if_defined.ensures.steps.1 was asked.2);
       room = omega (arith, inside, room, before);
     }
