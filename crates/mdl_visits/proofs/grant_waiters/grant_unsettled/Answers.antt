@@ -44,7 +44,7 @@ returns-then-eq-clause-way c =
     let wrote = admitted_there session c.args.number h c.write_admission-granted.result ready.2 (c.write_admission-granted.ensures.refused h.book keeps.carried) (c.write_admission-granted.ensures.written h.book keeps.carried) in (
       table_of wrote ∙ table_of granted,
       way_admitted id c.args.latch.now.place session c.args.number c.args.wait.0 c.number.result h m a c.write_admission-granted.new.self.me ready.1 ready.2 ready.3
-      (mine granted) keeps own (mine wrote),
+          (mine granted) keeps own (mine wrote),
     )
 
 pub returns-else-eq-clause-granted : goal.returns-else-eq-clause-granted
