@@ -4,9 +4,9 @@ use Rattle.mdl_script.proofs.TurnLemmas.{no_turn, one_turn}
 use Rattle.mdl_script.proofs.turns.push_turns.Goals as goal
 
 pub loop-turn-preserved : goal.loop-turn-preserved
-loop-turn-preserved g c = one_turn _ _ _ c.in-Some.turn _ _ _ _ _ _ c.in-Some.ensures.steps.0 c.loop-turn.invariant c.in_ok-push_turn.ensures
+loop-turn-preserved g c = one_turn _ _ c.in-Some.turn _ _ _ _ _ _ c.in-Some.ensures.steps.0 c.loop-turn.invariant c.in_ok-push_turn.ensures
 
 pub returns : goal.returns
 returns g c =
     let none = c.in-None.ensures.steps in let whole = c.loop-turn.turn-iterator.rest.ok.0 in
-    no_turn _ _ _ _ _ _ (omega (arith, none.0, whole)) c.loop-turn.invariant.1
+    no_turn _ _ _ _ _ (omega (arith, none.0, whole)) c.loop-turn.invariant.1
