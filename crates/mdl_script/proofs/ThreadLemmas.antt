@@ -23,12 +23,19 @@ seen-run seen (Ask call next) a b reply (answer, mid, step, run) = (answer, seen
 seen-run seen (Grow refused found) a b reply (inl run) = inl (seen-run seen refused a b reply run)
 seen-run seen (Grow refused found) a b reply (inr run) = inr (seen-run seen found a b reply run)
 
+-- sessions with shares of one table are at one
+same_table : (a b : Member) → b.table ≡ a.table → table_at b ≡ table_at a
+same_table a b same = λ i. (arc_value (same i)).shared.table_id
+
 -- a session stays at its table
-pub table-stays : {A : Type 0} (program : Program A) (a b : Member) (reply : A) → Runs JoinsSteps a program reply b → table_at b ≡ table_at a
+table-stays : {A : Type 0} (program : Program A) (a b : Member) (reply : A) → Runs JoinsSteps a program reply b → table_at b ≡ table_at a
 table-stays (Give x) a b reply (same, here) = ap table_at (sym here)
-table-stays (Ask call next) a b reply (answer, mid, step, run) = table-stays (next answer) mid b reply run ∙ ap (λ t. (arc_value t).shared.table_id) step.1.table
+table-stays (Ask call next) a b reply (answer, mid, step, run) = table-stays (next answer) mid b reply run ∙ same_table a mid step.1.table
 table-stays (Grow refused found) a b reply (inl run) = table-stays refused a b reply run
 table-stays (Grow refused found) a b reply (inr run) = table-stays found a b reply run
+
+pub works-there : (patience : ℕ) (lines : List Line) (who : ℕ) (a : Member) (answers : List (ℕ × Reply)) (b : Member) → WorksOff patience lines who a answers b → table_at b ≡ table_at a
+works-there patience lines who a answers b run = table-stays (working_off patience (lines_of who lines) (newcomer who)) a b (Some answers) run
 
 -- its lines are worked off by what it has
 pub works-off : {S Z E : Type 0} (seen : S → Member) (patience : ℕ) (lines : List Line) (who : ℕ) (a b : S) (result : Result (Vec (ℕ × Reply) Z) E) →

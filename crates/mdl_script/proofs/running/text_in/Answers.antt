@@ -6,7 +6,7 @@ use Rattle.mdl_script.proofs.TextLemmas.{run-from}
 use Rattle.mdl_script.proofs.running.text_in.Goals as goal
 
 pub text_by-text-requires-clause-table : goal.text_by-text-requires-clause-table
-text_by-text-requires-clause-table g c = ap table_at c.open-asker.ensures.opened.1 ∙ c.requires.first
+text_by-text-requires-clause-table g c κs within = ap table_at c.open-asker.ensures.opened.1 ∙ c.requires.first
 
 pub returns : goal.returns
 returns g c =
