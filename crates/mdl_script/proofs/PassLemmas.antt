@@ -1,6 +1,6 @@
--- The passes of a new space: there is one for each session.
+-- The passes of a space: which is the first, and that a new space has one for each session.
 use Rattle.std.proofs.Common.{◌≡◌, ◌≢◌, slice_index_or, ◌≤◌, ◌<◌, ◌+◌, ◌-◌, ◌∙◌, ap, sym, subst, ℕ, zero, suc, List, [], ◌∷◌, Bool, true, false, All, filter, cond, length, get_or, refl, arith}
-use Rattle.std.specs.Prelude.{◌==◌}
+use Rattle.std.specs.Prelude.{◌==◌, Option, Some, None, slice_get}
 use Rattle.std.specs.List.{range_with_len}
 use Rattle.std.specs.List.Sorted.{IsPermutation}
 use Rattle.std.proofs.lemmas.Bool.Decides.{Decides-eqb}
@@ -9,7 +9,7 @@ use Rattle.std.proofs.lemmas.List.Folds.{list_any_at}
 use Rattle.atomic_table.specs.Seated.{TableId}
 use Rattle.mdl_syntax.specs.declared.script.Line.{Line}
 use Rattle.mdl_shared.specs.declared.pass.Pass.{Pass}
-use Rattle.mdl_shared.specs.Passes.{ArePasses, pass_number, pass_table}
+use Rattle.mdl_shared.specs.Passes.{ArePasses, IsPass, pass_number, pass_table}
 use Rattle.mdl_script.specs.RunTexts.{is_named, named_sessions}
 use Rattle.mdl_script.specs.Turns.{has_pass}
 use Rattle.mdl_script.proofs.TurnLemmas.{passes_left, theirs_left}
@@ -42,6 +42,29 @@ unfolding named_sessions
 all-there table [] lines are many = absurd (cc)
 all-there table (p ∷ ps) lines are many =
     all-of-range (λ who. has_pass (p ∷ ps) who ≡ true) (is_named lines) 1 64 (λ x least most. pass-there table (p ∷ ps) p x are least (omega (arith, most, many)))
+
+-- what is found at the first place is the first
+pub first-is : (passes : List Pass) (first : Pass) → 1 ≤ length passes → first ≡ get_or passes 0 first → slice_get passes 0 ≡ Some first
+first-is [] first some is = absurd (omega arith)
+first-is (p ∷ ps) first some is = ap Some (sym is)
+
+-- the first of some things, as it is got, is what stands at place 0
+got_from : {X : Type 0} → X → Option X → X
+got_from d None = d
+got_from d (Some x) = x
+
+first-got : {X : Type 0} (xs : List X) (first : X) → slice_get xs 0 ≡ Some first → slice_index_or xs 0 first ≡ first
+unfolding got_from
+first-got [] first is = refl
+first-got (x ∷ xs) first is = ap (got_from x) is
+
+first-some : {X : Type 0} (xs : List X) (first : X) → slice_get xs 0 ≡ Some first → 0 < length xs
+first-some [] first is = absurd (cc)
+first-some (x ∷ xs) first is = omega arith
+
+-- the first pass of a new space is that of session 1
+pub first-new : (table : TableId) (passes : List Pass) (first : Pass) → ArePasses table passes → slice_get passes 0 ≡ Some first → IsPass table 1 first
+first-new table passes first are is = subst (IsPass table 1) (first-got passes first is) (are 0 first (first-some passes first is))
 
 -- once the first is taken, it is one of the space's, and so are the others; each session but its own has its pass still
 pub first-taken : (table : TableId) (lines : List Line) (passes others : List Pass) (first : Pass) → IsPermutation passes (first ∷ others)

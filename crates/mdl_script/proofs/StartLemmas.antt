@@ -55,7 +55,7 @@ each_named P lines who all is least most = all-passing P (is_named lines) 1 64 w
 -- the turns of the sessions below one are started, and the passes of all others are left
 pub record AreStarted (patience : ℕ) (lines : List Line) (mine : ℕ) (table : TableId) (all : List Pass) (who : ℕ) (turns : List Turn) (passes : List Pass) : Type 0 where
   pub sessions : map (λ (turn : Turn). turn.who) turns ≡ filter (is_named lines) (range_with_len 1 (who - 1))
-  pub are_turns : All (IsTurn patience lines mine) turns
+  pub are_turns : All (IsTurn table patience lines mine) turns
   pub theirs : All (λ (pass : Pass). pass_table pass ≡ table) passes
   pub left : (other : ℕ) → who ≤ other → has_pass passes other ≡ has_pass all other
 
@@ -67,7 +67,7 @@ started_none patience lines mine table all are = record { sessions = refl; are_t
 -- one more is
 pub started_more : (patience : ℕ) (lines : List Line) (mine : ℕ) (table : TableId) (all : List Pass) (who : ℕ) (turns : List Turn) (passes left : List Pass) (turn : Turn) →
     AreStarted patience lines mine table all who turns passes → 1 ≤ who → is_named lines who ≡ true →
-    turn.who ≡ who → IsTurn patience lines mine turn → All (λ (pass : Pass). pass_table pass ≡ table) left →
+    turn.who ≡ who → IsTurn table patience lines mine turn → All (λ (pass : Pass). pass_table pass ≡ table) left →
     ((other : ℕ) → other ≢ who → has_pass left other ≡ has_pass passes other) →
     AreStarted patience lines mine table all (who + 1) (turns ++ turn ∷ []) left
 started_more patience lines mine table all who turns passes left turn was least named here is are others = record {
@@ -76,7 +76,7 @@ started_more patience lines mine table all who turns passes left turn was least 
       ∙ (ap (λ xs. xs ++ who ∷ []) was.sessions
       ∙ (ap (λ xs. filter (is_named lines) (range_with_len 1 (who - 1)) ++ xs) (sym (one-kept (is_named lines) who named))
       ∙ (sym (filter-append (is_named lines) (range_with_len 1 (who - 1)) (who ∷ [])) ∙ ap (filter (is_named lines)) (ranges-so who least)))));
-  are_turns = All-append (IsTurn patience lines mine) turns (turn ∷ []) was.are_turns (All-cons (IsTurn patience lines mine) turn [] is (All-nil _));
+  are_turns = All-append (IsTurn table patience lines mine) turns (turn ∷ []) was.are_turns (All-cons (IsTurn table patience lines mine) turn [] is (All-nil _));
   theirs = are;
   left = λ other above. others other (λ same. absurd (omega (arith, same, above))) ∙ was.left other (omega (arith, above));
 }

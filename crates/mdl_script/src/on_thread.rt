@@ -22,7 +22,7 @@ pub(crate) fn work_pass<R: Wait, G: Gate>(
     gate: &G,
 ) -> Result<Vec<(u64, Reply)>, AllocError>
     requires theirs { pass_table pass ≡ table_of manager.now }
-    ensures { IfOk result (λ answers. AreAnswers patience script.now (pass_number pass) answers.items) }
+    ensures { IfOk result (λ answers. AreAnswers (table_of manager.now) patience script.now (pass_number pass) answers.items) }
 {
     let mut session = Session::open(rt, manager, pass);
     let who = session.number();

@@ -1,9 +1,9 @@
 //! The turns of a run: the sessions that a script names, in rising order, each with the thread that it is on.
-ghost use Rattle.std.specs.Prelude.{◌≡◌, ◌≢◌, [], ◌∷◌, ◌==◌, ℕ, true, All, IfOk, OnOk, map, position, ◌≤◌, length};
+ghost use Rattle.std.specs.Prelude.{◌≡◌, ◌≢◌, [], ◌∷◌, ◌==◌, ℕ, Some, true, All, IfOk, OnOk, map, position, slice_get, ◌≤◌, length};
 ghost use Rattle.std.specs.List.Sorted.{IsPermutation};
 ghost use Rattle.std.specs.String.{string_bytes};
 ghost use Rattle.mdl_shared.specs.Passes.{pass_number, pass_table, table_of};
-ghost use Rattle.mdl_script.specs.Answers.{AreAnswers};
+ghost use Rattle.mdl_script.specs.Answers.{AreAnswers, IsTranscript};
 ghost use Rattle.mdl_script.specs.RunTexts.{named_sessions};
 ghost use Rattle.mdl_script.specs.Turns.{GainsAnswers, IsAbout, IsTurn, has_pass};
 
@@ -11,7 +11,7 @@ use crate::on_thread::work_pass;
 use crate::run::{Run, is_named};
 use crate::told::push_answers;
 use mdl_key::MOST_SESSIONS;
-use mdl_shared::Pass;
+use mdl_shared::{Manager, Pass};
 use mdl_stmt::Reply;
 use mdl_syntax::Script;
 use mdl_work::Gate;
@@ -22,16 +22,17 @@ use std::thread::{Promise, PromisedHandle, Scope, Threads};
 /// What a session answers, or that memory ran out.
 pub(crate) type Answered = Result<Vec<(u64, Reply)>, AllocError>;
 
-/// The answers of a session to its lines of a script.
+/// The answers of a session of a table to its lines of a script.
 #[derive(Clone, Copy)]
 pub(crate) struct AnswersOf<'s> {
     pub(crate) who: u16,
+    pub(crate) manager: &'s Manager,
     pub(crate) script: &'s Script,
     pub(crate) patience: u32,
 }
 
 impl<'s> Promise<Answered> for AnswersOf<'s> {
-    ghost kept_by = { λ p r. IfOk r (λ answers. AreAnswers p.patience p.script.now p.who answers.items) };
+    ghost kept_by = { λ p r. IfOk r (λ answers. AreAnswers (table_of p.manager.now) p.patience p.script.now p.who answers.items) };
 }
 
 /// A session, and its thread, unless it has its turn in the thread that started the others.
@@ -44,7 +45,8 @@ pub(crate) struct Turn<'s> {
 /// Takes the first pass from others.
 pub(crate) fn take_first(passes: &mut Vec<Pass>) -> Pass
     requires { 1 ≤ length passes.old.items }
-    ensures { IsPermutation passes.old.items (result ∷ passes.new.items) }
+    ensures first { slice_get passes.old.items 0 ≡ Some result }
+    ensures others { IsPermutation passes.old.items (result ∷ passes.new.items) }
 {
     passes.swap_remove(0)
 }
@@ -75,13 +77,14 @@ fn start_thread<'s, E, R: Threads + Wait + Sync, G: Gate + Sync>(
     pass: Pass,
 ) -> Result<PromisedHandle<Answered, AnswersOf<'s>>, AllocError>
     requires theirs { pass_table pass ≡ table_of run.now.manager.now }
-    ensures { IfOk result (λ thread. IsAbout run.now.patience run.now.script.now (pass_number pass) thread.promise) }
+    ensures { IfOk result (λ thread. IsAbout (table_of run.now.manager.now) run.now.patience run.now.script.now (pass_number pass) thread.promise) }
 {
     // The thread has each of these by itself: of a struct that has them by a lifetime, the proof keeps nothing.
     let (rt, gate, manager, script) = (run.rt, run.gate, run.manager, run.script);
     let (alloc, patience) = (run.alloc, run.patience);
     let promise = AnswersOf {
         who: pass.number(),
+        manager,
         script,
         patience,
     };
@@ -102,7 +105,7 @@ fn start_turn<'s, E, R: Threads + Wait + Sync, G: Gate + Sync>(
     requires theirs { All (λ pass. pass_table pass ≡ table_of run.now.manager.now) passes.old.items }
     requires there { who ≢ mine → has_pass passes.old.items who ≡ true }
     ensures who { IfOk result (λ turn. turn.who ≡ who) }
-    ensures turn { IfOk result (λ turn. IsTurn run.now.patience run.now.script.now mine turn) }
+    ensures turn { IfOk result (λ turn. IsTurn (table_of run.now.manager.now) run.now.patience run.now.script.now mine turn) }
     ensures theirs { All (λ pass. pass_table pass ≡ table_of run.now.manager.now) passes.new.items }
     ensures others { (other : ℕ) → other ≢ who → has_pass passes.new.items other ≡ has_pass passes.old.items other }
 {
@@ -127,7 +130,7 @@ pub(crate) fn start_all<'s, E, R: Threads + Wait + Sync, G: Gate + Sync>(
     requires theirs { All (λ pass. pass_table pass ≡ table_of run.now.manager.now) passes.items }
     requires there { All (λ who. who ≢ mine → has_pass passes.items who ≡ true) (named_sessions run.now.script.now) }
     ensures sessions { IfOk result (λ turns. map (λ turn. turn.who) turns.items ≡ named_sessions run.now.script.now) }
-    ensures turns { IfOk result (λ turns. All (IsTurn run.now.patience run.now.script.now mine) turns.items) }
+    ensures turns { IfOk result (λ turns. All (IsTurn (table_of run.now.manager.now) run.now.patience run.now.script.now mine) turns.items) }
 {
     let mut turns = Vec::new(run.alloc);
     for who in 1..MOST_SESSIONS + 1 {
@@ -152,9 +155,9 @@ fn push_turn<R: Threads, G>(
     turn: Turn<'_>,
     own: &Transcript,
 ) -> Result<(), AllocError>
-    requires turn { IsTurn run.now.patience run.now.script.now own.now.who turn }
-    requires own { AreAnswers run.now.patience run.now.script.now own.now.who own.now.answers.items }
-    ensures { OnOk result (GainsAnswers run.now.patience run.now.script.now (turn.entry.who ∷ []) (string_bytes out.old) (string_bytes out.new)) }
+    requires turn { IsTurn (table_of run.now.manager.now) run.now.patience run.now.script.now own.now.who turn }
+    requires own { AreAnswers (table_of run.now.manager.now) run.now.patience run.now.script.now own.now.who own.now.answers.items }
+    ensures { OnOk result (GainsAnswers (IsTranscript (table_of run.now.manager.now) run.now.patience run.now.script.now own.now.who own.now.answers.items) (turn.entry.who ∷ []) (string_bytes out.old) (string_bytes out.new)) }
 {
     let Turn { who, thread } = turn;
     match thread {
@@ -173,9 +176,9 @@ pub(crate) fn push_turns<R: Threads, G>(
     turns: Vec<Turn<'_>>,
     own: &Transcript,
 ) -> Result<(), AllocError>
-    requires turns { All (IsTurn run.now.patience run.now.script.now own.now.who) turns.items }
-    requires own { AreAnswers run.now.patience run.now.script.now own.now.who own.now.answers.items }
-    ensures { OnOk result (GainsAnswers run.now.patience run.now.script.now (map (λ turn. turn.who) turns.entry.items) (string_bytes out.old) (string_bytes out.new)) }
+    requires turns { All (IsTurn (table_of run.now.manager.now) run.now.patience run.now.script.now own.now.who) turns.items }
+    requires own { AreAnswers (table_of run.now.manager.now) run.now.patience run.now.script.now own.now.who own.now.answers.items }
+    ensures { OnOk result (GainsAnswers (IsTranscript (table_of run.now.manager.now) run.now.patience run.now.script.now own.now.who own.now.answers.items) (map (λ turn. turn.who) turns.entry.items) (string_bytes out.old) (string_bytes out.new)) }
 {
     for turn in turns {
         push_turn(out, run, turn, own)?;

@@ -14,7 +14,7 @@ use Rattle.mdl_steps.specs.Rule.{TellsLists}
 use Rattle.mdl_steps.specs.Seats.{HasDirectory, Holds, IsRising, MayPut, learnt}
 use Rattle.mdl_steps.proofs.Views.{held_at-past}
 use Rattle.mdl_visits.specs.declared.audited.Audited.{Audited}
-use Rattle.mdl_visits.specs.Audits.{AreKeyed, AreRecorded, Audits, Gathers, HadLatches}
+use Rattle.mdl_visits.specs.Audits.{AreKeyed, AreRecorded, Audits, Gathers, HadLatches, MayAllStand}
 use Rattle.mdl_visits.specs.Idle.{IsIdle}
 use Rattle.mdl_visits.specs.Lookups.{HadEither, TookDirectory, given_back, relisted}
 use Rattle.mdl_visits.specs.Visits.{AllQuiet, IsInside, IsQuiet, IsStepOf, MakesSteps, StaysQuiet, and_made, deeds_of}
@@ -131,6 +131,7 @@ module _ (place : ℕ) (h : Held) (made : List Met) (m m′ : Mine) (here : h.pl
           all = omega arith;
           recorded = ((at, (h, more.kept place h (omega arith) recorded, refl)), more.recorded);
           keyed = λ k has. (fresh.keyed k has, more.keyed k (ap (λ (x : Mine). x.0.directory) taken ∙ has));
+          stand = (fresh.stands, more.stand);
         }
 
     -- all of them were held when those behind the place were
@@ -151,6 +152,7 @@ gathers_none place last audited m behind = record {
   all = omega arith;
   recorded = tt;
   keyed = λ k has. tt;
+  stand = tt;
 }
 
 -- ---- the keys of the books
@@ -254,4 +256,5 @@ module _ (slots : ℕ) (k : Keys) (made : List Met) (m m′ m″ : Mine) (taken 
           directory = moment.3;
           recorded = subst (λ (xs : List Audited). AreRecorded 1 moment.0.held xs) (sym gathered.listed)
               (subst (λ (held : List Held). AreRecorded 1 held gathered.books) (sym moment.2) gathered.recorded);
+          stand = subst MayAllStand (sym gathered.listed) gathered.stand;
         }

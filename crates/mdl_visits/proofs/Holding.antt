@@ -43,6 +43,7 @@ same_gathers place last before after m m′ m″ same g = record {
   all = g.all;
   recorded = g.recorded;
   keyed = g.keyed;
+  stand = g.stand;
 }
 
 -- a book more before those that are gathered
@@ -56,6 +57,7 @@ behind_one place last one books m m′ g = record {
   all = g.all;
   recorded = g.recorded;
   keyed = g.keyed;
+  stand = g.stand;
 }
 
 -- ---- a place's latch
@@ -100,6 +102,7 @@ module _ (id : TableId) (who place last : ℕ) (found : Search) where
       all = omega arith;
       recorded = tt;
       keyed = λ k has. tt;
+      stand = tt;
     };
     judges = subst (λ (audited : List Audited). Judges id who m.0.latches audited found m m′) (sym (append-nil copied)) judges;
   }

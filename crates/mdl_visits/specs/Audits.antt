@@ -1,10 +1,12 @@
 -- An audit: the books of all places that have a key, as a session's records of their latches had them at one of its steps.
 use Rattle.std.specs.Prelude.{◌≡◌, ◌⊎◌, ℕ, ◌+◌, ◌<◌, List, [], ◌∷◌, ◌++◌, length, map, Some}
 use Rattle.mdl_key.specs.Words.{KeyName}
+use Rattle.mdl_defs.specs.Standings.{MayStand}
 use Rattle.mdl_steps.specs.declared.view.Held.{Held}
 use Rattle.mdl_steps.specs.declared.view.Keys.{Keys}
 use Rattle.mdl_steps.specs.declared.view.Met.{Met}
 use Rattle.mdl_steps.specs.Cells.{held_at}
+use Rattle.mdl_steps.specs.Lists.{Each}
 use Rattle.mdl_steps.specs.Plays.{Mine}
 use Rattle.mdl_steps.specs.Rule.{key_at}
 use Rattle.mdl_visits.specs.declared.audited.Audited.{Audited}
@@ -28,6 +30,10 @@ abbrev pub AreKeyed : List KeyName → ℕ → List Audited → Type 0
 AreKeyed keys place [] = Unit {0}
 AreKeyed keys place (a ∷ more) = ((key : KeyName) → key_at keys place ≡ Some key → a.book.key ≡ key) × AreKeyed keys (place + 1) more
 
+-- the definition of each book may stand under the book's key
+abbrev pub MayAllStand : List Audited → Type 0
+MayAllStand books = Each (λ (a : Audited). MayStand a.book.key.namespace a.book.standing) books
+
 -- the session had the latches of the places from one to another, beside those that it had of lower ones, and added the books of these places to a
 -- list, in order, as they were then
 pub record Gathers (place last : ℕ) (before after : List Audited) (m m′ : Mine) : Type 0 where
@@ -39,9 +45,10 @@ pub record Gathers (place last : ℕ) (before after : List Audited) (m m′ : Mi
   pub all : place + length books ≡ last + 1
   pub recorded : AreRecorded place latches books
   pub keyed : (k : Keys) → m.0.directory ≡ Some k → AreKeyed k.keys place books
+  pub stand : MayAllStand books
 
 -- these are the books of the directory's keys, in order, from place 1 on: at one step between the two the session had this record of the directory and the
--- latches of all these places, and so the books were then
+-- latches of all these places, and so the books were then. What is defined in each may stand under its key
 pub record Audits (k : Keys) (audited : List Audited) (m m′ : Mine) : Type 0 where
   pub all : length audited ≡ length k.keys
   pub keys : map (λ (a : Audited). a.book.key) audited ≡ k.keys
@@ -49,3 +56,4 @@ pub record Audits (k : Keys) (audited : List Audited) (m m′ : Mine) : Type 0 w
   pub step : IsStepOf m m′ moment
   pub directory : moment.directory ≡ Some k
   pub recorded : AreRecorded 1 moment.held audited
+  pub stand : MayAllStand audited
