@@ -1,5 +1,5 @@
 //! A session that visits the place of one key, and reads the words there and those of waits.
-ghost use Rattle.std.specs.Prelude.{◌≡◌, ℕ, ◌<◌, ◌^◌, None, Some, true};
+ghost use Rattle.std.specs.Prelude.{◌≡◌, ℕ, ◌+◌, ◌<◌, ◌^◌, None, Some, true};
 ghost use Rattle.std.specs.Arc.{arc_value};
 ghost use Rattle.std.specs.Option.{option_to_list};
 ghost use Rattle.mdl_key.specs.Words.{is_mode_of};
@@ -126,7 +126,7 @@ impl Visitor {
 
     // Whether it may ask for a ticket in a mode: it has none, waits for none, and has a number for it.
     fn may_ask(&self, mode: Mode) -> bool
-        ensures { result ≡ true → (self.now.asks ≡ None) × (self.now.ticket ≡ None) × (self.now.next < 2 ^ 60) × (self.now.waits < 2 ^ 60)
+        ensures { result ≡ true → (self.now.asks ≡ None) × (self.now.ticket ≡ None) × (self.now.next < 2 ^ 60) × (self.now.waits + 1 < 2 ^ 60)
             × (is_mode_of self.now.kind mode ≡ true) }
     {
         self.asks.is_none()
@@ -210,15 +210,29 @@ impl Visitor {
 
     /// Gives its ticket up, while it waits for none.
     pub(crate) fn release<R: Wait>(&mut self, rt: &R) -> Answer {
-        let Some(Own { number, place, .. }) = self.ticket else {
+        let Some(ticket) = self.ticket else {
             return Answer::Refused;
         };
-        if self.asks.is_some() || place != self.place {
+        if self.asks.is_some() || ticket.place != self.place {
             return Answer::Refused;
         }
-        release(rt, &mut self.worker, &self.table, place, number);
-        self.ticket = None;
+        self.give_back(rt, ticket);
         Answer::Done
+    }
+
+    fn give_back<R: Wait>(&mut self, rt: &R, ticket: Own)
+        requires held { self.old.ticket ≡ Some ticket }
+        requires here { ticket.place ≡ self.old.place }
+        requires unwaited { self.old.asks ≡ None }
+    {
+        release(
+            rt,
+            &mut self.worker,
+            &self.table,
+            ticket.place,
+            ticket.number,
+        );
+        self.ticket = None;
     }
 
     /// Ends its wait, where it is settled.
