@@ -2,5 +2,7 @@
 mod latches;
 mod lists;
 mod threads;
+mod visitors;
 mod visits;
 mod waits;
+mod words;

@@ -1,0 +1,295 @@
+//! A session that visits the place of one key, and reads the words there and those of waits.
+ghost use Rattle.std.specs.Prelude.{◌≡◌, ℕ, ◌+◌, ◌<◌, ◌^◌, None, Some, true};
+ghost use Rattle.std.specs.Arc.{arc_value};
+ghost use Rattle.std.specs.Option.{option_to_list};
+ghost use Rattle.mdl_key.specs.Words.{is_mode_of};
+ghost use Rattle.mdl_steps.specs.Layout.{enrol_word};
+ghost use Rattle.mdl_steps.specs.Seats.{IsSized, IsPlace};
+ghost use Rattle.mdl_steps.specs.WaitSeats.{IsSession};
+ghost use Rattle.mdl_steps.specs.WaitStates.{IsLost, granted_state};
+ghost use Rattle.mdl_visits.specs.Idle.{IsIdle, HasSlowAlone};
+ghost use Rattle.mdl_shared.specs.Members.{kind_known};
+
+use mdl_key::{Key, Kind, Mode};
+use mdl_steps::layout::wait_word;
+use mdl_steps::{Ask, Loss, Maker, Own, OwnedTable, WaitWord, Worker};
+use mdl_visits::{Queued, Tried, grant_or_wait, release, resolve, try_grant, withdraw};
+use mdl_word::Word;
+use std::alloc::Global;
+use std::sync::{Arc, Wait};
+
+// The greatest number of a ticket and of a wait.
+const MOST_NUMBERS: u64 = (1 << 60) - 1;
+
+/// What comes of a visit.
+#[derive(Clone, Copy, Debug, PartialEq, Eq)]
+pub(crate) enum Answer {
+    Granted,
+    WouldWait,
+    /// It waits, and its wait has this number.
+    Waiting(u64),
+    Done,
+    /// Its wait was lost so.
+    Lost(u64),
+    /// Nothing was done.
+    Refused,
+}
+
+/// A session at the place of one key, which it knows. It has one ticket there at most.
+#[derive(Drop)]
+pub(crate) struct Visitor {
+    table: Arc<OwnedTable, Global>,
+    worker: Worker,
+    place: usize,
+    kind: Kind,
+    // The number of its next ticket, and that of its last wait.
+    next: u64,
+    waits: u64,
+    asks: Option<Ask>,
+    ticket: Option<Own>,
+    ghost seated: { worker.seat.table_id ≡ (arc_value table).shared.table_id },
+    ghost sized: { IsSized (arc_value table).shared.table_id },
+    ghost placed: { IsPlace (arc_value table).shared.table_id place },
+    ghost known: { kind_known place worker.seat.me.0.known ≡ Some kind },
+    ghost idle: { IsIdle worker.seat.me },
+    ghost slow: { HasSlowAlone worker.seat.me },
+    ghost next_is: { next ≡ worker.seat.me.0.next },
+    ghost waits_is: { waits ≡ worker.seat.me.0.waits },
+    ghost asks_is: { asks ≡ worker.seat.me.0.asks },
+    ghost holds: { worker.seat.me.0.slow ≡ option_to_list ticket },
+}
+
+// Whether the table has the word of a session's wait.
+fn has_session(table: &OwnedTable, session: u16) -> bool
+    requires { IsSized table.now.shared.table_id }
+    ensures { result ≡ true → IsSession table.now.shared.table_id session }
+{
+    session > 0 && wait_word(table.slot_count(), session) < table.word_count()
+}
+
+impl Visitor {
+    /// The session of the next seat, once it has looked the key up.
+    pub(crate) fn come<R: Wait>(
+        rt: &R,
+        alloc: Global,
+        table: &Arc<OwnedTable, Global>,
+        maker: &mut Maker,
+        key: &Key,
+    ) -> Option<Visitor>
+        requires seated { maker.old.seat.table_id ≡ (arc_value table.now).shared.table_id }
+        requires sized { IsSized (arc_value table.now).shared.table_id }
+        requires some { 0 < (arc_value table.now).shared.table_id.slots }
+        requires words { enrol_word (arc_value table.now).shared.table_id.slots < (arc_value table.now).shared.table_id.words }
+        ensures seated { maker.new.seat.table_id ≡ maker.old.seat.table_id }
+    {
+        let slots = table.slot_count();
+        let mut worker = maker.enrol(&table.shared, slots)?;
+        let place = resolve(rt, &mut worker, &table.shared, alloc, slots, key).ok()?;
+        Some(Visitor {
+            table: Arc::try_clone(table).ok()?,
+            worker,
+            place,
+            kind: key.kind(),
+            next: 1,
+            waits: 0,
+            asks: None,
+            ticket: None,
+        })
+    }
+
+    /// The word of the lock.
+    pub(crate) fn lock_word(&mut self) -> Word {
+        self.worker
+            .read_word_unlatched(&self.table.shared, self.place)
+    }
+
+    /// The word of a session's wait.
+    pub(crate) fn wait_word(&mut self, session: u16) -> Option<WaitWord> {
+        if !has_session(&self.table, session) {
+            return None;
+        }
+        let slots = self.table.slot_count();
+        Some(self.worker.read_wait(&self.table.shared, slots, session))
+    }
+
+    /// Settles a wait as lost so, where it is unsettled, and tells the word that it met.
+    pub(crate) fn settle(&mut self, session: u16, wait: u64, how: Loss) -> Option<WaitWord> {
+        if !has_session(&self.table, session) || wait > MOST_NUMBERS {
+            return None;
+        }
+        let slots = self.table.slot_count();
+        let met = self
+            .worker
+            .settle_wait(&self.table.shared, slots, session, wait, how);
+        Some(met)
+    }
+
+    // Whether it may ask for a ticket in a mode: it has none, waits for none, and has a number for it.
+    fn may_ask(&self, mode: Mode) -> bool
+        ensures { result ≡ true → (self.now.asks ≡ None) × (self.now.ticket ≡ None) × (self.now.next < 2 ^ 60) × (self.now.waits + 1 < 2 ^ 60)
+            × (is_mode_of self.now.kind mode ≡ true) }
+    {
+        self.asks.is_none()
+            && self.ticket.is_none()
+            && self.next < MOST_NUMBERS
+            && self.waits < MOST_NUMBERS
+            && self.kind.has_mode(mode)
+    }
+
+    /// Asks for a ticket, without waiting.
+    pub(crate) fn try_now<R: Wait>(&mut self, rt: &R, mode: Mode) -> Answer {
+        if !self.may_ask(mode) {
+            return Answer::Refused;
+        }
+        let (place, number) = (self.place, self.next);
+        match try_grant(
+            rt,
+            &mut self.worker,
+            &self.table.shared,
+            place,
+            self.kind,
+            number,
+            mode,
+        ) {
+            Ok(Tried::Granted) => {
+                self.ticket = Some(Own {
+                    number,
+                    place,
+                    mode,
+                    noted: None,
+                });
+                self.next += 1;
+                Answer::Granted
+            }
+            Ok(Tried::Blocked) => Answer::WouldWait,
+            Err(_) => Answer::Refused,
+        }
+    }
+
+    /// Asks for a ticket, and begins to wait for it where it can't be had now.
+    pub(crate) fn begin_wait<R: Wait>(&mut self, rt: &R, mode: Mode) -> Answer {
+        if !self.may_ask(mode) || !has_session(&self.table, self.worker.number()) {
+            return Answer::Refused;
+        }
+        let (place, number, wait) = (self.place, self.next, self.waits + 1);
+        let slots = self.table.slot_count();
+        match grant_or_wait(
+            rt,
+            &mut self.worker,
+            &self.table.shared,
+            slots,
+            place,
+            self.kind,
+            number,
+            mode,
+            wait,
+        ) {
+            Ok(Queued::Granted) => {
+                self.ticket = Some(Own {
+                    number,
+                    place,
+                    mode,
+                    noted: None,
+                });
+                self.next += 1;
+                Answer::Granted
+            }
+            Ok(Queued::Waiting) => {
+                self.asks = Some(Ask {
+                    number,
+                    place,
+                    mode,
+                });
+                self.next += 1;
+                self.waits = wait;
+                Answer::Waiting(wait)
+            }
+            Err(_) => Answer::Refused,
+        }
+    }
+
+    /// Gives its ticket up, while it waits for none.
+    pub(crate) fn release<R: Wait>(&mut self, rt: &R) -> Answer {
+        let Some(ticket) = self.ticket else {
+            return Answer::Refused;
+        };
+        if self.asks.is_some() || ticket.place != self.place {
+            return Answer::Refused;
+        }
+        self.give_back(rt, ticket);
+        Answer::Done
+    }
+
+    fn give_back<R: Wait>(&mut self, rt: &R, ticket: Own)
+        requires held { self.old.ticket ≡ Some ticket }
+        requires here { ticket.place ≡ self.old.place }
+        requires unwaited { self.old.asks ≡ None }
+    {
+        release(
+            rt,
+            &mut self.worker,
+            &self.table,
+            ticket.place,
+            ticket.number,
+        );
+        self.ticket = None;
+    }
+
+    /// Ends its wait, where it is settled.
+    pub(crate) fn end_wait<R: Wait>(&mut self, rt: &R) -> Answer {
+        let Some(ask) = self.asks else {
+            return Answer::Refused;
+        };
+        if self.ticket.is_some() || ask.place != self.place || self.waits > MOST_NUMBERS {
+            return Answer::Refused;
+        }
+        let session = self.worker.number();
+        if !has_session(&self.table, session) {
+            return Answer::Refused;
+        }
+        let slots = self.table.slot_count();
+        let word = self.worker.read_wait(&self.table.shared, slots, session);
+        let state = word.state();
+        if state == WaitWord::GRANTED {
+            self.take_over(ask);
+            return Answer::Granted;
+        }
+        if state > WaitWord::GRANTED {
+            self.give_up(rt, ask);
+            return Answer::Lost(state);
+        }
+        Answer::Refused
+    }
+
+    // Takes the ticket of its granted wait over.
+    fn take_over(&mut self, ask: Ask)
+        requires asks { self.old.asks ≡ Some ask }
+        requires granted { self.old.worker.seat.me.0.told ≡ Some granted_state }
+        requires session { IsSession (arc_value self.old.table).shared.table_id self.old.worker.number }
+        requires empty { self.old.ticket ≡ None }
+        requires few { self.old.waits < 2 ^ 60 }
+    {
+        let slots = self.table.slot_count();
+        self.worker
+            .end_granted(&self.table.shared, slots, self.waits);
+        self.ticket = Some(Own {
+            number: ask.number,
+            place: ask.place,
+            mode: ask.mode,
+            noted: None,
+        });
+        self.asks = None;
+    }
+
+    // Gives its lost wait up.
+    fn give_up<R: Wait>(&mut self, rt: &R, ask: Ask)
+        requires asks { self.old.asks ≡ Some ask }
+        requires lost { (state : ℕ) × (self.old.worker.seat.me.0.told ≡ Some state) × IsLost state }
+        requires session { IsSession (arc_value self.old.table).shared.table_id self.old.worker.number }
+        requires here { ask.place ≡ self.old.place }
+        requires few { self.old.waits < 2 ^ 60 }
+    {
+        withdraw(rt, &mut self.worker, &self.table, ask, self.waits);
+        self.asks = None;
+    }
+}
