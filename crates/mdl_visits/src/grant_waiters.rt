@@ -1,4 +1,4 @@
-//! Waits are granted at a place, under its latch.
+//! The waits at a place are granted, under its latch.
 ghost use Rattle.std.specs.Prelude.{◌≡◌};
 ghost use Rattle.mdl_steps.specs.declared.view.Held.{Held};
 ghost use Rattle.mdl_steps.specs.SeatStates.{AtItsTable};
@@ -11,7 +11,7 @@ use mdl_book::Sessions;
 use mdl_steps::{Latched, TableSeat, WaitWord};
 
 /// Reads the lock's word, and grants the waits of tickets at the latched place, the first in order of arrival first, as long as there is one
-/// that can be granted. A wait that was settled before isn't granted. It takes no memory.
+/// that can be granted. A wait that was settled before isn't granted. It takes no memory. After `MDL_lock::reschedule_waiters`.
 pub(crate) fn grant_waiters(seat: &mut TableSeat, latch: &Latched)
     requires place { IsPlace seat.old.table latch.now.place }
     requires held { (h : Held) × Holds latch.now.place h h.book seat.old.me × IsOrderly h }

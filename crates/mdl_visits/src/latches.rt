@@ -1,4 +1,4 @@
-//! Latches are waited for: that of a place, and the directory's.
+//! A session waits for a latch: that of a place, or the directory's.
 ghost use Rattle.std.specs.Prelude.{◌≡◌, ◌<◌, List, [], length};
 ghost use Rattle.mdl_steps.specs.declared.view.Held.{Held};
 ghost use Rattle.mdl_steps.specs.declared.view.Keys.{Keys};
@@ -32,7 +32,7 @@ pub(crate) fn await_latch<R: Wait>(rt: &R, seat: &mut TableSeat, place: usize) -
     unreachable!()
 }
 
-/// Takes the directory's latch, and waits as long as another session holds it.
+/// Takes the directory's latch, and waits for it as long as another session holds it.
 pub(crate) fn await_directory<R: Wait>(rt: &R, seat: &mut TableSeat) -> LatchedDirectory
     requires first { length seat.old.me.0.latches ≡ 0 }
     ensures taken { (made : List Met) × (k : Keys) × IsDirectory seat.old.table.slots k (and_made made seat.old.me)

@@ -17,8 +17,8 @@ use mdl_steps::{ListCopies, Loss, TableSeat, WaitWord};
 use std::alloc::{AllocError, Global};
 use std::sync::Wait;
 
-/// Looks for a deadlock that the session waits in, by the lists of these locks, while it has the latches of all places, and settles the wait of the
-/// victim. Where another session settles that first, it looks again.
+/// Looks for a deadlock that the session waits in, by the lists of these locks, while it has the latches of all places, and settles the wait of
+/// the victim. Where another session settles that first, it looks again. After `MDL_context::find_deadlock`.
 pub(crate) fn settle_victim<R: Wait>(
     rt: &R,
     seat: &mut TableSeat,
@@ -39,7 +39,7 @@ pub(crate) fn settle_victim<R: Wait>(
     unreachable!()
 }
 
-// The same, once: nothing is found where the victim's wait had another word than was heard, since another session settled it first.
+// The same, once. Nothing is found where the victim's wait no longer had the word that was read, since another session settled it first.
 fn settle_victim_once(
     seat: &mut TableSeat,
     alloc: Global,
@@ -63,7 +63,7 @@ fn settle_victim_once(
     }
 }
 
-// Settles the wait of a session as the victim's, if it was open by its word and is so still. Whether this call settled it.
+// Settles the wait of a session as the victim's, if it was open by the word that was read, and is so still. Whether this call settled it.
 fn settle_wait_of(seat: &mut TableSeat, victim: u16, words: &[WaitRead]) -> bool
     requires sessions { All (λ (h : WaitRead). IsSession seat.old.table h.session × (is_session h.session ≡ true)) words.now }
     ensures hears { AtItsTable seat.old seat.new Hears }
@@ -80,7 +80,7 @@ fn settle_wait_of(seat: &mut TableSeat, victim: u16, words: &[WaitRead]) -> bool
     false
 }
 
-// The same by its word.
+// The same by the word that was read. After `MDL_wait::set_status`.
 fn settle_by_word(seat: &mut TableSeat, heard: WaitRead) -> bool
     requires session { IsSession seat.old.table heard.session }
     ensures hears { AtItsTable seat.old seat.new Hears }

@@ -29,7 +29,7 @@ pub enum Queued {
     Waiting,
 }
 
-// Opens a wait at the latched place, and gives the latch back. Where that isn't done all stays as it was.
+// Opens a wait at the latched place, and gives the latch back. If it is refused, all stays as it was.
 fn enqueue(
     seat: &mut TableSeat,
     latch: Latched,
@@ -56,7 +56,8 @@ fn enqueue(
 }
 
 /// Grants the session a ticket of this number in this mode, where that can be done now, beside all that others hold and before none that
-/// waits. Otherwise the ticket waits there, behind all others, and the session's wait has this number.
+/// waits. Otherwise the ticket waits there, behind all others, and the session's wait has this number. After `MDL_context::acquire_lock`,
+/// which waits itself.
 pub fn begin_wait<R: Wait>(
     rt: &R,
     seat: &mut TableSeat,

@@ -1,4 +1,4 @@
-//! What stands under a key is changed under the latch of its place.
+//! The definition of a key is changed under the latch of its place.
 ghost use Rattle.std.specs.Prelude.{◌≡◌, ◌+◌, [], true, IfOk, IfErr, OnErr};
 ghost use Rattle.mdl_key.specs.Refusals.{Refuses, RefusesJust};
 ghost use Rattle.mdl_defs.specs.declared.standing.Standing.{Standing};
@@ -18,7 +18,7 @@ use mdl_defs::{Change, ChangeError};
 use mdl_steps::{Latched, TableSeat};
 use std::sync::Wait;
 
-/// Changes what stands at a place, where the session has an exclusive ticket, and answers the new version. The session notes it under
+/// Changes the definition at a place, where the session has an exclusive ticket, and returns the new version. The session notes it under
 /// each ticket that it has there. `Drop` takes no memory.
 pub fn change_definition<R: Wait>(
     rt: &R,
@@ -63,7 +63,7 @@ fn change_latched(seat: &mut TableSeat, latch: Latched, change: &Change) -> Resu
     }
 }
 
-// Writes the version of the change that was made in hand, and gives the latch back.
+// Writes the version of the definition that was changed in hand, and gives the latch back.
 fn publish_version(seat: &mut TableSeat, latch: Latched)
     requires place { IsPlace seat.old.table latch.place }
     requires changed { (h : Held) × (change : Change) × HasRedefined latch.place h change seat.old.me × TellsLists h.book h.slow h.obtrusive }

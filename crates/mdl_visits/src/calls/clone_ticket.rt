@@ -49,7 +49,7 @@ pub fn clone_ticket<R: Wait>(
     clone_latched(seat, latch, number, mode)
 }
 
-// Gains the ticket at the latched place, and the latch is given back.
+// The same at the latched place, and the latch is given back.
 fn clone_latched(
     seat: &mut TableSeat,
     latch: Latched,

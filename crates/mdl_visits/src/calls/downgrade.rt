@@ -22,7 +22,7 @@ use mdl_key::Mode;
 use mdl_steps::{Deed, Latched, Own, TableSeat};
 use std::sync::Wait;
 
-/// Lets a ticket of the session have a mode that its own may be brought down to, also while the session waits for another one, and grants
+/// Gives a ticket of the session a mode that its own may be brought down to, also while the session waits for another one, and grants
 /// the waits at the place that can be granted then. It takes no memory. After `MDL_ticket::downgrade_lock`.
 pub fn downgrade<R: Wait>(rt: &R, seat: &mut TableSeat, held: Own, mode: Mode)
     requires place { IsPlace seat.old.table held.place }

@@ -22,8 +22,8 @@ use crate::no_fast_tickets::NO_FAST_TICKETS;
 use mdl_steps::{Deed, Latched, Own, TableSeat};
 use std::sync::Wait;
 
-/// Lets a ticket of the session, which waits for nothing, have the mode of another one of its place, which covers its own and goes. It takes
-/// no memory.
+/// Gives a ticket of the session, which waits for nothing, the mode of another one of its place, which covers its own, and gives that other
+/// one up. It takes no memory.
 pub fn merge<R: Wait>(rt: &R, seat: &mut TableSeat, kept: Own, gone: Own)
     requires place { IsPlace seat.old.table kept.place }
     requires rising { IsRising kept.place seat.old.me }

@@ -1,4 +1,4 @@
-//! What stands under a key is read under the latch of its place.
+//! The definition of a key is read under the latch of its place.
 ghost use Rattle.std.specs.Prelude.{◌≡◌, [], IfOk, OnErr};
 ghost use Rattle.mdl_steps.specs.declared.view.Held.{Held};
 ghost use Rattle.mdl_steps.specs.declared.view.Met.{Met};
@@ -16,7 +16,7 @@ use mdl_steps::{Latched, TableSeat};
 use std::alloc::AllocError;
 use std::sync::Wait;
 
-/// Reads what stands at a place. The session notes the version under each ticket that it has there.
+/// Reads the definition at a place. The session notes the version under each ticket that it has there.
 pub fn read_definition<R: Wait>(
     rt: &R,
     seat: &mut TableSeat,

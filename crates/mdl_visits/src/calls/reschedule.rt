@@ -15,7 +15,8 @@ use crate::latches::await_latch;
 use mdl_steps::{Deed, Latched, TableSeat};
 use std::sync::Wait;
 
-/// Comes to a place, grants the waits there that can be granted, and goes. It takes no memory. After `MDL_lock::reschedule_waiters`.
+/// Takes the latch of a place, grants the waits there that can be granted, and gives the latch back. It takes no memory. After
+/// `MDL_lock::reschedule_waiters`.
 pub fn reschedule<R: Wait>(rt: &R, seat: &mut TableSeat, place: usize)
     requires place { IsPlace seat.old.table place }
     requires rising { IsRising place seat.old.me }
@@ -25,8 +26,8 @@ pub fn reschedule<R: Wait>(rt: &R, seat: &mut TableSeat, place: usize)
     reschedule_and_put(seat, latch);
 }
 
-/// Gives the latch back after some deeds, with just those flags up that the book in hand asks for, once the waits there are granted that
-/// can be granted then.
+/// Lowers the flags that the book in hand doesn't need, after some deeds, grants the waits there that can be granted then, and gives the
+/// latch back.
 pub(crate) fn lower_flags_and_reschedule(seat: &mut TableSeat, latch: Latched, deeds: &[Deed])
     requires place { IsPlace seat.old.table latch.place }
     requires done { (h : Held) × HasDone latch.place deeds.now h seat.old.me
@@ -40,7 +41,7 @@ pub(crate) fn lower_flags_and_reschedule(seat: &mut TableSeat, latch: Latched, d
     reschedule_and_put(seat, latch);
 }
 
-// Leaves just those flags up that the book in hand asks for, after some deeds that stand in it.
+// Leaves just those flags up that the book in hand needs, after some deeds that are written in it.
 fn lower_flags(seat: &mut TableSeat, latch: &Latched, deeds: &[Deed])
     requires place { IsPlace seat.old.table latch.now.place }
     requires done { (h : Held) × HasDone latch.now.place deeds.now h seat.old.me

@@ -1,5 +1,5 @@
-//! A search for a deadlock: the latches of all places that have a key are taken one after the other, and by their books it is looked for, once all
-//! are taken. Only where somebody waits a lock's lists are copied for that: by the others nobody waits for anybody.
+//! A search for a deadlock: the latches of all places that have a key are taken one after the other, and the deadlock is looked for in their
+//! books once all are taken. Only the lists of locks where somebody waits are copied: by the others nobody waits for anybody.
 ghost use Rattle.std.specs.Prelude.{◌≡◌, ◌+◌, ◌<◌, ◌≤◌, List, ◌∷◌, ◌++◌, IfOk, OnErr, OnOk};
 ghost use Rattle.mdl_book.specs.declared.book_view.BookView.{BookView};
 ghost use Rattle.mdl_steps.specs.declared.slot.Slot.TheVariants as slot;
@@ -20,7 +20,7 @@ use std::alloc::{AllocError, Global};
 use std::sync::Wait;
 
 /// Looks for a deadlock that the session waits in, and settles the wait of its victim. No key gets a place meanwhile, since the session holds
-/// the directory's latch, and no book changes once the session has all latches.
+/// the directory's latch, and no book changes once the session has all latches. After `MDL_context::find_deadlock`.
 pub fn search_deadlock<R: Wait>(
     rt: &R,
     seat: &mut TableSeat,
@@ -42,7 +42,8 @@ pub fn search_deadlock<R: Wait>(
     outcome
 }
 
-// Puts the lists of the places from one to the last behind others, where somebody waits, and searches by all of them while their latches are held.
+// Appends the lists of the places from one to the last, where somebody waits, to others, and searches by all of them while their latches are
+// held.
 fn search_from<R: Wait>(
     rt: &R,
     seat: &mut TableSeat,
@@ -72,7 +73,7 @@ fn search_from<R: Wait>(
     outcome
 }
 
-// Puts the lists of the book in hand behind others, if somebody waits by it.
+// Appends the lists of the book in hand to others, if somebody waits by it.
 fn add_if_waited(
     seat: &mut TableSeat,
     latch: &Latched,
