@@ -10,7 +10,7 @@ use Rattle.mdl_rows.specs.Endings.{closing}
 use Rattle.mdl_rows.specs.Statements.{columns_of, definition_under, exists, has_definition, show}
 use Rattle.mdl_stmt.proofs.RowLemmas.{bind-assoc}
 use Rattle.mdl_stmt.proofs.RunLemmas.{comes-then}
-use Rattle.std.proofs.Common.{◌≡◌, ℕ, Some, None, Result, Ok, Err, ap, sym, subst, inl, inr}
+use Rattle.std.proofs.Common.{◌≡◌, ◌≢◌, ℕ, refl, Some, None, Result, Ok, Err, ap, sym, subst, inl, inr}
 use Rattle.mdl_key.specs.Keys.{KeyName}
 use Rattle.mdl_key.specs.declared.mode.Mode.{Mode}
 use Rattle.mdl_calls.specs.Words.{Answer, Done, Call, Unpin, caller, Runs}
@@ -19,6 +19,7 @@ use Rattle.mdl_context.specs.Contexts.{ContextView, Attends}
 use Rattle.mdl_context.proofs.AttendLemmas.{attends-same}
 use Rattle.mdl_rows.specs.declared.ending.Ending.{Ending}
 use Rattle.mdl_rows.specs.declared.reply.Reply.{Reply}
+use Rattle.mdl_stmt.specs.Attendance.{GoesOn}
 use Rattle.mdl_stmt.specs.Gets.{Comes, Waits, IsStep, at_rest}
 use Rattle.mdl_rows.specs.Playing.{play}
 use Rattle.mdl_rows.specs.Rows.{Row, Act, Give, room, ◌>>=◌, ◌>>◌}
@@ -46,6 +47,16 @@ module _ {S : Type 0} (members : Ghosts S)
       members.speaks_for b w × (members.own b w ≡ members.own a w) × ((place : ℕ) (key : KeyName) → members.knows a w place key → members.knows b w place key)
   leaves-call others a b call answer w kept nobody joined speaks =
       (keeps a b call answer w speaks joined, others a b call answer w speaks nobody joined, λ place key known. remembers a b call answer w place key speaks (λ e _. kept _ _ e) joined known)
+
+  -- a context goes on after a call of its session, or nobody's, after which the session has what it had
+  pub goes_on-call : (others : (a b : S) (call : Call) (answer : Answer) (w : ℕ) → members.speaks_for a w → (caller call ≡ Some w → ⊥) → members.joins a call answer b → members.own b w ≡ members.own a w)
+      (context : ContextView) (a b : S) (call : Call) (answer : Answer) → KeepsPlaces call → ((w : ℕ) → w ≢ context.who → caller call ≡ Some w → ⊥) → members.own b context.who ≡ members.own a context.who →
+      members.joins a call answer b → Attends members a context → GoesOn members a context b context
+  goes_on-call others context a b call answer kept apart same joined attends = record {
+    who = refl;
+    others = λ w other speaks. leaves-call others a b call answer w kept (apart w other) joined speaks;
+    attends = attends-call context a b call answer kept same joined attends;
+  }
 
 -- ---- rows that are the same
 

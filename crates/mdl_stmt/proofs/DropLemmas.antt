@@ -1,8 +1,6 @@
 -- Loops over tickets: what was done so far, and what is left to do.
 use Rattle.std.proofs.Common.{◌≡◌, ℕ, suc, ◌+◌, arith, List, [], ◌∷◌, drop, Ok, Err, ap, ◌∙◌, subst}
 use Rattle.mdl_calls.specs.Words.{Answer, Call}
-use Rattle.mdl_calls.specs.declared.lock_space.LockSpace.{Ghosts}
-use Rattle.mdl_context.specs.Contexts.{LeavesOthers}
 use Rattle.mdl_rows.specs.declared.ending.Ending.{Ending}
 use Rattle.mdl_rows.specs.declared.reply.Reply.{Reply}
 use Rattle.mdl_stmt.specs.Gets.{Comes, IsStep}
@@ -12,14 +10,6 @@ use Rattle.mdl_stmt.specs.Players.{PlayerView}
 use Rattle.mdl_stmt.proofs.CallLemmas.{comes-row}
 use Rattle.mdl_stmt.proofs.RowLemmas.{bind-assoc}
 use Rattle.mdl_stmt.proofs.RunLemmas.{comes-then}
-
--- others are left alone by one thing and the next
-pub leaves-then : {S : Type 0} (members : Ghosts S) (who w : ℕ) (a b c : S) → w ≡ who →
-    LeavesOthers members who a b → LeavesOthers members w b c → LeavesOthers members who a c
-leaves-then members who w a b c same first second x apart speaks =
-    let one = first x apart speaks in
-    let two = second x (λ e. apart (e ∙ same)) one.0 in
-    (two.0, two.1 ∙ one.1, λ place key known. two.2 place key (one.2 place key known))
 
 module _ {S : Type 0} (joins : S → Call → Answer → S → Type 0) (act : ℕ → Act) (ids : List ℕ) (a : S) (x : PlayerView) where
   -- the first of them were done

@@ -1,4 +1,5 @@
 pub mod AlterLemmas
+pub mod AttendanceLemmas
 pub mod CallLemmas
 pub mod DropLemmas
 pub mod EndLemmas

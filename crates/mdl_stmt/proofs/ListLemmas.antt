@@ -1,12 +1,10 @@
 -- Tables and tickets, one after the other.
-use Rattle.std.proofs.Common.{◌≡◌, ◌≢◌, ℕ, ◌+◌, ◌<◌, ◌≤◌, suc, zero, arith, List, [], ◌∷◌, Ok, Err, drop, length, get_or, refl, sym, ap, ◌∙◌, subst}
+use Rattle.std.proofs.Common.{◌≡◌, ℕ, ◌+◌, ◌<◌, ◌≤◌, suc, zero, arith, List, [], ◌∷◌, Ok, Err, drop, length, get_or, refl, sym, ap, ◌∙◌, subst}
 use Rattle.std.proofs.Math.Seq.{drop-cons}
 use Rattle.mdl_key.specs.Keys.{KeyName}
 use Rattle.mdl_key.specs.declared.mode.Mode.TheVariants.{SR}
 use Rattle.mdl_key.specs.declared.mode.Duration.TheVariants as for
 use Rattle.mdl_calls.specs.Words.{Answer, Call}
-use Rattle.mdl_calls.specs.declared.lock_space.LockSpace.{Ghosts}
-use Rattle.mdl_context.specs.Contexts.{LeavesOthers}
 use Rattle.mdl_context.specs.Wishes.{Wish}
 use Rattle.mdl_rows.specs.declared.ending.Ending.{Ending}
 use Rattle.mdl_stmt.specs.declared.got.Got.TheVariants as got
@@ -35,14 +33,6 @@ none-left [] zero past = refl
 none-left [] (suc i) past = refl
 none-left (x ∷ xs) zero past = absurd (omega (arith, past))
 none-left (x ∷ xs) (suc i) past = none-left xs i (omega (arith, past))
-
--- the others are left as they are, once more
-pub still-left : {S : Type 0} (members : Ghosts S) (who now : ℕ) (a b c : S) → now ≡ who →
-    LeavesOthers members who a b → LeavesOthers members now b c → LeavesOthers members who a c
-still-left members who now a b c same first second w other speaks =
-    let one = first w other speaks in
-    let two = second w (subst (λ n. w ≢ n) (sym same) other) one.0 in
-    (two.0, two.1 ∙ one.1, λ place key known. two.2 place key (one.2 place key known))
 
 module _ {S : Type 0} (joins : S → Call → Answer → S → Type 0) (shown : List TableShown) (table : KeyName) (tables rest : List KeyName) (same : tables ≡ table ∷ rest) where
   abbrev pub read_wish : Wish

@@ -1,3 +1,4 @@
+pub mod Attendance
 pub mod Gets
 pub mod KeptStages
 pub mod LockLists

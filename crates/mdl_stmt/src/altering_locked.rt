@@ -1,6 +1,5 @@
 //! ALTER TABLE of a table that the session has locked.
-ghost use Rattle.std.specs.Prelude.{◌≡◌, None};
-ghost use Rattle.mdl_context.specs.Contexts.{Attends, LeavesOthers};
+ghost use Rattle.mdl_stmt.specs.Attendance.{GoesOn, IsReady};
 ghost use Rattle.mdl_stmt.specs.Gets.{IsPlayed, IdleUnlessPlayed};
 ghost use Rattle.mdl_rows.specs.Statements.{after_commit, alter_among_locked, alter_locked, alter_locked_under, change_and_lower};
 
@@ -23,12 +22,9 @@ impl<S: LockSpace> Player<S> {
         table: &Key,
         statement: &'s Statement,
     ) -> Played<'s>
-        requires attends { Attends S.LockSpace space.old self.old.context }
-        requires idle { self.old.context.wait ≡ None }
+        requires ready { IsReady S.LockSpace space.old self.old.context }
         ensures run { IsPlayed S.joins (alter_among_locked table.now (after_commit statement.now)) space.old self.old result space.new self.new }
-        ensures attends { Attends S.LockSpace space.new self.new.context }
-        ensures others { LeavesOthers S.LockSpace self.old.context.who space.old space.new }
-        ensures who { self.new.context.who ≡ self.old.context.who }
+        ensures goes_on { GoesOn S.LockSpace space.old self.old.context space.new self.new.context }
         ensures idle { IdleUnlessPlayed result self.new }
     {
         let Some(locked) = self.explicit.find(table) else {
@@ -46,12 +42,9 @@ impl<S: LockSpace> Player<S> {
         space: &mut S,
         alteration: &'s Alteration,
     ) -> Played<'s>
-        requires attends { Attends S.LockSpace space.old self.old.context }
-        requires idle { self.old.context.wait ≡ None }
+        requires ready { IsReady S.LockSpace space.old self.old.context }
         ensures run { IsPlayed S.joins (alter_locked alteration.now) space.old self.old result space.new self.new }
-        ensures attends { Attends S.LockSpace space.new self.new.context }
-        ensures others { LeavesOthers S.LockSpace self.old.context.who space.old space.new }
-        ensures who { self.new.context.who ≡ self.old.context.who }
+        ensures goes_on { GoesOn S.LockSpace space.old self.old.context space.new self.new.context }
         ensures idle { IdleUnlessPlayed result self.new }
     {
         let request = Request {
@@ -77,12 +70,9 @@ impl<S: LockSpace> Player<S> {
         alteration: &'s Alteration,
         ticket: TicketId,
     ) -> Played<'s>
-        requires attends { Attends S.LockSpace space.old self.old.context }
-        requires idle { self.old.context.wait ≡ None }
+        requires ready { IsReady S.LockSpace space.old self.old.context }
         ensures run { IsPlayed S.joins (alter_locked_under alteration.now ticket) space.old self.old result space.new self.new }
-        ensures attends { Attends S.LockSpace space.new self.new.context }
-        ensures others { LeavesOthers S.LockSpace self.old.context.who space.old space.new }
-        ensures who { self.new.context.who ≡ self.old.context.who }
+        ensures goes_on { GoesOn S.LockSpace space.old self.old.context space.new self.new.context }
         ensures idle { IdleUnlessPlayed result self.new }
     {
         if let Err(ending) = self.check_change(space, &alteration.change, ticket) {
@@ -106,12 +96,9 @@ impl<S: LockSpace> Player<S> {
         alteration: &'s Alteration,
         ticket: TicketId,
     ) -> Played<'s>
-        requires attends { Attends S.LockSpace space.old self.old.context }
-        requires idle { self.old.context.wait ≡ None }
+        requires ready { IsReady S.LockSpace space.old self.old.context }
         ensures run { IsPlayed S.joins (change_and_lower alteration.now ticket) space.old self.old result space.new self.new }
-        ensures attends { Attends S.LockSpace space.new self.new.context }
-        ensures others { LeavesOthers S.LockSpace self.old.context.who space.old space.new }
-        ensures who { self.new.context.who ≡ self.old.context.who }
+        ensures goes_on { GoesOn S.LockSpace space.old self.old.context space.new self.new.context }
         ensures idle { IdleUnlessPlayed result self.new }
     {
         match self.redefine(space, ticket, &alteration.change) {

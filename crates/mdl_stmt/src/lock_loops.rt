@@ -1,6 +1,6 @@
 //! Locks of a list, one after the other.
-ghost use Rattle.std.specs.Prelude.{◌≡◌, None};
-ghost use Rattle.mdl_context.specs.Contexts.{Attends, LeavesOthers};
+ghost use Rattle.std.specs.Prelude.{◌≡◌};
+ghost use Rattle.mdl_stmt.specs.Attendance.{GoesOn, IsReady};
 ghost use Rattle.mdl_stmt.specs.Gets.{IsListed, IsListedBy, IdleUnlessListed, KeepsKeys};
 ghost use Rattle.mdl_stmt.specs.Stages.{wish_by};
 ghost use Rattle.mdl_rows.specs.Statements.{ddl_lock};
@@ -16,12 +16,9 @@ use mdl_space::LockSpace;
 impl<S: LockSpace> Player<S> {
     /// Gets the locks that are left of a list, for a change of definitions.
     pub(crate) fn lock_all(&mut self, space: &mut S, locks: LockList) -> Listed
-        requires attends { Attends S.LockSpace space.old self.old.context }
-        requires idle { self.old.context.wait ≡ None }
+        requires ready { IsReady S.LockSpace space.old self.old.context }
         ensures run { IsListed S.joins locks space.old self.old result space.new self.new }
-        ensures attends { Attends S.LockSpace space.new self.new.context }
-        ensures others { LeavesOthers S.LockSpace self.old.context.who space.old space.new }
-        ensures who { self.new.context.who ≡ self.old.context.who }
+        ensures goes_on { GoesOn S.LockSpace space.old self.old.context space.new self.new.context }
         ensures idle { IdleUnlessListed result self.new }
         ensures keys { KeepsKeys locks result }
     {
@@ -35,12 +32,9 @@ impl<S: LockSpace> Player<S> {
         locking: Locking<'_>,
         locks: LockList,
     ) -> Listed
-        requires attends { Attends S.LockSpace space.old self.old.context }
-        requires idle { self.old.context.wait ≡ None }
+        requires ready { IsReady S.LockSpace space.old self.old.context }
         ensures run { IsListedBy S.joins (wish_by locking.entry) locks space.old self.old result space.new self.new }
-        ensures attends { Attends S.LockSpace space.new self.new.context }
-        ensures others { LeavesOthers S.LockSpace self.old.context.who space.old space.new }
-        ensures who { self.new.context.who ≡ self.old.context.who }
+        ensures goes_on { GoesOn S.LockSpace space.old self.old.context space.new self.new.context }
         ensures idle { IdleUnlessListed result self.new }
         ensures keys { KeepsKeys locks result }
     {

@@ -1,6 +1,7 @@
 //! What a session is asked for, one thing after the other.
 ghost use Rattle.std.specs.Prelude.{◌≡◌, None, Ok, []};
-ghost use Rattle.mdl_context.specs.Contexts.{Attends, LeavesOthers};
+ghost use Rattle.mdl_context.specs.Contexts.{Attends};
+ghost use Rattle.mdl_stmt.specs.Attendance.{GoesOn, IsReady};
 ghost use Rattle.mdl_context.specs.Wishes.{Wish, wish_of};
 ghost use Rattle.mdl_rows.specs.Endings.{closing, ending_of_error, ending_of_refusal, ending_of_loss};
 ghost use Rattle.mdl_stmt.specs.Gets.{at_rest, IsDropped, IsGot, IsRaised, IsStep, IsTold, IdleUnlessGot};
@@ -54,12 +55,9 @@ impl<S: LockSpace> Player<S> {
 
     /// Asks for a lock.
     pub(crate) fn get(&mut self, space: &mut S, request: Request<'_>) -> Got<TicketId>
-        requires attends { Attends S.LockSpace space.old self.old.context }
-        requires idle { self.old.context.wait ≡ None }
+        requires ready { IsReady S.LockSpace space.old self.old.context }
         ensures run { IsGot S.joins (wish_of request.entry) space.old self.old result space.new self.new }
-        ensures attends { Attends S.LockSpace space.new self.new.context }
-        ensures others { LeavesOthers S.LockSpace self.old.context.who space.old space.new }
-        ensures who { self.new.context.who ≡ self.old.context.who }
+        ensures goes_on { GoesOn S.LockSpace space.old self.old.context space.new self.new.context }
         ensures idle { IdleUnlessGot result self.new }
     {
         match self.context.acquire(space, request) {
@@ -77,12 +75,9 @@ impl<S: LockSpace> Player<S> {
         key: &Key,
         mode: Mode,
     ) -> Got<TicketId>
-        requires attends { Attends S.LockSpace space.old self.old.context }
-        requires idle { self.old.context.wait ≡ None }
+        requires ready { IsReady S.LockSpace space.old self.old.context }
         ensures run { IsRaised S.joins ticket key.now mode space.old self.old result space.new self.new }
-        ensures attends { Attends S.LockSpace space.new self.new.context }
-        ensures others { LeavesOthers S.LockSpace self.old.context.who space.old space.new }
-        ensures who { self.new.context.who ≡ self.old.context.who }
+        ensures goes_on { GoesOn S.LockSpace space.old self.old.context space.new self.new.context }
         ensures idle { IdleUnlessGot result self.new }
     {
         match self.context.upgrade(space, ticket, mode) {
@@ -94,12 +89,9 @@ impl<S: LockSpace> Player<S> {
 
     /// Gives a ticket a weaker mode.
     pub(crate) fn lower(&mut self, space: &mut S, ticket: TicketId, mode: Mode)
-        requires attends { Attends S.LockSpace space.old self.old.context }
-        requires idle { self.old.context.wait ≡ None }
+        requires ready { IsReady S.LockSpace space.old self.old.context }
         ensures run { IsStep S.joins (downgrade ticket mode) space.old self.old (Ok tt) space.new self.new }
-        ensures attends { Attends S.LockSpace space.new self.new.context }
-        ensures others { LeavesOthers S.LockSpace self.old.context.who space.old space.new }
-        ensures who { self.new.context.who ≡ self.old.context.who }
+        ensures goes_on { GoesOn S.LockSpace space.old self.old.context space.new self.new.context }
         ensures idle { self.new.context.wait ≡ None }
     {
         let _lowered = self.context.downgrade(space, ticket, mode);
@@ -109,9 +101,7 @@ impl<S: LockSpace> Player<S> {
     pub(crate) fn tell_wait(&mut self, space: &mut S, key: &Key) -> Got<TicketId>
         requires attends { Attends S.LockSpace space.old self.old.context }
         ensures run { IsTold S.joins key.now space.old self.old result space.new self.new }
-        ensures attends { Attends S.LockSpace space.new self.new.context }
-        ensures others { LeavesOthers S.LockSpace self.old.context.who space.old space.new }
-        ensures who { self.new.context.who ≡ self.old.context.who }
+        ensures goes_on { GoesOn S.LockSpace space.old self.old.context space.new self.new.context }
         ensures idle { IdleUnlessGot result self.new }
     {
         match key.clone() {
@@ -127,9 +117,7 @@ impl<S: LockSpace> Player<S> {
     pub(crate) fn drop_wait(&mut self, space: &mut S)
         requires attends { Attends S.LockSpace space.old self.old.context }
         ensures run { IsDropped S.joins space.old self.old space.new self.new }
-        ensures attends { Attends S.LockSpace space.new self.new.context }
-        ensures others { LeavesOthers S.LockSpace self.old.context.who space.old space.new }
-        ensures who { self.new.context.who ≡ self.old.context.who }
+        ensures goes_on { GoesOn S.LockSpace space.old self.old.context space.new self.new.context }
         ensures idle { self.new.context.wait ≡ None }
     {
         let Ok(end) = self.context.give_up(space) else {

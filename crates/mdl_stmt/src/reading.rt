@@ -1,6 +1,6 @@
 //! What a session reads, changes and kills.
 ghost use Rattle.std.specs.Prelude.{◌≡◌, ◌++◌, ◌∷◌, [], None, Ok, MatchResult};
-ghost use Rattle.mdl_context.specs.Contexts.{Attends, LeavesOthers};
+ghost use Rattle.mdl_stmt.specs.Attendance.{GoesOn, IsReady};
 ghost use Rattle.mdl_stmt.specs.Gets.{IsStep, items_told};
 ghost use Rattle.mdl_rows.specs.Rows.{read, redefine, tables_within, key_of, kill};
 ghost use Rattle.mdl_rows.specs.Statements.{columns_of, exists, show};
@@ -25,12 +25,9 @@ pub(crate) fn failing(number: ErrorNumber) -> Ending
 impl<S: LockSpace> Player<S> {
     /// What stands under the key of a ticket.
     pub(crate) fn read(&mut self, space: &mut S, ticket: TicketId) -> Result<Standing, Ending>
-        requires attends { Attends S.LockSpace space.old self.old.context }
-        requires idle { self.old.context.wait ≡ None }
+        requires ready { IsReady S.LockSpace space.old self.old.context }
         ensures run { IsStep S.joins (read ticket) space.old self.old result space.new self.new }
-        ensures attends { Attends S.LockSpace space.new self.new.context }
-        ensures others { LeavesOthers S.LockSpace self.old.context.who space.old space.new }
-        ensures who { self.new.context.who ≡ self.old.context.who }
+        ensures goes_on { GoesOn S.LockSpace space.old self.old.context space.new self.new.context }
         ensures idle { self.new.context.wait ≡ None }
     {
         match space.read_definition(self.context.who(), ticket) {
@@ -46,12 +43,9 @@ impl<S: LockSpace> Player<S> {
         ticket: TicketId,
         change: &Change,
     ) -> Result<(), Ending>
-        requires attends { Attends S.LockSpace space.old self.old.context }
-        requires idle { self.old.context.wait ≡ None }
+        requires ready { IsReady S.LockSpace space.old self.old.context }
         ensures run { IsStep S.joins (redefine ticket change.now) space.old self.old result space.new self.new }
-        ensures attends { Attends S.LockSpace space.new self.new.context }
-        ensures others { LeavesOthers S.LockSpace self.old.context.who space.old space.new }
-        ensures who { self.new.context.who ≡ self.old.context.who }
+        ensures goes_on { GoesOn S.LockSpace space.old self.old.context space.new self.new.context }
         ensures idle { self.new.context.wait ≡ None }
     {
         match space.change_definition(self.context.who(), ticket, change) {
@@ -62,12 +56,9 @@ impl<S: LockSpace> Player<S> {
 
     /// The places of a schema's tables that have a definition, in key order.
     pub(crate) fn tables_of(&mut self, space: &mut S, schema: &str) -> Result<Vec<Place>, Ending>
-        requires attends { Attends S.LockSpace space.old self.old.context }
-        requires idle { self.old.context.wait ≡ None }
+        requires ready { IsReady S.LockSpace space.old self.old.context }
         ensures run { IsStep S.joins (tables_within schema.now) space.old self.old (items_told result) space.new self.new }
-        ensures attends { Attends S.LockSpace space.new self.new.context }
-        ensures others { LeavesOthers S.LockSpace self.old.context.who space.old space.new }
-        ensures who { self.new.context.who ≡ self.old.context.who }
+        ensures goes_on { GoesOn S.LockSpace space.old self.old.context space.new self.new.context }
         ensures idle { self.new.context.wait ≡ None }
     {
         match space.tables_of(self.context.who(), schema) {
@@ -78,12 +69,9 @@ impl<S: LockSpace> Player<S> {
 
     /// The key of a place.
     pub(crate) fn key_of(&mut self, space: &mut S, place: Place) -> Result<Key, Ending>
-        requires attends { Attends S.LockSpace space.old self.old.context }
-        requires idle { self.old.context.wait ≡ None }
+        requires ready { IsReady S.LockSpace space.old self.old.context }
         ensures run { IsStep S.joins (key_of place) space.old self.old result space.new self.new }
-        ensures attends { Attends S.LockSpace space.new self.new.context }
-        ensures others { LeavesOthers S.LockSpace self.old.context.who space.old space.new }
-        ensures who { self.new.context.who ≡ self.old.context.who }
+        ensures goes_on { GoesOn S.LockSpace space.old self.old.context space.new self.new.context }
         ensures idle { self.new.context.wait ≡ None }
     {
         match space.key_of(self.context.who(), place) {
@@ -94,12 +82,9 @@ impl<S: LockSpace> Player<S> {
 
     /// Kills the wait that a session has.
     pub(crate) fn kill(&mut self, space: &mut S, target: u16)
-        requires attends { Attends S.LockSpace space.old self.old.context }
-        requires idle { self.old.context.wait ≡ None }
+        requires ready { IsReady S.LockSpace space.old self.old.context }
         ensures run { IsStep S.joins (kill target) space.old self.old (Ok tt) space.new self.new }
-        ensures attends { Attends S.LockSpace space.new self.new.context }
-        ensures others { LeavesOthers S.LockSpace self.old.context.who space.old space.new }
-        ensures who { self.new.context.who ≡ self.old.context.who }
+        ensures goes_on { GoesOn S.LockSpace space.old self.old.context space.new self.new.context }
         ensures idle { self.new.context.wait ≡ None }
     {
         if let Some(number) = space.wait_of(target) {
@@ -109,12 +94,9 @@ impl<S: LockSpace> Player<S> {
 
     /// What stands under the key of a table's ticket, if there is such a table.
     pub(crate) fn exists(&mut self, space: &mut S, ticket: TicketId) -> Result<Standing, Ending>
-        requires attends { Attends S.LockSpace space.old self.old.context }
-        requires idle { self.old.context.wait ≡ None }
+        requires ready { IsReady S.LockSpace space.old self.old.context }
         ensures run { IsStep S.joins (exists ticket) space.old self.old result space.new self.new }
-        ensures attends { Attends S.LockSpace space.new self.new.context }
-        ensures others { LeavesOthers S.LockSpace self.old.context.who space.old space.new }
-        ensures who { self.new.context.who ≡ self.old.context.who }
+        ensures goes_on { GoesOn S.LockSpace space.old self.old.context space.new self.new.context }
         ensures idle { self.new.context.wait ≡ None }
     {
         let standing = match self.read(space, ticket) {
@@ -135,12 +117,9 @@ impl<S: LockSpace> Player<S> {
         table: &Key,
         ticket: TicketId,
     ) -> Result<TablesShown, Ending>
-        requires attends { Attends S.LockSpace space.old self.old.context }
-        requires idle { self.old.context.wait ≡ None }
+        requires ready { IsReady S.LockSpace space.old self.old.context }
         ensures run { IsStep S.joins (show shown table.now ticket) space.old self.old result space.new self.new }
-        ensures attends { Attends S.LockSpace space.new self.new.context }
-        ensures others { LeavesOthers S.LockSpace self.old.context.who space.old space.new }
-        ensures who { self.new.context.who ≡ self.old.context.who }
+        ensures goes_on { GoesOn S.LockSpace space.old self.old.context space.new self.new.context }
         ensures idle { self.new.context.wait ≡ None }
     {
         let standing = match self.exists(space, ticket) {

@@ -1,6 +1,6 @@
 //! RENAME TABLE.
 ghost use Rattle.std.specs.Prelude.{◌≡◌, [], ◌∷◌, Some, None, IfOk, MatchResult};
-ghost use Rattle.mdl_context.specs.Contexts.{Attends, LeavesOthers};
+ghost use Rattle.mdl_stmt.specs.Attendance.{GoesOn, IsReady};
 ghost use Rattle.mdl_stmt.specs.Gets.{IsPlayed, IsStep, IdleUnlessPlayed};
 ghost use Rattle.mdl_rows.specs.declared.ending.Ending.TheVariants.{Answers};
 ghost use Rattle.mdl_rows.specs.declared.error_number.ErrorNumber.TheVariants.{NoSuchTable};
@@ -26,12 +26,9 @@ use std::alloc::AllocError;
 impl<S: LockSpace> Player<S> {
     /// Renames a table, once no transaction is open.
     pub(crate) fn rename<'s>(&mut self, space: &mut S, from: &'s Key, to: &'s Key) -> Played<'s>
-        requires attends { Attends S.LockSpace space.old self.old.context }
-        requires idle { self.old.context.wait ≡ None }
+        requires ready { IsReady S.LockSpace space.old self.old.context }
         ensures run { IsPlayed S.joins (rename_after_commit from.now to.now) space.old self.old result space.new self.new }
-        ensures attends { Attends S.LockSpace space.new self.new.context }
-        ensures others { LeavesOthers S.LockSpace self.old.context.who space.old space.new }
-        ensures who { self.new.context.who ≡ self.old.context.who }
+        ensures goes_on { GoesOn S.LockSpace space.old self.old.context space.new self.new.context }
         ensures idle { IdleUnlessPlayed result self.new }
     {
         let Ok(names) = both(from, to) else {
@@ -51,12 +48,9 @@ impl<S: LockSpace> Player<S> {
         to: &'s Key,
         locks: LockList,
     ) -> Played<'s>
-        requires attends { Attends S.LockSpace space.old self.old.context }
-        requires idle { self.old.context.wait ≡ None }
+        requires ready { IsReady S.LockSpace space.old self.old.context }
         ensures run { IsPlayed S.joins (rename_scopes from.now to.now locks locks.keys) space.old self.old result space.new self.new }
-        ensures attends { Attends S.LockSpace space.new self.new.context }
-        ensures others { LeavesOthers S.LockSpace self.old.context.who space.old space.new }
-        ensures who { self.new.context.who ≡ self.old.context.who }
+        ensures goes_on { GoesOn S.LockSpace space.old self.old.context space.new self.new.context }
         ensures idle { IdleUnlessPlayed result self.new }
     {
         match self.lock_all(space, locks) {
@@ -77,12 +71,9 @@ impl<S: LockSpace> Player<S> {
         to: &'s Key,
         scopes: &LockList,
     ) -> Played<'s>
-        requires attends { Attends S.LockSpace space.old self.old.context }
-        requires idle { self.old.context.wait ≡ None }
+        requires ready { IsReady S.LockSpace space.old self.old.context }
         ensures run { IsPlayed S.joins (lock_and_rename from.now to.now (ticket_of (schema_of to.now) scopes.now.keys scopes.now.tickets)) space.old self.old result space.new self.new }
-        ensures attends { Attends S.LockSpace space.new self.new.context }
-        ensures others { LeavesOthers S.LockSpace self.old.context.who space.old space.new }
-        ensures who { self.new.context.who ≡ self.old.context.who }
+        ensures goes_on { GoesOn S.LockSpace space.old self.old.context space.new self.new.context }
         ensures idle { IdleUnlessPlayed result self.new }
     {
         let Ok(schema) = schema_of(self.alloc, to) else {
@@ -107,12 +98,9 @@ impl<S: LockSpace> Player<S> {
         schema: TicketId,
         locks: LockList,
     ) -> Played<'s>
-        requires attends { Attends S.LockSpace space.old self.old.context }
-        requires idle { self.old.context.wait ≡ None }
+        requires ready { IsReady S.LockSpace space.old self.old.context }
         ensures run { IsPlayed S.joins (rename_names from.now to.now schema locks locks.keys) space.old self.old result space.new self.new }
-        ensures attends { Attends S.LockSpace space.new self.new.context }
-        ensures others { LeavesOthers S.LockSpace self.old.context.who space.old space.new }
-        ensures who { self.new.context.who ≡ self.old.context.who }
+        ensures goes_on { GoesOn S.LockSpace space.old self.old.context space.new self.new.context }
         ensures idle { IdleUnlessPlayed result self.new }
     {
         match self.lock_all(space, locks) {
@@ -135,12 +123,9 @@ impl<S: LockSpace> Player<S> {
         from: TicketId,
         to: TicketId,
     ) -> Played<'s>
-        requires attends { Attends S.LockSpace space.old self.old.context }
-        requires idle { self.old.context.wait ≡ None }
+        requires ready { IsReady S.LockSpace space.old self.old.context }
         ensures run { IsPlayed S.joins (rename_under schema from to) space.old self.old result space.new self.new }
-        ensures attends { Attends S.LockSpace space.new self.new.context }
-        ensures others { LeavesOthers S.LockSpace self.old.context.who space.old space.new }
-        ensures who { self.new.context.who ≡ self.old.context.who }
+        ensures goes_on { GoesOn S.LockSpace space.old self.old.context space.new self.new.context }
         ensures idle { IdleUnlessPlayed result self.new }
     {
         if let Err(ending) = self.is_free(space, to) {
@@ -158,12 +143,9 @@ impl<S: LockSpace> Player<S> {
 
     /// Looks whether there is no table of a name.
     fn is_free(&mut self, space: &mut S, ticket: TicketId) -> Result<(), Ending>
-        requires attends { Attends S.LockSpace space.old self.old.context }
-        requires idle { self.old.context.wait ≡ None }
+        requires ready { IsReady S.LockSpace space.old self.old.context }
         ensures run { IsStep S.joins (is_free ticket) space.old self.old result space.new self.new }
-        ensures attends { Attends S.LockSpace space.new self.new.context }
-        ensures others { LeavesOthers S.LockSpace self.old.context.who space.old space.new }
-        ensures who { self.new.context.who ≡ self.old.context.who }
+        ensures goes_on { GoesOn S.LockSpace space.old self.old.context space.new self.new.context }
         ensures idle { self.new.context.wait ≡ None }
     {
         match self.read(space, ticket) {
@@ -179,12 +161,9 @@ impl<S: LockSpace> Player<S> {
 
     /// The definition of a table, if there is such a table.
     fn definition_under(&mut self, space: &mut S, ticket: TicketId) -> Result<Definition, Ending>
-        requires attends { Attends S.LockSpace space.old self.old.context }
-        requires idle { self.old.context.wait ≡ None }
+        requires ready { IsReady S.LockSpace space.old self.old.context }
         ensures run { IsStep S.joins (definition_under ticket) space.old self.old result space.new self.new }
-        ensures attends { Attends S.LockSpace space.new self.new.context }
-        ensures others { LeavesOthers S.LockSpace self.old.context.who space.old space.new }
-        ensures who { self.new.context.who ≡ self.old.context.who }
+        ensures goes_on { GoesOn S.LockSpace space.old self.old.context space.new self.new.context }
         ensures idle { self.new.context.wait ≡ None }
     {
         match self.read(space, ticket) {
@@ -201,12 +180,9 @@ impl<S: LockSpace> Player<S> {
         from: TicketId,
         to: TicketId,
     ) -> Played<'s>
-        requires attends { Attends S.LockSpace space.old self.old.context }
-        requires idle { self.old.context.wait ≡ None }
+        requires ready { IsReady S.LockSpace space.old self.old.context }
         ensures run { IsPlayed S.joins (move_definition definition from to) space.old self.old result space.new self.new }
-        ensures attends { Attends S.LockSpace space.new self.new.context }
-        ensures others { LeavesOthers S.LockSpace self.old.context.who space.old space.new }
-        ensures who { self.new.context.who ≡ self.old.context.who }
+        ensures goes_on { GoesOn S.LockSpace space.old self.old.context space.new self.new.context }
         ensures idle { IdleUnlessPlayed result self.new }
     {
         if let Err(ending) = self.all_can_change(space, &[to, from]) {
@@ -230,12 +206,9 @@ impl<S: LockSpace> Player<S> {
         at: Renaming,
         ticket: TicketId,
     ) -> Played<'s>
-        requires attends { Attends S.LockSpace space.old self.old.context }
-        requires idle { self.old.context.wait ≡ None }
+        requires ready { IsReady S.LockSpace space.old self.old.context }
         ensures run { IsPlayed S.joins (rest_of_renaming from.now to.now at ticket) space.old self.old result space.new self.new }
-        ensures attends { Attends S.LockSpace space.new self.new.context }
-        ensures others { LeavesOthers S.LockSpace self.old.context.who space.old space.new }
-        ensures who { self.new.context.who ≡ self.old.context.who }
+        ensures goes_on { GoesOn S.LockSpace space.old self.old.context space.new self.new.context }
         ensures idle { IdleUnlessPlayed result self.new }
     {
         match at {

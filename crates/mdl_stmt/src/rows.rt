@@ -1,6 +1,6 @@
 //! SELECT, and INSERT, UPDATE and DELETE.
 ghost use Rattle.std.specs.Prelude.{◌≡◌, None, [], drop};
-ghost use Rattle.mdl_context.specs.Contexts.{Attends, LeavesOthers};
+ghost use Rattle.mdl_stmt.specs.Attendance.{GoesOn, IsReady};
 ghost use Rattle.mdl_stmt.specs.Gets.{IsPlayed, IsStep, IdleUnlessPlayed};
 ghost use Rattle.mdl_stmt.specs.Stages.{show_next, rest_of_writing};
 ghost use Rattle.mdl_rows.specs.Statements.{lock_to_read, lock_held, select, show_held, show_all, write, write_locked, lock_writes, write_mode, write_under, wrote, lock_and_write};
@@ -20,12 +20,9 @@ use mdl_syntax::Priority;
 impl<S: LockSpace> Player<S> {
     /// Reads tables, each under its lock.
     pub(crate) fn select<'s>(&mut self, space: &mut S, tables: &'s [Key]) -> Played<'s>
-        requires attends { Attends S.LockSpace space.old self.old.context }
-        requires idle { self.old.context.wait ≡ None }
+        requires ready { IsReady S.LockSpace space.old self.old.context }
         ensures run { IsPlayed S.joins (select tables.now) space.old self.old result space.new self.new }
-        ensures attends { Attends S.LockSpace space.new self.new.context }
-        ensures others { LeavesOthers S.LockSpace self.old.context.who space.old space.new }
-        ensures who { self.new.context.who ≡ self.old.context.who }
+        ensures goes_on { GoesOn S.LockSpace space.old self.old.context space.new self.new.context }
         ensures idle { IdleUnlessPlayed result self.new }
     {
         if self.explicit.has_locked() {
@@ -37,12 +34,9 @@ impl<S: LockSpace> Player<S> {
 
     /// Shows tables that are locked already.
     fn show_locked(&mut self, space: &mut S, tables: &[Key]) -> Ending
-        requires attends { Attends S.LockSpace space.old self.old.context }
-        requires idle { self.old.context.wait ≡ None }
+        requires ready { IsReady S.LockSpace space.old self.old.context }
         ensures run { IsPlayed S.joins (show_all lock_held [] tables.now) space.old self.old (played.Ends result) space.new self.new }
-        ensures attends { Attends S.LockSpace space.new self.new.context }
-        ensures others { LeavesOthers S.LockSpace self.old.context.who space.old space.new }
-        ensures who { self.new.context.who ≡ self.old.context.who }
+        ensures goes_on { GoesOn S.LockSpace space.old self.old.context space.new self.new.context }
         ensures idle { self.new.context.wait ≡ None }
     {
         let mut shown = TablesShown::new(self.alloc);
@@ -62,12 +56,9 @@ impl<S: LockSpace> Player<S> {
         shown: TablesShown,
         table: &Key,
     ) -> Result<TablesShown, Ending>
-        requires attends { Attends S.LockSpace space.old self.old.context }
-        requires idle { self.old.context.wait ≡ None }
+        requires ready { IsReady S.LockSpace space.old self.old.context }
         ensures run { IsStep S.joins (show_held shown table.now) space.old self.old result space.new self.new }
-        ensures attends { Attends S.LockSpace space.new self.new.context }
-        ensures others { LeavesOthers S.LockSpace self.old.context.who space.old space.new }
-        ensures who { self.new.context.who ≡ self.old.context.who }
+        ensures goes_on { GoesOn S.LockSpace space.old self.old.context space.new self.new.context }
         ensures idle { self.new.context.wait ≡ None }
     {
         let Some(locked) = self.explicit.find(table) else {
@@ -85,12 +76,9 @@ impl<S: LockSpace> Player<S> {
         tables: &'s [Key],
         from: usize,
     ) -> Played<'s>
-        requires attends { Attends S.LockSpace space.old self.old.context }
-        requires idle { self.old.context.wait ≡ None }
+        requires ready { IsReady S.LockSpace space.old self.old.context }
         ensures run { IsPlayed S.joins (show_all lock_to_read shown (drop from tables.now)) space.old self.old result space.new self.new }
-        ensures attends { Attends S.LockSpace space.new self.new.context }
-        ensures others { LeavesOthers S.LockSpace self.old.context.who space.old space.new }
-        ensures who { self.new.context.who ≡ self.old.context.who }
+        ensures goes_on { GoesOn S.LockSpace space.old self.old.context space.new self.new.context }
         ensures idle { IdleUnlessPlayed result self.new }
     {
         let mut shown = shown;
@@ -125,12 +113,9 @@ impl<S: LockSpace> Player<S> {
         at: usize,
         ticket: TicketId,
     ) -> Played<'s>
-        requires attends { Attends S.LockSpace space.old self.old.context }
-        requires idle { self.old.context.wait ≡ None }
+        requires ready { IsReady S.LockSpace space.old self.old.context }
         ensures run { IsPlayed S.joins (show_next shown (drop at tables.now) ticket) space.old self.old result space.new self.new }
-        ensures attends { Attends S.LockSpace space.new self.new.context }
-        ensures others { LeavesOthers S.LockSpace self.old.context.who space.old space.new }
-        ensures who { self.new.context.who ≡ self.old.context.who }
+        ensures goes_on { GoesOn S.LockSpace space.old self.old.context space.new self.new.context }
         ensures idle { IdleUnlessPlayed result self.new }
     {
         if at >= tables.len() {
@@ -149,12 +134,9 @@ impl<S: LockSpace> Player<S> {
         table: &'s Key,
         priority: Priority,
     ) -> Played<'s>
-        requires attends { Attends S.LockSpace space.old self.old.context }
-        requires idle { self.old.context.wait ≡ None }
+        requires ready { IsReady S.LockSpace space.old self.old.context }
         ensures run { IsPlayed S.joins (write table.now priority) space.old self.old result space.new self.new }
-        ensures attends { Attends S.LockSpace space.new self.new.context }
-        ensures others { LeavesOthers S.LockSpace self.old.context.who space.old space.new }
-        ensures who { self.new.context.who ≡ self.old.context.who }
+        ensures goes_on { GoesOn S.LockSpace space.old self.old.context space.new self.new.context }
         ensures idle { IdleUnlessPlayed result self.new }
     {
         if self.explicit.has_locked() {
@@ -168,12 +150,9 @@ impl<S: LockSpace> Player<S> {
 
     /// Writes to a table that is locked already.
     fn write_locked<'s>(&mut self, space: &mut S, table: &Key) -> Played<'s>
-        requires attends { Attends S.LockSpace space.old self.old.context }
-        requires idle { self.old.context.wait ≡ None }
+        requires ready { IsReady S.LockSpace space.old self.old.context }
         ensures run { IsPlayed S.joins (write_locked table.now) space.old self.old result space.new self.new }
-        ensures attends { Attends S.LockSpace space.new self.new.context }
-        ensures others { LeavesOthers S.LockSpace self.old.context.who space.old space.new }
-        ensures who { self.new.context.who ≡ self.old.context.who }
+        ensures goes_on { GoesOn S.LockSpace space.old self.old.context space.new self.new.context }
         ensures idle { IdleUnlessPlayed result self.new }
     {
         let Some(locked) = self.explicit.find(table) else {
@@ -187,12 +166,9 @@ impl<S: LockSpace> Player<S> {
 
     /// Gets the lock of all writes, and writes to a table.
     fn lock_writes<'s>(&mut self, space: &mut S, table: &'s Key, priority: Priority) -> Played<'s>
-        requires attends { Attends S.LockSpace space.old self.old.context }
-        requires idle { self.old.context.wait ≡ None }
+        requires ready { IsReady S.LockSpace space.old self.old.context }
         ensures run { IsPlayed S.joins (lock_writes table.now priority) space.old self.old result space.new self.new }
-        ensures attends { Attends S.LockSpace space.new self.new.context }
-        ensures others { LeavesOthers S.LockSpace self.old.context.who space.old space.new }
-        ensures who { self.new.context.who ≡ self.old.context.who }
+        ensures goes_on { GoesOn S.LockSpace space.old self.old.context space.new self.new.context }
         ensures idle { IdleUnlessPlayed result self.new }
     {
         let writes = Key::global(self.alloc);
@@ -219,12 +195,9 @@ impl<S: LockSpace> Player<S> {
         table: &'s Key,
         priority: Priority,
     ) -> Played<'s>
-        requires attends { Attends S.LockSpace space.old self.old.context }
-        requires idle { self.old.context.wait ≡ None }
+        requires ready { IsReady S.LockSpace space.old self.old.context }
         ensures run { IsPlayed S.joins (lock_and_write table.now priority) space.old self.old result space.new self.new }
-        ensures attends { Attends S.LockSpace space.new self.new.context }
-        ensures others { LeavesOthers S.LockSpace self.old.context.who space.old space.new }
-        ensures who { self.new.context.who ≡ self.old.context.who }
+        ensures goes_on { GoesOn S.LockSpace space.old self.old.context space.new self.new.context }
         ensures idle { IdleUnlessPlayed result self.new }
     {
         let mode = write_mode(priority);
@@ -242,12 +215,9 @@ impl<S: LockSpace> Player<S> {
 
     /// Writes to a table under its lock.
     pub(crate) fn write_under<'s>(&mut self, space: &mut S, ticket: TicketId) -> Played<'s>
-        requires attends { Attends S.LockSpace space.old self.old.context }
-        requires idle { self.old.context.wait ≡ None }
+        requires ready { IsReady S.LockSpace space.old self.old.context }
         ensures run { IsPlayed S.joins (write_under ticket) space.old self.old result space.new self.new }
-        ensures attends { Attends S.LockSpace space.new self.new.context }
-        ensures others { LeavesOthers S.LockSpace self.old.context.who space.old space.new }
-        ensures who { self.new.context.who ≡ self.old.context.who }
+        ensures goes_on { GoesOn S.LockSpace space.old self.old.context space.new self.new.context }
         ensures idle { IdleUnlessPlayed result self.new }
     {
         match self.exists(space, ticket) {
@@ -258,12 +228,9 @@ impl<S: LockSpace> Player<S> {
 
     /// Notes that the transaction wrote, or commits a write that is a transaction of its own.
     fn wrote<'s>(&mut self, space: &mut S) -> Played<'s>
-        requires attends { Attends S.LockSpace space.old self.old.context }
-        requires idle { self.old.context.wait ≡ None }
+        requires ready { IsReady S.LockSpace space.old self.old.context }
         ensures run { IsPlayed S.joins wrote space.old self.old result space.new self.new }
-        ensures attends { Attends S.LockSpace space.new self.new.context }
-        ensures others { LeavesOthers S.LockSpace self.old.context.who space.old space.new }
-        ensures who { self.new.context.who ≡ self.old.context.who }
+        ensures goes_on { GoesOn S.LockSpace space.old self.old.context space.new self.new.context }
         ensures idle { IdleUnlessPlayed result self.new }
     {
         if self.is_open {
@@ -284,12 +251,9 @@ impl<S: LockSpace> Player<S> {
         at: Writing<'s>,
         ticket: TicketId,
     ) -> Played<'s>
-        requires attends { Attends S.LockSpace space.old self.old.context }
-        requires idle { self.old.context.wait ≡ None }
+        requires ready { IsReady S.LockSpace space.old self.old.context }
         ensures run { IsPlayed S.joins (rest_of_writing at.entry ticket) space.old self.old result space.new self.new }
-        ensures attends { Attends S.LockSpace space.new self.new.context }
-        ensures others { LeavesOthers S.LockSpace self.old.context.who space.old space.new }
-        ensures who { self.new.context.who ≡ self.old.context.who }
+        ensures goes_on { GoesOn S.LockSpace space.old self.old.context space.new self.new.context }
         ensures idle { IdleUnlessPlayed result self.new }
     {
         match at {

@@ -2,6 +2,7 @@
 ghost use Rattle.std.specs.Prelude.{◌≡◌, None, IsSome, IfSome, is_some, []};
 ghost use Rattle.mdl_calls.specs.Words.{Runs};
 ghost use Rattle.mdl_context.specs.Contexts.{Attends, LeavesOthers};
+ghost use Rattle.mdl_stmt.specs.Attendance.{GoesOn, IsReady};
 ghost use Rattle.mdl_rows.specs.Endings.{closing};
 ghost use Rattle.mdl_stmt.specs.Gets.{ran};
 ghost use Rattle.mdl_rows.specs.Leavings.{leaving};
@@ -121,13 +122,10 @@ impl<'s, S: LockSpace> Runner<'s, S> {
 
     // Ends the statement that waited.
     fn end_with(&mut self, space: &mut S, ending: Ending) -> Result<Progress, OutOfMemory>
-        requires attends { Attends S.LockSpace space.old self.old.context }
+        requires ready { IsReady S.LockSpace space.old self.old.context }
         requires waited { IsSome self.old.work }
-        requires idle { self.old.context.wait ≡ None }
         ensures run { IfSome self.old.work (λ work. Runs S.joins space.old (closing ending work.mark (session_of self.old)) (ran result (session_of self.new)) space.new) }
-        ensures attends { Attends S.LockSpace space.new self.new.context }
-        ensures others { LeavesOthers S.LockSpace self.old.context.who space.old space.new }
-        ensures who { self.new.context.who ≡ self.old.context.who }
+        ensures goes_on { GoesOn S.LockSpace space.old self.old.context space.new self.new.context }
     {
         let work = self.work.take().unwrap();
         self.player.close(space, ending, work.mark)
@@ -135,13 +133,10 @@ impl<'s, S: LockSpace> Runner<'s, S> {
 
     // Goes on with a statement that has the lock that it waited for.
     fn go_on_with(&mut self, space: &mut S, ticket: TicketId) -> Result<Progress, OutOfMemory>
-        requires attends { Attends S.LockSpace space.old self.old.context }
+        requires ready { IsReady S.LockSpace space.old self.old.context }
         requires waited { IsSome self.old.work }
-        requires idle { self.old.context.wait ≡ None }
         ensures run { IfSome self.old.work (λ work. Runs S.joins space.old (play (rest_of work.stage ticket) work.mark (session_of (record self.old { work = None }))) (ran result (session_of self.new)) space.new) }
-        ensures attends { Attends S.LockSpace space.new self.new.context }
-        ensures others { LeavesOthers S.LockSpace self.old.context.who space.old space.new }
-        ensures who { self.new.context.who ≡ self.old.context.who }
+        ensures goes_on { GoesOn S.LockSpace space.old self.old.context space.new self.new.context }
     {
         let Work { stage, mark } = self.work.take().unwrap();
         match self.player.proceed(space, stage, ticket) {

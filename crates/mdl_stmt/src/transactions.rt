@@ -1,6 +1,6 @@
 //! Transactions: their beginnings, savepoints and ends.
 ghost use Rattle.std.specs.Prelude.{◌≡◌, None, Ok};
-ghost use Rattle.mdl_context.specs.Contexts.{Attends, LeavesOthers};
+ghost use Rattle.mdl_stmt.specs.Attendance.{GoesOn, IsReady};
 ghost use Rattle.mdl_stmt.specs.Gets.{IsStep, IsCommitted, IsPlayed, IdleUnlessGot, IdleUnlessPlayed};
 ghost use Rattle.mdl_stmt.specs.declared.got.Played.TheVariants as played;
 ghost use Rattle.mdl_rows.specs.Statements.{end_transaction, end_under, commit, commit_writes, rollback, save, rollback_to, after_commit, begin_after_commit, commit_first};
@@ -18,12 +18,9 @@ use mdl_syntax::{Name, Statement};
 impl<S: LockSpace> Player<S> {
     /// Ends the transaction: its tickets go, and those of the statement.
     pub(crate) fn end_transaction(&mut self, space: &mut S)
-        requires attends { Attends S.LockSpace space.old self.old.context }
-        requires idle { self.old.context.wait ≡ None }
+        requires ready { IsReady S.LockSpace space.old self.old.context }
         ensures run { IsStep S.joins end_transaction space.old self.old (Ok tt) space.new self.new }
-        ensures attends { Attends S.LockSpace space.new self.new.context }
-        ensures others { LeavesOthers S.LockSpace self.old.context.who space.old space.new }
-        ensures who { self.new.context.who ≡ self.old.context.who }
+        ensures goes_on { GoesOn S.LockSpace space.old self.old.context space.new self.new.context }
         ensures idle { self.new.context.wait ≡ None }
     {
         self.context.finish_transaction(space);
@@ -34,12 +31,9 @@ impl<S: LockSpace> Player<S> {
 
     /// Ends the transaction under the COMMIT lock, which goes then.
     pub(crate) fn end_under(&mut self, space: &mut S, lock: TicketId)
-        requires attends { Attends S.LockSpace space.old self.old.context }
-        requires idle { self.old.context.wait ≡ None }
+        requires ready { IsReady S.LockSpace space.old self.old.context }
         ensures run { IsStep S.joins (end_under lock) space.old self.old (Ok tt) space.new self.new }
-        ensures attends { Attends S.LockSpace space.new self.new.context }
-        ensures others { LeavesOthers S.LockSpace self.old.context.who space.old space.new }
-        ensures who { self.new.context.who ≡ self.old.context.who }
+        ensures goes_on { GoesOn S.LockSpace space.old self.old.context space.new self.new.context }
         ensures idle { self.new.context.wait ≡ None }
     {
         self.end_transaction(space);
@@ -48,12 +42,9 @@ impl<S: LockSpace> Player<S> {
 
     /// Commits a transaction that wrote.
     pub(crate) fn commit_writes(&mut self, space: &mut S) -> Got<()>
-        requires attends { Attends S.LockSpace space.old self.old.context }
-        requires idle { self.old.context.wait ≡ None }
+        requires ready { IsReady S.LockSpace space.old self.old.context }
         ensures run { IsCommitted S.joins commit_writes space.old self.old result space.new self.new }
-        ensures attends { Attends S.LockSpace space.new self.new.context }
-        ensures others { LeavesOthers S.LockSpace self.old.context.who space.old space.new }
-        ensures who { self.new.context.who ≡ self.old.context.who }
+        ensures goes_on { GoesOn S.LockSpace space.old self.old.context space.new self.new.context }
         ensures idle { IdleUnlessGot result self.new }
     {
         let key = Key::commit(self.alloc);
@@ -74,12 +65,9 @@ impl<S: LockSpace> Player<S> {
 
     /// Commits an open transaction.
     fn commit(&mut self, space: &mut S) -> Got<()>
-        requires attends { Attends S.LockSpace space.old self.old.context }
-        requires idle { self.old.context.wait ≡ None }
+        requires ready { IsReady S.LockSpace space.old self.old.context }
         ensures run { IsCommitted S.joins commit space.old self.old result space.new self.new }
-        ensures attends { Attends S.LockSpace space.new self.new.context }
-        ensures others { LeavesOthers S.LockSpace self.old.context.who space.old space.new }
-        ensures who { self.new.context.who ≡ self.old.context.who }
+        ensures goes_on { GoesOn S.LockSpace space.old self.old.context space.new self.new.context }
         ensures idle { IdleUnlessGot result self.new }
     {
         if !self.is_open {
@@ -94,12 +82,9 @@ impl<S: LockSpace> Player<S> {
 
     /// Commits an open transaction, and then does what is left of the statement.
     pub(crate) fn commit_first<'s>(&mut self, space: &mut S, statement: &'s Statement) -> Played<'s>
-        requires attends { Attends S.LockSpace space.old self.old.context }
-        requires idle { self.old.context.wait ≡ None }
+        requires ready { IsReady S.LockSpace space.old self.old.context }
         ensures run { IsPlayed S.joins (commit_first (after_commit statement.now)) space.old self.old result space.new self.new }
-        ensures attends { Attends S.LockSpace space.new self.new.context }
-        ensures others { LeavesOthers S.LockSpace self.old.context.who space.old space.new }
-        ensures who { self.new.context.who ≡ self.old.context.who }
+        ensures goes_on { GoesOn S.LockSpace space.old self.old.context space.new self.new.context }
         ensures idle { IdleUnlessPlayed result self.new }
     {
         match self.commit(space) {
@@ -111,12 +96,9 @@ impl<S: LockSpace> Player<S> {
 
     /// Does what is left of a statement once the transaction that was open is committed.
     pub(crate) fn after_commit<'s>(&mut self, space: &mut S, statement: &'s Statement) -> Played<'s>
-        requires attends { Attends S.LockSpace space.old self.old.context }
-        requires idle { self.old.context.wait ≡ None }
+        requires ready { IsReady S.LockSpace space.old self.old.context }
         ensures run { IsPlayed S.joins (after_commit statement.now) space.old self.old result space.new self.new }
-        ensures attends { Attends S.LockSpace space.new self.new.context }
-        ensures others { LeavesOthers S.LockSpace self.old.context.who space.old space.new }
-        ensures who { self.new.context.who ≡ self.old.context.who }
+        ensures goes_on { GoesOn S.LockSpace space.old self.old.context space.new self.new.context }
         ensures idle { IdleUnlessPlayed result self.new }
     {
         match statement {
@@ -135,12 +117,9 @@ impl<S: LockSpace> Player<S> {
 
     /// Opens a transaction: tables that are locked are given up.
     fn begin(&mut self, space: &mut S) -> Ending
-        requires attends { Attends S.LockSpace space.old self.old.context }
-        requires idle { self.old.context.wait ≡ None }
+        requires ready { IsReady S.LockSpace space.old self.old.context }
         ensures run { IsPlayed S.joins begin_after_commit space.old self.old (played.Ends result) space.new self.new }
-        ensures attends { Attends S.LockSpace space.new self.new.context }
-        ensures others { LeavesOthers S.LockSpace self.old.context.who space.old space.new }
-        ensures who { self.new.context.who ≡ self.old.context.who }
+        ensures goes_on { GoesOn S.LockSpace space.old self.old.context space.new self.new.context }
         ensures idle { self.new.context.wait ≡ None }
     {
         self.unlock_tables(space);
@@ -150,12 +129,9 @@ impl<S: LockSpace> Player<S> {
 
     /// Rolls an open transaction back.
     pub(crate) fn rollback(&mut self, space: &mut S)
-        requires attends { Attends S.LockSpace space.old self.old.context }
-        requires idle { self.old.context.wait ≡ None }
+        requires ready { IsReady S.LockSpace space.old self.old.context }
         ensures run { IsStep S.joins rollback space.old self.old (Ok tt) space.new self.new }
-        ensures attends { Attends S.LockSpace space.new self.new.context }
-        ensures others { LeavesOthers S.LockSpace self.old.context.who space.old space.new }
-        ensures who { self.new.context.who ≡ self.old.context.who }
+        ensures goes_on { GoesOn S.LockSpace space.old self.old.context space.new self.new.context }
         ensures idle { self.new.context.wait ≡ None }
     {
         if self.is_open {
@@ -165,12 +141,9 @@ impl<S: LockSpace> Player<S> {
 
     /// Marks the session's place in an open transaction by a name.
     pub(crate) fn save(&mut self, space: &mut S, name: &Name) -> Ending
-        requires attends { Attends S.LockSpace space.old self.old.context }
-        requires idle { self.old.context.wait ≡ None }
+        requires ready { IsReady S.LockSpace space.old self.old.context }
         ensures run { IsPlayed S.joins (save name.now) space.old self.old (played.Ends result) space.new self.new }
-        ensures attends { Attends S.LockSpace space.new self.new.context }
-        ensures others { LeavesOthers S.LockSpace self.old.context.who space.old space.new }
-        ensures who { self.new.context.who ≡ self.old.context.who }
+        ensures goes_on { GoesOn S.LockSpace space.old self.old.context space.new self.new.context }
         ensures idle { self.new.context.wait ≡ None }
     {
         if !self.is_open {
@@ -185,12 +158,9 @@ impl<S: LockSpace> Player<S> {
 
     /// Goes back to the savepoint of a name.
     pub(crate) fn rollback_to(&mut self, space: &mut S, name: &Name) -> Ending
-        requires attends { Attends S.LockSpace space.old self.old.context }
-        requires idle { self.old.context.wait ≡ None }
+        requires ready { IsReady S.LockSpace space.old self.old.context }
         ensures run { IsPlayed S.joins (rollback_to name.now) space.old self.old (played.Ends result) space.new self.new }
-        ensures attends { Attends S.LockSpace space.new self.new.context }
-        ensures others { LeavesOthers S.LockSpace self.old.context.who space.old space.new }
-        ensures who { self.new.context.who ≡ self.old.context.who }
+        ensures goes_on { GoesOn S.LockSpace space.old self.old.context space.new self.new.context }
         ensures idle { self.new.context.wait ≡ None }
     {
         match self.savepoints.go_back(name) {

@@ -1,6 +1,6 @@
 //! UNLOCK TABLES, and what else a session gives up that it has kept until then.
 ghost use Rattle.std.specs.Prelude.{◌≡◌, [], None, Ok, map};
-ghost use Rattle.mdl_context.specs.Contexts.{Attends, LeavesOthers};
+ghost use Rattle.mdl_stmt.specs.Attendance.{GoesOn, IsReady};
 ghost use Rattle.mdl_stmt.specs.Gets.{IsPlayed, IsStep};
 ghost use Rattle.mdl_rows.specs.Rows.{for_each, release};
 ghost use Rattle.mdl_rows.specs.Statements.{give_up_read_lock, release_commits, release_read_lock, unlock, unlock_tables};
@@ -16,12 +16,9 @@ use mdl_space::{LockSpace, TicketId};
 impl<S: LockSpace> Player<S> {
     /// Gives locked tables up, with their scopes.
     pub(crate) fn unlock_tables(&mut self, space: &mut S)
-        requires attends { Attends S.LockSpace space.old self.old.context }
-        requires idle { self.old.context.wait ≡ None }
+        requires ready { IsReady S.LockSpace space.old self.old.context }
         ensures run { IsStep S.joins unlock_tables space.old self.old (Ok tt) space.new self.new }
-        ensures attends { Attends S.LockSpace space.new self.new.context }
-        ensures others { LeavesOthers S.LockSpace self.old.context.who space.old space.new }
-        ensures who { self.new.context.who ≡ self.old.context.who }
+        ensures goes_on { GoesOn S.LockSpace space.old self.old.context space.new self.new.context }
         ensures idle { self.new.context.wait ≡ None }
         ensures unlocked { (self.new.state.locked ≡ []) × (self.new.state.scopes ≡ []) }
     {
@@ -32,12 +29,9 @@ impl<S: LockSpace> Player<S> {
 
     /// Gives locked tables up, and the global read lock.
     pub(crate) fn unlock(&mut self, space: &mut S) -> Ending
-        requires attends { Attends S.LockSpace space.old self.old.context }
-        requires idle { self.old.context.wait ≡ None }
+        requires ready { IsReady S.LockSpace space.old self.old.context }
         ensures run { IsPlayed S.joins unlock space.old self.old (played.Ends result) space.new self.new }
-        ensures attends { Attends S.LockSpace space.new self.new.context }
-        ensures others { LeavesOthers S.LockSpace self.old.context.who space.old space.new }
-        ensures who { self.new.context.who ≡ self.old.context.who }
+        ensures goes_on { GoesOn S.LockSpace space.old self.old.context space.new self.new.context }
         ensures idle { self.new.context.wait ≡ None }
     {
         self.unlock_tables(space);
@@ -47,12 +41,9 @@ impl<S: LockSpace> Player<S> {
 
     /// Gives the global read lock up.
     fn give_up_read_lock(&mut self, space: &mut S)
-        requires attends { Attends S.LockSpace space.old self.old.context }
-        requires idle { self.old.context.wait ≡ None }
+        requires ready { IsReady S.LockSpace space.old self.old.context }
         ensures run { IsStep S.joins give_up_read_lock space.old self.old (Ok tt) space.new self.new }
-        ensures attends { Attends S.LockSpace space.new self.new.context }
-        ensures others { LeavesOthers S.LockSpace self.old.context.who space.old space.new }
-        ensures who { self.new.context.who ≡ self.old.context.who }
+        ensures goes_on { GoesOn S.LockSpace space.old self.old.context space.new self.new.context }
         ensures idle { self.new.context.wait ≡ None }
     {
         let lock = self.explicit.read_lock();
@@ -62,12 +53,9 @@ impl<S: LockSpace> Player<S> {
 
     /// Releases the tickets of a global read lock.
     fn release_read_lock(&mut self, space: &mut S, lock: Option<ReadLock>)
-        requires attends { Attends S.LockSpace space.old self.old.context }
-        requires idle { self.old.context.wait ≡ None }
+        requires ready { IsReady S.LockSpace space.old self.old.context }
         ensures run { IsStep S.joins (release_read_lock lock) space.old self.old (Ok tt) space.new self.new }
-        ensures attends { Attends S.LockSpace space.new self.new.context }
-        ensures others { LeavesOthers S.LockSpace self.old.context.who space.old space.new }
-        ensures who { self.new.context.who ≡ self.old.context.who }
+        ensures goes_on { GoesOn S.LockSpace space.old self.old.context space.new self.new.context }
         ensures idle { self.new.context.wait ≡ None }
     {
         if let Some(lock) = lock {
@@ -78,12 +66,9 @@ impl<S: LockSpace> Player<S> {
 
     /// Releases the ticket of the COMMIT lock, if there is one.
     fn release_commits(&mut self, space: &mut S, commit: Option<TicketId>)
-        requires attends { Attends S.LockSpace space.old self.old.context }
-        requires idle { self.old.context.wait ≡ None }
+        requires ready { IsReady S.LockSpace space.old self.old.context }
         ensures run { IsStep S.joins (release_commits commit) space.old self.old (Ok tt) space.new self.new }
-        ensures attends { Attends S.LockSpace space.new self.new.context }
-        ensures others { LeavesOthers S.LockSpace self.old.context.who space.old space.new }
-        ensures who { self.new.context.who ≡ self.old.context.who }
+        ensures goes_on { GoesOn S.LockSpace space.old self.old.context space.new self.new.context }
         ensures idle { self.new.context.wait ≡ None }
     {
         if let Some(commit) = commit {
@@ -93,12 +78,9 @@ impl<S: LockSpace> Player<S> {
 
     /// Releases a ticket.
     fn release(&mut self, space: &mut S, ticket: TicketId)
-        requires attends { Attends S.LockSpace space.old self.old.context }
-        requires idle { self.old.context.wait ≡ None }
+        requires ready { IsReady S.LockSpace space.old self.old.context }
         ensures run { IsStep S.joins (release ticket) space.old self.old (Ok tt) space.new self.new }
-        ensures attends { Attends S.LockSpace space.new self.new.context }
-        ensures others { LeavesOthers S.LockSpace self.old.context.who space.old space.new }
-        ensures who { self.new.context.who ≡ self.old.context.who }
+        ensures goes_on { GoesOn S.LockSpace space.old self.old.context space.new self.new.context }
         ensures idle { self.new.context.wait ≡ None }
     {
         let _released = self.context.release(space, ticket);
@@ -107,12 +89,9 @@ impl<S: LockSpace> Player<S> {
 
 // Releases the tickets of locked tables, one after the other.
 fn release_tables<S: LockSpace>(context: &mut Context<S>, space: &mut S, tables: &[Locked])
-    requires attends { Attends S.LockSpace space.old context.old }
-    requires idle { context.old.wait ≡ None }
+    requires ready { IsReady S.LockSpace space.old context.old }
     ensures run { (state : State) → IsStep S.joins (for_each release (map (λ table. table.ticket) tables.now)) space.old (record { context = context.old; state = state }) (Ok tt) space.new (record { context = context.new; state = state }) }
-    ensures attends { Attends S.LockSpace space.new context.new }
-    ensures others { LeavesOthers S.LockSpace context.old.who space.old space.new }
-    ensures who { context.new.who ≡ context.old.who }
+    ensures goes_on { GoesOn S.LockSpace space.old context.old space.new context.new }
     ensures idle { context.new.wait ≡ None }
 {
     for table in tables {
@@ -122,12 +101,9 @@ fn release_tables<S: LockSpace>(context: &mut Context<S>, space: &mut S, tables:
 
 // Releases tickets, one after the other.
 fn release_each<S: LockSpace>(context: &mut Context<S>, space: &mut S, tickets: &[TicketId])
-    requires attends { Attends S.LockSpace space.old context.old }
-    requires idle { context.old.wait ≡ None }
+    requires ready { IsReady S.LockSpace space.old context.old }
     ensures run { (state : State) → IsStep S.joins (for_each release tickets.now) space.old (record { context = context.old; state = state }) (Ok tt) space.new (record { context = context.new; state = state }) }
-    ensures attends { Attends S.LockSpace space.new context.new }
-    ensures others { LeavesOthers S.LockSpace context.old.who space.old space.new }
-    ensures who { context.new.who ≡ context.old.who }
+    ensures goes_on { GoesOn S.LockSpace space.old context.old space.new context.new }
     ensures idle { context.new.wait ≡ None }
 {
     for ticket in tickets {

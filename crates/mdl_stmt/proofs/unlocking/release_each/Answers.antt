@@ -1,19 +1,18 @@
 -- One ticket after the other goes.
-use Rattle.std.proofs.Common.{◌∙◌, rules}
+use Rattle.std.proofs.Common.{rules}
 use Rattle.std.proofs.Math.ListN.{drop_of_length-le}
 use Rattle.std.proofs.Math.Seq.{drop-cons}
 use Rattle.mdl_rows.specs.Rows.{release}
-use Rattle.mdl_stmt.proofs.DropLemmas.{leaves-then, each-done, each-over}
+use Rattle.mdl_stmt.proofs.AttendanceLemmas.{goes_on-then}
+use Rattle.mdl_stmt.proofs.DropLemmas.{each-done, each-over}
 use Rattle.mdl_stmt.proofs.RunLemmas.{released}
 use Rattle.mdl_stmt.proofs.UnlockLemmas.{seat}
 use Rattle.mdl_stmt.proofs.unlocking.release_each.Goals as goal
 
 pub loop-ticket-preserved : goal.loop-ticket-preserved
 loop-ticket-preserved g c = record {
-  attends = c.release-released.ensures.attends;
   idle = search rules;
-  who = c.release-released.ensures.who ∙ c.loop-ticket.invariant.who;
-  others = leaves-then g.S.LockSpace c.args.context.now.who c.loop-ticket.context.who c.args.space.now c.loop-ticket.space c.release-released.new.space c.loop-ticket.invariant.who c.loop-ticket.invariant.others c.release-released.ensures.others;
+  goes_on = goes_on-then c.loop-ticket.invariant.goes_on (record { who = c.release-released.ensures.who; others = c.release-released.ensures.others; attends = c.release-released.ensures.attends });
   run = λ state.
       each-done g.S.LockSpace.joins release c.args.tickets.now c.args.space.now (seat state c.args.context.now) c.loop-ticket.ticket-index _ c.loop-ticket.space c.release-released.new.space (seat state c.loop-ticket.context) (seat state c.release-released.new.self)
       (drop-cons c.args.tickets.now c.loop-ticket.ticket-index 0 c.loop-ticket-test.true) (c.loop-ticket.invariant.run state)

@@ -4,17 +4,16 @@ use Rattle.std.proofs.Math.ListN.{drop_of_length-le}
 use Rattle.std.proofs.lemmas.List.{drop-map}
 use Rattle.mdl_rows.specs.declared.state.Locked.{Locked}
 use Rattle.mdl_rows.specs.Rows.{release}
-use Rattle.mdl_stmt.proofs.DropLemmas.{leaves-then, each-done, each-over}
+use Rattle.mdl_stmt.proofs.AttendanceLemmas.{goes_on-then}
+use Rattle.mdl_stmt.proofs.DropLemmas.{each-done, each-over}
 use Rattle.mdl_stmt.proofs.RunLemmas.{released}
 use Rattle.mdl_stmt.proofs.UnlockLemmas.{seat, ticket-at, tickets_of}
 use Rattle.mdl_stmt.proofs.unlocking.release_tables.Goals as goal
 
 pub loop-table-preserved : goal.loop-table-preserved
 loop-table-preserved g c = record {
-  attends = c.release-released.ensures.attends;
   idle = search rules;
-  who = c.release-released.ensures.who ∙ c.loop-table.invariant.who;
-  others = leaves-then g.S.LockSpace c.args.context.now.who c.loop-table.context.who c.args.space.now c.loop-table.space c.release-released.new.space c.loop-table.invariant.who c.loop-table.invariant.others c.release-released.ensures.others;
+  goes_on = goes_on-then c.loop-table.invariant.goes_on (record { who = c.release-released.ensures.who; others = c.release-released.ensures.others; attends = c.release-released.ensures.attends });
   run = λ state.
       each-done g.S.LockSpace.joins release (tickets_of c.args.tables.now) c.args.space.now (seat state c.args.context.now) c.loop-table.table-index _ c.loop-table.space c.release-released.new.space (seat state c.loop-table.context) (seat state c.release-released.new.self)
       (ticket-at c.args.tables.now c.loop-table.table-index c.table-item.result c.loop-table-test.true c.table-item.is) (c.loop-table.invariant.run state)

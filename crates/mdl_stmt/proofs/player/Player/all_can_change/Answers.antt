@@ -1,9 +1,9 @@
 -- One table after the other is looked at.
-use Rattle.std.proofs.Common.{◌∙◌}
 use Rattle.std.proofs.Math.ListN.{drop_of_length-le}
 use Rattle.std.proofs.Math.Seq.{drop-cons}
 use Rattle.mdl_rows.specs.Statements.{can_change}
-use Rattle.mdl_stmt.proofs.DropLemmas.{leaves-then, each-done, each-ends, each-over}
+use Rattle.mdl_stmt.proofs.AttendanceLemmas.{goes_on-then}
+use Rattle.mdl_stmt.proofs.DropLemmas.{each-done, each-ends, each-over}
 use Rattle.mdl_stmt.proofs.player.Player.all_can_change.Goals as goal
 
 pub returns-in-Err-clause-run : goal.returns-in-Err-clause-run
@@ -13,10 +13,8 @@ returns-in-Err-clause-run g c =
 
 pub loop-ticket-preserved : goal.loop-ticket-preserved
 loop-ticket-preserved g c = record {
-  attends = c.can_change.ensures.attends;
   idle = c.can_change.ensures.idle;
-  who = c.can_change.ensures.who ∙ c.loop-ticket.invariant.who;
-  others = leaves-then g.S.LockSpace c.args.self.now.context.who c.loop-ticket.self.context.who c.args.space.now c.loop-ticket.space c.can_change.new.space c.loop-ticket.invariant.who c.loop-ticket.invariant.others c.can_change.ensures.others;
+  goes_on = goes_on-then c.loop-ticket.invariant.goes_on c.can_change.ensures.goes_on;
   run = each-done g.S.LockSpace.joins can_change c.args.tickets.now c.args.space.now c.args.self.now c.loop-ticket.ticket-index _ c.loop-ticket.space c.can_change.new.space c.loop-ticket.self c.can_change.new.self
       (drop-cons c.args.tickets.now c.loop-ticket.ticket-index 0 c.loop-ticket-test.true) c.loop-ticket.invariant.run (rw c.in_default.is at c.can_change.ensures.run);
 }

@@ -1,7 +1,7 @@
 -- What was done so far comes to what is left to do.
 use Rattle.std.proofs.Common.{◌≡◌, None, drop}
-use Rattle.mdl_context.specs.Contexts.{Attends, LeavesOthers}
 use Rattle.mdl_rows.specs.declared.reply.Reply.{Reply}
+use Rattle.mdl_stmt.specs.Attendance.{GoesOn}
 use Rattle.mdl_stmt.specs.Gets.{Comes}
 use Rattle.mdl_rows.specs.Playing.{play}
 use Rattle.mdl_rows.specs.Rows.{Row, for_each, ◌>>=◌}
@@ -10,9 +10,7 @@ use Rattle.mdl_stmt.proofs.player.Player.all_can_change.Given as goal
 
 abbrev pub invariant-loop-ticket : goal.invariant-loop-ticket
 invariant-loop-ticket g l = record {
-  attends : Attends g.S.LockSpace l.space l.self.context;
   idle : l.self.context.wait ≡ None;
-  who : l.self.context.who ≡ l.fn.self.context.who;
-  others : LeavesOthers g.S.LockSpace l.fn.self.context.who l.fn.space l.space;
+  goes_on : GoesOn g.S.LockSpace l.fn.space l.fn.self.context l.space l.self.context;
   run : (rest : Unit {0} → Row Reply) → Comes g.S.LockSpace.joins l.fn.space l.fn.self (play (for_each can_change l.tickets >>= rest)) l.space l.self (play (for_each can_change (drop l.ticket-index l.tickets) >>= rest));
 }

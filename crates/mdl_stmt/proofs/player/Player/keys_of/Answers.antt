@@ -1,9 +1,9 @@
 -- One key after the other is told.
-use Rattle.std.proofs.Common.{◌∙◌, ◌≡◌, ◌+◌, rules, List, ◌∷◌, [], ◌++◌, subst, sym}
+use Rattle.std.proofs.Common.{◌≡◌, ◌+◌, rules, List, ◌∷◌, [], ◌++◌, subst, sym}
 use Rattle.std.proofs.Math.ListN.{drop_of_length-le}
 use Rattle.std.proofs.Math.Seq.{drop-cons}
 use Rattle.mdl_key.specs.Keys.{KeyName}
-use Rattle.mdl_stmt.proofs.DropLemmas.{leaves-then}
+use Rattle.mdl_stmt.proofs.AttendanceLemmas.{goes_on-then}
 use Rattle.mdl_stmt.proofs.ToldKeyLemmas.{ToldTo, key-ends, key-starves, key-told, keys-over}
 use Rattle.mdl_stmt.proofs.player.Player.keys_of.Goals as goal
 
@@ -20,10 +20,8 @@ returns-then-is_err-clause-run g c =
 pub loop-place-preserved : goal.loop-place-preserved
 loop-place-preserved g c =
     let pushed : c.push.new.self.items ≡ c.loop-place.keys.items ++ c.in-Ok.key ∷ [] = search rules in record {
-      attends = c.key_of.ensures.attends;
       idle = c.key_of.ensures.idle;
-      who = c.key_of.ensures.who ∙ c.loop-place.invariant.who;
-      others = leaves-then g.S.LockSpace c.args.self.now.context.who c.loop-place.self.context.who c.args.space.now c.loop-place.space c.key_of.new.space c.loop-place.invariant.who c.loop-place.invariant.others c.key_of.ensures.others;
+      goes_on = goes_on-then c.loop-place.invariant.goes_on c.key_of.ensures.goes_on;
       run = subst (λ (l : List KeyName). ToldTo g.S.LockSpace.joins c.args.places.now c.args.space.now c.args.self.now l (c.loop-place.place-index + 1) c.key_of.new.space c.key_of.new.self) (sym pushed)
           (key-told g.S.LockSpace.joins c.args.places.now c.args.space.now c.args.self.now c.loop-place.keys.items c.loop-place.place-index _ c.in-Ok.key c.loop-place.space c.key_of.new.space c.loop-place.self c.key_of.new.self
           (drop-cons c.args.places.now c.loop-place.place-index 0 c.loop-place-test.true) c.loop-place.invariant.run (rw c.in-Ok.is at c.key_of.ensures.run));

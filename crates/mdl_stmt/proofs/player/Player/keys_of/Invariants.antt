@@ -1,8 +1,8 @@
 -- What was done so far comes to what is left to do.
 use Rattle.std.proofs.Common.{◌≡◌, None, List, [], drop}
 use Rattle.mdl_key.specs.Keys.{KeyName}
-use Rattle.mdl_context.specs.Contexts.{Attends, LeavesOthers}
 use Rattle.mdl_rows.specs.declared.reply.Reply.{Reply}
+use Rattle.mdl_stmt.specs.Attendance.{GoesOn}
 use Rattle.mdl_stmt.specs.Gets.{Comes}
 use Rattle.mdl_rows.specs.Playing.{play}
 use Rattle.mdl_rows.specs.Rows.{Row, ◌>>=◌}
@@ -11,9 +11,7 @@ use Rattle.mdl_stmt.proofs.player.Player.keys_of.Given as goal
 
 abbrev pub invariant-loop-place : goal.invariant-loop-place
 invariant-loop-place g l = record {
-  attends : Attends g.S.LockSpace l.space l.self.context;
   idle : l.self.context.wait ≡ None;
-  who : l.self.context.who ≡ l.fn.self.context.who;
-  others : LeavesOthers g.S.LockSpace l.fn.self.context.who l.fn.space l.space;
+  goes_on : GoesOn g.S.LockSpace l.fn.space l.fn.self.context l.space l.self.context;
   run : (rest : List KeyName → Row Reply) → Comes g.S.LockSpace.joins l.fn.space l.fn.self (play (keys_of [] l.places >>= rest)) l.space l.self (play (keys_of l.keys.items (drop l.place-index l.places) >>= rest));
 }

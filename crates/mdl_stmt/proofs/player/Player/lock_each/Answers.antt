@@ -2,16 +2,14 @@
 use Rattle.std.proofs.Common.{◌∙◌, ap, sym}
 use Rattle.mdl_stmt.specs.LockLists.{LockList}
 use Rattle.mdl_stmt.specs.Stages.{wish_by}
-use Rattle.mdl_stmt.proofs.DropLemmas.{leaves-then}
+use Rattle.mdl_stmt.proofs.AttendanceLemmas.{goes_on-then}
 use Rattle.mdl_stmt.proofs.LockListLemmas.{keys-stay, wish-so, list-had, list-waits, list-ends, list-over}
 use Rattle.mdl_stmt.proofs.player.Player.lock_each.Goals as goal
 
 pub loop-key-preserved : goal.loop-key-preserved
 loop-key-preserved g c = record {
-  attends = c.get.ensures.attends;
   idle = rw c.in-Had.is at c.get.ensures.idle;
-  who = c.get.ensures.who ∙ c.loop-key.invariant.who;
-  others = leaves-then g.S.LockSpace c.args.self.now.context.who c.loop-key.self.context.who c.args.space.now c.loop-key.space c.get.new.space c.loop-key.invariant.who c.loop-key.invariant.others c.get.ensures.others;
+  goes_on = goes_on-then c.loop-key.invariant.goes_on c.get.ensures.goes_on;
   keys = ap (λ (l : LockList). l.keys) c.with-locks.ensures ∙ keys-stay c.in-Had.ticket c.loop-key.locks ∙ c.loop-key.invariant.keys;
   run = list-had g.S.LockSpace.joins (wish_by c.args.locking) c.args.locks c.args.space.now c.args.self.now c.loop-key.locks c.with-locks.result c.in-Some.key.now _ c.in-Had.ticket c.loop-key.space c.get.new.space c.loop-key.self c.get.new.self
       (sym (rw c.in-Some.is at c.next.ensures)) (wish-so c.args.locking c.in-Some.key.now c.mode_of-mode.result c.duration_of.result c.mode_of-mode.ensures c.duration_of.ensures)

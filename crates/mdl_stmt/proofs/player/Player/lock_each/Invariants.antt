@@ -1,7 +1,7 @@
 -- What was had so far comes to what is left to get.
 use Rattle.std.proofs.Common.{◌≡◌, ◌-◌, None, List, ℕ, length}
-use Rattle.mdl_context.specs.Contexts.{Attends, LeavesOthers}
 use Rattle.mdl_rows.specs.declared.reply.Reply.{Reply}
+use Rattle.mdl_stmt.specs.Attendance.{GoesOn}
 use Rattle.mdl_stmt.specs.Gets.{Comes}
 use Rattle.mdl_rows.specs.Playing.{play}
 use Rattle.mdl_rows.specs.Rows.{Row}
@@ -10,10 +10,8 @@ use Rattle.mdl_stmt.proofs.player.Player.lock_each.Given as goal
 
 abbrev pub invariant-loop-key : goal.invariant-loop-key
 invariant-loop-key g l = record {
-  attends : Attends g.S.LockSpace l.space l.self.context;
   idle : l.self.context.wait ≡ None;
-  who : l.self.context.who ≡ l.fn.self.context.who;
-  others : LeavesOthers g.S.LockSpace l.fn.self.context.who l.fn.space l.space;
+  goes_on : GoesOn g.S.LockSpace l.fn.space l.fn.self.context l.space l.self.context;
   keys : l.locks.keys ≡ l.fn.locks.keys;
   run : (rest : List ℕ → Row Reply) → Comes g.S.LockSpace.joins l.fn.space l.fn.self (play (lock_rest_by (wish_by l.fn.locking) l.fn.locks rest)) l.space l.self (play (lock_rest_by (wish_by l.fn.locking) l.locks rest));
 }

@@ -1,6 +1,7 @@
 -- One table after the other.
-use Rattle.std.proofs.Common.{◌∙◌, drop}
-use Rattle.mdl_stmt.proofs.ListLemmas.{item-at, still-left, show-ended, show-had, show-missed, show-waits}
+use Rattle.std.proofs.Common.{drop}
+use Rattle.mdl_stmt.proofs.AttendanceLemmas.{goes_on-then}
+use Rattle.mdl_stmt.proofs.ListLemmas.{item-at, show-ended, show-had, show-missed, show-waits}
 use Rattle.mdl_stmt.proofs.RunLemmas.{comes-then, comes-waits}
 use Rattle.mdl_stmt.proofs.player.Player.show_from.Goals as goal
 
@@ -27,14 +28,10 @@ pub loop-at-preserved : goal.loop-at-preserved
 loop-at-preserved g c =
     let same = item-at c.args.tables.now c.loop-at.at c.index-tables-at.result _ c.loop-at-test.true c.index-tables-at.is in
     let known = c.loop-at.invariant in
-    let space = g.S.LockSpace in
     record {
       run = comes-then known.run
           (show-had g.S.LockSpace.joins c.loop-at.shown c.index-tables-at.result (drop c.loop-at.at c.args.tables.now) _ same c.loop-at.space c.get.new.space c.show.new.space c.loop-at.self c.get.new.self c.show.new.self c.in-Had.ticket c.in-Ok.more
           (rw c.in-Had.is at c.get.ensures.run) (rw c.in-Ok.is at c.show.ensures.run));
-      attends = c.show.ensures.attends;
-      others = still-left space c.args.self.now.context.who c.get.new.self.context.who c.args.space.now c.get.new.space c.show.new.space (c.get.ensures.who ∙ known.who)
-          (still-left space c.args.self.now.context.who c.loop-at.self.context.who c.args.space.now c.loop-at.space c.get.new.space known.who known.others c.get.ensures.others) c.show.ensures.others;
-      who = c.show.ensures.who ∙ c.get.ensures.who ∙ known.who;
+      goes_on = goes_on-then known.goes_on (goes_on-then c.get.ensures.goes_on c.show.ensures.goes_on);
       idle = c.show.ensures.idle;
     }

@@ -1,6 +1,6 @@
 -- The tables before are shown.
 use Rattle.std.proofs.Common.{◌≡◌, None, drop}
-use Rattle.mdl_context.specs.Contexts.{Attends, LeavesOthers}
+use Rattle.mdl_stmt.specs.Attendance.{GoesOn}
 use Rattle.mdl_stmt.specs.Gets.{Comes}
 use Rattle.mdl_rows.specs.Playing.{play}
 use Rattle.mdl_rows.specs.Statements.{lock_to_read, show_all}
@@ -9,8 +9,6 @@ use Rattle.mdl_stmt.proofs.player.Player.show_from.Given as goal
 abbrev pub invariant-loop-at : goal.invariant-loop-at
 invariant-loop-at g l = record {
   run : Comes g.S.LockSpace.joins l.fn.space l.fn.self (play (show_all lock_to_read l.fn.shown (drop l.from l.tables))) l.space l.self (play (show_all lock_to_read l.shown (drop l.at l.tables)));
-  attends : Attends g.S.LockSpace l.space l.self.context;
-  others : LeavesOthers g.S.LockSpace l.fn.self.context.who l.fn.space l.space;
-  who : l.self.context.who ≡ l.fn.self.context.who;
+  goes_on : GoesOn g.S.LockSpace l.fn.space l.fn.self.context l.space l.self.context;
   idle : l.self.context.wait ≡ None;
 }
