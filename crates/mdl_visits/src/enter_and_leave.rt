@@ -1,7 +1,7 @@
 //! A session takes the latch of a place for a wish, and gives it back. Before it does, it lowers the flags of the lock's word that the lists
 //! don't need.
 ghost use Rattle.std.specs.Prelude.{◌≡◌, []};
-ghost use Rattle.mdl_steps.specs.declared.view.Held.{Held};
+ghost use Rattle.mdl_steps.specs.declared.view.LatchRecord.{LatchRecord};
 ghost use Rattle.mdl_steps.specs.declared.view.Met.{Met};
 ghost use Rattle.mdl_steps.specs.Deeds.{all_booked};
 ghost use Rattle.mdl_steps.specs.Layout.{lock_word};
@@ -48,7 +48,7 @@ pub(crate) fn leave(seat: &mut TableSeat, latch: Latched)
 /// Gives the latch back after some deeds, with just those flags up that the book in hand needs.
 pub(crate) fn lower_flags_and_put(seat: &mut TableSeat, latch: Latched, deeds: &[Deed])
     requires place { IsPlace seat.old.table latch.place }
-    requires done { (h : Held) × HasDone latch.place deeds.now h seat.old.me
+    requires done { (h : LatchRecord) × HasDone latch.place deeds.now h seat.old.me
         × Flagged (all_booked seat.old.me.0.number deeds.now h.book) h.slow h.obtrusive }
     ensures left { AtItsTable seat.old seat.new (Leaves latch.place deeds.now) }
     ensures step { (e : Met) × IsStepOf seat.old.me seat.new.me e × (e.word ≡ lock_word latch.place)

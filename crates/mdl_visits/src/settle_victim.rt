@@ -8,7 +8,7 @@ ghost use Rattle.mdl_steps.specs.declared.wait_word.Loss.TheVariants as loss;
 ghost use Rattle.mdl_visits.specs.declared.audited.Audited.{Audited};
 ghost use Rattle.mdl_visits.specs.declared.waits_read.WaitRead.{WaitRead};
 ghost use Rattle.mdl_visits.specs.Polls.{SettlesNothing};
-ghost use Rattle.mdl_visits.specs.Searches.{AreQueuesOf, Fells, Hears, Judges, KnowsFall, Misses, WasOther, heard_of};
+ghost use Rattle.mdl_visits.specs.Searches.{AreQueuesOf, SettlesVictim, Hears, Judges, KnowsVictim, Misses, WasOther, heard_of};
 
 use crate::victim::find_victim;
 use crate::waits_read::{WaitRead, read_waits};
@@ -28,7 +28,7 @@ pub(crate) fn settle_victim<R: Wait>(
     ensures hears { AtItsTable seat.old seat.new Hears }
     ensures judged { IfOk result (λ found. (audited : List Audited) → AreQueuesOf audited lists.now
         → Judges seat.old.table seat.old.me.0.number seat.old.me.0.latches audited found seat.old.me seat.new.me) }
-    ensures own { IfOk result (λ found. KnowsFall seat.old.me.0.number found seat.new.me) }
+    ensures own { IfOk result (λ found. KnowsVictim seat.old.me.0.number found seat.new.me) }
     ensures nothing { OnErr result (SettlesNothing seat.old.me seat.new.me) }
 {
     for _ in rt.forever() {
@@ -51,7 +51,7 @@ fn settle_victim_once(
         → Judges seat.old.table seat.old.me.0.number seat.old.me.0.latches audited found seat.old.me seat.new.me)) }
     ensures missed { result ≡ Ok None → (audited : List Audited) → AreQueuesOf audited lists.now
         → Misses seat.old.table seat.old.me.0.number seat.old.me.0.latches audited seat.old.me seat.new.me }
-    ensures own { IfOk result (λ tried. IfSome tried (λ found. KnowsFall seat.old.me.0.number found seat.new.me)) }
+    ensures own { IfOk result (λ tried. IfSome tried (λ found. KnowsVictim seat.old.me.0.number found seat.new.me)) }
     ensures nothing { OnErr result (SettlesNothing seat.old.me seat.new.me) }
 {
     let mut words = Vec::new(alloc);
@@ -68,7 +68,7 @@ fn settle_wait_of(seat: &mut TableSeat, victim: u16, words: &[WaitRead]) -> bool
     requires sessions { All (λ (h : WaitRead). IsSession seat.old.table h.session × (is_session h.session ≡ true)) words.now }
     ensures hears { AtItsTable seat.old seat.new Hears }
     ensures own { result ≡ true → victim ≡ seat.old.me.0.number → seat.new.me.0.told ≡ Some (lost_state loss.Victim) }
-    ensures settled { result ≡ true → Fells seat.old.table.slots victim seat.old.me.0.latches seat.old.me seat.new.me }
+    ensures settled { result ≡ true → SettlesVictim seat.old.table.slots victim seat.old.me.0.latches seat.old.me seat.new.me }
     ensures missed { result ≡ false → SettlesNothing seat.old.me seat.new.me
         × IfSome (heard_of victim words.now) (WasOther seat.old.table.slots seat.old.me seat.new.me) }
 {
@@ -85,7 +85,7 @@ fn settle_by_word(seat: &mut TableSeat, heard: WaitRead) -> bool
     requires session { IsSession seat.old.table heard.session }
     ensures hears { AtItsTable seat.old seat.new Hears }
     ensures own { result ≡ true → heard.session ≡ seat.old.me.0.number → seat.new.me.0.told ≡ Some (lost_state loss.Victim) }
-    ensures settled { result ≡ true → Fells seat.old.table.slots heard.session seat.old.me.0.latches seat.old.me seat.new.me }
+    ensures settled { result ≡ true → SettlesVictim seat.old.table.slots heard.session seat.old.me.0.latches seat.old.me seat.new.me }
     ensures missed { result ≡ false → SettlesNothing seat.old.me seat.new.me
         × WasOther seat.old.table.slots seat.old.me seat.new.me heard }
 {

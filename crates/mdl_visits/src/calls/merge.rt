@@ -5,7 +5,7 @@ ghost use Rattle.mdl_book.specs.declared.ticket.Ticket.{Ticket};
 ghost use Rattle.mdl_book.specs.Books.{lock_kind};
 ghost use Rattle.mdl_book.specs.Tickets.{ticket_of};
 ghost use Rattle.mdl_steps.specs.declared.deed.Deed.TheVariants.{Alter, Lose};
-ghost use Rattle.mdl_steps.specs.declared.view.Held.{Held};
+ghost use Rattle.mdl_steps.specs.declared.view.LatchRecord.{LatchRecord};
 ghost use Rattle.mdl_steps.specs.declared.view.Met.{Met};
 ghost use Rattle.mdl_steps.specs.Deeds.{KnowsPlace};
 ghost use Rattle.mdl_steps.specs.SeatStates.{AtItsTable};
@@ -45,7 +45,7 @@ pub fn merge<R: Wait>(rt: &R, seat: &mut TableSeat, kept: Own, gone: Own)
 // The same at the latched place, and the latch is given back.
 fn merge_latched(seat: &mut TableSeat, latch: Latched, kept: u64, gone: Own)
     requires place { IsPlace seat.old.table latch.place }
-    requires covered { (h : Held) × Holds latch.place h h.book seat.old.me × IsCovered seat.old.me.0.number gone.mode h
+    requires covered { (h : LatchRecord) × Holds latch.place h h.book seat.old.me × IsCovered seat.old.me.0.number gone.mode h
         × ((t : Ticket) × (ticket_of seat.old.me.0.number kept h.book.granted ≡ Some t) × IsAtLeast (lock_kind h.book) gone.mode t.mode)
         × ((t : Ticket) × (ticket_of seat.old.me.0.number gone.number h.book.granted ≡ Some t) × (t.mode ≡ gone.mode)) }
     requires known { KnowsPlace seat.old.me.0 latch.place }

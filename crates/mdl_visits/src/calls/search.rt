@@ -10,7 +10,7 @@ ghost use Rattle.mdl_visits.specs.declared.audited.Audited.{Audited};
 ghost use Rattle.mdl_visits.specs.Idle.{IsIdle};
 ghost use Rattle.mdl_visits.specs.Lookups.{TookDirectory};
 ghost use Rattle.mdl_visits.specs.Polls.{SettlesNothing};
-ghost use Rattle.mdl_visits.specs.Searches.{AreQueuesOf, Hears, KnowsFall, Listens, Searched, Searches, if_waited};
+ghost use Rattle.mdl_visits.specs.Searches.{AreQueuesOf, Hears, KnowsVictim, Listens, Searched, Searches, if_waited};
 
 use crate::latches::{await_directory, await_latch};
 use crate::settle_victim::settle_victim;
@@ -31,7 +31,7 @@ pub fn search_deadlock<R: Wait>(
     ensures hears { AtItsTable seat.old seat.new Listens }
     ensures searched { (k : Keys) × TookDirectory seat.old.table.slots k k seat.old.me seat.new.me
         × IfOk result (λ found. Searched seat.old.table seat.old.me.0.number k found seat.old.me seat.new.me) }
-    ensures own { IfOk result (λ found. KnowsFall seat.old.me.0.number found seat.new.me) }
+    ensures own { IfOk result (λ found. KnowsVictim seat.old.me.0.number found seat.new.me) }
     ensures nothing { OnErr result (SettlesNothing seat.old.me seat.new.me) }
 {
     let directory = await_directory(rt, seat);
@@ -57,7 +57,7 @@ fn search_from<R: Wait>(
     ensures hears { AtItsTable seat.old seat.new Hears }
     ensures searched { IfOk result (λ found. (copied : List Audited) → AreQueuesOf copied lists.old
         → Searches seat.old.table seat.old.me.0.number place last copied found seat.old.me seat.new.me) }
-    ensures own { IfOk result (λ found. KnowsFall seat.old.me.0.number found seat.new.me) }
+    ensures own { IfOk result (λ found. KnowsVictim seat.old.me.0.number found seat.new.me) }
     ensures nothing { OnErr result (SettlesNothing seat.old.me seat.new.me) }
 {
     if place > last {

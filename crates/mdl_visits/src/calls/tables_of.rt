@@ -2,7 +2,7 @@
 ghost use Rattle.std.specs.Prelude.{◌≡◌, ◌+◌, ◌<◌, ◌≤◌, ◌++◌, ◌∷◌, [], Bool, is_some, length, if◌then◌else◌, IfOk, OnErr};
 ghost use Rattle.std.specs.List.Sorted.{IsPermutation};
 ghost use Rattle.std.specs.Vec.{vec_capacity, vec_len};
-ghost use Rattle.mdl_steps.specs.declared.view.Held.{Held};
+ghost use Rattle.mdl_steps.specs.declared.view.LatchRecord.{LatchRecord};
 ghost use Rattle.mdl_steps.specs.declared.view.Keys.{Keys};
 ghost use Rattle.mdl_steps.specs.declared.view.Met.{Met};
 ghost use Rattle.mdl_steps.specs.Plays.{unlatched};
@@ -95,9 +95,9 @@ fn is_defined<R: Wait>(rt: &R, seat: &mut TableSeat, place: usize) -> bool
 // The same at the latched place, and the latch is given back.
 fn is_defined_latched(seat: &mut TableSeat, latch: Latched) -> bool
     requires place { IsPlace seat.old.table latch.place }
-    requires held { (h : Held) × Holds latch.place h h.book seat.old.me × TellsLists h.book h.slow h.obtrusive }
+    requires held { (h : LatchRecord) × Holds latch.place h h.book seat.old.me × TellsLists h.book h.slow h.obtrusive }
     ensures put { seat.new ≡ record seat.old { me = unlatched latch.place [] seat.old.me } }
-    ensures told { (h : Held) → Holds latch.place h h.book seat.old.me → result ≡ is_some h.book.standing.definition }
+    ensures told { (h : LatchRecord) → Holds latch.place h h.book seat.old.me → result ≡ is_some h.book.standing.definition }
 {
     let defined = seat.has_definition(&latch);
     seat.put_latch(latch, &[]);
