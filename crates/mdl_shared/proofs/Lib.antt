@@ -28,3 +28,4 @@ pub mod KillCalls
 pub mod KeyCalls
 pub mod SoundSessions
 pub mod ShowingCalls
+pub mod SessionValues
