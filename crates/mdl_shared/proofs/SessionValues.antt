@@ -10,7 +10,7 @@ use Rattle.mdl_steps.specs.declared.view.Own.{Own}
 use Rattle.mdl_session_laws.specs.SessionJoins.{Joins, TellsTruly, has_call, met}
 use Rattle.mdl_session_laws.specs.SessionSpaces.{Knows, Space, SpeaksFor}
 use Rattle.mdl_shared.specs.declared.member.Member.{Member}
-use Rattle.mdl_shared.specs.SessionViews.{Lists, lists_of, lists_seen, space_by, space_of, space_of_member, view_of}
+use Rattle.mdl_shared.specs.SessionViews.{Lists, SessionView, lists_of, lists_seen, space_by, space_of, space_of_member, view_of}
 use Rattle.mdl_shared.specs.Showings.{Shows, ShowsBy}
 use Rattle.mdl_shared.proofs.SameSpace.{KeepsRest, Stays, refused}
 use Rattle.mdl_shared.proofs.SoundSessions.{sound}
@@ -60,3 +60,12 @@ none-mapped part (Some x) e = cc
 pub some-mapped : {T U : Type 0} (part : T → U) (o : Option T) (y : U) → option_map part o ≡ Some y → (x : T) × (o ≡ Some x) × (part x ≡ y)
 some-mapped part None y e = cc
 some-mapped part (Some x) y e = (x, refl, (cc))
+
+-- ---- callers
+
+-- a call for the number that the session speaks for is one for its own number
+pub for-caller : (s t : SessionView) (call : ℕ → Call) (answer : Answer) (who : ℕ) → SpeaksFor (space_of s) who
+    → Joins (space_of s) (call s.number) answer (space_of t) → Shows (call s.number) answer s t
+    → Joins (space_of s) (call who) answer (space_of t) × Shows (call who) answer s t
+for-caller s t call answer who speaks joined shown =
+    subst (λ (w : ℕ). Joins (space_of s) (call w) answer (space_of t) × Shows (call w) answer s t) (sym speaks.0) (joined, shown)
