@@ -1,6 +1,5 @@
 -- What a session is by its own lists is what it is by its seat at the table.
 use Rattle.std.proofs.Common.{◌≡◌, ℕ, true, false, is_some, List, Option, Some, None, IfSome, refl, sym, ap, subst, ◌∙◌}
-use Rattle.std.specs.Arc.{arc_value}
 use Rattle.std.specs.Option.{option_map}
 use Rattle.mdl_calls.specs.declared.answers.Settled.{Settled}
 use Rattle.mdl_calls.specs.declared.space_error.SpaceError.{SpaceError}
@@ -11,9 +10,8 @@ use Rattle.mdl_steps.specs.declared.view.Own.{Own}
 use Rattle.mdl_session_laws.specs.SessionJoins.{Joins, TellsTruly, has_call, met}
 use Rattle.mdl_session_laws.specs.SessionSpaces.{Knows, Space, SpeaksFor}
 use Rattle.mdl_shared.specs.declared.member.Member.{Member}
-use Rattle.mdl_shared.specs.SessionViews.{Lists, lists_of, lists_seen, space_by, space_of, space_of_member, view_of}
-use Rattle.mdl_visits.specs.Readings.{ReadsNothing}
-use Rattle.mdl_shared.specs.Showings.{KeepsLists, Shows, ShowsBy}
+use Rattle.mdl_shared.specs.SessionViews.{Lists, SessionView, lists_of, lists_seen, space_by, space_of, space_of_member, view_of}
+use Rattle.mdl_shared.specs.Showings.{Shows, ShowsBy}
 use Rattle.mdl_shared.proofs.SameSpace.{KeepsRest, Stays, refused}
 use Rattle.mdl_shared.proofs.SoundSessions.{sound}
 use Rattle.mdl_shared.proofs.TellingCalls.{same-stays}
@@ -37,21 +35,6 @@ joins-seen m m′ call answer joins =
 pub shows-seen : (m m′ : Member) (call : Call) (answer : Answer) → ShowsBy call answer (lists_of m) (view_of m) (view_of m′)
     → Shows call answer (view_of m) (view_of m′)
 shows-seen m m′ call answer shows = subst (λ (l : Lists). ShowsBy call answer l (view_of m) (view_of m′)) (lists-seen m) shows
-
--- whose own lists are kept keeps them
-pub keeps-seen : (m m′ : Member) → m′.table ≡ m.table → m′.worker.number ≡ m.worker.number → m′.sessions ≡ m.sessions → m′.tickets.items ≡ m.tickets.items
-    → m′.known.items ≡ m.known.items → m′.next ≡ m.next → m′.asks ≡ m.asks → m′.waits ≡ m.waits → ReadsNothing m.worker.seat.me m′.worker.seat.me
-    → KeepsLists (view_of m) (view_of m′)
-keeps-seen m m′ table number sessions tickets known next asks waits reads = record {
-  number = number;
-  table = ap (λ t. (arc_value t).shared.table_id) table;
-  sessions = sessions;
-  lists = sym (lists-seen m′) ∙ same ∙ lists-seen m;
-  reads = reads;
-}
-  where
-    same : lists_of m′ ≡ lists_of m
-    same = λ i. record { tickets = tickets i; known = known i; next = next i; asks = asks i; waits = waits i }
 
 -- ---- calls
 
@@ -77,3 +60,12 @@ none-mapped part (Some x) e = cc
 pub some-mapped : {T U : Type 0} (part : T → U) (o : Option T) (y : U) → option_map part o ≡ Some y → (x : T) × (o ≡ Some x) × (part x ≡ y)
 some-mapped part None y e = cc
 some-mapped part (Some x) y e = (x, refl, (cc))
+
+-- ---- callers
+
+-- a call for the number that the session speaks for is one for its own number
+pub for-caller : (s t : SessionView) (call : ℕ → Call) (answer : Answer) (who : ℕ) → SpeaksFor (space_of s) who
+    → Joins (space_of s) (call s.number) answer (space_of t) → Shows (call s.number) answer s t
+    → Joins (space_of s) (call who) answer (space_of t) × Shows (call who) answer s t
+for-caller s t call answer who speaks joined shown =
+    subst (λ (w : ℕ). Joins (space_of s) (call w) answer (space_of t) × Shows (call w) answer s t) (sym speaks.0) (joined, shown)

@@ -9,7 +9,7 @@ ghost use Rattle.mdl_shared.specs.Keepings.{KeepsWait};
 ghost use Rattle.mdl_visits.specs.Numbers.{numbered};
 ghost use Rattle.mdl_visits.specs.Polls.{SettlesNothing};
 ghost use Rattle.mdl_visits.specs.Readings.{Follows, MeetsRead, ReadsNothing, ReadsThere};
-ghost use Rattle.mdl_visits.specs.Visits.{Does, IsStepOf};
+ghost use Rattle.mdl_visits.specs.Visits.{Does, IsStepOf, StaysQuiet};
 ghost use Rattle.mdl_shared.specs.SessionViews.{space_of};
 ghost use Rattle.mdl_calls.specs.Words.{Read_definition, read};
 ghost use Rattle.mdl_session_laws.specs.SessionJoins.{Joins};
@@ -33,6 +33,7 @@ impl Member {
         ensures wait { KeepsWait self.old self.new }
         ensures settles { SettlesNothing self.old.worker.seat.me self.new.worker.seat.me }
         ensures did { Does [] self.old.worker.seat.me self.new.worker.seat.me }
+        ensures quiet { StaysQuiet self.old.worker.seat.me self.new.worker.seat.me }
         ensures read { IfOk result (λ standing. (self.new.tickets.items ≡ noting_version place standing.version self.old.tickets.items)
             × ReadsThere place standing self.old.worker.seat.me self.new.worker.seat.me
             × ((e : Met) × IsStepOf self.old.worker.seat.me self.new.worker.seat.me e × MeetsRead place self.old.worker.number _id standing e)) }

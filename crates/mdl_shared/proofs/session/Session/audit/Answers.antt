@@ -1,5 +1,5 @@
 -- An audit keeps the session's lists.
-use Rattle.mdl_shared.proofs.SessionValues.{keeps-seen}
+use Rattle.mdl_shared.proofs.KeptLists.{keeps-seen}
 use Rattle.mdl_shared.proofs.session.Session.audit.Goals as goal
 
 pub returns-in-Ok-clause-same : goal.returns-in-Ok-clause-same

@@ -1,5 +1,5 @@
 -- A place at which way is made is known by the session's value, and its lists are kept.
-use Rattle.mdl_shared.proofs.SessionValues.{keeps-seen}
+use Rattle.mdl_shared.proofs.KeptLists.{keeps-seen}
 use Rattle.mdl_shared.proofs.session.Session.reschedule.Goals as goal
 
 pub returns-clause-same : goal.returns-clause-same
