@@ -32,9 +32,9 @@ refuses-clear None memory x e = tt
 refuses-clear (Some why) memory x e = cc
 
 -- or memory ran out
-pub refuses-memory : {T E : Type 0} (fault : Option E) (memory : E) → fault ≡ None → Refuses {T = T} fault memory (Err memory)
-refuses-memory None memory e = refl
-refuses-memory (Some why) memory e = cc
+pub refuses-memory : (T : Type 0) {E : Type 0} (fault : Option E) (memory : E) → fault ≡ None → Refuses {T = T} fault memory (Err memory)
+refuses-memory T None memory e = refl
+refuses-memory T (Some why) memory e = cc
 
 -- more is told of what was met
 pub told-full : {A B X Y : Type 0} → (X → Y) → A ⊎ (B × X) → A ⊎ (B × Y)
@@ -106,3 +106,11 @@ merge-open asks o p kept gone one other waits may =
     by false true w m = refl
     by false false w m = cc
     by true may w m = cc
+
+pub merge-waits : (asks : Option Ask) (kept gone : Own) → is_some asks ≡ true → merge_fault (Some kept) (Some gone) asks ≡ Some AlreadyWaiting
+merge-waits asks kept gone waits = ap (λ (b : Bool). if b then Some AlreadyWaiting else (if may_merge kept gone then None else Some BadMode)) waits
+
+pub merge-unfit : (asks : Option Ask) (kept gone : Own) → is_some asks ≡ false → may_merge kept gone ≡ false → merge_fault (Some kept) (Some gone) asks ≡ Some BadMode
+merge-unfit asks kept gone waits may =
+    ap (λ (b : Bool). if b then Some AlreadyWaiting else (if may_merge kept gone then None else Some BadMode)) waits
+    ∙ ap (λ (b : Bool). if b then None else Some BadMode) may

@@ -12,7 +12,7 @@ pub keeps-seen : (m m′ : Member) → m′.table ≡ m.table → m′.worker.nu
     → KeepsLists (view_of m) (view_of m′)
 keeps-seen m m′ table number sessions tickets known next asks waits reads = record {
   number = number;
-  table = ap (λ t. (arc_value t).shared.table_id) table;
+  table = λ i. (arc_value (table i)).shared.table_id;
   sessions = sessions;
   lists = sym (lists-seen m′) ∙ same ∙ lists-seen m;
   reads = reads;
