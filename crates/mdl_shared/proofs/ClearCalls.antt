@@ -1,5 +1,5 @@
 -- Calls on held tickets by the tests that are made one after another: whose tests pass has no fault, and is refused for the first that fails.
-use Rattle.std.proofs.Common.{◌≡◌, ◌⊎◌, ℕ, Bool, true, false, not, ◌&&◌, ◌||◌, is_some, Option, Some, None, Result, Ok, Err, List, inl, inr, if◌then◌else◌, refl, sym, ap, subst, ◌∙◌}
+use Rattle.std.proofs.Common.{◌≡◌, ◌⊎◌, ℕ, Bool, true, false, not, ◌&&◌, ◌||◌, is_some, Option, Some, None, Ok, Err, List, inl, inr, if◌then◌else◌, refl, sym, ap, ◌∙◌}
 use Rattle.std.specs.Prelude.{◌<◌, nat_le}
 use Rattle.std.proofs.lemmas.Bool.{lt-leb}
 use Rattle.mdl_key.specs.declared.mode.Mode.{Mode}
@@ -7,7 +7,6 @@ use Rattle.mdl_key.specs.declared.namespace.Kind.{Kind}
 use Rattle.mdl_key.specs.Refusals.{Refuses}
 use Rattle.mdl_key.specs.Words.{is_mode_of}
 use Rattle.mdl_system.specs.Strength.{covers, may_downgrade, may_upgrade}
-use Rattle.mdl_calls.specs.declared.space_error.SpaceError.{SpaceError}
 use Rattle.mdl_calls.specs.declared.space_error.SpaceError.TheVariants.{AlreadyWaiting, BadMode, CounterFull, NotUpgradable}
 use Rattle.mdl_steps.specs.declared.view.Ask.{Ask}
 use Rattle.mdl_steps.specs.declared.view.Known.{Known}

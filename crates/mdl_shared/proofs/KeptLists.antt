@@ -1,9 +1,9 @@
 -- A session whose own lists are kept keeps them by its value.
-use Rattle.std.proofs.Common.{◌≡◌, sym, ap, ◌∙◌}
+use Rattle.std.proofs.Common.{◌≡◌, sym, ◌∙◌}
 use Rattle.std.specs.Arc.{arc_value}
 use Rattle.mdl_visits.specs.Readings.{ReadsNothing}
 use Rattle.mdl_shared.specs.declared.member.Member.{Member}
-use Rattle.mdl_shared.specs.SessionViews.{lists_of, lists_seen, view_of}
+use Rattle.mdl_shared.specs.SessionViews.{lists_of, view_of}
 use Rattle.mdl_shared.specs.Showings.{KeepsLists}
 use Rattle.mdl_shared.proofs.SessionValues.{lists-seen}
 

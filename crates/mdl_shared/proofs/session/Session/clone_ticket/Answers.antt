@@ -1,13 +1,12 @@
 -- A clone, by what the session keeps of its own, is one by its value.
-use Rattle.std.proofs.Common.{◌≡◌, ℕ, Bool, true, false, ◌&&◌, ◌<◌, [], ◌∷◌, Option, Some, None, Ok, is_some, inr, refl, sym, ap, subst, ◌∙◌, arith}
+use Rattle.std.proofs.Common.{◌≡◌, ℕ, true, false, ◌&&◌, ◌<◌, Some, is_some, inr, refl, sym, ap, subst, ◌∙◌, arith}
 use Rattle.mdl_system.specs.Strength.{covers}
 use Rattle.mdl_calls.specs.declared.space_error.SpaceError.TheVariants.{AlreadyWaiting, BadMode, CounterFull, NotHeld}
 use Rattle.mdl_calls.specs.Words.{Clone_ticket, MayClone, MayNotClone, cloned}
-use Rattle.mdl_steps.specs.declared.view.Own.{Own}
 use Rattle.mdl_visits.specs.Leavings.{MeetsOwn}
 use Rattle.mdl_visits.specs.Numbers.{numbered}
 use Rattle.mdl_visits.proofs.Numbers.{has_number}
-use Rattle.mdl_shared.specs.Modes.{clone_fault, is_fit}
+use Rattle.mdl_shared.specs.Modes.{is_fit}
 use Rattle.mdl_shared.proofs.ClearCalls.{clone-open, told-full}
 use Rattle.mdl_shared.proofs.Faults.{causes-open, if-clear, if-refused, part-of}
 use Rattle.mdl_shared.proofs.SameSpace.{keeps-sees, waits-asks}
@@ -50,10 +49,11 @@ returns-then-not-covers-clause-joined g c =
           ap (λ b. b && is_fit t.place mode m.known.items) (sym c.covers.ensures ∙ w.if-not-covers.false) ∙ sym w.is_fit.ensures ∙ w.if-not-is_fit.true
     ] in
     rw (← c.self.view_is)
-    (refused-seen m (Clone_ticket m.worker.number c.args.id mode) BadMode (speaks m) refl refl
-    (waits-asks m.asks m.waits ∙ sym c.is_some.ensures ∙ c.if-is_some.false,
-    of-held c.args.id m.tickets.items t (MayNotClone (knows m) mode) its (λ covered.
-    fit-known t.place mode m.known.items false (other-false (covers t.mode mode) (is_fit t.place mode m.known.items) unfit covered)))
+    (refused-seen m (Clone_ticket m.worker.number c.args.id mode) BadMode (speaks m) refl refl (
+      waits-asks m.asks m.waits ∙ sym c.is_some.ensures ∙ c.if-is_some.false,
+      of-held c.args.id m.tickets.items t (MayNotClone (knows m) mode) its (λ covered.
+          fit-known t.place mode m.known.items false (other-false (covers t.mode mode) (is_fit t.place mode m.known.items) unfit covered)),
+    )
     (λ state how is. cc) tt)
 
 pub returns-then-self-gt-MOST_NUMBERS-clause-joined : goal.returns-then-self-gt-MOST_NUMBERS-clause-joined
@@ -63,10 +63,11 @@ returns-then-self-gt-MOST_NUMBERS-clause-joined g c =
     let t = c.in-Some.held in
     let its : numbered c.args.id m.tickets.items ≡ Some t = sym c.ticket.ensures.found ∙ c.in-Some.is in
     rw (← c.self.view_is)
-    (refused-seen m (Clone_ticket m.worker.number c.args.id mode) CounterFull (speaks m) refl refl
-    (waits-asks m.asks m.waits ∙ sym c.is_some.ensures ∙ c.if-is_some.false,
-    of-held c.args.id m.tickets.items t (MayClone (knows m) mode) its
-    (sym c.covers.ensures ∙ c.if-not-covers.false, fit-known t.place mode m.known.items true (sym c.is_fit.ensures ∙ c.if-not-is_fit.false)))
+    (refused-seen m (Clone_ticket m.worker.number c.args.id mode) CounterFull (speaks m) refl refl (
+      waits-asks m.asks m.waits ∙ sym c.is_some.ensures ∙ c.if-is_some.false,
+      of-held c.args.id m.tickets.items t (MayClone (knows m) mode) its
+          (sym c.covers.ensures ∙ c.if-not-covers.false, fit-known t.place mode m.known.items true (sym c.is_fit.ensures ∙ c.if-not-is_fit.false)),
+    )
     (λ state how is. cc) tt)
 
 pub returns : goal.returns

@@ -1,11 +1,10 @@
 -- A downgrade, by what the session keeps of its own, is one by its value.
-use Rattle.std.proofs.Common.{◌≡◌, ℕ, Bool, true, false, ◌&&◌, [], ◌∷◌, Option, Some, None, Ok, is_some, refl, sym, ap, subst, ◌∙◌}
+use Rattle.std.proofs.Common.{◌≡◌, ℕ, false, ◌&&◌, [], ◌∷◌, Some, Ok, is_some, refl, sym, ap, subst, ◌∙◌}
 use Rattle.mdl_system.specs.Strength.{may_downgrade}
 use Rattle.mdl_calls.specs.declared.space_error.SpaceError.TheVariants.{NotHeld, NotUpgradable}
 use Rattle.mdl_calls.specs.Words.{Done, Downgrade, MayNotDowngrade}
 use Rattle.mdl_steps.specs.declared.deed.Deed.TheVariants.{Alter}
 use Rattle.mdl_steps.specs.declared.view.Met.{Met}
-use Rattle.mdl_steps.specs.declared.view.Own.{Own}
 use Rattle.mdl_visits.specs.Leavings.{MeetsOwn}
 use Rattle.mdl_visits.specs.Numbers.{numbered}
 use Rattle.mdl_visits.specs.Visits.{Does, IsStepOf}

@@ -12,7 +12,7 @@ use Rattle.mdl_visits.specs.Visits.{Does, IsStepOf}
 use Rattle.mdl_visits.proofs.Numbers.{has_number}
 use Rattle.mdl_shared.specs.Doings.{merge_deeds}
 use Rattle.mdl_shared.specs.Members.{without_at}
-use Rattle.mdl_shared.specs.Modes.{in_mode_at, may_merge, merge_fault}
+use Rattle.mdl_shared.specs.Modes.{in_mode_at, merge_fault}
 use Rattle.mdl_shared.proofs.ClearCalls.{merge-open, merge-unfit, merge-waits}
 use Rattle.mdl_shared.proofs.Faults.{just-clear}
 use Rattle.mdl_shared.proofs.SameSpace.{keeps-sees}
@@ -83,9 +83,14 @@ returns g c =
     × MeetsOwn kept.place m.worker.number n e × (e.deeds ≡ Alter old gone.mode ∷ Lose n ∷ [])) second step in
     rw (← c.self.view_is) (record {
       joined = joins-seen m m′ (Merge m.worker.number old new) Done
-          (merge-joins m m′ m.worker.number old (record { number = same.1; known = same.3; wait = keeps-sees m m′ did.wait }) same.2 did.reads (speaks m) new (Ok tt)
-          (kept, gone, one, other, did.folded ∙ ap (λ (n : ℕ). without_at kept.place gone.number (in_mode_at kept.place n gone.mode m.tickets.items)) first
-          ∙ ap (λ (n : ℕ). without_at kept.place n (in_mode_at kept.place old gone.mode m.tickets.items)) second) tt just);
+          (merge-joins m m′ m.worker.number old (record { number = same.1; known = same.3; wait = keeps-sees m m′ did.wait }) same.2 did.reads (speaks m) new (Ok tt) (
+            kept,
+            gone,
+            one,
+            other,
+            did.folded ∙ ap (λ (n : ℕ). without_at kept.place gone.number (in_mode_at kept.place n gone.mode m.tickets.items)) first
+                ∙ ap (λ (n : ℕ). without_at kept.place n (in_mode_at kept.place old gone.mode m.tickets.items)) second,
+          ) tt just);
       shown = shows-seen m m′ (Merge m.worker.number old new) Done
           (merge-shows m m′ same.0 did.wait.2 m.worker.number old new (Ok tt) did.wait.3 just did.settles
           (subst (λ (ds : List Deed). Does ds m.worker.seat.me m′.worker.seat.me) deeds did.did)

@@ -1,15 +1,12 @@
 -- A read, by what the session keeps of its own, is one by its value.
-use Rattle.std.proofs.Common.{◌≡◌, ℕ, true, false, Bool, Option, Some, None, Ok, Err, is_some, if◌then◌else◌, refl, sym, ap, subst, ◌∙◌}
+use Rattle.std.proofs.Common.{◌≡◌, ℕ, false, Option, Some, None, Ok, Err, is_some, if◌then◌else◌, refl, sym, ap, subst, ◌∙◌}
 use Rattle.mdl_defs.specs.declared.standing.Standing.{Standing}
-use Rattle.mdl_calls.specs.declared.space_error.SpaceError.{SpaceError}
 use Rattle.mdl_calls.specs.declared.space_error.SpaceError.TheVariants.{NotHeld, OutOfMemory}
 use Rattle.mdl_calls.specs.Words.{Read_definition, read}
-use Rattle.mdl_steps.specs.declared.view.Met.{Met}
 use Rattle.mdl_steps.specs.declared.view.Own.{Own}
 use Rattle.mdl_steps.specs.Plays.{noting_version}
 use Rattle.mdl_visits.specs.Numbers.{numbered}
 use Rattle.mdl_visits.specs.Readings.{Follows, MeetsRead, ReadsThere}
-use Rattle.mdl_visits.specs.Visits.{IsStepOf}
 use Rattle.mdl_shared.specs.Members.{holding_fault}
 use Rattle.mdl_shared.proofs.ClearCalls.{one-ticket, refuses-clear, refuses-memory}
 use Rattle.mdl_shared.proofs.ReadCalls.{read-joins}
@@ -54,9 +51,15 @@ returns g c =
                 (λ u its. subst (λ (p : ℕ). Follows p s m.worker.seat.me)
                 (place ∙ ap (λ (o : Own). o.place) (one-ticket (numbered id m.tickets.items) t u held.1 its)) follows) tt refuses);
             shown = shows-seen m m′ (Read_definition who id) (read (Ok s))
-                (read-shows m m′ same.0 did.wait.2 who id (Ok s) did.wait.3 refuses did.settles did.did did.quiet
-                (t, held.1, (subst (λ (p : ℕ). Follows p s m.worker.seat.me) place follows, there,
-                (met.2.0, met.2.1, subst (λ (p : ℕ). MeetsRead p who id s met.2.0) place met.2.2))));
+                (read-shows m m′ same.0 did.wait.2 who id (Ok s) did.wait.3 refuses did.settles did.did did.quiet (
+                  t,
+                  held.1,
+                  (
+                    subst (λ (p : ℕ). Follows p s m.worker.seat.me) place follows,
+                    there,
+                    (met.2.0, met.2.1, subst (λ (p : ℕ). MeetsRead p who id s met.2.0) place met.2.2),
+                  ),
+                ));
           })
       | in-Err w ↦
           let refuses = refuses-memory Standing (holding_fault id m.tickets.items) OutOfMemory clear in
