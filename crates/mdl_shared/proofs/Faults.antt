@@ -60,6 +60,10 @@ pub just-clear : {T E : Type 0} (fault : Option E) (x : T) → fault ≡ None �
 just-clear None x e = refl
 just-clear (Some why) x e = cc
 
+pub refuses-clear : {T E : Type 0} (fault : Option E) (memory : E) (x : T) → fault ≡ None → Refuses fault memory (Ok x)
+refuses-clear None memory x e = tt
+refuses-clear (Some why) memory x e = cc
+
 -- nothing has to be so of one that isn't there
 pub if-clear : {E : Type 0} (P : E → Type 0) (fault : Option E) → fault ≡ None → IfSome fault P
 if-clear P None e = tt

@@ -7,6 +7,6 @@ use Rattle.mdl_script.proofs.asking.take_turn.Goals as goal
 
 pub returns-clause-answered : goal.returns-clause-answered
 returns-clause-answered g c =
-    answers-are {E = Unit {0}} space_of (λ s call answer t. Shows call answer s.member t.member) c.args.run.now.patience c.args.run.now.script.now
+    answers-are {E = Unit {0}} space_of (λ s call answer t. Shows call answer s t) c.args.run.now.patience c.args.run.now.script.now
     c.args.who c.args.asker.now c.work.new.space (Ok c.in_ok-answers.answers) c.requires.speaks c.requires.nothing
     c.in_ok-answers.ensures.nothing c.in_ok-answers.ensures.answered c.in_ok-answers.ensures.lines
