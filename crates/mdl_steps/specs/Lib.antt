@@ -11,6 +11,7 @@ pub mod Plays
 pub mod Rule
 pub mod RuleLaws
 pub mod Schemas
+pub mod SeatStates
 pub mod Seats
 pub mod WaitPlays
 pub mod WaitSeats

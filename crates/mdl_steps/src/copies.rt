@@ -7,7 +7,7 @@ ghost use Rattle.mdl_steps.specs.Seats.{rest};
 
 use crate::hand::book_in_hand;
 use crate::list_copies::ListCopies;
-use crate::worker::{Latched, LockTable, Worker};
+use crate::table_seat::{Latched, TableSeat};
 use mdl_book::{Book, Ticket};
 use mdl_defs::Standing;
 use mdl_key::Key;
@@ -40,42 +40,28 @@ impl Model for BookCopy {
     } };
 }
 
-impl Worker {
+impl TableSeat {
     /// Puts the lists of the book in hand behind others. Nothing else changes, and nothing at all where memory runs out.
-    pub fn copy_lists(
-        &mut self,
-        top: &LockTable,
-        latch: &Latched,
-        lists: &mut ListCopies,
-    ) -> Result<(), AllocError>
-        requires table { self.old.seat.table_id ≡ top.now.table_id }
-        requires carried { (book : BookView) × (self.old.seat.me.1 ≡ (latch.now.place, slot.Place book) ∷ rest self.old.seat.me.1) }
-        ensures seat { (self.new.seat.table_id ≡ self.old.seat.table_id) × (self.new.number ≡ self.old.number) }
-        ensures same { self.new.seat.me ≡ self.old.seat.me }
-        ensures added { (book : BookView) → self.old.seat.me.1 ≡ (latch.now.place, slot.Place book) ∷ rest self.old.seat.me.1
+    pub fn copy_lists(&mut self, latch: &Latched, lists: &mut ListCopies) -> Result<(), AllocError>
+        requires carried { (book : BookView) × (self.old.me.1 ≡ (latch.now.place, slot.Place book) ∷ rest self.old.me.1) }
+        ensures same { self.new ≡ self.old }
+        ensures added { (book : BookView) → self.old.me.1 ≡ (latch.now.place, slot.Place book) ∷ rest self.old.me.1
             → OnOk result (lists.new ≡ lists.old ++ queues_of book ∷ []) }
         ensures kept { OnErr result (lists.new ≡ lists.old) }
     {
-        let book = book_in_hand(&mut self.seat, top, latch.place);
+        let book = book_in_hand(&mut self.seat, &self.table.shared, latch.place);
         lists.make_room()?;
         lists.add(book)
     }
 
     /// The book in hand, copied. Nothing changes, also where memory runs out.
-    pub fn copy_book(
-        &mut self,
-        top: &LockTable,
-        latch: &Latched,
-        alloc: Global,
-    ) -> Result<BookCopy, AllocError>
-        requires table { self.old.seat.table_id ≡ top.now.table_id }
-        requires carried { (book : BookView) × (self.old.seat.me.1 ≡ (latch.now.place, slot.Place book) ∷ rest self.old.seat.me.1) }
-        ensures seat { (self.new.seat.table_id ≡ self.old.seat.table_id) × (self.new.number ≡ self.old.number) }
-        ensures same { self.new.seat.me ≡ self.old.seat.me }
-        ensures told { (book : BookView) → self.old.seat.me.1 ≡ (latch.now.place, slot.Place book) ∷ rest self.old.seat.me.1
+    pub fn copy_book(&mut self, latch: &Latched, alloc: Global) -> Result<BookCopy, AllocError>
+        requires carried { (book : BookView) × (self.old.me.1 ≡ (latch.now.place, slot.Place book) ∷ rest self.old.me.1) }
+        ensures same { self.new ≡ self.old }
+        ensures told { (book : BookView) → self.old.me.1 ≡ (latch.now.place, slot.Place book) ∷ rest self.old.me.1
             → IfOk result (λ copy. copy ≡ book) }
     {
-        let book = book_in_hand(&mut self.seat, top, latch.place);
+        let book = book_in_hand(&mut self.seat, &self.table.shared, latch.place);
         copied(alloc, book)
     }
 }

@@ -5,28 +5,30 @@ ghost use Rattle.mdl_steps.specs.declared.view.Held.{Held};
 ghost use Rattle.mdl_steps.specs.declared.view.Own.{Own};
 ghost use Rattle.mdl_word.specs.Words.{obtrusive_flag};
 ghost use Rattle.mdl_steps.specs.FastPlays.{met_word, missed_fast, granted_fast, released_fast, materialised, moved, numbered_else, with_granted, MayGrantFast, MayReleaseFast, MayMaterialise};
-ghost use Rattle.mdl_steps.specs.Seats.{IsSized, IsPlace, Holds, elsewhere};
+ghost use Rattle.mdl_steps.specs.Seats.{IsPlace, Holds, elsewhere};
 
 use crate::layout::lock_word;
 use crate::plays::{
     GrantFast, GrantingFast, Materialise, Materialising, ReadWordUnlatched, ReleaseFast,
     ReleasingFast,
 };
+use crate::table_seat::{Latched, TableSeat};
 use crate::view::Own;
-use crate::worker::{Latched, LockTable, Worker};
 use mdl_key::Mode;
 use mdl_word::Word;
 use std::marker::Brand;
 
-impl Worker {
+impl TableSeat {
     /// Reads the word of a place. The session needs no latch for it.
-    pub fn read_word_unlatched(&mut self, top: &LockTable, place: usize) -> Word
-        requires table { (self.old.seat.table_id ≡ top.now.table_id) × IsSized top.now.table_id }
-        requires place { IsPlace top.now.table_id place }
-        ensures seat { (self.new.seat.table_id ≡ self.old.seat.table_id) × (self.new.number ≡ self.old.number) }
-        ensures made { self.new.seat.me ≡ met_word place result.0 self.old.seat.me }
+    pub fn read_word_unlatched(&mut self, place: usize) -> Word
+        requires place { IsPlace self.old.table place }
+        ensures made { self.new ≡ record self.old { me = met_word place result.0 self.old.me } }
     {
-        Word(top.load::<ReadWordUnlatched>(&mut self.seat, lock_word(place)))
+        Word(
+            self.table
+                .shared
+                .load::<ReadWordUnlatched>(&mut self.seat, lock_word(place)),
+        )
     }
 
     /// A fast grant: if the place's word is still `word`, the session gets a fast ticket with its next number, and the word counts it from then
@@ -35,75 +37,67 @@ impl Worker {
     /// `one` is what [`Word::increment`] returns for the mode. `noted` is the version that the session noted under a ticket of the place, if it noted one.
     pub fn grant_fast(
         &mut self,
-        top: &LockTable,
         place: usize,
         mode: Mode,
         noted: Option<u64>,
         word: Word,
         one: u64,
     ) -> Word
-        requires table { (self.old.seat.table_id ≡ top.now.table_id) × IsSized top.now.table_id }
-        requires place { IsPlace top.now.table_id place }
+        requires place { IsPlace self.old.table place }
         requires down { obtrusive_flag word.0 ≡ false }
-        requires gained { MayGrantFast place mode noted one self.old.seat.me }
-        ensures seat { (self.new.seat.table_id ≡ self.old.seat.table_id) × (self.new.number ≡ self.old.number) }
-        ensures gained { result.0 ≡ word.0 → self.new.seat.me ≡ granted_fast place mode noted result.0 self.old.seat.me }
-        ensures missed { result.0 ≢ word.0 → self.new.seat.me ≡ missed_fast place result.0 self.old.seat.me }
+        requires gained { MayGrantFast place mode noted one self.old.me }
+        ensures gained { result.0 ≡ word.0 → self.new ≡ record self.old { me = granted_fast place mode noted result.0 self.old.me } }
+        ensures missed { result.0 ≢ word.0 → self.new ≡ record self.old { me = missed_fast place result.0 self.old.me } }
     {
-        self.grant_fast_as::<Brand>(top, place, mode, noted, word, one)
+        self.grant_fast_as::<Brand>(place, mode, noted, word, one)
     }
 
     fn grant_fast_as<J: GrantingFast>(
         &mut self,
-        top: &LockTable,
         place: usize,
         _mode: Mode,
         _noted: Option<u64>,
         word: Word,
         one: u64,
     ) -> Word
-        requires table { (self.old.seat.table_id ≡ top.now.table_id) × IsSized top.now.table_id }
-        requires place { IsPlace top.now.table_id place }
+        requires place { IsPlace self.old.table place }
         requires down { obtrusive_flag word.0 ≡ false }
-        requires gained { MayGrantFast place _mode _noted one self.old.seat.me }
+        requires gained { MayGrantFast place _mode _noted one self.old.me }
         requires picked { (_mode ≡ J.mode) × (_noted ≡ J.noted) }
-        ensures seat { (self.new.seat.table_id ≡ self.old.seat.table_id) × (self.new.number ≡ self.old.number) }
-        ensures gained { result.0 ≡ word.0 → self.new.seat.me ≡ granted_fast place _mode _noted result.0 self.old.seat.me }
-        ensures missed { result.0 ≢ word.0 → self.new.seat.me ≡ missed_fast place result.0 self.old.seat.me }
+        ensures gained { result.0 ≡ word.0 → self.new ≡ record self.old { me = granted_fast place _mode _noted result.0 self.old.me } }
+        ensures missed { result.0 ≢ word.0 → self.new ≡ record self.old { me = missed_fast place result.0 self.old.me } }
     {
         let more = word.0.wrapping_add(one);
-        Word(top.compare_exchange::<GrantFast<J>>(&mut self.seat, lock_word(place), word.0, more))
+        Word(
+            self.table
+                .shared
+                .compare_exchange::<GrantFast<J>>(&mut self.seat, lock_word(place), word.0, more),
+        )
     }
 
     /// A fast release: the session loses the fast ticket with this number, and the word no longer counts it. Returns the word that the
     /// subtraction found: if its flag [`Word::SLOW`] is up, waiters at the place may have become grantable.
     ///
     /// `one` is what [`Word::increment`] returns for the ticket's mode.
-    pub fn release_fast(&mut self, top: &LockTable, place: usize, number: u64, one: u64) -> Word
-        requires table { (self.old.seat.table_id ≡ top.now.table_id) × IsSized top.now.table_id }
-        requires place { IsPlace top.now.table_id place }
-        requires lost { MayReleaseFast place number one self.old.seat.me }
-        ensures seat { (self.new.seat.table_id ≡ self.old.seat.table_id) × (self.new.number ≡ self.old.number) }
-        ensures made { self.new.seat.me ≡ released_fast place number result.0 self.old.seat.me }
+    pub fn release_fast(&mut self, place: usize, number: u64, one: u64) -> Word
+        requires place { IsPlace self.old.table place }
+        requires lost { MayReleaseFast place number one self.old.me }
+        ensures made { self.new ≡ record self.old { me = released_fast place number result.0 self.old.me } }
     {
-        self.release_fast_as::<Brand>(top, place, number, one)
+        self.release_fast_as::<Brand>(place, number, one)
     }
 
-    fn release_fast_as<J: ReleasingFast>(
-        &mut self,
-        top: &LockTable,
-        place: usize,
-        _number: u64,
-        one: u64,
-    ) -> Word
-        requires table { (self.old.seat.table_id ≡ top.now.table_id) × IsSized top.now.table_id }
-        requires place { IsPlace top.now.table_id place }
-        requires lost { MayReleaseFast place _number one self.old.seat.me }
+    fn release_fast_as<J: ReleasingFast>(&mut self, place: usize, _number: u64, one: u64) -> Word
+        requires place { IsPlace self.old.table place }
+        requires lost { MayReleaseFast place _number one self.old.me }
         requires picked { _number ≡ J.number }
-        ensures seat { (self.new.seat.table_id ≡ self.old.seat.table_id) × (self.new.number ≡ self.old.number) }
-        ensures made { self.new.seat.me ≡ released_fast place _number result.0 self.old.seat.me }
+        ensures made { self.new ≡ record self.old { me = released_fast place _number result.0 self.old.me } }
     {
-        Word(top.fetch_sub::<ReleaseFast<J>>(&mut self.seat, lock_word(place), one))
+        Word(
+            self.table
+                .shared
+                .fetch_sub::<ReleaseFast<J>>(&mut self.seat, lock_word(place), one),
+        )
     }
 
     /// Makes the session's fast tickets at the place slow ones: the word no longer counts them, and the latch's record has them granted in the
@@ -111,44 +105,34 @@ impl Worker {
     ///
     /// Of `tickets`, all that the session has, just those with the numbers `left` are fast afterwards. `weight` is the sum of the increments of
     /// the tickets at the place.
-    pub fn materialise(
-        &mut self,
-        top: &LockTable,
-        latch: &Latched,
-        tickets: &[Own],
-        left: &[u64],
-        weight: u64,
-    )
-        requires table { (self.old.seat.table_id ≡ top.now.table_id) × IsSized top.now.table_id }
-        requires place { IsPlace top.now.table_id latch.now.place }
-        requires moved { (h : Held) × MayMaterialise latch.now.place (numbered_else left.now tickets.now) weight h self.old.seat.me }
-        ensures seat { (self.new.seat.table_id ≡ self.old.seat.table_id) × (self.new.number ≡ self.old.number) }
-        ensures made { (found : ℕ) × (self.new.seat.me ≡ materialised latch.now.place (numbered_else left.now tickets.now) found self.old.seat.me) }
-        ensures keeps { (h : Held) (book : BookView) → Holds latch.now.place h book self.old.seat.me
-            → Holds latch.now.place (with_granted (moved latch.now.place self.old.seat.me.0) h) book self.new.seat.me }
-        ensures apart { elsewhere latch.now.place self.new.seat.me ≡ elsewhere latch.now.place self.old.seat.me }
+    pub fn materialise(&mut self, latch: &Latched, tickets: &[Own], left: &[u64], weight: u64)
+        requires place { IsPlace self.old.table latch.now.place }
+        requires moved { (h : Held) × MayMaterialise latch.now.place (numbered_else left.now tickets.now) weight h self.old.me }
+        ensures made { (found : ℕ) × (self.new ≡ record self.old { me = materialised latch.now.place (numbered_else left.now tickets.now) found self.old.me }) }
+        ensures keeps { (h : Held) (book : BookView) → Holds latch.now.place h book self.old.me
+            → Holds latch.now.place (with_granted (moved latch.now.place self.old.me.0) h) book self.new.me }
+        ensures apart { elsewhere latch.now.place self.new.me ≡ elsewhere latch.now.place self.old.me }
     {
-        self.materialise_as::<Brand>(top, latch, tickets, left, weight);
+        self.materialise_as::<Brand>(latch, tickets, left, weight);
     }
 
     fn materialise_as<J: Materialising>(
         &mut self,
-        top: &LockTable,
         latch: &Latched,
         _tickets: &[Own],
         _left: &[u64],
         weight: u64,
     )
-        requires table { (self.old.seat.table_id ≡ top.now.table_id) × IsSized top.now.table_id }
-        requires place { IsPlace top.now.table_id latch.now.place }
-        requires moved { (h : Held) × MayMaterialise latch.now.place (numbered_else _left.now _tickets.now) weight h self.old.seat.me }
+        requires place { IsPlace self.old.table latch.now.place }
+        requires moved { (h : Held) × MayMaterialise latch.now.place (numbered_else _left.now _tickets.now) weight h self.old.me }
         requires picked { (numbered_else _left.now _tickets.now) ≡ J.slow }
-        ensures seat { (self.new.seat.table_id ≡ self.old.seat.table_id) × (self.new.number ≡ self.old.number) }
-        ensures made { (found : ℕ) × (self.new.seat.me ≡ materialised latch.now.place (numbered_else _left.now _tickets.now) found self.old.seat.me) }
-        ensures keeps { (h : Held) (book : BookView) → Holds latch.now.place h book self.old.seat.me
-            → Holds latch.now.place (with_granted (moved latch.now.place self.old.seat.me.0) h) book self.new.seat.me }
-        ensures apart { elsewhere latch.now.place self.new.seat.me ≡ elsewhere latch.now.place self.old.seat.me }
+        ensures made { (found : ℕ) × (self.new ≡ record self.old { me = materialised latch.now.place (numbered_else _left.now _tickets.now) found self.old.me }) }
+        ensures keeps { (h : Held) (book : BookView) → Holds latch.now.place h book self.old.me
+            → Holds latch.now.place (with_granted (moved latch.now.place self.old.me.0) h) book self.new.me }
+        ensures apart { elsewhere latch.now.place self.new.me ≡ elsewhere latch.now.place self.old.me }
     {
-        top.fetch_sub::<Materialise<J>>(&mut self.seat, lock_word(latch.place), weight);
+        self.table
+            .shared
+            .fetch_sub::<Materialise<J>>(&mut self.seat, lock_word(latch.place), weight);
     }
 }

@@ -7,7 +7,7 @@ ghost use Rattle.mdl_steps.specs.declared.view.Keys.{Keys};
 ghost use Rattle.mdl_steps.specs.InHand.{LendsBook, LendsDirectory};
 ghost use Rattle.mdl_steps.specs.Seats.{rest};
 
-use crate::worker::LockTable;
+use crate::table_seat::LockTable;
 use crate::{Directory, Slot, View};
 use atomic_table::Seat;
 use mdl_book::Book;
@@ -18,7 +18,7 @@ pub(crate) fn book_in_hand<'a>(
     top: &'a LockTable,
     place: usize,
 ) -> &'a mut Book
-    requires table { seat.old.table_id ≡ top.now.table_id }
+    requires there { seat.old.table_id ≡ top.now.table_id }
     requires carried { (book : BookView) × (seat.old.me.1 ≡ (place, slot.Place book) ∷ rest seat.old.me.1) }
     ensures* writes_back { sem 𝓛 (LendsBook place seat.entry result) }
     ensures value { seat.old.me.1 ≡ (place, slot.Place result.now) ∷ rest seat.old.me.1 }
@@ -34,7 +34,7 @@ pub(crate) fn directory_in_hand<'a>(
     seat: &'a mut Seat<Slot, View>,
     top: &'a LockTable,
 ) -> &'a mut Directory
-    requires table { seat.old.table_id ≡ top.now.table_id }
+    requires there { seat.old.table_id ≡ top.now.table_id }
     requires carried { (k : Keys) × (seat.old.me.1 ≡ (0, slot.Directory k) ∷ rest seat.old.me.1) }
     ensures* writes_back { sem 𝓛 (LendsDirectory seat.entry result) }
     ensures value { seat.old.me.1 ≡ (0, slot.Directory result.now) ∷ rest seat.old.me.1 }

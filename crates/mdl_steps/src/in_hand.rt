@@ -13,173 +13,143 @@ ghost use Rattle.mdl_steps.specs.Deeds.{booked};
 ghost use Rattle.mdl_steps.specs.Seats.{rest, written};
 
 use crate::hand::book_in_hand;
-use crate::worker::{Latched, LockTable, Worker};
+use crate::table_seat::{Latched, TableSeat};
 use mdl_book::{BookError, Needs, Ticket};
 use mdl_defs::{Change, ChangeError, Standing};
 use mdl_key::Mode;
 use mdl_word::Word;
 use std::alloc::AllocError;
 
-impl Worker {
+impl TableSeat {
     /// Which flags of the place's word the lists of the book in hand need. Nothing changes.
-    pub fn needs(&mut self, top: &LockTable, latch: &Latched) -> Needs
-        requires table { self.old.seat.table_id ≡ top.now.table_id }
-        requires carried { (book : BookView) × (self.old.seat.me.1 ≡ (latch.now.place, slot.Place book) ∷ rest self.old.seat.me.1) }
-        ensures seat { (self.new.seat.table_id ≡ self.old.seat.table_id) × (self.new.number ≡ self.old.number) }
-        ensures same { self.new.seat.me ≡ self.old.seat.me }
-        ensures told { (book : BookView) → self.old.seat.me.1 ≡ (latch.now.place, slot.Place book) ∷ rest self.old.seat.me.1
+    pub fn needs(&mut self, latch: &Latched) -> Needs
+        requires carried { (book : BookView) × (self.old.me.1 ≡ (latch.now.place, slot.Place book) ∷ rest self.old.me.1) }
+        ensures same { self.new ≡ self.old }
+        ensures told { (book : BookView) → self.old.me.1 ≡ (latch.now.place, slot.Place book) ∷ rest self.old.me.1
             → (result.obtrusive ≡ has_obtrusive book) × (result.slow ≡ has_tickets book) }
     {
-        let book = book_in_hand(&mut self.seat, top, latch.place);
+        let book = book_in_hand(&mut self.seat, &self.table.shared, latch.place);
         book.needs()
     }
 
     /// Whether the book in hand lets the session's wish for a mode be granted, the place's word being `word`. All fast tickets that the
     /// word counts are taken for those of other sessions. Nothing changes.
-    pub fn can_grant(&mut self, top: &LockTable, latch: &Latched, mode: Mode, word: Word) -> bool
-        requires table { self.old.seat.table_id ≡ top.now.table_id }
-        requires carried { (book : BookView) × (self.old.seat.me.1 ≡ (latch.now.place, slot.Place book) ∷ rest self.old.seat.me.1) }
-        ensures seat { (self.new.seat.table_id ≡ self.old.seat.table_id) × (self.new.number ≡ self.old.number) }
-        ensures same { self.new.seat.me ≡ self.old.seat.me }
-        ensures told { (book : BookView) → self.old.seat.me.1 ≡ (latch.now.place, slot.Place book) ∷ rest self.old.seat.me.1
-            → result ≡ can_be_granted (lock_kind book) book.granted book.waiting word.0 self.old.number mode }
+    pub fn can_grant(&mut self, latch: &Latched, mode: Mode, word: Word) -> bool
+        requires carried { (book : BookView) × (self.old.me.1 ≡ (latch.now.place, slot.Place book) ∷ rest self.old.me.1) }
+        ensures same { self.new ≡ self.old }
+        ensures told { (book : BookView) → self.old.me.1 ≡ (latch.now.place, slot.Place book) ∷ rest self.old.me.1
+            → result ≡ can_be_granted (lock_kind book) book.granted book.waiting word.0 self.old.me.0.number mode }
     {
         let session = self.number;
-        let book = book_in_hand(&mut self.seat, top, latch.place);
+        let book = book_in_hand(&mut self.seat, &self.table.shared, latch.place);
         book.can_grant(session, mode, word)
     }
 
     /// The version of the definition in the book in hand. Nothing changes.
-    pub fn version(&mut self, top: &LockTable, latch: &Latched) -> u64
-        requires table { self.old.seat.table_id ≡ top.now.table_id }
-        requires carried { (book : BookView) × (self.old.seat.me.1 ≡ (latch.now.place, slot.Place book) ∷ rest self.old.seat.me.1) }
-        ensures seat { (self.new.seat.table_id ≡ self.old.seat.table_id) × (self.new.number ≡ self.old.number) }
-        ensures same { self.new.seat.me ≡ self.old.seat.me }
-        ensures told { (book : BookView) → self.old.seat.me.1 ≡ (latch.now.place, slot.Place book) ∷ rest self.old.seat.me.1
+    pub fn version(&mut self, latch: &Latched) -> u64
+        requires carried { (book : BookView) × (self.old.me.1 ≡ (latch.now.place, slot.Place book) ∷ rest self.old.me.1) }
+        ensures same { self.new ≡ self.old }
+        ensures told { (book : BookView) → self.old.me.1 ≡ (latch.now.place, slot.Place book) ∷ rest self.old.me.1
             → result ≡ book.standing.version }
     {
-        let book = book_in_hand(&mut self.seat, top, latch.place);
+        let book = book_in_hand(&mut self.seat, &self.table.shared, latch.place);
         book.version()
     }
 
     /// Whether the book in hand has a definition. Nothing changes.
-    pub fn has_definition(&mut self, top: &LockTable, latch: &Latched) -> bool
-        requires table { self.old.seat.table_id ≡ top.now.table_id }
-        requires carried { (book : BookView) × (self.old.seat.me.1 ≡ (latch.now.place, slot.Place book) ∷ rest self.old.seat.me.1) }
-        ensures seat { (self.new.seat.table_id ≡ self.old.seat.table_id) × (self.new.number ≡ self.old.number) }
-        ensures same { self.new.seat.me ≡ self.old.seat.me }
-        ensures told { (book : BookView) → self.old.seat.me.1 ≡ (latch.now.place, slot.Place book) ∷ rest self.old.seat.me.1
+    pub fn has_definition(&mut self, latch: &Latched) -> bool
+        requires carried { (book : BookView) × (self.old.me.1 ≡ (latch.now.place, slot.Place book) ∷ rest self.old.me.1) }
+        ensures same { self.new ≡ self.old }
+        ensures told { (book : BookView) → self.old.me.1 ≡ (latch.now.place, slot.Place book) ∷ rest self.old.me.1
             → result ≡ is_some book.standing.definition }
     {
-        let book = book_in_hand(&mut self.seat, top, latch.place);
+        let book = book_in_hand(&mut self.seat, &self.table.shared, latch.place);
         book.definition().is_some()
     }
 
     /// The definition in the book in hand and its version, copied. Nothing changes, also if memory runs out.
-    pub fn standing(&mut self, top: &LockTable, latch: &Latched) -> Result<Standing, AllocError>
-        requires table { self.old.seat.table_id ≡ top.now.table_id }
-        requires carried { (book : BookView) × (self.old.seat.me.1 ≡ (latch.now.place, slot.Place book) ∷ rest self.old.seat.me.1) }
-        ensures seat { (self.new.seat.table_id ≡ self.old.seat.table_id) × (self.new.number ≡ self.old.number) }
-        ensures same { self.new.seat.me ≡ self.old.seat.me }
-        ensures told { (book : BookView) → self.old.seat.me.1 ≡ (latch.now.place, slot.Place book) ∷ rest self.old.seat.me.1
+    pub fn standing(&mut self, latch: &Latched) -> Result<Standing, AllocError>
+        requires carried { (book : BookView) × (self.old.me.1 ≡ (latch.now.place, slot.Place book) ∷ rest self.old.me.1) }
+        ensures same { self.new ≡ self.old }
+        ensures told { (book : BookView) → self.old.me.1 ≡ (latch.now.place, slot.Place book) ∷ rest self.old.me.1
             → IfOk result (λ standing. standing ≡ book.standing) }
     {
-        let book = book_in_hand(&mut self.seat, top, latch.place);
+        let book = book_in_hand(&mut self.seat, &self.table.shared, latch.place);
         book.read()
     }
 
     /// Writes a ticket of the session into the book in hand, the place's word being `word`. What waits doesn't count here.
     pub fn write_gain(
         &mut self,
-        top: &LockTable,
         latch: &Latched,
         number: u64,
         mode: Mode,
         word: Word,
     ) -> Result<(), BookError>
-        requires table { self.old.seat.table_id ≡ top.now.table_id }
-        requires carried { (book : BookView) × (self.old.seat.me.1 ≡ (latch.now.place, slot.Place book) ∷ rest self.old.seat.me.1) }
-        ensures seat { (self.new.seat.table_id ≡ self.old.seat.table_id) × (self.new.number ≡ self.old.number) }
-        ensures written { (book : BookView) → self.old.seat.me.1 ≡ (latch.now.place, slot.Place book) ∷ rest self.old.seat.me.1
-            → OnOk result (self.new.seat.me ≡ written latch.now.place (booked self.old.number (Gain number mode) book) self.old.seat.me) }
-        ensures unchanged { OnErr result (self.new.seat.me ≡ self.old.seat.me) }
-        ensures refused { (book : BookView) → self.old.seat.me.1 ≡ (latch.now.place, slot.Place book) ∷ rest self.old.seat.me.1
-            → Refuses (grant_fault (record { session = self.old.number; number = number; mode = mode }) word.0 book) BookError.OutOfMemory result }
+        requires carried { (book : BookView) × (self.old.me.1 ≡ (latch.now.place, slot.Place book) ∷ rest self.old.me.1) }
+        ensures written { (book : BookView) → self.old.me.1 ≡ (latch.now.place, slot.Place book) ∷ rest self.old.me.1
+            → OnOk result (self.new ≡ record self.old { me = written latch.now.place (booked self.old.me.0.number (Gain number mode) book) self.old.me }) }
+        ensures unchanged { OnErr result (self.new ≡ self.old) }
+        ensures refused { (book : BookView) → self.old.me.1 ≡ (latch.now.place, slot.Place book) ∷ rest self.old.me.1
+            → Refuses (grant_fault (record { session = self.old.me.0.number; number = number; mode = mode }) word.0 book) BookError.OutOfMemory result }
     {
         let ticket = Ticket {
             number,
             session: self.number,
             mode,
         };
-        let book = book_in_hand(&mut self.seat, top, latch.place);
+        let book = book_in_hand(&mut self.seat, &self.table.shared, latch.place);
         book.grant(ticket, word)
     }
 
     /// Writes another mode of a ticket of the session into the book in hand, the place's word being `word`. What waits doesn't count here.
     pub fn write_mode(
         &mut self,
-        top: &LockTable,
         latch: &Latched,
         number: u64,
         mode: Mode,
         word: Word,
     ) -> Result<(), BookError>
-        requires table { self.old.seat.table_id ≡ top.now.table_id }
-        requires carried { (book : BookView) × (self.old.seat.me.1 ≡ (latch.now.place, slot.Place book) ∷ rest self.old.seat.me.1) }
-        ensures seat { (self.new.seat.table_id ≡ self.old.seat.table_id) × (self.new.number ≡ self.old.number) }
-        ensures written { (book : BookView) → self.old.seat.me.1 ≡ (latch.now.place, slot.Place book) ∷ rest self.old.seat.me.1
-            → OnOk result (self.new.seat.me ≡ written latch.now.place (booked self.old.number (Alter number mode) book) self.old.seat.me) }
-        ensures unchanged { OnErr result (self.new.seat.me ≡ self.old.seat.me) }
-        ensures refused { (book : BookView) → self.old.seat.me.1 ≡ (latch.now.place, slot.Place book) ∷ rest self.old.seat.me.1
-            → RefusesJust (change_fault self.old.number number mode word.0 book) result }
+        requires carried { (book : BookView) × (self.old.me.1 ≡ (latch.now.place, slot.Place book) ∷ rest self.old.me.1) }
+        ensures written { (book : BookView) → self.old.me.1 ≡ (latch.now.place, slot.Place book) ∷ rest self.old.me.1
+            → OnOk result (self.new ≡ record self.old { me = written latch.now.place (booked self.old.me.0.number (Alter number mode) book) self.old.me }) }
+        ensures unchanged { OnErr result (self.new ≡ self.old) }
+        ensures refused { (book : BookView) → self.old.me.1 ≡ (latch.now.place, slot.Place book) ∷ rest self.old.me.1
+            → RefusesJust (change_fault self.old.me.0.number number mode word.0 book) result }
     {
         let session = self.number;
-        let book = book_in_hand(&mut self.seat, top, latch.place);
+        let book = book_in_hand(&mut self.seat, &self.table.shared, latch.place);
         book.set_mode(session, number, mode, word)
     }
 
     /// Takes a ticket of the session out of the book in hand.
-    pub fn write_loss(
-        &mut self,
-        top: &LockTable,
-        latch: &Latched,
-        number: u64,
-    ) -> Result<Ticket, BookError>
-        requires table { self.old.seat.table_id ≡ top.now.table_id }
-        requires carried { (book : BookView) × (self.old.seat.me.1 ≡ (latch.now.place, slot.Place book) ∷ rest self.old.seat.me.1) }
-        ensures seat { (self.new.seat.table_id ≡ self.old.seat.table_id) × (self.new.number ≡ self.old.number) }
-        ensures written { (book : BookView) → self.old.seat.me.1 ≡ (latch.now.place, slot.Place book) ∷ rest self.old.seat.me.1
-            → OnOk result (self.new.seat.me ≡ written latch.now.place (booked self.old.number (Lose number) book) self.old.seat.me) }
-        ensures unchanged { OnErr result (self.new.seat.me ≡ self.old.seat.me) }
-        ensures refused { (book : BookView) → self.old.seat.me.1 ≡ (latch.now.place, slot.Place book) ∷ rest self.old.seat.me.1
-            → result ≡ ok_or (ticket_of self.old.number number book.granted) BookError.NotHere }
+    pub fn write_loss(&mut self, latch: &Latched, number: u64) -> Result<Ticket, BookError>
+        requires carried { (book : BookView) × (self.old.me.1 ≡ (latch.now.place, slot.Place book) ∷ rest self.old.me.1) }
+        ensures written { (book : BookView) → self.old.me.1 ≡ (latch.now.place, slot.Place book) ∷ rest self.old.me.1
+            → OnOk result (self.new ≡ record self.old { me = written latch.now.place (booked self.old.me.0.number (Lose number) book) self.old.me }) }
+        ensures unchanged { OnErr result (self.new ≡ self.old) }
+        ensures refused { (book : BookView) → self.old.me.1 ≡ (latch.now.place, slot.Place book) ∷ rest self.old.me.1
+            → result ≡ ok_or (ticket_of self.old.me.0.number number book.granted) BookError.NotHere }
     {
         let session = self.number;
-        let book = book_in_hand(&mut self.seat, top, latch.place);
+        let book = book_in_hand(&mut self.seat, &self.table.shared, latch.place);
         book.remove(session, number)
     }
 
     /// Changes the definition in the book in hand, and returns its version, one greater than before. `Drop` takes no
-    /// memory. The version's word follows with [`Worker::write_version`].
-    pub fn write_change(
-        &mut self,
-        top: &LockTable,
-        latch: &Latched,
-        change: &Change,
-    ) -> Result<u64, ChangeError>
-        requires table { self.old.seat.table_id ≡ top.now.table_id }
-        requires carried { (book : BookView) × (self.old.seat.me.1 ≡ (latch.now.place, slot.Place book) ∷ rest self.old.seat.me.1) }
-        ensures seat { (self.new.seat.table_id ≡ self.old.seat.table_id) × (self.new.number ≡ self.old.number) }
-        ensures written { (book : BookView) → self.old.seat.me.1 ≡ (latch.now.place, slot.Place book) ∷ rest self.old.seat.me.1
-            → IfOk result (λ version. (self.new.seat.me ≡ written latch.now.place (redefining change.now book) self.old.seat.me)
+    /// memory. The version's word follows with [`TableSeat::write_version`].
+    pub fn write_change(&mut self, latch: &Latched, change: &Change) -> Result<u64, ChangeError>
+        requires carried { (book : BookView) × (self.old.me.1 ≡ (latch.now.place, slot.Place book) ∷ rest self.old.me.1) }
+        ensures written { (book : BookView) → self.old.me.1 ≡ (latch.now.place, slot.Place book) ∷ rest self.old.me.1
+            → IfOk result (λ version. (self.new ≡ record self.old { me = written latch.now.place (redefining change.now book) self.old.me })
             × (version ≡ (redefining change.now book).standing.version)) }
-        ensures unchanged { OnErr result (self.new.seat.me ≡ self.old.seat.me) }
-        ensures refused { (book : BookView) → self.old.seat.me.1 ≡ (latch.now.place, slot.Place book) ∷ rest self.old.seat.me.1
+        ensures unchanged { OnErr result (self.new ≡ self.old) }
+        ensures refused { (book : BookView) → self.old.me.1 ≡ (latch.now.place, slot.Place book) ∷ rest self.old.me.1
             → Refuses (standing_fault book.key.namespace change.now book.standing) ChangeError.OutOfMemory result }
-        ensures drop { (book : BookView) → self.old.seat.me.1 ≡ (latch.now.place, slot.Place book) ∷ rest self.old.seat.me.1
+        ensures drop { (book : BookView) → self.old.me.1 ≡ (latch.now.place, slot.Place book) ∷ rest self.old.me.1
             → change.now ≡ Change.Drop → RefusesJust (standing_fault book.key.namespace change.now book.standing) result }
     {
-        let book = book_in_hand(&mut self.seat, top, latch.place);
+        let book = book_in_hand(&mut self.seat, &self.table.shared, latch.place);
         book.redefine(change)
     }
 }

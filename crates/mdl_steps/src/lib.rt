@@ -1,15 +1,15 @@
 //! The shared lock table, as its steps see it: words that change one at a time, a slot for each place, what each session knows,
 //! and the rule that holds between any two steps.
 //!
-//! A [`Worker`] is a session's seat. Each kind of step is a method; others read and write the book or the directory in hand, which is
+//! A [`TableSeat`] is a session's seat. Each kind of step is a method; others read and write the book or the directory in hand, which is
 //! no step. The latch of a place is taken
-//! ([`Worker::take_latch`]), and its value, [`Latched`], has to be given back ([`Worker::put_latch`]);
-//! meanwhile the session may raise flags of the lock's word ([`Worker::raise_flags`]), read it ([`Worker::read_word`]), and lower
-//! flags ([`Worker::lower_flags`]). Each keeps the rule ([`Order`]) in every interleaving of all sessions' steps, and is listed in
+//! ([`TableSeat::take_latch`]), and its value, [`Latched`], has to be given back ([`TableSeat::put_latch`]);
+//! meanwhile the session may raise flags of the lock's word ([`TableSeat::raise_flags`]), read it ([`TableSeat::read_word`]), and lower
+//! flags ([`TableSeat::lower_flags`]). Each keeps the rule ([`Order`]) in every interleaving of all sessions' steps, and is listed in
 //! the session's [`View`].
 //!
-//! A session waits by a word of its own, [`WaitWord`], and a ticket in a book's waiting list: [`Worker::open_wait`] opens the wait,
-//! another session grants it ([`Worker::grant_wait`]) or settles it as lost ([`Worker::settle_wait`]), and the session ends it.
+//! A session waits by a word of its own, [`WaitWord`], and a ticket in a book's waiting list: [`TableSeat::open_wait`] opens the wait,
+//! another session grants it ([`TableSeat::grant_wait`]) or settles it as lost ([`TableSeat::settle_wait`]), and the session ends it.
 //!
 //! What a session does to its own tickets under a latch is a list of [`Deed`]s. After MySQL 5.7, `MDL_lock` and `MDL_context` of
 //! `sql/mdl.cc`; the latch, the words and the views are this project's own.
@@ -18,19 +18,19 @@
 //!
 //! ```
 //! use mdl_steps::Maker;
+//! use std::sync::Arc;
 //!
 //! let (table, mut maker) = Maker::of_places(rt.alloc(), 3, 2)?; // places and sessions
-//! let top = &table.shared;
-//! let Some(mut session) = maker.enrol(top, table.slot_count()) else {
+//! let Some(mut seat) = maker.enrol(Arc::new(rt.alloc(), table)?) else {
 //!     panic!(rt; "there is room for two");
 //! };
-//! let Some(latch) = session.take_latch(top, 2) else {
+//! let Some(latch) = seat.take_latch(2) else {
 //!     panic!(rt; "nobody else is there");
 //! };
 //! // Nobody has a ticket there, so the word's flags may be down.
-//! let needs = session.needs(top, &latch);
+//! let needs = seat.needs(&latch);
 //! assert!(rt; !needs.slow && !needs.obtrusive);
-//! session.put_latch(top, latch, &[]);
+//! seat.put_latch(latch, &[]);
 //! ```
 #![tactic(auto)]
 
@@ -50,11 +50,11 @@ mod plays;
 mod schemas;
 mod slot;
 mod step_kind;
+mod table_seat;
 mod view;
 mod wait_word;
 mod waiting_in_hand;
 mod waits;
-mod worker;
 
 pub use copies::BookCopy;
 pub use deed::Deed;
@@ -69,6 +69,6 @@ pub use maker::{Maker, OwnedTable};
 pub use plays::Order;
 pub use slot::{Directory, Slot};
 pub use step_kind::StepKind;
+pub use table_seat::{Latched, LockTable, TableSeat};
 pub use view::{Ask, Held, Keys, Known, Met, Own, Read, Settlement, Spare, View};
 pub use wait_word::{Loss, WaitWord};
-pub use worker::{Latched, LockTable, Worker};

@@ -1,20 +1,21 @@
 //! Seats for the sessions.
+ghost use Rattle.std.specs.Arc.{arc_value};
 ghost use Rattle.std.specs.Prelude.{◌≡◌, ℕ, ◌+◌, ◌^◌, ◌<◌, ◌≤◌, [], length, IfOk, MatchOption};
-ghost use Rattle.mdl_steps.specs.declared.step_kind.StepKind.TheVariants as step;
-ghost use Rattle.mdl_steps.specs.Cells.{blank, numbers_for, no_numbers};
-ghost use Rattle.mdl_steps.specs.Layout.{enrol_word, word_count};
+ghost use Rattle.mdl_steps.specs.Cells.{blank, numbers_for};
+ghost use Rattle.mdl_steps.specs.Layout.{word_count};
 ghost use Rattle.mdl_steps.specs.Limits.{most_enrolled};
 ghost use Rattle.mdl_steps.specs.Openings.{IsOpening};
-ghost use Rattle.mdl_steps.specs.Plays.{logged};
+ghost use Rattle.mdl_steps.specs.SeatStates.{enrolled_seat};
 ghost use Rattle.mdl_steps.specs.Seats.{IsSized};
 
 use crate::layout::enrol_word;
 use crate::opening::{opening_slots, opening_words};
 use crate::plays::{Enrol, SplitOff};
-use crate::worker::{LockTable, Worker};
+use crate::table_seat::TableSeat;
 use crate::{Order, Slot, View};
 use atomic_table::{Refused, Seat, Table};
 use std::alloc::{AllocError, Global};
+use std::sync::Arc;
 
 /// The table, which owns its words and slots. Its field `shared` is what sessions see.
 pub type OwnedTable = Table<Slot, View, usize, Order, Global>;
@@ -28,6 +29,7 @@ pub struct Maker {
     ghost first: { seat.id ≡ 0 },
     ghost idle: { seat.me ≡ (blank 0 (numbers_for most given given), []) },
     ghost few: { (given ≤ most) × (most ≤ most_enrolled) },
+    ghost roomy: { (0 < seat.table_id.slots) × (word_count seat.table_id.slots most ≤ seat.table_id.words) },
 }
 
 impl Maker {
@@ -71,26 +73,25 @@ impl Maker {
         }
     }
 
-    /// A seat for one more session, unless all have theirs. Sessions have the numbers from 1 on, in turn. `slots` is how many slots
-    /// the table has.
-    pub fn enrol(&mut self, top: &LockTable, slots: usize) -> Option<Worker>
-        requires table { (self.old.seat.table_id ≡ top.now.table_id) × IsSized top.now.table_id }
-        requires slots { slots ≡ top.now.table_id.slots }
-        requires words { enrol_word slots < top.now.table_id.words }
-        ensures seat { (self.new.seat.table_id ≡ self.old.seat.table_id) × (self.new.most ≡ self.old.most) }
+    /// A seat at the table for one more session, unless all have theirs. Sessions have the numbers from 1 on, in turn.
+    pub fn enrol(&mut self, table: Arc<OwnedTable, Global>) -> Option<TableSeat>
+        requires mine { self.old.seat.table_id ≡ (arc_value table).shared.table_id }
+        requires sized { IsSized self.old.seat.table_id }
+        ensures same { (self.new.seat.table_id ≡ self.old.seat.table_id) × (self.new.most ≡ self.old.most) }
         ensures enrolled { MatchOption result
             ((self.old.given ≡ self.old.most) × (self.new.given ≡ self.old.given))
-            (λ worker. (self.old.given < self.old.most) × (self.new.given ≡ self.old.given + 1) × (worker.number ≡ self.old.given + 1)
-            × (worker.seat.table_id ≡ top.now.table_id)
-            × (worker.seat.me ≡ (logged step.Enrol [] (enrol_word slots) worker.number [] (blank worker.number no_numbers), []))) }
+            (λ seat. (self.old.given < self.old.most) × (self.new.given ≡ self.old.given + 1)
+            × (seat ≡ enrolled_seat self.old.seat.table_id (self.old.given + 1))) }
     {
         if self.given == self.most {
             return None;
         }
-        let number = top.fetch_add::<Enrol>(&mut self.seat, enrol_word(slots), 1);
-        let seat = top.split_seat::<SplitOff>(&mut self.seat);
+        let word = enrol_word(table.slot_count());
+        let number = table.shared.fetch_add::<Enrol>(&mut self.seat, word, 1);
+        let seat = table.shared.split_seat::<SplitOff>(&mut self.seat);
         self.given += 1;
-        Some(Worker {
+        Some(TableSeat {
+            table,
             number: number as u16,
             seat,
         })

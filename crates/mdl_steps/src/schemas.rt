@@ -7,7 +7,7 @@ ghost use Rattle.mdl_steps.specs.Seats.{rest};
 
 use crate::directory::LatchedDirectory;
 use crate::hand::directory_in_hand;
-use crate::worker::{LockTable, Worker};
+use crate::table_seat::TableSeat;
 use crate::{Directory, Known};
 use mdl_key::{Key, Namespace};
 use std::alloc::{AllocError, Global};
@@ -55,24 +55,21 @@ fn is_table_of(key: &Key, schema: &str) -> bool
     matches!(key.namespace(), Namespace::Table) && key.schema_name() == schema
 }
 
-impl Worker {
+impl TableSeat {
     /// The tables of a schema and their places by the directory in hand, in the order of the places. Nothing changes, also where memory
     /// runs out.
     pub fn tables_of(
         &mut self,
-        top: &LockTable,
         _latch: &LatchedDirectory,
         alloc: Global,
         schema: &str,
     ) -> Result<Vec<Known>, AllocError>
-        requires table { self.old.seat.table_id ≡ top.now.table_id }
-        requires carried { (k : Keys) × (self.old.seat.me.1 ≡ (0, slot.Directory k) ∷ rest self.old.seat.me.1) }
-        ensures seat { (self.new.seat.table_id ≡ self.old.seat.table_id) × (self.new.number ≡ self.old.number) }
-        ensures same { self.new.seat.me ≡ self.old.seat.me }
-        ensures told { (k : Keys) → self.old.seat.me.1 ≡ (0, slot.Directory k) ∷ rest self.old.seat.me.1
+        requires carried { (k : Keys) × (self.old.me.1 ≡ (0, slot.Directory k) ∷ rest self.old.me.1) }
+        ensures same { self.new ≡ self.old }
+        ensures told { (k : Keys) → self.old.me.1 ≡ (0, slot.Directory k) ∷ rest self.old.me.1
             → IfOk result (λ tables. tables.items ≡ tables_from schema.now 1 k.keys) }
     {
-        let directory = directory_in_hand(&mut self.seat, top);
+        let directory = directory_in_hand(&mut self.seat, &self.table.shared);
         directory.tables_of(alloc, schema)
     }
 }

@@ -9,22 +9,20 @@ ghost use Rattle.mdl_steps.specs.declared.slot.Slot.TheVariants as slot;
 ghost use Rattle.mdl_steps.specs.Seats.{rest, written};
 
 use crate::hand::book_in_hand;
-use crate::worker::{Latched, LockTable, Worker};
+use crate::table_seat::{Latched, TableSeat};
 use mdl_book::{BookError, Sessions, Ticket};
 use mdl_key::Mode;
 use mdl_word::Word;
 
-impl Worker {
+impl TableSeat {
     /// Whether a ticket waits by the book in hand. Nothing changes.
-    pub fn has_waiters(&mut self, top: &LockTable, latch: &Latched) -> bool
-        requires table { self.old.seat.table_id ≡ top.now.table_id }
-        requires carried { (book : BookView) × (self.old.seat.me.1 ≡ (latch.now.place, slot.Place book) ∷ rest self.old.seat.me.1) }
-        ensures seat { (self.new.seat.table_id ≡ self.old.seat.table_id) × (self.new.number ≡ self.old.number) }
-        ensures same { self.new.seat.me ≡ self.old.seat.me }
-        ensures told { (book : BookView) → self.old.seat.me.1 ≡ (latch.now.place, slot.Place book) ∷ rest self.old.seat.me.1
+    pub fn has_waiters(&mut self, latch: &Latched) -> bool
+        requires carried { (book : BookView) × (self.old.me.1 ≡ (latch.now.place, slot.Place book) ∷ rest self.old.me.1) }
+        ensures same { self.new ≡ self.old }
+        ensures told { (book : BookView) → self.old.me.1 ≡ (latch.now.place, slot.Place book) ∷ rest self.old.me.1
             → result ≡ nat_lt 0 (length book.waiting) }
     {
-        let book = book_in_hand(&mut self.seat, top, latch.place);
+        let book = book_in_hand(&mut self.seat, &self.table.shared, latch.place);
         !book.waiting().is_empty()
     }
 
@@ -32,37 +30,26 @@ impl Worker {
     /// `unsettled`, the place's word being `word`. Nothing changes.
     pub fn next_grantable(
         &mut self,
-        top: &LockTable,
         latch: &Latched,
         word: Word,
         unsettled: &Sessions,
     ) -> Option<(u16, u64)>
-        requires table { self.old.seat.table_id ≡ top.now.table_id }
-        requires carried { (book : BookView) × (self.old.seat.me.1 ≡ (latch.now.place, slot.Place book) ∷ rest self.old.seat.me.1) }
-        ensures seat { (self.new.seat.table_id ≡ self.old.seat.table_id) × (self.new.number ≡ self.old.number) }
-        ensures same { self.new.seat.me ≡ self.old.seat.me }
-        ensures told { (book : BookView) → self.old.seat.me.1 ≡ (latch.now.place, slot.Place book) ∷ rest self.old.seat.me.1
+        requires carried { (book : BookView) × (self.old.me.1 ≡ (latch.now.place, slot.Place book) ∷ rest self.old.me.1) }
+        ensures same { self.new ≡ self.old }
+        ensures told { (book : BookView) → self.old.me.1 ≡ (latch.now.place, slot.Place book) ∷ rest self.old.me.1
             → result ≡ option_map ticket_id (next_grantable word.0 unsettled.now book) }
     {
-        let book = book_in_hand(&mut self.seat, top, latch.place);
+        let book = book_in_hand(&mut self.seat, &self.table.shared, latch.place);
         book.next_grantable(word, unsettled)
     }
 
-    /// Writes a ticket of the session, which waits there last, into the book in hand. Its wait is opened with [`Worker::open_wait`].
-    pub fn write_wish(
-        &mut self,
-        top: &LockTable,
-        latch: &Latched,
-        number: u64,
-        mode: Mode,
-    ) -> Result<(), BookError>
-        requires table { self.old.seat.table_id ≡ top.now.table_id }
-        requires carried { (book : BookView) × (self.old.seat.me.1 ≡ (latch.now.place, slot.Place book) ∷ rest self.old.seat.me.1) }
-        ensures seat { (self.new.seat.table_id ≡ self.old.seat.table_id) × (self.new.number ≡ self.old.number) }
-        ensures written { (book : BookView) → self.old.seat.me.1 ≡ (latch.now.place, slot.Place book) ∷ rest self.old.seat.me.1
-            → OnOk result (self.new.seat.me ≡ written latch.now.place (enqueueing (record { session = self.old.number; number = number; mode = mode }) book) self.old.seat.me) }
-        ensures unchanged { OnErr result (self.new.seat.me ≡ self.old.seat.me) }
-        ensures refused { (book : BookView) → self.old.seat.me.1 ≡ (latch.now.place, slot.Place book) ∷ rest self.old.seat.me.1
+    /// Writes a ticket of the session, which waits there last, into the book in hand. Its wait is opened with [`TableSeat::open_wait`].
+    pub fn write_wish(&mut self, latch: &Latched, number: u64, mode: Mode) -> Result<(), BookError>
+        requires carried { (book : BookView) × (self.old.me.1 ≡ (latch.now.place, slot.Place book) ∷ rest self.old.me.1) }
+        ensures written { (book : BookView) → self.old.me.1 ≡ (latch.now.place, slot.Place book) ∷ rest self.old.me.1
+            → OnOk result (self.new ≡ record self.old { me = written latch.now.place (enqueueing (record { session = self.old.me.0.number; number = number; mode = mode }) book) self.old.me }) }
+        ensures unchanged { OnErr result (self.new ≡ self.old) }
+        ensures refused { (book : BookView) → self.old.me.1 ≡ (latch.now.place, slot.Place book) ∷ rest self.old.me.1
             → Refuses (full_fault (ticket_count book)) BookError.OutOfMemory result }
     {
         let ticket = Ticket {
@@ -70,50 +57,40 @@ impl Worker {
             session: self.number,
             mode,
         };
-        let book = book_in_hand(&mut self.seat, top, latch.place);
+        let book = book_in_hand(&mut self.seat, &self.table.shared, latch.place);
         book.enqueue(ticket)
     }
 
-    /// Writes a waiting ticket of a session as granted last into the book in hand. Its wait is granted with [`Worker::grant_wait`]. It
+    /// Writes a waiting ticket of a session as granted last into the book in hand. Its wait is granted with [`TableSeat::grant_wait`]. It
     /// takes no memory.
     pub fn write_admission(
         &mut self,
-        top: &LockTable,
         latch: &Latched,
         session: u16,
         number: u64,
     ) -> Result<Ticket, BookError>
-        requires table { self.old.seat.table_id ≡ top.now.table_id }
-        requires carried { (book : BookView) × (self.old.seat.me.1 ≡ (latch.now.place, slot.Place book) ∷ rest self.old.seat.me.1) }
-        ensures seat { (self.new.seat.table_id ≡ self.old.seat.table_id) × (self.new.number ≡ self.old.number) }
-        ensures written { (book : BookView) → self.old.seat.me.1 ≡ (latch.now.place, slot.Place book) ∷ rest self.old.seat.me.1
-            → OnOk result (self.new.seat.me ≡ written latch.now.place (admitting session number book) self.old.seat.me) }
-        ensures unchanged { OnErr result (self.new.seat.me ≡ self.old.seat.me) }
-        ensures refused { (book : BookView) → self.old.seat.me.1 ≡ (latch.now.place, slot.Place book) ∷ rest self.old.seat.me.1
+        requires carried { (book : BookView) × (self.old.me.1 ≡ (latch.now.place, slot.Place book) ∷ rest self.old.me.1) }
+        ensures written { (book : BookView) → self.old.me.1 ≡ (latch.now.place, slot.Place book) ∷ rest self.old.me.1
+            → OnOk result (self.new ≡ record self.old { me = written latch.now.place (admitting session number book) self.old.me }) }
+        ensures unchanged { OnErr result (self.new ≡ self.old) }
+        ensures refused { (book : BookView) → self.old.me.1 ≡ (latch.now.place, slot.Place book) ∷ rest self.old.me.1
             → result ≡ ok_or (ticket_of session number book.waiting) BookError.NotHere }
     {
-        let book = book_in_hand(&mut self.seat, top, latch.place);
+        let book = book_in_hand(&mut self.seat, &self.table.shared, latch.place);
         book.admit(session, number)
     }
 
-    /// Takes a waiting ticket of the session out of the book in hand. Its wait is ended with [`Worker::end_lost`]. It takes no memory.
-    pub fn write_withdrawal(
-        &mut self,
-        top: &LockTable,
-        latch: &Latched,
-        number: u64,
-    ) -> Result<Ticket, BookError>
-        requires table { self.old.seat.table_id ≡ top.now.table_id }
-        requires carried { (book : BookView) × (self.old.seat.me.1 ≡ (latch.now.place, slot.Place book) ∷ rest self.old.seat.me.1) }
-        ensures seat { (self.new.seat.table_id ≡ self.old.seat.table_id) × (self.new.number ≡ self.old.number) }
-        ensures written { (book : BookView) → self.old.seat.me.1 ≡ (latch.now.place, slot.Place book) ∷ rest self.old.seat.me.1
-            → OnOk result (self.new.seat.me ≡ written latch.now.place (cancelling self.old.number number book) self.old.seat.me) }
-        ensures unchanged { OnErr result (self.new.seat.me ≡ self.old.seat.me) }
-        ensures refused { (book : BookView) → self.old.seat.me.1 ≡ (latch.now.place, slot.Place book) ∷ rest self.old.seat.me.1
-            → result ≡ ok_or (ticket_of self.old.number number book.waiting) BookError.NotHere }
+    /// Takes a waiting ticket of the session out of the book in hand. Its wait is ended with [`TableSeat::end_lost`]. It takes no memory.
+    pub fn write_withdrawal(&mut self, latch: &Latched, number: u64) -> Result<Ticket, BookError>
+        requires carried { (book : BookView) × (self.old.me.1 ≡ (latch.now.place, slot.Place book) ∷ rest self.old.me.1) }
+        ensures written { (book : BookView) → self.old.me.1 ≡ (latch.now.place, slot.Place book) ∷ rest self.old.me.1
+            → OnOk result (self.new ≡ record self.old { me = written latch.now.place (cancelling self.old.me.0.number number book) self.old.me }) }
+        ensures unchanged { OnErr result (self.new ≡ self.old) }
+        ensures refused { (book : BookView) → self.old.me.1 ≡ (latch.now.place, slot.Place book) ∷ rest self.old.me.1
+            → result ≡ ok_or (ticket_of self.old.me.0.number number book.waiting) BookError.NotHere }
     {
         let session = self.number;
-        let book = book_in_hand(&mut self.seat, top, latch.place);
+        let book = book_in_hand(&mut self.seat, &self.table.shared, latch.place);
         book.cancel(session, number)
     }
 }

@@ -21,7 +21,7 @@ use Rattle.mdl_graph.specs.WaitsFor.{SessionTest, is_tied, is_unsettled, waits_a
 use Rattle.mdl_graph.proofs.CycleLaws.{chosen_same}
 use Rattle.mdl_steps.specs.Copies.{Queues, no_queues, queues_of}
 use Rattle.mdl_visits.specs.declared.audited.Audited.{Audited}
-use Rattle.mdl_visits.specs.declared.hearing.Heard.{Heard}
+use Rattle.mdl_visits.specs.declared.waits_read.WaitRead.{WaitRead}
 use Rattle.mdl_visits.specs.Searches.{AreQueuesOf, books_of, if_waited, settled_by}
 use Rattle.mdl_visits.proofs.WayOut.{nobody_waits}
 
@@ -31,19 +31,19 @@ pub none_settled : (settled : set.FinSet nat_cmp) → settled ≡ set.empty → 
 none_settled settled none session = ap (λ (s : set.FinSet nat_cmp). set.contains s session) none ∙ set.contains-empty nat_cmp session
 
 -- a word more tells of its session alone
-one_more : (words : List Heard) (h : Heard) (session : ℕ)
+one_more : (words : List WaitRead) (h : WaitRead) (session : ℕ)
     → settled_by (words ++ h ∷ []) session ≡ (settled_by words session || (h.session == session && not (h.word.0 % 8 == 1)))
 one_more words h session =
     let one = h.session == session && not (h.word.0 % 8 == 1) in
     let all : settled_by (words ++ h ∷ []) session ≡ (settled_by words session || (one || false)) =
-    list_any-append (λ (x : Heard). x.session == session && not (x.word.0 % 8 == 1)) words (h ∷ []) in
+    list_any-append (λ (x : WaitRead). x.session == session && not (x.word.0 % 8 == 1)) words (h ∷ []) in
     all ∙ ap (λ (b : Bool). settled_by words session || b) (or_false one)
   where
     or_false : (b : Bool) → (b || false) ≡ b
     or_false true = refl
     or_false false = refl
 
-module _ (old : set.FinSet nat_cmp) (words : List Heard) (h : Heard) (before : (session : ℕ) → set.contains old session ≡ settled_by words session) where
+module _ (old : set.FinSet nat_cmp) (words : List WaitRead) (h : WaitRead) (before : (session : ℕ) → set.contains old session ≡ settled_by words session) where
   pub put_settled : (new : set.FinSet nat_cmp) → new ≡ set.insert old h.session → (h.word.0 % 8 == 1) ≡ false
       → (session : ℕ) → set.contains new session ≡ settled_by (words ++ h ∷ []) session
   put_settled new put closed session =

@@ -1,3 +1,4 @@
+pub mod Seats
 pub mod Visiting
 pub mod Altering
 pub mod Trying

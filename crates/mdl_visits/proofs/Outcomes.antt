@@ -20,7 +20,7 @@ use Rattle.mdl_steps.specs.Plays.{Mine}
 use Rattle.mdl_steps.specs.WaitPlays.{TellsOwn, meeting, missed_wait, settled_lost, wait_in}
 use Rattle.mdl_steps.proofs.Views.{by_bool, other}
 use Rattle.mdl_visits.specs.declared.audited.Audited.{Audited}
-use Rattle.mdl_visits.specs.declared.hearing.Heard.{Heard}
+use Rattle.mdl_visits.specs.declared.waits_read.WaitRead.{WaitRead}
 use Rattle.mdl_visits.specs.Grantings.{StaysTold}
 use Rattle.mdl_visits.specs.Polls.{SettlesNothing}
 use Rattle.mdl_visits.specs.Searches.{AreOfAll, Fells, Hears, IsOutcome, Judges, KnowsFall, Misses, WasHeard, WasOther, books_of, heard_of, if_waited, settled_by}
@@ -92,7 +92,7 @@ hears_settling slots session number found m m′ own settled missed =
 
 -- ---- another word was met
 
-pub other_met : (slots found : ℕ) (h : Heard) (m m′ : Mine) → m′ ≡ missed_wait slots h.session found m → found ≢ h.word.0 → SettlesNothing m m′ × WasOther slots m m′ h
+pub other_met : (slots found : ℕ) (h : WaitRead) (m m′ : Mine) → m′ ≡ missed_wait slots h.session found m → found ≢ h.word.0 → SettlesNothing m m′ × WasOther slots m m′ h
 other_met slots found h m m′ missed differs =
     let e : Met = record { kind = MissWait; deeds = []; word = wait_word slots h.session; found = found; held = m.0.latches; directory = m.0.directory } in (
       ap (λ (x : Mine). x.0.settles) missed,
@@ -100,12 +100,12 @@ other_met slots found h m m′ missed differs =
     )
 
 -- of a session of which no word was heard before the next one
-module _ (session : ℕ) (words : List Heard) (i : ℕ) (d : Heard) (inside : i < length words) (none : heard_of session (take i words) ≡ None) where
-  with_next : (o : Option Heard) → heard_of session (get_or words i d ∷ []) ≡ o → heard_of session (take (i + 1) words) ≡ o
+module _ (session : ℕ) (words : List WaitRead) (i : ℕ) (d : WaitRead) (inside : i < length words) (none : heard_of session (take i words) ≡ None) where
+  with_next : (o : Option WaitRead) → heard_of session (get_or words i d ∷ []) ≡ o → heard_of session (take (i + 1) words) ≡ o
   with_next o next =
       ap (heard_of session) (take_more words i d inside)
-      ∙ find-append (λ (x : Heard). x.session == session) (take i words) (get_or words i d ∷ [])
-      ∙ ap (λ (before : Option Heard). option_or before (heard_of session (get_or words i d ∷ []))) none
+      ∙ find-append (λ (x : WaitRead). x.session == session) (take i words) (get_or words i d ∷ [])
+      ∙ ap (λ (before : Option WaitRead). option_or before (heard_of session (get_or words i d ∷ []))) none
       ∙ next
 
   pub none_still : (get_or words i d).session ≢ session → heard_of session (take (i + 1) words) ≡ None
@@ -115,23 +115,23 @@ module _ (session : ℕ) (words : List Heard) (i : ℕ) (d : Heard) (inside : i 
   heard_first same =
       let next : heard_of session (take (i + 1) words) ≡ Some (get_or words i d) = with_next (Some (get_or words i d)) (rw (eq-eqb (get_or words i d).session session same) refl) in
       ap (heard_of session) (sym (take-append-drop (i + 1) words))
-      ∙ find-append (λ (x : Heard). x.session == session) (take (i + 1) words) (drop (i + 1) words)
-      ∙ ap (λ (before : Option Heard). option_or before (heard_of session (drop (i + 1) words))) next
+      ∙ find-append (λ (x : WaitRead). x.session == session) (take (i + 1) words) (drop (i + 1) words)
+      ∙ ap (λ (before : Option WaitRead). option_or before (heard_of session (drop (i + 1) words))) next
 
 -- what is met otherwise is so of a call that did something before
-other_after : (slots : ℕ) (a b c : Mine) (o : Option Heard) → GoesOn a b → IfSome o (WasOther slots b c) → IfSome o (WasOther slots a c)
+other_after : (slots : ℕ) (a b c : Mine) (o : Option WaitRead) → GoesOn a b → IfSome o (WasOther slots b c) → IfSome o (WasOther slots a c)
 other_after slots a b c None before none = tt
 other_after slots a b c (Some h) before (inl settled) = inl settled
 other_after slots a b c (Some h) before (inr met) = inr (met.0, step_after a b c before met.0 met.1, met.2)
 
-pub misses : (id : TableId) (who victim : ℕ) (latches : List Held) (audited : List Audited) (words : List Heard) (a b c : Mine) → AreOfAll id words → All (WasHeard id.slots latches a c) words
+pub misses : (id : TableId) (who victim : ℕ) (latches : List Held) (audited : List Audited) (words : List WaitRead) (a b c : Mine) → AreOfAll id words → All (WasHeard id.slots latches a c) words
     → victim_in (settled_by words) (books_of audited) who ≡ Some victim → GoesOn a b → IfSome (heard_of victim words) (WasOther id.slots b c) → Misses id who latches audited a c
 misses id who victim latches audited words a b c all heard found before met =
     record { words = words; all = all; heard = heard; victim = victim; found = found; other = other_after id.slots a b c (heard_of victim words) before met }
 
 -- ---- of a call that did something before and after
 
-module _ (slots who : ℕ) (latches : List Held) (audited : List Audited) (words : List Heard) (a b c d : Mine)
+module _ (slots who : ℕ) (latches : List Held) (audited : List Audited) (words : List WaitRead) (a b c d : Mine)
     (before : GoesOn a b) (same : b.0.settles ≡ a.0.settles) (after : GoesOn c d) (kept : d.0.settles ≡ c.0.settles) where
   pub fells_within : (victim : ℕ) → Fells slots victim latches b c → Fells slots victim latches a d
   fells_within victim fells = record {

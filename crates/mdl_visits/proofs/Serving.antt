@@ -58,13 +58,14 @@ waiter_met kind only slots place session number found h m m′ is has ready =
 
 -- ---- the exchange
 
-module _ (id : TableId) (place session number wait count : ℕ) (h : Held) (m a b : Mine) (has : Holds place h h.book m) (ready : IsReady session number h) (just : HasJustMet id.slots place session h m)
-    (result : Result Ticket BookError) (made : a ≡ settled_granted id.slots place session number count m) (keeps : Holds place (with_admitted session number h) h.book a)
-    (own : TellsOwn id.slots session (wait_in count 1) m.0) (refused : result ≡ ok_or (ticket_of session number h.book.waiting) NotHere)
-    (done : OnOk result (b ≡ written place (admitting session number h.book) a)) where
-  admitted : b ≡ written place (admitting session number h.book) a
-  admitted = taken_out (ticket_of session number h.book.waiting) NotHere result (some_is (ticket_of session number h.book.waiting) ready.wish ready.waits) refused done
+-- a ticket that can be granted waits there, so the book in hand has it granted
+pub admitted_there : {P : Type 0} (session number : ℕ) (h : Held) (result : Result Ticket BookError) → IsReady session number h → result ≡ ok_or (ticket_of session number h.book.waiting) NotHere → OnOk result P → P
+admitted_there session number h result ready refused done =
+    taken_out (ticket_of session number h.book.waiting) NotHere result (some_is (ticket_of session number h.book.waiting) ready.wish ready.waits) refused done
 
+module _ (id : TableId) (place session number wait count : ℕ) (h : Held) (m a b : Mine) (has : Holds place h h.book m) (ready : IsReady session number h) (just : HasJustMet id.slots place session h m)
+    (made : a ≡ settled_granted id.slots place session number count m) (keeps : Holds place (with_admitted session number h) h.book a)
+    (own : TellsOwn id.slots session (wait_in count 1) m.0) (admitted : b ≡ written place (admitting session number h.book) a) where
   pub is_admitted : (g : Held) → Holds place g g.book m → IsGrantedFrom id.slots place session number wait g m b
   is_admitted g mine =
       subst (λ (x : Held). IsGrantedFrom id.slots place session number wait x m b) (one_record place h g m has mine)

@@ -20,7 +20,7 @@ use Rattle.mdl_steps.specs.Plays.{Mine}
 use Rattle.mdl_steps.specs.WaitSeats.{IsSession}
 use Rattle.mdl_steps.specs.WaitStates.{lost_state, unsettled_state, wait_state}
 use Rattle.mdl_visits.specs.declared.audited.Audited.{Audited}
-use Rattle.mdl_visits.specs.declared.hearing.Heard.{Heard}
+use Rattle.mdl_visits.specs.declared.waits_read.WaitRead.{WaitRead}
 use Rattle.mdl_visits.specs.Audits.{AreRecorded, Gathers}
 use Rattle.mdl_visits.specs.Grantings.{StaysTold}
 use Rattle.mdl_visits.specs.Polls.{MeetsOther, MeetsWait, Settles, SettlesNothing}
@@ -29,8 +29,8 @@ use Rattle.mdl_visits.specs.Visits.{AllQuiet, IsStepOf, deeds_of}
 -- ---- the words of waits
 
 -- whether a session has no open wait by one of these words: it has none, or it is settled
-abbrev pub settled_by : List Heard → SessionTest
-settled_by words session = list_any (λ (h : Heard). h.session == session && not (wait_state h.word.0 == unsettled_state)) words
+abbrev pub settled_by : List WaitRead → SessionTest
+settled_by words session = list_any (λ (h : WaitRead). h.session == session && not (wait_state h.word.0 == unsettled_state)) words
 
 -- the sessions from 1 to so many
 unfoldable pub sessions_to : ℕ → List ℕ
@@ -38,22 +38,22 @@ sessions_to zero = []
 sessions_to (suc n) = sessions_to n ++ suc n ∷ []
 
 -- these are the words of all sessions of the table, each once, in order
-pub record AreOfAll (id : TableId) (words : List Heard) : Type 0 where
+pub record AreOfAll (id : TableId) (words : List WaitRead) : Type 0 where
   pub last : ℕ
-  pub sessions : map (λ (h : Heard). h.session) words ≡ sessions_to last
-  pub each : All (λ (h : Heard). IsSession id h.session × (is_session h.session ≡ true)) words
+  pub sessions : map (λ (h : WaitRead). h.session) words ≡ sessions_to last
+  pub each : All (λ (h : WaitRead). IsSession id h.session × (is_session h.session ≡ true)) words
   pub every : (session : ℕ) → IsSession id session → is_session session ≡ true → session ≤ last
 
 -- one of the steps between the two met this word, while the session had just these latches
-abbrev pub WasHeard : ℕ → List Held → Mine → Mine → Heard → Type 0
+abbrev pub WasHeard : ℕ → List Held → Mine → Mine → WaitRead → Type 0
 WasHeard slots latches m m′ h = (e : Met) × IsStepOf m m′ e × (e.word ≡ wait_word slots h.session) × (e.found ≡ h.word.0) × (e.held ≡ latches)
 
 -- the word that was heard of a session's wait, if any
-abbrev pub heard_of : ℕ → List Heard → Option Heard
-heard_of session words = find (λ (h : Heard). h.session == session) words
+abbrev pub heard_of : ℕ → List WaitRead → Option WaitRead
+heard_of session words = find (λ (h : WaitRead). h.session == session) words
 
 -- by this word a session's wait wasn't open, or one of the steps between the two met another word
-abbrev pub WasOther : ℕ → Mine → Mine → Heard → Type 0
+abbrev pub WasOther : ℕ → Mine → Mine → WaitRead → Type 0
 WasOther slots m m′ h = (wait_state h.word.0 ≢ unsettled_state) ⊎ ((e : Met) × IsStepOf m m′ e × MeetsOther slots h.session h.word.0 e)
 
 -- ---- what is found
@@ -79,7 +79,7 @@ pub record Fells (slots victim : ℕ) (latches : List Held) (m m′ : Mine) : Ty
 
 -- by these words and books the session waits in no cycle, and nothing was settled; or this is the victim of the cycle that is chosen, and its wait was
 -- settled
-abbrev pub IsOutcome : ℕ → ℕ → List Held → List Audited → List Heard → Mine → Mine → Search → Type 0
+abbrev pub IsOutcome : ℕ → ℕ → List Held → List Audited → List WaitRead → Mine → Mine → Search → Type 0
 IsOutcome slots who latches audited words m m′ NoCycle =
     (deadlock_in (settled_by words) (books_of audited) who ≡ None) × SettlesNothing m m′
 IsOutcome slots who latches audited words m m′ (Victim victim) =
@@ -92,14 +92,14 @@ KnowsFall who (Victim victim) m = victim ≡ who → m.0.told ≡ Some (lost_sta
 
 -- that came of the words of all sessions, as steps between the two met them, while the session had just these latches, and of these books
 pub record Judges (id : TableId) (who : ℕ) (latches : List Held) (audited : List Audited) (found : Search) (m m′ : Mine) : Type 0 where
-  pub words : List Heard
+  pub words : List WaitRead
   pub all : AreOfAll id words
   pub heard : All (WasHeard id.slots latches m m′) words
   pub outcome : IsOutcome id.slots who latches audited words m m′ found
 
 -- of the words of all sessions, as steps between the two met them, and of these books a victim came, whose word was another one by then
 pub record Misses (id : TableId) (who : ℕ) (latches : List Held) (audited : List Audited) (m m′ : Mine) : Type 0 where
-  pub words : List Heard
+  pub words : List WaitRead
   pub all : AreOfAll id words
   pub heard : All (WasHeard id.slots latches m m′) words
   pub victim : ℕ

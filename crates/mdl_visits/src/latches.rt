@@ -1,38 +1,48 @@
-//! A place's latch is waited for.
-ghost use Rattle.std.specs.Prelude.{◌≡◌, List, []};
+//! Latches are waited for: that of a place, and the directory's.
+ghost use Rattle.std.specs.Prelude.{◌≡◌, ◌<◌, List, [], length};
 ghost use Rattle.mdl_steps.specs.declared.view.Held.{Held};
+ghost use Rattle.mdl_steps.specs.declared.view.Keys.{Keys};
 ghost use Rattle.mdl_steps.specs.declared.view.Met.{Met};
-ghost use Rattle.mdl_steps.specs.Plays.{IsFresh, latched};
-ghost use Rattle.mdl_steps.specs.Seats.{IsSized, IsPlace, IsRising, Holds};
+ghost use Rattle.mdl_steps.specs.Plays.{IsDirectory, IsFresh, consulted, latched};
+ghost use Rattle.mdl_steps.specs.SeatStates.{AtItsTable};
+ghost use Rattle.mdl_steps.specs.Seats.{IsPlace, IsRising, Holds};
 ghost use Rattle.mdl_visits.specs.Visits.{AllQuiet, IsInside, StaysOn, and_made, deeds_of};
 
-use mdl_steps::{Latched, LockTable, Worker};
+use mdl_steps::{Latched, LatchedDirectory, TableSeat};
 use std::sync::Wait;
 use std::thread;
 
 /// Takes the latch of a place, and waits for it as long as another session holds it.
-pub(crate) fn await_latch<R: Wait>(
-    rt: &R,
-    worker: &mut Worker,
-    top: &LockTable,
-    place: usize,
-) -> Latched
-    requires table { (worker.old.seat.table_id ≡ top.now.table_id) × IsSized top.now.table_id }
-    requires place { IsPlace top.now.table_id place }
-    requires rising { IsRising place worker.old.seat.me }
-    ensures seat { (worker.new.seat.table_id ≡ worker.old.seat.table_id) × (worker.new.number ≡ worker.old.number) }
+pub(crate) fn await_latch<R: Wait>(rt: &R, seat: &mut TableSeat, place: usize) -> Latched
+    requires place { IsPlace seat.old.table place }
+    requires rising { IsRising place seat.old.me }
     ensures place { result.place ≡ place }
-    ensures taken { (h : Held) × IsFresh place h worker.old.seat.me × Holds place h h.book worker.new.seat.me
-        × ((made : List Met) × (worker.new.seat.me ≡ latched place h (and_made made worker.old.seat.me)) × AllQuiet worker.old.seat.me.0.directory made
+    ensures taken { (h : Held) × IsFresh place h seat.old.me × Holds place h h.book seat.new.me
+        × ((made : List Met) × (seat.new.me ≡ latched place h (and_made made seat.old.me)) × AllQuiet seat.old.me.0.directory made
         × (deeds_of made ≡ [])) }
-    ensures inside { IsInside place worker.old.seat.me worker.new.seat.me }
-    ensures stays { StaysOn worker.old.seat.me worker.new.seat.me }
+    ensures inside { AtItsTable seat.old seat.new (IsInside place) }
+    ensures stays { StaysOn seat.old.me seat.new.me }
 {
     for _ in rt.forever() {
-        match worker.take_latch(top, place) {
+        match seat.take_latch(place) {
             Some(latch) => return latch,
             None => thread::yield_now(),
         }
+    }
+    unreachable!()
+}
+
+/// Takes the directory's latch, and waits as long as another session holds it.
+pub(crate) fn await_directory<R: Wait>(rt: &R, seat: &mut TableSeat) -> LatchedDirectory
+    requires first { length seat.old.me.0.latches ≡ 0 }
+    ensures taken { (made : List Met) × (k : Keys) × IsDirectory seat.old.table.slots k (and_made made seat.old.me)
+        × (seat.new ≡ record seat.old { me = consulted k (and_made made seat.old.me) }) × AllQuiet seat.old.me.0.directory made × (deeds_of made ≡ []) }
+{
+    for _ in rt.forever() {
+        if let Some(latch) = seat.take_directory() {
+            return latch;
+        }
+        thread::yield_now();
     }
     unreachable!()
 }

@@ -1,36 +1,39 @@
 -- The latch was taken after some steps that only met it.
 use Rattle.std.proofs.Common.{ap, ◌∙◌}
 use Rattle.mdl_steps.specs.Plays.{Mine, latched}
+use Rattle.mdl_visits.proofs.Seats.{mine, place_there, table_of}
 use Rattle.mdl_visits.proofs.Visiting.{fresh_before, inside_taken, lingers_one, stays_taken}
 use Rattle.mdl_visits.proofs.latches.await_latch.Goals as goal
+
+pub take_latch-requires-clause-place : goal.take_latch-requires-clause-place
+take_latch-requires-clause-place g c = place_there c.args.place c.loop.invariant.table c.requires.place
 
 pub returns-in-Some-take_latch-clause-inside : goal.returns-in-Some-take_latch-clause-inside
 returns-in-Some-take_latch-clause-inside g c =
     let place = c.args.place in
     let told = c.in-Some-take_latch.ensures.taken.1 in
     let steps = c.loop.invariant.steps in
-    inside_taken place told.0 c.args.worker.now.seat.me c.take_latch.new.self.seat.me steps.0 c.requires.rising told.1.here (◌∙◌ {A = Mine} told.3 (ap (latched place told.0) steps.1)) steps.3
+    (table_of told.3 ∙ c.loop.invariant.table, inside_taken place told.0 c.args.seat.now.me c.take_latch.new.self.me steps.0 c.requires.rising told.1.here (◌∙◌ {A = Mine} (mine told.3) (ap (latched place told.0) steps.1)) steps.3)
 
 pub returns-in-Some-take_latch-clause-taken : goal.returns-in-Some-take_latch-clause-taken
 returns-in-Some-take_latch-clause-taken g c =
     let place = c.args.place in
     let told = c.in-Some-take_latch.ensures.taken.1 in
     let steps = c.loop.invariant.steps in
-    (told.0, fresh_before place told.0 c.args.worker.now.seat.me _ (steps.0, steps.1, steps.3) told.1, told.2, (steps.0, ◌∙◌ {A = Mine} told.3 (ap (latched place told.0) steps.1), steps.2, steps.3))
+    (told.0, fresh_before place told.0 c.args.seat.now.me _ (steps.0, steps.1, steps.3) told.1, told.2, (steps.0, ◌∙◌ {A = Mine} (mine told.3) (ap (latched place told.0) steps.1), steps.2, steps.3))
 
 pub returns-in-Some-take_latch-clause-stays : goal.returns-in-Some-take_latch-clause-stays
 returns-in-Some-take_latch-clause-stays g c =
     let place = c.args.place in
     let told = c.in-Some-take_latch.ensures.taken.1 in
     let steps = c.loop.invariant.steps in
-    stays_taken place told.0 c.args.worker.now.seat.me c.take_latch.new.self.seat.me steps.0 (◌∙◌ {A = Mine} told.3 (ap (latched place told.0) steps.1)) steps.4
+    stays_taken place told.0 c.args.seat.now.me c.take_latch.new.self.me steps.0 (◌∙◌ {A = Mine} (mine told.3) (ap (latched place told.0) steps.1)) steps.4
 
 pub loop-preserved : goal.loop-preserved
 loop-preserved g c =
     let met = c.in-None-take_latch.ensures.taken in
     let inv = c.loop.invariant in
     record {
-      seat = c.take_latch.ensures.seat.0 ∙ inv.seat;
-      number = c.take_latch.ensures.seat.1 ∙ inv.number;
-      steps = lingers_one c.args.place met.0 c.args.worker.now.seat.me c.loop.worker.seat.me c.take_latch.new.self.seat.me inv.steps met.2;
+      table = table_of met.2 ∙ inv.table;
+      steps = lingers_one c.args.place met.0 c.args.seat.now.me c.loop.seat.me c.take_latch.new.self.me inv.steps (mine met.2);
     }

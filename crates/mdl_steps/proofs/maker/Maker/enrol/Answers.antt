@@ -1,6 +1,7 @@
 -- A number is drawn, and a seat that has it may be split off.
 use Rattle.std.proofs.Common.{◌≡◌, ℕ, ◌+◌, ◌%◌, ◌^◌, ◌<◌, [], sym, ap, ◌∙◌, subst, arith}
 use mathlib.Core.Option.{none}
+use Rattle.atomic_table.specs.Seated.{TableId}
 use Rattle.atomic_table.specs.Table.{Allows, Splits, step}
 use Rattle.mdl_steps.specs.declared.step_kind.StepKind.TheVariants as step_kind
 use Rattle.mdl_steps.specs.Cells.{blank, numbers_for, no_numbers}
@@ -13,17 +14,22 @@ use Rattle.mdl_steps.proofs.maker.Maker.enrol.Goals as goal
 pub fetch_add-number-requires : goal.fetch_add-number-requires
 fetch_add-number-requires c =
     let maker = c.args.self.now in
-    let slots = c.args.top.now.table_id.slots in
+    let table = c.deref-2.result.now.shared.table_id in
     let few = maker.few in
+    let roomy = maker.roomy in
     let some_left : maker.given < maker.most = omega arith in
-    let word = c.enrol_word.result in
-    let word_is : word ≡ enrol_word slots = c.enrol_word.ensures ∙ ap enrol_word c.requires.slots in
-    let at : ℕ → ℕ → Mine → Type 0 = λ id w m. Allows Rule slots id m w (λ n. (n + 1) % 2 ^ 64) (enrols (step slots w 1 0 none) m) in (
-      c.requires.table.0,
-      subst (λ (w : ℕ). w < c.args.top.now.table_id.words) (sym c.enrol_word.ensures) c.requires.words,
+    let mine : maker.seat.table_id ≡ table = c.requires.mine ∙ ap (λ t. t.shared.table_id) (sym c.deref-2.ensures) in
+    let many : c.slot_count.result ≡ maker.seat.table_id.slots = c.slot_count.ensures ∙ ap (λ t. t.shared.table_id.slots) c.deref.ensures ∙ ap (λ (t : TableId). t.slots) (sym c.requires.mine) in
+    let word = c.enrol_word-word.result in
+    let word_here : word ≡ enrol_word maker.seat.table_id.slots = c.enrol_word-word.ensures ∙ ap enrol_word many in
+    let word_is : word ≡ enrol_word table.slots = word_here ∙ ap (λ (t : TableId). enrol_word t.slots) mine in
+    let inside : word < maker.seat.table_id.words = omega arith in
+    let at : ℕ → ℕ → Mine → Type 0 = λ id w m. Allows Rule table.slots id m w (λ n. (n + 1) % 2 ^ 64) (enrols (step table.slots w 1 0 none) m) in (
+      mine,
+      subst (λ (t : TableId). word < t.words) mine inside,
       subst (at maker.seat.id word) (sym maker.idle)
           (subst (λ (id : ℕ). at id word (blank 0 (numbers_for maker.most maker.given maker.given), [])) (sym maker.first)
-          (subst (λ (w : ℕ). at 0 w (blank 0 (numbers_for maker.most maker.given maker.given), [])) (sym word_is) (draws slots maker.most maker.given some_left))),
+          (subst (λ (w : ℕ). at 0 w (blank 0 (numbers_for maker.most maker.given maker.given), [])) (sym word_is) (draws table.slots maker.most maker.given some_left))),
     )
 
 -- the seat, with a number drawn, may be split so
@@ -42,12 +48,14 @@ may_split most given word number id m first next drawn =
 pub split_seat-seat-requires : goal.split_seat-seat-requires
 split_seat-seat-requires c =
     let maker = c.args.self.now in
+    let roomy = maker.roomy in
     let made = c.fetch_add-number.ensures in
     let number = c.fetch_add-number.result in
     let seat = c.fetch_add-number.new.seat in
-    let words = c.requires.words in
-    let told = subst (λ (m : Mine). enrols (step c.args.top.now.table_id.slots c.enrol_word.result 1 0 none) m number seat.me) maker.idle made.2 in (
-      made.0 ∙ c.requires.table.0,
-      omega arith,
-      may_split maker.most maker.given c.enrol_word.result number seat.id seat.me (made.1 ∙ maker.first) told.0 told.1,
+    let mine : maker.seat.table_id ≡ c.deref-3.result.now.shared.table_id = c.requires.mine ∙ ap (λ t. t.shared.table_id) (sym c.deref-3.ensures) in
+    let some : 0 < maker.seat.table_id.words = omega arith in
+    let told = subst (λ (m : Mine). enrols (step c.deref-2.result.now.shared.table_id.slots c.enrol_word-word.result 1 0 none) m number seat.me) maker.idle made.2 in (
+      made.0 ∙ mine,
+      subst (λ (t : TableId). 0 < t.words) mine some,
+      may_split maker.most maker.given c.enrol_word-word.result number seat.id seat.me (made.1 ∙ maker.first) told.0 told.1,
     )

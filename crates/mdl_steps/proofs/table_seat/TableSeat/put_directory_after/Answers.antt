@@ -1,0 +1,33 @@
+-- The holder of the directory's latch may give it back, and know what it tells of keys by its record.
+use Rattle.std.proofs.Common.{◌<◌, List, subst, arith, ap, ◌≡◌}
+use mathlib.Core.Option.{none}
+use Rattle.atomic_table.specs.Seated.{TableId}
+use Rattle.atomic_table.specs.Table.{Allows, step}
+use Rattle.mdl_steps.specs.declared.view.Known.{Known}
+use Rattle.mdl_steps.specs.Plays.{puts_directory, Mine}
+use Rattle.mdl_steps.specs.Rule.{Rule}
+use Rattle.mdl_steps.specs.Schemas.{unknown, StandThere}
+use Rattle.mdl_steps.specs.Seats.{HasDirectory}
+use Rattle.mdl_steps.specs.declared.view.Keys.{Keys}
+use Rattle.mdl_steps.proofs.Desks.{puts_directory_allowed}
+use Rattle.mdl_steps.proofs.SchemaLemmas.{new_stand}
+use Rattle.mdl_steps.proofs.Seating.{sits, value_is}
+use Rattle.mdl_steps.proofs.table_seat.TableSeat.put_directory_after.Goals as goal
+
+pub store-requires : goal.store-requires
+store-requires g c =
+    let seat = c.self.inside.seat in
+    let slots = c.deref.result.now.shared.table_id.slots in
+    let at = sits c.self.view_is c.self.invariant (ap (λ t. t.shared.table_id) c.deref.ensures) in
+    let sized = at.sized in
+    let some_slot = at.some in
+    let some = at.positive in
+    let inside : 0 < c.deref.result.now.shared.table_id.words = omega arith in
+    let put = at.mine (λ (m : Mine). (k : Keys) × HasDirectory k m × StandThere k c.args._known.now) c.requires.put in
+    let picked = at.mine (λ (m : Mine). unknown m.0.known c.args._known.now ≡ g.J.Learning.learnt) c.requires.picked in
+    let known = c.args._known.now in (
+      at.same,
+      inside,
+      subst (λ (more : List Known). Allows Rule slots seat.id seat.me 0 (λ _. 0) (λ _. puts_directory more (step slots 0 0 0 none) seat.me 0)) picked
+          (puts_directory_allowed slots seat.id seat.me some put.0 (unknown seat.me.0.known known) put.1 (new_stand put.0 seat.me.0.known known put.2)),
+    )

@@ -1,0 +1,30 @@
+-- The holder of the latch may give it back, where the flags tell the lists exactly.
+use Rattle.std.proofs.Common.{ℕ, ◌*◌, ◌<◌, List, sym, subst, arith, ap, ◌≡◌}
+use mathlib.Core.Option.{none}
+use Rattle.atomic_table.specs.Seated.{TableId}
+use Rattle.atomic_table.specs.Table.{Allows, step}
+use Rattle.mdl_steps.specs.declared.deed.Deed.{Deed}
+use Rattle.mdl_steps.specs.Plays.{puts_latch, Mine}
+use Rattle.mdl_steps.specs.Rule.{Rule}
+use Rattle.mdl_steps.specs.Seats.{IsPlace, MayPut}
+use Rattle.mdl_steps.proofs.Put.{puts_allowed}
+use Rattle.mdl_steps.proofs.Seating.{sits, value_is}
+use Rattle.mdl_steps.proofs.table_seat.TableSeat.put_latch_after.Goals as goal
+
+pub store-requires : goal.store-requires
+store-requires g c =
+    let seat = c.self.inside.seat in
+    let slots = c.deref.result.now.shared.table_id.slots in
+    let word_at = c.latch_word.ensures in
+    let at = sits c.self.view_is c.self.invariant (ap (λ t. t.shared.table_id) c.deref.ensures) in
+    let sized = at.sized in
+    let here = at.here (λ (t : TableId). IsPlace t c.args.place) c.requires.place in
+    let some = at.positive in
+    let inside : c.latch_word.result < c.deref.result.now.shared.table_id.words = omega arith in
+    let put = at.mine (MayPut c.args.place c.args._deeds.now) c.requires.put in (
+      at.same,
+      inside,
+      subst (λ (i : ℕ). Allows Rule slots seat.id seat.me i (λ _. 0) (λ _. puts_latch g.J.Doing.deeds (step slots i 0 0 none) seat.me 0)) (sym word_at)
+          (subst (λ (ds : List Deed). Allows Rule slots seat.id seat.me (8 * c.args.place) (λ _. 0) (λ _. puts_latch ds (step slots (8 * c.args.place) 0 0 none) seat.me 0)) c.requires.picked
+          (puts_allowed slots seat.id c.args.place seat.me some here.0 here.1 put.0 put.1.holds.recorded c.args._deeds.now put.1.act put.1.may put.1.holds.carried put.2)),
+    )

@@ -1,0 +1,32 @@
+-- The holder of both latches may give the next place to a new key.
+use Rattle.std.proofs.Common.{ℕ, ◌<◌, sym, subst, arith, ap, ◌≡◌}
+use mathlib.Core.Option.{none}
+use Rattle.atomic_table.specs.Seated.{TableId}
+use Rattle.atomic_table.specs.Table.{Allows, step}
+use Rattle.mdl_steps.specs.Plays.{puts_key, Mine}
+use Rattle.mdl_steps.specs.Rule.{Rule}
+use Rattle.mdl_steps.specs.Seats.{IsPlace, MayName}
+use Rattle.mdl_steps.specs.declared.view.Held.{Held}
+use Rattle.mdl_steps.specs.declared.view.Keys.{Keys}
+use Rattle.mdl_key.specs.Words.{KeyName}
+use Rattle.mdl_steps.proofs.NewKeys.{puts_key_allowed}
+use Rattle.mdl_steps.proofs.Seating.{sits, value_is}
+use Rattle.mdl_steps.proofs.table_seat.TableSeat.put_latch_naming.Goals as goal
+
+pub store-requires : goal.store-requires
+store-requires c =
+    let seat = c.self.inside.seat in
+    let slots = c.deref.result.now.shared.table_id.slots in
+    let place = c.args.latch.place in
+    let word_at = c.latch_word.ensures in
+    let at = sits c.self.view_is c.self.invariant (ap (λ t. t.shared.table_id) c.deref.ensures) in
+    let sized = at.sized in
+    let here = at.here (λ (t : TableId). IsPlace t c.args.latch.place) c.requires.place in
+    let some = at.positive in
+    let inside : c.latch_word.result < c.deref.result.now.shared.table_id.words = omega arith in
+    let put = at.mine (λ (m : Mine). (key : KeyName) × (k : Keys) × (h : Held) × MayName place key k h m) c.requires.put in (
+      at.same,
+      inside,
+      subst (λ (i : ℕ). Allows Rule slots seat.id seat.me i (λ _. 0) (λ _. puts_key (step slots i 0 0 none) seat.me 0)) (sym word_at)
+          (puts_key_allowed slots seat.id place seat.me some here.0 here.1 put.0 put.1 put.2 put.3),
+    )

@@ -1,0 +1,44 @@
+-- The holder of the latch may read the word.
+use Rattle.std.proofs.Common.{◌≡◌, ℕ, ◌<◌, refl, sym, ap, ◌∙◌, subst, arith, Some}
+use mathlib.Core.Option.{none}
+use Rattle.atomic_table.specs.Seated.{TableId}
+use Rattle.atomic_table.specs.Table.{Allows, step}
+use Rattle.mdl_steps.specs.declared.step_kind.StepKind.TheVariants as step_kind
+use Rattle.mdl_steps.specs.declared.view.Held.{Held}
+use Rattle.mdl_steps.specs.Cells.{held_at}
+use Rattle.mdl_steps.specs.Plays.{Mine, reads_word, noting}
+use Rattle.mdl_steps.specs.Rule.{Rule}
+use Rattle.mdl_steps.specs.Seats.{Holds, IsPlace, elsewhere}
+use Rattle.mdl_steps.proofs.Flags.{reads_allowed}
+use Rattle.mdl_steps.proofs.Hands.{holds_stepped, elsewhere-stepped}
+use Rattle.mdl_steps.proofs.Seating.{sits}
+use Rattle.mdl_steps.proofs.table_seat.TableSeat.read_word.Goals as goal
+
+pub load-requires : goal.load-requires
+load-requires c =
+    let seat = c.self.inside.seat in
+    let table = c.deref.result.now.shared.table_id in
+    let place = c.args.latch.now.place in
+    let at = sits c.self.view_is c.self.invariant (ap (λ t. t.shared.table_id) c.deref.ensures) in
+    let here = at.here (λ (t : TableId). IsPlace t place) c.requires.place in
+    let held = at.mine (λ (m : Mine). (h : Held) × (held_at place m.0.latches ≡ Some h)) c.requires.held in
+    let sized = at.sized in
+    let inside : c.lock_word.result < table.words = omega arith in (
+      at.same,
+      inside,
+      subst (λ (i : ℕ). Allows Rule table.slots seat.id seat.me i (λ n. n) (reads_word (step table.slots i 0 0 none) seat.me)) (sym c.lock_word.ensures)
+          (reads_allowed table.slots seat.id place seat.me at.positive here.0 here.1 held.0 held.1),
+    )
+
+pub returns-clause-keeps : goal.returns-clause-keeps
+returns-clause-keeps c =
+    let place = c.args.latch.now.place in
+    let made = c.load.ensures.2.1 place c.lock_word.ensures in
+    rw (← c.self.view_is) (λ h book has. subst (λ (m : Mine). Holds place (noting c.load.result h) book m) (sym made)
+    (holds_stepped step_kind.ReadWord place c.load.result (noting c.load.result) h book c.self.inside.seat.me (λ x. refl) has))
+
+pub returns-clause-apart : goal.returns-clause-apart
+returns-clause-apart c =
+    let place = c.args.latch.now.place in
+    let made = c.load.ensures.2.1 place c.lock_word.ensures in
+    rw (← c.self.view_is) (ap (elsewhere place) made ∙ elsewhere-stepped step_kind.ReadWord place c.load.result (noting c.load.result) c.self.inside.seat.me (λ x. refl))

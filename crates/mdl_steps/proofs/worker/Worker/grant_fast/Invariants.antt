@@ -1,5 +1,0 @@
--- The mode and the note are the call's.
-use Rattle.mdl_steps.proofs.worker.Worker.grant_fast.Given as goal
-
-abbrev pub ghosts-grant_fast_as : goal.ghosts-grant_fast_as
-ghosts-grant_fast_as a = record { mode = a._mode; noted = a._noted }

@@ -1,5 +1,0 @@
--- The place and the mode are the call's.
-use Rattle.mdl_steps.proofs.worker.Worker.open_wait.Given as goal
-
-abbrev pub ghosts-open_wait_at : goal.ghosts-open_wait_at
-ghosts-open_wait_at a = record { place = a.latch.now.place; mode = a.mode }

@@ -1,0 +1,32 @@
+-- A session's seat at the table, as contracts see it.
+use Rattle.std.specs.Prelude.{◌≡◌, ℕ, ◌<◌, []}
+use Rattle.atomic_table.specs.Seated.{TableId}
+use Rattle.mdl_steps.specs.declared.step_kind.StepKind.TheVariants as step
+use Rattle.mdl_steps.specs.Cells.{blank, no_numbers}
+use Rattle.mdl_steps.specs.Layout.{enrol_word}
+use Rattle.mdl_steps.specs.Plays.{Mine, logged}
+use Rattle.mdl_steps.specs.Seats.{IsSized}
+use Rattle.mdl_steps.specs.WaitSeats.{IsSession}
+
+-- which table it is at, and what the session knows and has there. The session's number is that of its view
+pub record SeatState : Type 0 where
+  pub table : TableId
+  pub me : Mine
+
+-- what goes for each seat: it is of the table that it has, which has words for its slots, a directory, and a word of the session's wait; and the
+-- session's number is that of the view
+pub record IsSeat (table of : TableId) (number : ℕ) (me : Mine) : Type 0 where
+  pub same : of ≡ table
+  pub sized : IsSized table
+  pub some : 0 < table.slots
+  pub numbered : me.0.number ≡ number
+  pub session : IsSession table number
+
+-- the seat is at its table still, and what the session knows and has there changed so
+abbrev pub AtItsTable : SeatState → SeatState → (Mine → Mine → Type 0) → Type 0
+AtItsTable s s′ Changes = (s′.table ≡ s.table) × Changes s.me s′.me
+
+-- a session's seat at first: it has drawn its number, and has nothing
+abbrev pub enrolled_seat : TableId → ℕ → SeatState
+enrolled_seat table number =
+    record { table = table; me = (logged step.Enrol [] (enrol_word table.slots) number [] (blank number no_numbers), []) }

@@ -1,0 +1,238 @@
+//! The steps of a session.
+ghost use Rattle.std.specs.Prelude.{◌≡◌, ◌≢◌, ℕ, nat_lt, ◌&&◌, ◌+◌, ◌*◌, ◌^◌, ◌<◌, ◌∷◌, [], Some, MatchOption};
+ghost use Rattle.mdl_book.specs.declared.book_view.BookView.{BookView};
+ghost use Rattle.mdl_steps.specs.declared.slot.Slot.TheVariants as slot;
+ghost use Rattle.mdl_steps.specs.declared.step_kind.StepKind.TheVariants as step;
+ghost use Rattle.mdl_steps.specs.declared.view.Held.{Held};
+ghost use Rattle.mdl_steps.specs.Cells.{held_at};
+ghost use Rattle.mdl_steps.specs.Layout.{session_count, wait_word};
+ghost use Rattle.mdl_steps.specs.Plays.{IsFresh, latched, unlatched, missed_latch, stepped, settled, raised, noting, lowered, redefined, restood, read_and_put};
+ghost use Rattle.mdl_steps.specs.Seats.{IsPlace, IsRising, Holds, MayPut, MayLower, MayWriteVersion, rest, elsewhere};
+
+use crate::layout::{latch_word, lock_word, session_count, version_word, wait_word};
+use crate::plays::{
+    Doing, LowerFlags, Order, PutLatch, PutReading, RaiseFlags, ReadWord, TakeLatch, WriteVersion,
+};
+use crate::{Deed, OwnedTable, Slot, View};
+use atomic_table::{Seat, Shared};
+use mdl_word::Word;
+use std::alloc::Global;
+use std::marker::{Brand, Model};
+use std::sync::Arc;
+
+/// The table as its sessions see it: its words, and a slot for each place. Slot 0 has the directory, each other the book of its place.
+///
+/// Eight words make a line, as long as a cache line. With `n` slots the words are:
+///
+/// | index                 | name           | what it holds |
+/// |-----------------------|----------------|---------------|
+/// | `8 * place`           | `latch_word`   | the number of the session that holds the latch of the place, or 0. Place 0 is the directory's |
+/// | `8 * place + 1`       | `lock_word`    | the word of the lock at the place: a [`Word`](mdl_word::Word) |
+/// | `8 * place + 2`       | `version_word` | the version of what is defined under the key of the place |
+/// | `8 * n`               | `enrol_word`   | the number that the next session gets |
+/// | `8 * n + 8 + 8 * s`   | [`wait_word`]  | the last wait of session `s`, from 1 on, and its state: a [`WaitWord`](crate::WaitWord) |
+///
+/// No step touches the words between.
+pub type LockTable = Shared<Slot, View, usize, Order>;
+
+/// A session's seat at the table: the table, the session's number, and what it knows and has there.
+#[derive(Drop)]
+pub struct TableSeat {
+    pub(crate) table: Arc<OwnedTable, Global>,
+    pub(crate) number: u16,
+    pub(crate) seat: Seat<Slot, View>,
+}
+
+impl Model for TableSeat {
+    ghost use Rattle.std.specs.Arc.{arc_value};
+    ghost use Rattle.mdl_steps.specs.SeatStates.{SeatState, IsSeat};
+
+    ghost Value = { SeatState };
+
+    ghost view = { λ s. record { table = (arc_value s.table).shared.table_id; me = s.seat.me } };
+
+    ghost invariant = { λ s. IsSeat (arc_value s.table).shared.table_id s.seat.table_id s.number s.seat.me };
+}
+
+/// The latch of a place, which a session holds. It has to be given back: it can't be dropped.
+pub struct Latched {
+    pub(crate) place: usize,
+}
+
+impl Latched {
+    /// The place.
+    pub fn place(&self) -> usize
+        ensures { result ≡ self.now.place }
+    {
+        self.place
+    }
+}
+
+impl TableSeat {
+    /// The session's number.
+    pub fn number(&self) -> u16
+        ensures { result ≡ self.now.me.0.number }
+    {
+        self.number
+    }
+
+    /// How many slots the table has: one for each of its places, and one for the directory.
+    pub fn slot_count(&self) -> usize
+        ensures { result ≡ self.now.table.slots }
+    {
+        self.table.slot_count()
+    }
+
+    /// Whether the table has the word of a session's wait.
+    pub fn has_session(&self, session: u16) -> bool
+        ensures { result ≡ (nat_lt 0 session && nat_lt (wait_word self.now.table.slots session) self.now.table.words) }
+    {
+        session > 0 && wait_word(self.table.slot_count(), session) < self.table.word_count()
+    }
+
+    /// For how many sessions the table has a wait's word.
+    pub fn session_count(&self) -> usize
+        ensures { result ≡ session_count self.now.table.slots self.now.table.words }
+    {
+        session_count(self.table.slot_count(), self.table.word_count())
+    }
+
+    /// Takes the latch of a place, if it is free. Latches are taken in rising order of their places.
+    pub fn take_latch(&mut self, place: usize) -> Option<Latched>
+        requires place { IsPlace self.old.table place }
+        requires rising { IsRising place self.old.me }
+        ensures taken { MatchOption result
+            ((found : ℕ) × (found ≢ 0) × (self.new ≡ record self.old { me = missed_latch place found self.old.me }))
+            (λ held. (held.place ≡ place) × ((h : Held) × IsFresh place h self.old.me × Holds place h h.book self.new.me × (self.new ≡ record self.old { me = latched place h self.old.me }))) }
+        ensures apart { elsewhere place self.new.me ≡ elsewhere place self.old.me }
+    {
+        let found = self
+            .table
+            .shared
+            .compare_exchange::<TakeLatch>(
+                &mut self.seat,
+                latch_word(place),
+                0,
+                self.number as u64,
+            );
+        if found != 0 {
+            return None;
+        }
+        Some(Latched { place })
+    }
+
+    /// Raises flags of the place's word.
+    pub fn raise_flags(&mut self, latch: &Latched, slow: bool, obtrusive: bool)
+        requires place { IsPlace self.old.table latch.now.place }
+        requires held { (h : Held) × (held_at latch.now.place self.old.me.0.latches ≡ Some h) }
+        ensures made { (found : ℕ) × (self.new ≡ record self.old { me = stepped (step.RaiseFlags slow obtrusive) latch.now.place found (raised slow obtrusive) self.old.me }) }
+        ensures keeps { (h : Held) (book : BookView) → Holds latch.now.place h book self.old.me → Holds latch.now.place (raised slow obtrusive h) book self.new.me }
+        ensures apart { elsewhere latch.now.place self.new.me ≡ elsewhere latch.now.place self.old.me }
+    {
+        self.table.shared.fetch_or::<RaiseFlags>(
+            &mut self.seat,
+            lock_word(latch.place),
+            Word::raising(slow, obtrusive),
+        );
+    }
+
+    /// Reads the place's word, and notes it where the flag [`Word::OBTRUSIVE`] is up.
+    pub fn read_word(&mut self, latch: &Latched) -> Word
+        requires place { IsPlace self.old.table latch.now.place }
+        requires held { (h : Held) × (held_at latch.now.place self.old.me.0.latches ≡ Some h) }
+        ensures made { self.new ≡ record self.old { me = stepped step.ReadWord latch.now.place result.0 (noting result.0) self.old.me } }
+        ensures keeps { (h : Held) (book : BookView) → Holds latch.now.place h book self.old.me → Holds latch.now.place (noting result.0 h) book self.new.me }
+        ensures apart { elsewhere latch.now.place self.new.me ≡ elsewhere latch.now.place self.old.me }
+    {
+        Word(
+            self.table
+                .shared
+                .load::<ReadWord>(&mut self.seat, lock_word(latch.place)),
+        )
+    }
+
+    /// Writes the version of the book in hand, in which the session has changed the definition. From then on it has noted that version
+    /// under each ticket that it has there, and has read the definition.
+    pub fn write_version(&mut self, latch: &Latched)
+        requires place { IsPlace self.old.table latch.now.place }
+        requires written { MayWriteVersion latch.now.place self.old.me }
+        ensures made { (book : BookView) → self.old.me.1 ≡ (latch.now.place, slot.Place book) ∷ rest self.old.me.1
+            → self.new ≡ record self.old { me = redefined latch.now.place book.standing self.old.me } }
+        ensures keeps { (h : Held) (book : BookView) → Holds latch.now.place h book self.old.me → Holds latch.now.place (restood book.standing h) book self.new.me }
+        ensures apart { elsewhere latch.now.place self.new.me ≡ elsewhere latch.now.place self.old.me }
+    {
+        let version = self.version(latch);
+        self.table
+            .shared
+            .store::<WriteVersion>(&mut self.seat, version_word(latch.place), version);
+    }
+
+    /// Leaves just these flags of the place's word up, after some deeds that are in the book in hand.
+    pub fn lower_flags(&mut self, latch: &Latched, slow: bool, obtrusive: bool, deeds: &[Deed])
+        requires place { IsPlace self.old.table latch.now.place }
+        requires lowered { MayLower latch.now.place deeds.now slow obtrusive self.old.me }
+        ensures made { (found : ℕ) × ((book : BookView) → self.old.me.1 ≡ (latch.now.place, slot.Place book) ∷ rest self.old.me.1
+            → self.new ≡ record self.old { me = settled latch.now.place deeds.now found book slow obtrusive self.old.me }) }
+        ensures keeps { (h : Held) (book : BookView) → Holds latch.now.place h book self.old.me → Holds latch.now.place (lowered book slow obtrusive h) book self.new.me }
+        ensures apart { elsewhere latch.now.place self.new.me ≡ elsewhere latch.now.place self.old.me }
+    {
+        self.lower_flags_after::<Brand>(latch, slow, obtrusive, deeds);
+    }
+
+    fn lower_flags_after<J: Doing>(
+        &mut self,
+        latch: &Latched,
+        slow: bool,
+        obtrusive: bool,
+        _deeds: &[Deed],
+    )
+        requires place { IsPlace self.old.table latch.now.place }
+        requires picked { _deeds.now ≡ J.deeds }
+        requires lowered { MayLower latch.now.place _deeds.now slow obtrusive self.old.me }
+        ensures made { (found : ℕ) × ((book : BookView) → self.old.me.1 ≡ (latch.now.place, slot.Place book) ∷ rest self.old.me.1
+            → self.new ≡ record self.old { me = settled latch.now.place _deeds.now found book slow obtrusive self.old.me }) }
+        ensures keeps { (h : Held) (book : BookView) → Holds latch.now.place h book self.old.me → Holds latch.now.place (lowered book slow obtrusive h) book self.new.me }
+        ensures apart { elsewhere latch.now.place self.new.me ≡ elsewhere latch.now.place self.old.me }
+    {
+        self.table.shared.fetch_and::<LowerFlags<J>>(
+            &mut self.seat,
+            lock_word(latch.place),
+            Word::keeping(slow, obtrusive),
+        );
+    }
+
+    /// Gives the latch back, after some deeds that are in the book in hand.
+    pub fn put_latch(&mut self, latch: Latched, deeds: &[Deed])
+        requires place { IsPlace self.old.table latch.place }
+        requires put { MayPut latch.place deeds.now self.old.me }
+        ensures made { self.new ≡ record self.old { me = unlatched latch.place deeds.now self.old.me } }
+    {
+        let Latched { place } = latch;
+        self.put_latch_after::<Brand>(place, deeds);
+    }
+
+    /// Gives the latch back with nothing changed. The session has read the definition in the book in hand, and notes its version under each
+    /// ticket that it has there.
+    pub fn put_latch_reading(&mut self, latch: Latched)
+        requires place { IsPlace self.old.table latch.place }
+        requires put { MayPut latch.place [] self.old.me }
+        ensures made { (book : BookView) → self.old.me.1 ≡ (latch.place, slot.Place book) ∷ rest self.old.me.1
+            → self.new ≡ record self.old { me = read_and_put latch.place book.standing self.old.me } }
+    {
+        let Latched { place } = latch;
+        self.table
+            .shared
+            .store::<PutReading>(&mut self.seat, latch_word(place), 0);
+    }
+
+    fn put_latch_after<J: Doing>(&mut self, place: usize, _deeds: &[Deed])
+        requires place { IsPlace self.old.table place }
+        requires picked { _deeds.now ≡ J.deeds }
+        requires put { MayPut place _deeds.now self.old.me }
+        ensures made { self.new ≡ record self.old { me = unlatched place _deeds.now self.old.me } }
+    {
+        self.table
+            .shared
+            .store::<PutLatch<J>>(&mut self.seat, latch_word(place), 0);
+    }
+}

@@ -1,0 +1,73 @@
+-- The exchange grants the wait that was met, or meets another word.
+use Rattle.std.proofs.Common.{◌≡◌, ◌≢◌, ◌+◌, ◌*◌, ℕ, inr, refl, sym, ◌∙◌, subst, arith}
+use Rattle.std.proofs.lemmas.Bool.{eqb-true, eq-eqb}
+use Rattle.mdl_steps.specs.declared.step_kind.StepKind.TheVariants.{MissWait}
+use Rattle.mdl_steps.specs.Plays.{Mine}
+use Rattle.mdl_steps.specs.WaitPlays.{TellsOwn}
+use Rattle.mdl_visits.proofs.Seats.{mine, table_of}
+use Rattle.mdl_visits.proofs.Serving.{admitted_there, is_admitted, is_missed, way_admitted, way_missed}
+use Rattle.mdl_visits.proofs.grant_waiters.grant_unsettled.Goals as goal
+
+pub returns-then-eq-clause-granted : goal.returns-then-eq-clause-granted
+returns-then-eq-clause-granted c =
+    let id = c.args.seat.now.table in
+    let m : Mine = c.args.seat.now.me in
+    let a : Mine = c.grant_wait-met.new.self.me in
+    let session = c.args.session in
+    let ready = c.requires.ready in
+    let h = ready.0 in
+    let same : c.grant_wait-met.result.0 ≡ c.args.wait.0 = eqb-true c.grant_wait-met.result.0 c.args.wait.0 (sym c.eq.ensures ∙ c.if-eq.true) in
+    let count = c.number.ensures in
+    let unsettled = c.requires.unsettled in
+    let found : c.grant_wait-met.result.0 ≡ 8 * c.number.result + 1 = omega arith in
+    let keeps = c.grant_wait-met.ensures.keeps found h h.book ready.1 in
+    let own = subst (λ (w : ℕ). TellsOwn id.slots session w m.0) found c.grant_wait-met.ensures.own in
+    let wrote = admitted_there session c.args.number h c.write_admission-granted.result ready.2 (c.write_admission-granted.ensures.refused h.book keeps.carried) (c.write_admission-granted.ensures.written h.book keeps.carried) in
+    is_admitted id c.args.latch.now.place session c.args.number c.args.wait.0 c.number.result h m a c.write_admission-granted.new.self.me ready.1 ready.2 ready.3
+    (mine (c.grant_wait-met.ensures.granted found)) keeps own (mine wrote)
+
+pub returns-then-eq-clause-way : goal.returns-then-eq-clause-way
+returns-then-eq-clause-way c =
+    let id = c.args.seat.now.table in
+    let m : Mine = c.args.seat.now.me in
+    let a : Mine = c.grant_wait-met.new.self.me in
+    let session = c.args.session in
+    let ready = c.requires.ready in
+    let h = ready.0 in
+    let same : c.grant_wait-met.result.0 ≡ c.args.wait.0 = eqb-true c.grant_wait-met.result.0 c.args.wait.0 (sym c.eq.ensures ∙ c.if-eq.true) in
+    let count = c.number.ensures in
+    let unsettled = c.requires.unsettled in
+    let found : c.grant_wait-met.result.0 ≡ 8 * c.number.result + 1 = omega arith in
+    let keeps = c.grant_wait-met.ensures.keeps found h h.book ready.1 in
+    let own = subst (λ (w : ℕ). TellsOwn id.slots session w m.0) found c.grant_wait-met.ensures.own in
+    let granted = c.grant_wait-met.ensures.granted found in
+    let wrote = admitted_there session c.args.number h c.write_admission-granted.result ready.2 (c.write_admission-granted.ensures.refused h.book keeps.carried) (c.write_admission-granted.ensures.written h.book keeps.carried) in (
+      table_of wrote ∙ table_of granted,
+      way_admitted id c.args.latch.now.place session c.args.number c.args.wait.0 c.number.result h m a c.write_admission-granted.new.self.me ready.1 ready.2 ready.3
+          (mine granted) keeps own (mine wrote),
+    )
+
+pub returns-else-eq-clause-granted : goal.returns-else-eq-clause-granted
+returns-else-eq-clause-granted c =
+    let id = c.args.seat.now.table in
+    let ready = c.requires.ready in
+    let word = c.grant_wait-met.result.0 in
+    let count = c.number.ensures in
+    let unsettled = c.requires.unsettled in
+    let differs : word ≢ c.args.wait.0 = λ same. let yes = eq-eqb word c.args.wait.0 same in let no = sym c.eq.ensures ∙ c.if-eq.false in absurd (cc) in
+    let other : word ≢ 8 * c.number.result + 1 = λ same. differs (omega arith) in
+    is_missed MissWait (inr refl) id c.args.latch.now.place c.args.session c.args.number word ready.0 c.args.seat.now.me c.grant_wait-met.new.self.me ready.1 ready.2 (mine (c.grant_wait-met.ensures.missed other)) c.args.wait.0 differs
+
+pub returns-else-eq-clause-way : goal.returns-else-eq-clause-way
+returns-else-eq-clause-way c =
+    let id = c.args.seat.now.table in
+    let ready = c.requires.ready in
+    let word = c.grant_wait-met.result.0 in
+    let count = c.number.ensures in
+    let unsettled = c.requires.unsettled in
+    let differs : word ≢ c.args.wait.0 = λ same. let yes = eq-eqb word c.args.wait.0 same in let no = sym c.eq.ensures ∙ c.if-eq.false in absurd (cc) in
+    let other : word ≢ 8 * c.number.result + 1 = λ same. differs (omega arith) in
+    let missed = c.grant_wait-met.ensures.missed other in (
+      table_of missed,
+      way_missed MissWait (inr refl) id c.args.latch.now.place c.args.session c.args.number word ready.0 c.args.seat.now.me c.grant_wait-met.new.self.me ready.1 ready.2 (mine missed) c.grant_wait-met.ensures.own,
+    )

@@ -1,6 +1,0 @@
--- Nothing is done for a session that the table doesn't have.
-use Rattle.mdl_visits.proofs.Way.{way_none}
-use Rattle.mdl_visits.proofs.granting.serve.Goals as goal
-
-pub returns-else-has_session-clause-way : goal.returns-else-has_session-clause-way
-returns-else-has_session-clause-way c = λ start h has looked. way_none c.args.table.now.shared.table_id c.args.latch.now.place start h.book c.args.worker.now.seat.me has.carried

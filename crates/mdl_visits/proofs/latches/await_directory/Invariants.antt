@@ -1,0 +1,12 @@
+-- While the latch is another's, the session only makes steps that find it so.
+use Rattle.std.proofs.Common.{◌≡◌}
+use Rattle.mdl_visits.specs.Visits.{Lingers}
+use Rattle.mdl_visits.proofs.latches.await_directory.Given as goal
+
+abbrev pub invariant-loop : goal.invariant-loop
+invariant-loop g l = record {
+  next : (goal.iterator-loop g).can_next l.iterator';
+  finite : (goal.iterator-loop g).is_finite l.iterator';
+  table : l.seat.table ≡ l.fn.seat.table;
+  met : Lingers l.fn.seat.me l.seat.me;
+}

@@ -1,0 +1,8 @@
+-- The sessions that were looked at, and whose waits aren't open.
+use Rattle.std.proofs.Common.{◌≡◌, ℕ, take}
+use Rattle.std.specs.FinSet as set
+use Rattle.mdl_visits.specs.Searches.{settled_by}
+use Rattle.mdl_visits.proofs.victim.settled_of.Given as goal
+
+abbrev pub invariant-loop-heard : goal.invariant-loop-heard
+invariant-loop-heard l = (session : ℕ) → set.contains l.settled session ≡ settled_by (take l.heard-index l.words) session

@@ -1,0 +1,85 @@
+//! A round of all places that have a key: their latches are taken one after the other, and given back once all are taken.
+ghost use Rattle.std.specs.Prelude.{◌≡◌, ◌+◌, ◌<◌, ◌≤◌, [], ◌∷◌, ◌++◌, OnOk};
+ghost use Rattle.mdl_book.specs.declared.book_view.BookView.{BookView};
+ghost use Rattle.mdl_steps.specs.declared.slot.Slot.TheVariants as slot;
+ghost use Rattle.mdl_steps.specs.declared.view.Keys.{Keys};
+ghost use Rattle.mdl_steps.specs.SeatStates.{AtItsTable};
+ghost use Rattle.mdl_steps.specs.Seats.{IsRising, rest};
+ghost use Rattle.mdl_visits.specs.Audits.{Audits, Gathers};
+ghost use Rattle.mdl_visits.specs.Idle.{IsIdle};
+ghost use Rattle.mdl_visits.specs.Lookups.{TookDirectory};
+ghost use Rattle.mdl_visits.specs.Visits.{MakesSteps, StaysQuiet};
+
+use crate::Audited;
+use crate::latches::{await_directory, await_latch};
+use mdl_steps::{Latched, TableSeat};
+use std::alloc::AllocError;
+use std::sync::Wait;
+
+/// Copies the books of all places that have a key into an empty list. No key gets a place meanwhile, since the session holds the
+/// directory's latch.
+pub fn audit<R: Wait>(
+    rt: &R,
+    seat: &mut TableSeat,
+    audited: &mut Vec<Audited>,
+) -> Result<(), AllocError>
+    requires slots { seat.old.table.slots ≤ 65536 }
+    requires idle { IsIdle seat.old.me }
+    requires empty { audited.old.items ≡ [] }
+    ensures steps { AtItsTable seat.old seat.new MakesSteps }
+    ensures told { (k : Keys) × TookDirectory seat.old.table.slots k k seat.old.me seat.new.me
+        × OnOk result (Audits k audited.new.items seat.old.me seat.new.me) }
+{
+    let directory = await_directory(rt, seat);
+    let last = seat.key_count(&directory);
+    let outcome = audit_from(rt, seat, 1, last, audited);
+    seat.put_directory(directory, 0);
+    outcome
+}
+
+// Adds the books of the places from one to the last to a list. Each book is copied as its latch is taken, and stays as it is until the latches of
+// the places behind it are given back.
+fn audit_from<R: Wait>(
+    rt: &R,
+    seat: &mut TableSeat,
+    place: usize,
+    last: usize,
+    audited: &mut Vec<Audited>,
+) -> Result<(), AllocError>
+    requires places { (0 < place) × (place ≤ last + 1) × (last < seat.old.table.slots) × (last < 65536) }
+    requires rising { IsRising place seat.old.me }
+    ensures steps { AtItsTable seat.old seat.new MakesSteps }
+    ensures directory { StaysQuiet seat.old.me seat.new.me }
+    ensures gathered { OnOk result (Gathers place last audited.old.items audited.new.items seat.old.me seat.new.me) }
+{
+    if place > last {
+        return Ok(());
+    }
+    let latch = await_latch(rt, seat, place);
+    if let Err(AllocError) = add_book(seat, &latch, audited) {
+        seat.put_latch(latch, &[]);
+        return Err(AllocError);
+    }
+    let outcome = audit_from(rt, seat, place + 1, last, audited);
+    seat.put_latch(latch, &[]);
+    outcome
+}
+
+/// Adds a copy of the book in hand to a list.
+pub(crate) fn add_book(
+    seat: &mut TableSeat,
+    latch: &Latched,
+    audited: &mut Vec<Audited>,
+) -> Result<(), AllocError>
+    requires narrow { latch.now.place < 65536 }
+    requires carried { (book : BookView) × (seat.old.me.1 ≡ (latch.now.place, slot.Place book) ∷ rest seat.old.me.1) }
+    ensures same { seat.new ≡ seat.old }
+    ensures added { (book : BookView) → seat.old.me.1 ≡ (latch.now.place, slot.Place book) ∷ rest seat.old.me.1
+        → OnOk result (audited.new.items ≡ audited.old.items ++ record { place = latch.now.place; book = book } ∷ []) }
+{
+    let alloc = *audited.allocator();
+    let book = seat.copy_book(latch, alloc)?;
+    let place = latch.place() as u16;
+    audited.push(Audited { place, book })?;
+    Ok(())
+}

@@ -1,0 +1,92 @@
+//! A search for a deadlock: the latches of all places that have a key are taken one after the other, and by their books it is looked for, once all
+//! are taken. Only where somebody waits a lock's lists are copied for that: by the others nobody waits for anybody.
+ghost use Rattle.std.specs.Prelude.{◌≡◌, ◌+◌, ◌<◌, ◌≤◌, List, ◌∷◌, ◌++◌, IfOk, OnErr, OnOk};
+ghost use Rattle.mdl_book.specs.declared.book_view.BookView.{BookView};
+ghost use Rattle.mdl_steps.specs.declared.slot.Slot.TheVariants as slot;
+ghost use Rattle.mdl_steps.specs.declared.view.Keys.{Keys};
+ghost use Rattle.mdl_steps.specs.SeatStates.{AtItsTable};
+ghost use Rattle.mdl_steps.specs.Seats.{IsRising, rest};
+ghost use Rattle.mdl_visits.specs.declared.audited.Audited.{Audited};
+ghost use Rattle.mdl_visits.specs.Idle.{IsIdle};
+ghost use Rattle.mdl_visits.specs.Lookups.{TookDirectory};
+ghost use Rattle.mdl_visits.specs.Polls.{SettlesNothing};
+ghost use Rattle.mdl_visits.specs.Searches.{AreQueuesOf, Hears, KnowsFall, Listens, Searched, Searches, if_waited};
+
+use crate::latches::{await_directory, await_latch};
+use crate::settle_victim::settle_victim;
+use mdl_calls::Search;
+use mdl_steps::{Latched, ListCopies, TableSeat};
+use std::alloc::{AllocError, Global};
+use std::sync::Wait;
+
+/// Looks for a deadlock that the session waits in, and settles the wait of its victim. No key gets a place meanwhile, since the session holds
+/// the directory's latch, and no book changes once the session has all latches.
+pub fn search_deadlock<R: Wait>(
+    rt: &R,
+    seat: &mut TableSeat,
+    alloc: Global,
+) -> Result<Search, AllocError>
+    requires slots { seat.old.table.slots ≤ 65536 }
+    requires idle { IsIdle seat.old.me }
+    ensures hears { AtItsTable seat.old seat.new Listens }
+    ensures searched { (k : Keys) × TookDirectory seat.old.table.slots k k seat.old.me seat.new.me
+        × IfOk result (λ found. Searched seat.old.table seat.old.me.0.number k found seat.old.me seat.new.me) }
+    ensures own { IfOk result (λ found. KnowsFall seat.old.me.0.number found seat.new.me) }
+    ensures nothing { OnErr result (SettlesNothing seat.old.me seat.new.me) }
+{
+    let directory = await_directory(rt, seat);
+    let last = seat.key_count(&directory);
+    let mut lists = ListCopies::new(alloc);
+    let outcome = search_from(rt, seat, alloc, 1, last, &mut lists);
+    seat.put_directory(directory, 0);
+    outcome
+}
+
+// Puts the lists of the places from one to the last behind others, where somebody waits, and searches by all of them while their latches are held.
+fn search_from<R: Wait>(
+    rt: &R,
+    seat: &mut TableSeat,
+    alloc: Global,
+    place: usize,
+    last: usize,
+    lists: &mut ListCopies,
+) -> Result<Search, AllocError>
+    requires places { (0 < place) × (place ≤ last + 1) × (last < seat.old.table.slots) × (last < 65536) }
+    requires rising { IsRising place seat.old.me }
+    ensures hears { AtItsTable seat.old seat.new Hears }
+    ensures searched { IfOk result (λ found. (copied : List Audited) → AreQueuesOf copied lists.old
+        → Searches seat.old.table seat.old.me.0.number place last copied found seat.old.me seat.new.me) }
+    ensures own { IfOk result (λ found. KnowsFall seat.old.me.0.number found seat.new.me) }
+    ensures nothing { OnErr result (SettlesNothing seat.old.me seat.new.me) }
+{
+    if place > last {
+        return settle_victim(rt, seat, alloc, lists);
+    }
+    let latch = await_latch(rt, seat, place);
+    if let Err(AllocError) = add_if_waited(seat, &latch, lists) {
+        seat.put_latch(latch, &[]);
+        return Err(AllocError);
+    }
+    let outcome = search_from(rt, seat, alloc, place + 1, last, lists);
+    seat.put_latch(latch, &[]);
+    outcome
+}
+
+// Puts the lists of the book in hand behind others, if somebody waits by it.
+fn add_if_waited(
+    seat: &mut TableSeat,
+    latch: &Latched,
+    lists: &mut ListCopies,
+) -> Result<(), AllocError>
+    requires carried { (book : BookView) × (seat.old.me.1 ≡ (latch.now.place, slot.Place book) ∷ rest seat.old.me.1) }
+    ensures same { seat.new ≡ seat.old }
+    ensures added { (book : BookView) → seat.old.me.1 ≡ (latch.now.place, slot.Place book) ∷ rest seat.old.me.1
+        → OnOk result ((copied : List Audited) → AreQueuesOf copied lists.old
+        → AreQueuesOf (copied ++ if_waited (record { place = latch.now.place; book = book })) lists.new) }
+{
+    if seat.has_waiters(latch) {
+        seat.copy_lists(latch, lists)
+    } else {
+        Ok(())
+    }
+}

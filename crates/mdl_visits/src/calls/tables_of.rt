@@ -1,0 +1,142 @@
+//! The tables of a schema that have a definition: the directory tells the tables, and at the place of each it is asked for a definition.
+ghost use Rattle.std.specs.Prelude.{◌≡◌, ◌+◌, ◌<◌, ◌≤◌, ◌++◌, ◌∷◌, [], Bool, is_some, length, if◌then◌else◌, IfOk, OnErr};
+ghost use Rattle.std.specs.List.Sorted.{IsPermutation};
+ghost use Rattle.std.specs.Vec.{vec_capacity, vec_len};
+ghost use Rattle.mdl_steps.specs.declared.view.Held.{Held};
+ghost use Rattle.mdl_steps.specs.declared.view.Keys.{Keys};
+ghost use Rattle.mdl_steps.specs.declared.view.Met.{Met};
+ghost use Rattle.mdl_steps.specs.Plays.{unlatched};
+ghost use Rattle.mdl_steps.specs.Rule.{TellsLists};
+ghost use Rattle.mdl_steps.specs.SeatStates.{AtItsTable};
+ghost use Rattle.mdl_steps.specs.Seats.{IsPlace, IsRising, HasDirectory, Holds};
+ghost use Rattle.mdl_visits.specs.Idle.{IsIdle};
+ghost use Rattle.mdl_visits.specs.Lookups.{TookDirectory};
+ghost use Rattle.mdl_visits.specs.Tables.{AreListed, AreSorted, AreTables, AreWithin, HasAsked, MeetsDefinition, WasAsked, knowing_all};
+ghost use Rattle.mdl_visits.specs.Visits.{IsStepOf, MakesSteps, StaysQuiet};
+
+use crate::latches::{await_directory, await_latch};
+use mdl_calls::Place;
+use mdl_steps::{Known, Latched, LatchedDirectory, TableSeat};
+use std::alloc::{AllocError, Global};
+use std::sync::Wait;
+
+/// The tables of a schema, in the order of their keys, and room for the places of all of them. The session knows them from then on, and
+/// `known` has room for them.
+pub fn find_tables<R: Wait>(
+    rt: &R,
+    seat: &mut TableSeat,
+    alloc: Global,
+    known: &mut Vec<Known>,
+    schema: &str,
+) -> Result<(Vec<Known>, Vec<Place>), AllocError>
+    requires idle { IsIdle seat.old.me }
+    ensures same { known.new.items ≡ known.old.items }
+    ensures found { (k : Keys) × AtItsTable seat.old seat.new (TookDirectory seat.old.table.slots k k)
+        × IfOk result (λ found. AreTables schema.now k found.0.items × MakesSteps (knowing_all found.0.items seat.old.me) seat.new.me) }
+    ensures within { IfOk result (λ found. AreWithin seat.old.table.slots found.0.items) }
+    ensures room { IfOk result (λ found. (vec_len known.new + length found.0.items ≤ vec_capacity known.new)
+        × (found.1.items ≡ []) × (vec_len found.1 + length found.0.items ≤ vec_capacity found.1)) }
+    ensures unchanged { OnErr result (MakesSteps seat.old.me seat.new.me) }
+{
+    let directory = await_directory(rt, seat);
+    match list_tables(seat, &directory, alloc, known, schema) {
+        Ok(found) => {
+            seat.put_directory_telling(directory, &found.0);
+            Ok(found)
+        }
+        Err(AllocError) => {
+            seat.put_directory_telling(directory, &[]);
+            Err(AllocError)
+        }
+    }
+}
+
+// The tables by the directory in hand, and room for what will be known and told of them.
+fn list_tables(
+    seat: &mut TableSeat,
+    directory: &LatchedDirectory,
+    alloc: Global,
+    known: &mut Vec<Known>,
+    schema: &str,
+) -> Result<(Vec<Known>, Vec<Place>), AllocError>
+    requires held { (k : Keys) × HasDirectory k seat.old.me }
+    ensures same { (seat.new ≡ seat.old) × (known.new.items ≡ known.old.items) }
+    ensures listed { (k : Keys) → HasDirectory k seat.old.me → IfOk result (λ found. AreListed schema.now k found.0.items) }
+    ensures room { IfOk result (λ found. (vec_len known.new + length found.0.items ≤ vec_capacity known.new)
+        × (found.1.items ≡ []) × (vec_len found.1 + length found.0.items ≤ vec_capacity found.1)) }
+{
+    let mut tables = seat.tables_of(directory, alloc, schema)?;
+    sort_by_key(&mut tables);
+    known.reserve(tables.len())?;
+    let places = Vec::with_capacity(alloc, tables.len())?;
+    Ok((tables, places))
+}
+
+// Sorts tables by their keys.
+fn sort_by_key(tables: &mut Vec<Known>)
+    ensures same { IsPermutation tables.old.items tables.new.items }
+    ensures sorted { AreSorted tables.new.items }
+{
+    tables.sort_unstable_by(|one, other| one.key.cmp(&other.key));
+}
+
+/// Whether a definition stands at a place. It takes no memory.
+fn is_defined<R: Wait>(rt: &R, seat: &mut TableSeat, place: usize) -> bool
+    requires place { IsPlace seat.old.table place }
+    requires rising { IsRising place seat.old.me }
+    ensures steps { AtItsTable seat.old seat.new MakesSteps }
+    ensures directory { StaysQuiet seat.old.me seat.new.me }
+    ensures met { (e : Met) × IsStepOf seat.old.me seat.new.me e × MeetsDefinition place seat.old.me.0.number result e }
+{
+    let latch = await_latch(rt, seat, place);
+    is_defined_latched(seat, latch)
+}
+
+// The same at the latched place, and the latch is given back.
+fn is_defined_latched(seat: &mut TableSeat, latch: Latched) -> bool
+    requires place { IsPlace seat.old.table latch.place }
+    requires held { (h : Held) × Holds latch.place h h.book seat.old.me × TellsLists h.book h.slow h.obtrusive }
+    ensures put { seat.new ≡ record seat.old { me = unlatched latch.place [] seat.old.me } }
+    ensures told { (h : Held) → Holds latch.place h h.book seat.old.me → result ≡ is_some h.book.standing.definition }
+{
+    let defined = seat.has_definition(&latch);
+    seat.put_latch(latch, &[]);
+    defined
+}
+
+// Asks for one table, and lists its place where it has a definition.
+fn add_if_defined<R: Wait>(rt: &R, seat: &mut TableSeat, table: &Known, places: &mut Vec<Place>)
+    requires place { IsPlace seat.old.table table.now.place × (seat.old.table.slots ≤ 65536) }
+    requires idle { IsIdle seat.old.me }
+    requires room { vec_len places.old < vec_capacity places.old }
+    ensures idle { IsIdle seat.new.me }
+    ensures steps { AtItsTable seat.old seat.new MakesSteps }
+    ensures directory { StaysQuiet seat.old.me seat.new.me }
+    ensures asked { (defined : Bool) × WasAsked seat.old.me.0.number seat.old.me seat.new.me (record { table = table.now; defined = defined })
+        × (places.new.items ≡ places.old.items ++ (if defined then table.now.place ∷ [] else [])) }
+    ensures room { (vec_capacity places.new ≡ vec_capacity places.old) × (vec_len places.new ≤ vec_len places.old + 1) }
+{
+    if is_defined(rt, seat, table.place) {
+        places.push_reserved(table.place as Place);
+    }
+}
+
+/// Asks for each of these tables whether it has a definition, and lists the places of those that have one. There is room for all.
+pub fn tables_defined<R: Wait>(
+    rt: &R,
+    seat: &mut TableSeat,
+    tables: &[Known],
+    places: &mut Vec<Place>,
+)
+    requires within { AreWithin seat.old.table.slots tables.now × (seat.old.table.slots ≤ 65536) }
+    requires idle { IsIdle seat.old.me }
+    requires none { places.old.items ≡ [] }
+    requires room { vec_len places.old + length tables.now ≤ vec_capacity places.old }
+    ensures steps { AtItsTable seat.old seat.new MakesSteps }
+    ensures directory { StaysQuiet seat.old.me seat.new.me }
+    ensures asked { HasAsked seat.old.me.0.number tables.now places.new.items seat.old.me seat.new.me }
+{
+    for table in tables {
+        add_if_defined(rt, seat, table, places);
+    }
+}

@@ -1,0 +1,60 @@
+//! The victim of a cycle, by the lists of locks and the words of waits.
+ghost use Rattle.std.specs.Prelude.{◌≡◌, ℕ, true, List, All, IfOk};
+ghost use Rattle.std.specs.FinSet as set;
+ghost use Rattle.mdl_book.specs.SessionSets.{is_session};
+ghost use Rattle.mdl_graph.specs.Graphs.{IsGraphOf, victim_in};
+ghost use Rattle.mdl_visits.specs.declared.audited.Audited.{Audited};
+ghost use Rattle.mdl_visits.specs.declared.waits_read.WaitRead.{WaitRead};
+ghost use Rattle.mdl_visits.specs.Searches.{AreQueuesOf, books_of, settled_by};
+
+use crate::waits_read::WaitRead;
+use mdl_book::Sessions;
+use mdl_graph::{WaitGraph, victim};
+use mdl_steps::{ListCopies, WaitWord};
+use std::alloc::{AllocError, Global};
+
+// The sessions whose waits aren't open by their words.
+fn settled_of(words: &[WaitRead]) -> Sessions
+    requires { All (λ (h : WaitRead). is_session h.session ≡ true) words.now }
+    ensures { (session : ℕ) → set.contains result session ≡ settled_by words.now session }
+{
+    let mut settled = Sessions::new();
+    for heard in words {
+        if heard.word.state() != WaitWord::UNSETTLED {
+            settled.insert(heard.session);
+        }
+    }
+    settled
+}
+
+/// The victim of the cycle in which a session waits, by these lists and words, if it waits in one.
+pub(crate) fn find_victim(
+    alloc: Global,
+    lists: &ListCopies,
+    words: &[WaitRead],
+    from: u16,
+) -> Result<Option<u16>, AllocError>
+    requires { All (λ (h : WaitRead). is_session h.session ≡ true) words.now }
+    ensures { IfOk result (λ found. (audited : List Audited) → AreQueuesOf audited lists.now
+        → found ≡ victim_in (settled_by words.now) (books_of audited) from) }
+{
+    let graph = graph_of(alloc, lists, words)?;
+    match graph.find_cycle(from)? {
+        Some(cycle) => Ok(Some(victim(&cycle))),
+        None => Ok(None),
+    }
+}
+
+// Who waits for whom by these lists and words.
+fn graph_of(alloc: Global, lists: &ListCopies, words: &[WaitRead]) -> Result<WaitGraph, AllocError>
+    requires { All (λ (h : WaitRead). is_session h.session ≡ true) words.now }
+    ensures { IfOk result (λ graph. (audited : List Audited) → AreQueuesOf audited lists.now
+        → IsGraphOf (settled_by words.now) (books_of audited) graph) }
+{
+    let mut graph = WaitGraph::new(alloc, settled_of(words));
+    for at in 0..lists.count() {
+        let (namespace, granted, waiting) = lists.lock(at);
+        graph.add_lists(namespace, granted, waiting)?;
+    }
+    Ok(graph)
+}
