@@ -7,8 +7,8 @@ use Rattle.mdl_shared.specs.SessionViews.{lists_of, view_of}
 use Rattle.mdl_shared.specs.Showings.{KeepsLists}
 use Rattle.mdl_shared.proofs.SessionValues.{lists-seen}
 
-pub keeps-seen : (m m′ : Member) → m′.table ≡ m.table → m′.worker.number ≡ m.worker.number → m′.sessions ≡ m.sessions → m′.tickets.items ≡ m.tickets.items
-    → m′.known.items ≡ m.known.items → m′.next ≡ m.next → m′.asks ≡ m.asks → m′.waits ≡ m.waits → ReadsNothing m.worker.seat.me m′.worker.seat.me
+pub keeps-seen : (m m′ : Member) → m′.table ≡ m.table → m′.seat.me.0.number ≡ m.seat.me.0.number → m′.sessions ≡ m.sessions → m′.tickets.items ≡ m.tickets.items
+    → m′.known.items ≡ m.known.items → m′.next ≡ m.next → m′.asks ≡ m.asks → m′.waits ≡ m.waits → ReadsNothing m.seat.me m′.seat.me
     → KeepsLists (view_of m) (view_of m′)
 keeps-seen m m′ table number sessions tickets known next asks waits reads = record {
   number = number;

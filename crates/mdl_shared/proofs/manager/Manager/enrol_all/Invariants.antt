@@ -6,10 +6,10 @@ use Rattle.mdl_shared.proofs.manager.Manager.enrol_all.Given as goal
 
 abbrev pub invariant-loop-worker : goal.invariant-loop-worker
 invariant-loop-worker l = record {
-  seated : l.maker.seat.table_id ≡ (arc_value l.table).shared.table_id;
+  seated : l.maker.seat.table_id ≡ l.seat.table;
   most : l.maker.most ≡ l.fn.maker.most;
   given : length l.passes.items ≡ l.maker.given;
-  passes : ArePasses (arc_value l.table).shared.table_id l.passes.items;
+  passes : ArePasses l.seat.table l.passes.items;
 }
 
 abbrev pub decreases-loop-worker : goal.decreases-loop-worker

@@ -33,10 +33,10 @@ grant_or_wait-requires-clause-place g c =
 pub grant_or_wait-requires-clause-kind : goal.grant_or_wait-requires-clause-kind
 grant_or_wait-requires-clause-kind g c =
     let self = c.args.self.now in
-    kind_there c.args.place c.args.kind self.worker.seat.me.0.known (ap (kind_known c.args.place) (sym self.known_is) ∙ c.requires.known)
+    kind_there c.args.place c.args.kind self.seat.me.0.known (ap (kind_known c.args.place) (sym self.known_is) ∙ c.requires.known)
 
 pub grant_or_wait-requires-clause-unfast : goal.grant_or_wait-requires-clause-unfast
-grant_or_wait-requires-clause-unfast g c = let self = c.args.self.now in nil_from_length self.worker.seat.me.0.fast self.slow
+grant_or_wait-requires-clause-unfast g c = let self = c.args.self.now in nil_from_length self.seat.me.0.fast self.slow
 
 pub invariant_of-self-in-Ok-Granted : goal.invariant_of-self-in-Ok-Granted
 invariant_of-self-in-Ok-Granted g c =
@@ -66,7 +66,7 @@ invariant_of-self-in-Ok-Granted g c =
       settled = ap (λ (m : Mine). is_ask_told self.asks m.0.told) now ∙ self.settled;
       keys_apart = self.keys_apart;
       remembers = ∣ subst (λ (m : Mine). Remembers self.known.items c.push_reserved.new.self.items m.0.reads) (sym now)
-          (subst (λ (ts : List Own). Remembers self.known.items ts self.worker.seat.me.0.reads) (sym (pushed)) (remembers_gained self.known.items self.tickets.items self.worker.seat.me.0.reads (remembered self.remembers) t refl)) ∣₁;
+          (subst (λ (ts : List Own). Remembers self.known.items ts self.seat.me.0.reads) (sym (pushed)) (remembers_gained self.known.items self.tickets.items self.seat.me.0.reads (remembered self.remembers) t refl)) ∣₁;
       fewer = (let less = self.fewer.0 in omega arith, self.fewer.1);
       enrolled = subst (λ (n : ℕ). n ≤ self.sessions) (sym c.grant_or_wait.ensures.seat.1) self.enrolled;
       words = self.words;
@@ -102,7 +102,7 @@ invariant_of-self-in-Ok-Waiting g c =
       settled = refl;
       keys_apart = self.keys_apart;
       remembers = ∣ subst (λ (m : Mine). Remembers self.known.items c.reserve.new.self.items m.0.reads) (sym now)
-          (subst (λ (ts : List Own). Remembers self.known.items ts self.worker.seat.me.0.reads) (sym (same)) ((remembered self.remembers))) ∣₁;
+          (subst (λ (ts : List Own). Remembers self.known.items ts self.seat.me.0.reads) (sym (same)) ((remembered self.remembers))) ∣₁;
       fewer = (let less = self.fewer.0 in omega arith, let less = self.fewer.0 in let room = c.requires.room in omega arith);
       enrolled = subst (λ (n : ℕ). n ≤ self.sessions) (sym c.grant_or_wait.ensures.seat.1) self.enrolled;
       words = self.words;

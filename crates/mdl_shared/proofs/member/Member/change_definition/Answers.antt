@@ -51,7 +51,7 @@ invariant_of-self-2 g c =
       sized = self.sized;
       narrow = self.narrow;
       idle = subst IsIdle (sym now) self.idle;
-      slow = ap (λ (m : Mine). length m.0.fast) now ∙ none_noted place standing.version self.worker.seat.me.0.fast self.slow;
+      slow = ap (λ (m : Mine). length m.0.fast) now ∙ none_noted place standing.version self.seat.me.0.fast self.slow;
       listed = noted ∙ ap (noting_version place standing.version) self.listed ∙ sym (ap (λ (m : Mine). m.0.slow) now);
       known_is = self.known_is ∙ sym (ap (λ (m : Mine). m.0.known) now);
       next_is = self.next_is ∙ sym (ap (λ (m : Mine). m.0.next) now);
@@ -68,10 +68,10 @@ invariant_of-self-2 g c =
       settled = ap (λ (m : Mine). is_ask_told self.asks m.0.told) now ∙ self.settled;
       keys_apart = self.keys_apart;
       remembers = ∣ subst (λ (rs : List Read). Remembers self.known.items c.note_all.new.tickets.items rs) (sym redefines.learnt)
-          (subst (λ (ts : List Own). Remembers self.known.items ts (self.worker.seat.me.0.reads ++ record { place = place; standing = changed } ∷ [])) (sym noting)
-          (remembers_read self.known.items self.tickets.items self.worker.seat.me.0.reads (remembered self.remembers) place changed
-          (follows_newest place (stood.version + 1) stood self.worker.seat.me redefines.follows (omega arith))
-          (changed_fits place c.args.change.now c.in_ok-version.version self.worker.seat.me c.redefine_at.new.worker.seat.me self.known.items self.known_is redefines known))) ∣₁;
+          (subst (λ (ts : List Own). Remembers self.known.items ts (self.seat.me.0.reads ++ record { place = place; standing = changed } ∷ [])) (sym noting)
+          (remembers_read self.known.items self.tickets.items self.seat.me.0.reads (remembered self.remembers) place changed
+          (follows_newest place (stood.version + 1) stood self.seat.me redefines.follows (omega arith))
+          (changed_fits place c.args.change.now c.in_ok-version.version self.seat.me c.redefine_at.new.seat.me self.known.items self.known_is redefines known))) ∣₁;
       fewer = self.fewer;
       enrolled = subst (λ (n : ℕ). n ≤ self.sessions) (sym c.redefine_at.ensures.seat.1) self.enrolled;
       words = self.words;
@@ -80,5 +80,5 @@ invariant_of-self-2 g c =
 pub redefine_at-requires-clause-apart : goal.redefine_at-requires-clause-apart
 redefine_at-requires-clause-apart g c =
     let self = c.args.self.now in
-    let v = self.worker.seat.me.0 in
+    let v = self.seat.me.0 in
     apart_seen self.next v.next self.tickets.items v.slow self.asks v.asks self.next_is self.listed self.asks_is self.apart

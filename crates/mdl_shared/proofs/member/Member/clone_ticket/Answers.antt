@@ -28,7 +28,7 @@ double-requires-clause-place g c =
 pub double-requires-clause-fits : goal.double-requires-clause-fits
 double-requires-clause-fits g c =
     let self = c.args.self.now in
-    fit_there c.args.held.place c.args.mode self.worker.seat.me.0.known (subst (λ (ks : List Known). is_fit c.args.held.place c.args.mode ks ≡ true) self.known_is c.requires.fits)
+    fit_there c.args.held.place c.args.mode self.seat.me.0.known (subst (λ (ks : List Known). is_fit c.args.held.place c.args.mode ks ≡ true) self.known_is c.requires.fits)
 
 pub invariant_of-self-in-Ok : goal.invariant_of-self-in-Ok
 invariant_of-self-in-Ok g c =
@@ -58,7 +58,7 @@ invariant_of-self-in-Ok g c =
       settled = ap (λ (m : Mine). is_ask_told self.asks m.0.told) now ∙ self.settled;
       keys_apart = self.keys_apart;
       remembers = ∣ subst (λ (m : Mine). Remembers self.known.items c.push_reserved.new.self.items m.0.reads) (sym now)
-          (subst (λ (ts : List Own). Remembers self.known.items ts self.worker.seat.me.0.reads) (sym (pushed)) (remembers_gained self.known.items self.tickets.items self.worker.seat.me.0.reads (remembered self.remembers) t refl)) ∣₁;
+          (subst (λ (ts : List Own). Remembers self.known.items ts self.seat.me.0.reads) (sym (pushed)) (remembers_gained self.known.items self.tickets.items self.seat.me.0.reads (remembered self.remembers) t refl)) ∣₁;
       fewer = (let less = self.fewer.0 in omega arith, self.fewer.1);
       enrolled = subst (λ (n : ℕ). n ≤ self.sessions) (sym c.double.ensures.seat.1) self.enrolled;
       words = self.words;

@@ -32,7 +32,7 @@ weaken-requires-clause-held g c =
 pub weaken-requires-clause-fits : goal.weaken-requires-clause-fits
 weaken-requires-clause-fits g c =
     let self = c.args.self.now in
-    fit_there c.args.held.place c.args.mode self.worker.seat.me.0.known (subst (λ (ks : List Known). is_fit c.args.held.place c.args.mode ks ≡ true) self.known_is c.requires.fits)
+    fit_there c.args.held.place c.args.mode self.seat.me.0.known (subst (λ (ks : List Known). is_fit c.args.held.place c.args.mode ks ≡ true) self.known_is c.requires.fits)
 
 pub invariant_of-self : goal.invariant_of-self
 invariant_of-self g c =
@@ -57,10 +57,10 @@ invariant_of-self g c =
       apart = ap (λ (ts : List Own). is_ask_apart self.next ts self.asks) c.set_mode.ensures.changed ∙ apart_altered self.next self.tickets.items held.place held.number c.args.mode self.asks self.apart;
       rising = ap are_rising c.set_mode.ensures.changed ∙ rising_altered held.place held.number c.args.mode self.tickets.items self.rising;
       last = self.last;
-      settled = told_stays self.asks self.worker.seat.me.0.asks self.worker.seat.me.0.told c.weaken.new.worker.seat.me.0.told self.asks_is c.weaken.ensures.weakened.way.unasked self.settled;
+      settled = told_stays self.asks self.seat.me.0.asks self.seat.me.0.told c.weaken.new.seat.me.0.told self.asks_is c.weaken.ensures.weakened.way.unasked self.settled;
       keys_apart = self.keys_apart;
       remembers = ∣ subst (λ (m : Mine). Remembers self.known.items c.set_mode.new.tickets.items m.0.reads) (sym now)
-          (subst (λ (ts : List Own). Remembers self.known.items ts self.worker.seat.me.0.reads) (sym (c.set_mode.ensures.changed)) (remembers_altered self.known.items self.tickets.items self.worker.seat.me.0.reads (remembered self.remembers) held.place held.number c.args.mode)) ∣₁;
+          (subst (λ (ts : List Own). Remembers self.known.items ts self.seat.me.0.reads) (sym (c.set_mode.ensures.changed)) (remembers_altered self.known.items self.tickets.items self.seat.me.0.reads (remembered self.remembers) held.place held.number c.args.mode)) ∣₁;
       fewer = self.fewer;
       enrolled = subst (λ (n : ℕ). n ≤ self.sessions) (sym c.weaken.ensures.seat.1) self.enrolled;
       words = self.words;
@@ -72,4 +72,4 @@ returns-clause-reads g c = ap (λ (m : Mine). m.0.reads) c.weaken.ensures.weaken
 pub weaken-requires-clause-unwaited : goal.weaken-requires-clause-unwaited
 weaken-requires-clause-unwaited g c =
     let self = c.args.self.now in
-    waits_apart self.worker.seat.me.0 self.next c.args.held.number self.tickets.items self.asks self.next_is self.listed self.asks_is self.apart (ap is_some c.requires.held)
+    waits_apart self.seat.me.0 self.next c.args.held.number self.tickets.items self.asks self.next_is self.listed self.asks_is self.apart (ap is_some c.requires.held)

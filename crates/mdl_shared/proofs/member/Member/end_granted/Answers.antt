@@ -56,5 +56,5 @@ invariant_of-self-2-clause-remembers c =
     let as_noted : Option ℕ → Own = λ noted. record { number = c.args.ask.number; place = c.args.ask.place; mode = c.args.ask.mode; noted = noted } in
     let pushed = c.push_reserved.ensures.items ∙ (λ i. self.tickets.items ++ as_noted (c.note_at-noted.ensures i) ∷ []) in
     ∣ subst (λ (m : Mine). Remembers self.known.items c.push_reserved.new.self.items m.0.reads) (sym c.end_granted.ensures.made)
-    (subst (λ (ts : List Own). Remembers self.known.items ts self.worker.seat.me.0.reads) (sym pushed)
-    (remembers_gained self.known.items tickets self.worker.seat.me.0.reads (remembered self.remembers) (ticket_asked a tickets) refl)) ∣₁
+    (subst (λ (ts : List Own). Remembers self.known.items ts self.seat.me.0.reads) (sym pushed)
+    (remembers_gained self.known.items tickets self.seat.me.0.reads (remembered self.remembers) (ticket_asked a tickets) refl)) ∣₁

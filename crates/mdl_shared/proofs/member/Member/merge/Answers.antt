@@ -32,7 +32,7 @@ fold-requires-clause-known g c =
     let kept = c.args.kept in
     let has = has_numbered kept.place kept.number self.tickets.items (ap (option_map (λ (t : Own). t.place)) c.requires.kept) in
     let known = placed_at self.known.items self.tickets.items kept.place kept.number self.placed has in
-    some_key kept.place self.worker.seat.me.0.known (ap (λ ks. is_known_place ks kept.place) (sym self.known_is) ∙ known)
+    some_key kept.place self.seat.me.0.known (ap (λ ks. is_known_place ks kept.place) (sym self.known_is) ∙ known)
 
 pub invariant_of-self : goal.invariant_of-self
 invariant_of-self g c =
@@ -68,8 +68,8 @@ invariant_of-self g c =
       settled = ap (λ (m : Mine). is_ask_told self.asks m.0.told) now ∙ self.settled;
       keys_apart = self.keys_apart;
       remembers = ∣ subst (λ (m : Mine). Remembers self.known.items c.strike.new.tickets.items m.0.reads) (sym now)
-          (subst (λ (ts : List Own). Remembers self.known.items ts self.worker.seat.me.0.reads) (sym (tickets)) (remembers_lost self.known.items (in_mode_at kept.place kept.number gone.mode self.tickets.items) self.worker.seat.me.0.reads
-          (remembers_altered self.known.items self.tickets.items self.worker.seat.me.0.reads (remembered self.remembers) kept.place kept.number gone.mode) kept.place gone.number)) ∣₁;
+          (subst (λ (ts : List Own). Remembers self.known.items ts self.seat.me.0.reads) (sym (tickets)) (remembers_lost self.known.items (in_mode_at kept.place kept.number gone.mode self.tickets.items) self.seat.me.0.reads
+          (remembers_altered self.known.items self.tickets.items self.seat.me.0.reads (remembered self.remembers) kept.place kept.number gone.mode) kept.place gone.number)) ∣₁;
       fewer = self.fewer;
       enrolled = subst (λ (n : ℕ). n ≤ self.sessions) (sym c.fold.ensures.seat.1) self.enrolled;
       words = self.words;

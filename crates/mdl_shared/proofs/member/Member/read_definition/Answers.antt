@@ -37,7 +37,7 @@ invariant_of-self-2 g c =
       sized = self.sized;
       narrow = self.narrow;
       idle = subst IsIdle (sym now) self.idle;
-      slow = ap (λ (m : Mine). length m.0.fast) now ∙ none_noted place version self.worker.seat.me.0.fast self.slow;
+      slow = ap (λ (m : Mine). length m.0.fast) now ∙ none_noted place version self.seat.me.0.fast self.slow;
       listed = noted ∙ ap (noting_version place version) self.listed ∙ sym (ap (λ (m : Mine). m.0.slow) now);
       known_is = self.known_is ∙ sym (ap (λ (m : Mine). m.0.known) now);
       next_is = self.next_is ∙ sym (ap (λ (m : Mine). m.0.next) now);
@@ -54,9 +54,9 @@ invariant_of-self-2 g c =
       settled = ap (λ (m : Mine). is_ask_told self.asks m.0.told) now ∙ self.settled;
       keys_apart = self.keys_apart;
       remembers = ∣ subst (λ (m : Mine). Remembers self.known.items c.note_all.new.tickets.items m.0.reads) (sym now)
-          (subst (λ (ts : List Own). Remembers self.known.items ts (self.worker.seat.me.0.reads ++ record { place = place; standing = c.in_ok-standing.standing } ∷ [])) (sym noted)
-          (remembers_read self.known.items self.tickets.items self.worker.seat.me.0.reads (remembered self.remembers) place c.in_ok-standing.standing (follows_newest place version c.in_ok-standing.standing self.worker.seat.me follows (omega arith))
-          (follows_fits place c.in_ok-standing.standing self.worker.seat.me self.known.items self.known_is follows known))) ∣₁;
+          (subst (λ (ts : List Own). Remembers self.known.items ts (self.seat.me.0.reads ++ record { place = place; standing = c.in_ok-standing.standing } ∷ [])) (sym noted)
+          (remembers_read self.known.items self.tickets.items self.seat.me.0.reads (remembered self.remembers) place c.in_ok-standing.standing (follows_newest place version c.in_ok-standing.standing self.seat.me follows (omega arith))
+          (follows_fits place c.in_ok-standing.standing self.seat.me self.known.items self.known_is follows known))) ∣₁;
       fewer = self.fewer;
       enrolled = subst (λ (n : ℕ). n ≤ self.sessions) (sym c.read_at.ensures.seat.1) self.enrolled;
       words = self.words;
@@ -69,7 +69,7 @@ returns-clause-read g c =
     let id = c.args._id in
     let learnt = c.in_ok-standing.ensures.learnt in
     let has = subst (λ (ts : List Own). HasTicket place id ts) self.listed (has_numbered place id self.tickets.items c.requires.held) in
-    let unwaited = waits_apart self.worker.seat.me.0 self.next id self.tickets.items self.asks self.next_is self.listed self.asks_is self.apart
+    let unwaited = waits_apart self.seat.me.0 self.next id self.tickets.items self.asks self.next_is self.listed self.asks_is self.apart
     (some_there (λ (t : Own). t.place) (numbered id self.tickets.items) place c.requires.held) in (
       c.note_all.ensures.noted,
       ap (λ (m : Mine). m.0.reads) learnt.0.1,

@@ -28,7 +28,7 @@ release-requires-clause-known g c =
     let self = c.args.self.now in
     let has = has_numbered c.args.place c.args.id self.tickets.items c.requires.held in
     let known = placed_at self.known.items self.tickets.items c.args.place c.args.id self.placed has in
-    some_key c.args.place self.worker.seat.me.0.known (ap (λ ks. is_known_place ks c.args.place) (sym self.known_is) ∙ known)
+    some_key c.args.place self.seat.me.0.known (ap (λ ks. is_known_place ks c.args.place) (sym self.known_is) ∙ known)
 
 pub release-requires-clause-held : goal.release-requires-clause-held
 release-requires-clause-held g c =
@@ -57,10 +57,10 @@ invariant_of-self g c =
       apart = ap (λ (ts : List Own). is_ask_apart self.next ts self.asks) c.strike.ensures.struck ∙ apart_lost self.next self.tickets.items c.args.place c.args.id self.asks self.apart;
       rising = ap are_rising c.strike.ensures.struck ∙ rising_lost c.args.place c.args.id self.tickets.items self.rising;
       last = self.last;
-      settled = told_stays self.asks self.worker.seat.me.0.asks self.worker.seat.me.0.told c.release.new.worker.seat.me.0.told self.asks_is c.release.ensures.released.way.unasked self.settled;
+      settled = told_stays self.asks self.seat.me.0.asks self.seat.me.0.told c.release.new.seat.me.0.told self.asks_is c.release.ensures.released.way.unasked self.settled;
       keys_apart = self.keys_apart;
       remembers = ∣ subst (λ (m : Mine). Remembers self.known.items c.strike.new.tickets.items m.0.reads) (sym now)
-          (subst (λ (ts : List Own). Remembers self.known.items ts self.worker.seat.me.0.reads) (sym (c.strike.ensures.struck)) (remembers_lost self.known.items self.tickets.items self.worker.seat.me.0.reads (remembered self.remembers) c.args.place c.args.id)) ∣₁;
+          (subst (λ (ts : List Own). Remembers self.known.items ts self.seat.me.0.reads) (sym (c.strike.ensures.struck)) (remembers_lost self.known.items self.tickets.items self.seat.me.0.reads (remembered self.remembers) c.args.place c.args.id)) ∣₁;
       fewer = self.fewer;
       enrolled = subst (λ (n : ℕ). n ≤ self.sessions) (sym c.release.ensures.seat.1) self.enrolled;
       words = self.words;
@@ -72,4 +72,4 @@ returns-clause-reads g c = ap (λ (m : Mine). m.0.reads) c.release.ensures.relea
 pub release-requires-clause-unwaited : goal.release-requires-clause-unwaited
 release-requires-clause-unwaited g c =
     let self = c.args.self.now in
-    waits_apart self.worker.seat.me.0 self.next c.args.id self.tickets.items self.asks self.next_is self.listed self.asks_is self.apart (some_there (λ (t : Own). t.place) (numbered c.args.id self.tickets.items) c.args.place c.requires.held)
+    waits_apart self.seat.me.0 self.next c.args.id self.tickets.items self.asks self.next_is self.listed self.asks_is self.apart (some_there (λ (t : Own). t.place) (numbered c.args.id self.tickets.items) c.args.place c.requires.held)

@@ -23,7 +23,7 @@ invariant_of-self-2 g c =
     let slots = c.slot_count-slots.ensures ∙ ap (λ table. table.shared.table_id.slots) c.deref.ensures in
     let inside = subst (λ (n : ℕ). c.in_ok-place.place < n) slots known.1 in
     let answer = c.in_ok-place.ensures.answer in
-    let v = self.worker.seat.me.0 in
+    let v = self.seat.me.0 in
     let new_there = ap (λ (ks : List Known). is_known_place ks c.in_ok-place.place) self.known_is
     ∙ new_place c.slot_count-slots.result c.in_ok-place.place c.args.key.now answer.0 answer.1 v answer.2.recorded.known answer.3 (ap (place_known c.args.key.now) (sym self.known_is) ∙ c.requires.unknown) in
     let kept : ◌≡◌ {A = KeyName} c.in-Ok.key_kept c.args.key.now = c.in-Ok.ensures.cases in
@@ -51,7 +51,7 @@ invariant_of-self-2 g c =
       settled = ap (λ (m : Mine). is_ask_told self.asks m.0.told) now ∙ self.settled;
       keys_apart = ap are_apart pushed ∙ apart_more self.known.items one self.keys_apart c.requires.unknown (new_there);
       remembers = ∣ subst (λ (m : Mine). Remembers c.push_reserved.new.self.items self.tickets.items m.0.reads) (sym now)
-          (subst (λ (ks : List Known). Remembers ks self.tickets.items self.worker.seat.me.0.reads) (sym pushed) (remembers_more self.known.items (one ∷ []) self.tickets.items self.worker.seat.me.0.reads (remembered self.remembers))) ∣₁;
+          (subst (λ (ks : List Known). Remembers ks self.tickets.items self.seat.me.0.reads) (sym pushed) (remembers_more self.known.items (one ∷ []) self.tickets.items self.seat.me.0.reads (remembered self.remembers))) ∣₁;
       fewer = self.fewer;
       enrolled = subst (λ (n : ℕ). n ≤ self.sessions) (sym c.resolve.ensures.seat.1) self.enrolled;
       words = self.words;
@@ -64,7 +64,7 @@ returns-clause-known g c =
     let slots = c.slot_count-slots.ensures ∙ ap (λ table. table.shared.table_id.slots) c.deref.ensures in
     let kept : ◌≡◌ {A = KeyName} c.in-Ok.key_kept c.args.key.now = c.in-Ok.ensures.cases in
     let answer = c.in_ok-place.ensures.answer in
-    let v = self.worker.seat.me.0 in (
+    let v = self.seat.me.0 in (
       known.0,
       subst (λ (n : ℕ). c.in_ok-place.place < n) slots known.1,
       ap (λ (ks : List Known). is_known_place ks c.in_ok-place.place) self.known_is

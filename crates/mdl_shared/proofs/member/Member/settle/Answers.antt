@@ -16,7 +16,7 @@ use Rattle.mdl_shared.proofs.member.Member.settle.Goals as goal
 pub returns-clause-met : goal.returns-clause-met
 returns-clause-met c =
     let self = c.args.self.now in
-    let m : Mine = self.worker.seat.me in
+    let m : Mine = self.seat.me in
     let went : Mine = c.settle_wait.new.self.seat.me in
     let word : ℕ = c.settle_wait.result.0 in
     let slots = c.slot_count-slots.ensures ∙ ap (λ table. table.shared.table_id.slots) c.deref.ensures in
@@ -26,7 +26,7 @@ returns-clause-met c =
 pub invariant_of-self-clause-settled : goal.invariant_of-self-clause-settled
 invariant_of-self-clause-settled c =
     let self = c.args.self.now in
-    let v = self.worker.seat.me.0 in
+    let v = self.seat.me.0 in
     let went : Mine = c.settle_wait.new.self.seat.me in
     let word : ℕ = c.settle_wait.result.0 in
     let slots = c.slot_count-slots.result in

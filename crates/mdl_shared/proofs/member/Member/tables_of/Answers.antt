@@ -28,10 +28,10 @@ pub invariant_of-self-2 : goal.invariant_of-self-2
 invariant_of-self-2 g c =
     let self = c.args.self.now in
     let tables : List Known = c.in_ok-tables.tables.items in
-    let slots : ℕ = (arc_value self.table).shared.table_id.slots in
+    let slots : ℕ = self.seat.table.slots in
     let found = c.in_ok-tables.ensures.found in
     let asked = c.ask_all.ensures.steps in
-    let now : c.ask_all.new.worker.seat.me ≡ and_made asked.0 (and_made found.2.1.0 (knowing_all tables self.worker.seat.me)) =
+    let now : c.ask_all.new.seat.me ≡ and_made asked.0 (and_made found.2.1.0 (knowing_all tables self.seat.me)) =
     asked.1 ∙ ap (and_made asked.0) found.2.1.1 in
     let learnt = c.learn.ensures ∙ ap (λ (ks : List Known). ks ++ unknown ks tables) c.in_ok-tables.ensures.same in
     let new : List Known = unknown self.known.items tables in
@@ -57,9 +57,9 @@ invariant_of-self-2 g c =
       last = self.last;
       settled = ap (λ (m : Mine). is_ask_told self.asks m.0.told) now ∙ self.settled;
       keys_apart = ap are_apart learnt ∙ ap (λ (ks : List Known). are_apart (ks ++ unknown ks tables)) self.known_is
-          ∙ apart_and c.args.schema.now found.0 self.worker.seat.me.0 tables found.1.recorded.known found.2.0 (ap are_apart (sym self.known_is) ∙ self.keys_apart);
+          ∙ apart_and c.args.schema.now found.0 self.seat.me.0 tables found.1.recorded.known found.2.0 (ap are_apart (sym self.known_is) ∙ self.keys_apart);
       remembers = ∣ subst (λ (m : Mine). Remembers c.learn.new.known.items self.tickets.items m.0.reads) (sym now)
-          (subst (λ (ks : List Known). Remembers ks self.tickets.items self.worker.seat.me.0.reads) (sym learnt) (remembers_more self.known.items new self.tickets.items self.worker.seat.me.0.reads (remembered self.remembers))) ∣₁;
+          (subst (λ (ks : List Known). Remembers ks self.tickets.items self.seat.me.0.reads) (sym learnt) (remembers_more self.known.items new self.tickets.items self.seat.me.0.reads (remembered self.remembers))) ∣₁;
       fewer = self.fewer;
       enrolled = subst (λ (n : ℕ). n ≤ self.sessions) (sym (c.ask_all.ensures.seat.1 ∙ c.find_tables.ensures.seat.1)) self.enrolled;
       words = self.words;
@@ -69,23 +69,23 @@ pub returns-clause-told : goal.returns-clause-told
 returns-clause-told g c =
     let self = c.args.self.now in
     let tables : List Known = c.in_ok-tables.tables.items in
-    let old : Mine = self.worker.seat.me in
-    let mid : Mine = c.find_tables.new.worker.seat.me in
-    let new : Mine = c.ask_all.new.worker.seat.me in
+    let old : Mine = self.seat.me in
+    let mid : Mine = c.find_tables.new.seat.me in
+    let new : Mine = c.ask_all.new.seat.me in
     let found = c.in_ok-tables.ensures.found in
     let places : List ℕ = c.ask_all.new.places.items in
     let took = subst (λ table. TookDirectory table.shared.table_id.slots found.0 found.0 old mid) c.deref.ensures found.1 in
     let none : mid.0.directory ≡ None = ap (λ (m : Mine). m.0.directory) found.2.1.1 ∙ sym (no_record old.0.directory self.idle.1) in
-    let asked : HasAsked self.worker.number tables places mid new =
+    let asked : HasAsked self.seat.me.0.number tables places mid new =
     subst (λ (n : ℕ). HasAsked n tables places mid new) c.find_tables.ensures.seat.1
-    (subst (λ (ts : List Known). HasAsked c.find_tables.new.worker.number ts places mid new) c.deref-3.ensures.value c.ask_all.ensures.asked) in
+    (subst (λ (ts : List Known). HasAsked c.find_tables.new.seat.me.0.number ts places mid new) c.deref-3.ensures.value c.ask_all.ensures.asked) in
     let known = c.learn.ensures ∙ ap (λ (ks : List Known). ks ++ unknown ks tables) c.in_ok-tables.ensures.same in (
       found.0,
-      took_earlier (arc_value self.table).shared.table_id.slots found.0 found.0 old mid new took c.ask_all.ensures.directory none,
+      took_earlier self.seat.table.slots found.0 found.0 old mid new took c.ask_all.ensures.directory none,
       (
         tables,
         found.2.0,
-        asked_after self.worker.number tables places old mid new (goes_on (knowing_all tables old) mid found.2.1) asked,
+        asked_after self.seat.me.0.number tables places old mid new (goes_on (knowing_all tables old) mid found.2.1) asked,
         known,
         subst (AreLearnt tables) (sym (known ∙ ap (λ (ks : List Known). ks ++ unknown ks tables) self.known_is))
             (all_learnt c.args.schema.now found.0 old.0 tables found.1.recorded.known found.2.0 found.1.recorded.distinct),
@@ -94,8 +94,8 @@ returns-clause-told g c =
 
 pub returns-clause-did : goal.returns-clause-did
 returns-clause-did g c =
-    let old : Mine = c.args.self.now.worker.seat.me in
-    let mid : Mine = c.find_tables.new.worker.seat.me in
-    let new : Mine = c.ask_all.new.worker.seat.me in
+    let old : Mine = c.args.self.now.seat.me in
+    let mid : Mine = c.find_tables.new.seat.me in
+    let new : Mine = c.ask_all.new.seat.me in
     let knowing = knowing_all c.in_ok-tables.tables.items old in
     does_then [] [] old mid new (does_steps knowing mid c.in_ok-tables.ensures.found.2.1) (does_steps mid new c.ask_all.ensures.steps)

@@ -24,7 +24,7 @@ try_grant-requires-clause-place g c =
 pub try_grant-requires-clause-kind : goal.try_grant-requires-clause-kind
 try_grant-requires-clause-kind g c =
     let self = c.args.self.now in
-    kind_there c.args.place c.args.kind self.worker.seat.me.0.known (ap (kind_known c.args.place) (sym self.known_is) ∙ c.requires.known)
+    kind_there c.args.place c.args.kind self.seat.me.0.known (ap (kind_known c.args.place) (sym self.known_is) ∙ c.requires.known)
 
 pub invariant_of-self-in-Ok-Granted : goal.invariant_of-self-in-Ok-Granted
 invariant_of-self-in-Ok-Granted g c =
@@ -54,7 +54,7 @@ invariant_of-self-in-Ok-Granted g c =
       settled = ap (λ (m : Mine). is_ask_told self.asks m.0.told) now ∙ self.settled;
       keys_apart = self.keys_apart;
       remembers = ∣ subst (λ (m : Mine). Remembers self.known.items c.push_reserved.new.self.items m.0.reads) (sym now)
-          (subst (λ (ts : List Own). Remembers self.known.items ts self.worker.seat.me.0.reads) (sym (pushed)) (remembers_gained self.known.items self.tickets.items self.worker.seat.me.0.reads (remembered self.remembers) t refl)) ∣₁;
+          (subst (λ (ts : List Own). Remembers self.known.items ts self.seat.me.0.reads) (sym (pushed)) (remembers_gained self.known.items self.tickets.items self.seat.me.0.reads (remembered self.remembers) t refl)) ∣₁;
       fewer = (let less = self.fewer.0 in omega arith, self.fewer.1);
       enrolled = subst (λ (n : ℕ). n ≤ self.sessions) (sym c.try_grant.ensures.seat.1) self.enrolled;
       words = self.words;

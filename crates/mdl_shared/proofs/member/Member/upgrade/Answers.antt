@@ -27,7 +27,7 @@ try_strengthen-requires-clause-place g c =
 pub try_strengthen-requires-clause-mode : goal.try_strengthen-requires-clause-mode
 try_strengthen-requires-clause-mode g c =
     let self = c.args.self.now in
-    let knows = kind_there c.args.place c.args._kind self.worker.seat.me.0.known (ap (kind_known c.args.place) (sym self.known_is) ∙ c.requires.known) in
+    let knows = kind_there c.args.place c.args._kind self.seat.me.0.known (ap (kind_known c.args.place) (sym self.known_is) ∙ c.requires.known) in
     (c.args._kind, knows, c.requires.mode.0, c.requires.mode.1)
 
 pub try_strengthen-requires-clause-held : goal.try_strengthen-requires-clause-held
@@ -60,7 +60,7 @@ invariant_of-self g c =
       settled = ap (λ (m : Mine). is_ask_told self.asks m.0.told) now ∙ self.settled;
       keys_apart = self.keys_apart;
       remembers = ∣ subst (λ (m : Mine). Remembers self.known.items c.set_mode.new.tickets.items m.0.reads) (sym now)
-          (subst (λ (ts : List Own). Remembers self.known.items ts self.worker.seat.me.0.reads) (sym (c.set_mode.ensures.changed)) (remembers_altered self.known.items self.tickets.items self.worker.seat.me.0.reads (remembered self.remembers) c.args.place c.args.id c.args.mode)) ∣₁;
+          (subst (λ (ts : List Own). Remembers self.known.items ts self.seat.me.0.reads) (sym (c.set_mode.ensures.changed)) (remembers_altered self.known.items self.tickets.items self.seat.me.0.reads (remembered self.remembers) c.args.place c.args.id c.args.mode)) ∣₁;
       fewer = self.fewer;
       enrolled = subst (λ (n : ℕ). n ≤ self.sessions) (sym c.try_strengthen.ensures.seat.1) self.enrolled;
       words = self.words;
