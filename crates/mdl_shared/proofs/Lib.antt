@@ -17,6 +17,8 @@ pub mod Faults
 pub mod PollCalls
 pub mod NotedOnce
 pub mod TicketFaults
+pub mod ClearCalls
+pub mod KeptLists
 pub mod TicketCalls
 pub mod TellingCalls
 pub mod WishFaults
