@@ -13,8 +13,8 @@ use Rattle.mdl_visits.proofs.Steps.{does_then}
 use Rattle.mdl_shared.proofs.Ends.{granted_so, lost_over, lost_so, lost_way, step_earlier, way_met_before}
 use Rattle.mdl_shared.proofs.member.Member.end_wait.Goals as goal
 
-pub withdraw-requires-clause-lost : goal.withdraw-requires-clause-lost
-withdraw-requires-clause-lost g c =
+pub end_lost-requires-clause-lost : goal.end_lost-requires-clause-lost
+end_lost-requires-clause-lost g c =
     let how : Settled = c.in-Settled.how in
     (state_of how, (c.poll_wait.ensures.settled how c.in-Settled.is).0, lost_over how c.in-Some.ended (sym c.lost_end.ensures ∙ c.in-Some.is))
 
@@ -32,8 +32,8 @@ returns-in-Some-clause-ended g c =
       (met.0, step_earlier met.0 m c.poll_wait.new.self.seat.me c.end_lost.new.self.seat.me met.1 c.end_lost.ensures.goes, met.2),
     )
 
-pub take_over-requires-clause-granted : goal.take_over-requires-clause-granted
-take_over-requires-clause-granted g c =
+pub end_granted-requires-clause-granted : goal.end_granted-requires-clause-granted
+end_granted-requires-clause-granted g c =
     let self = c.args.self.now in
     let how : Settled = c.in-Settled.how in
     let so = granted_so c.args.ask how self.tickets.items (sym c.lost_end.ensures ∙ c.in_default-lost_end.is) in
