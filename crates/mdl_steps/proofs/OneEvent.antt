@@ -17,7 +17,7 @@ use Rattle.mdl_book.proofs.TicketLemmas.{find-contains, find-passes}
 use Rattle.mdl_steps.specs.declared.deed.Deed.{Deed}
 use Rattle.mdl_steps.specs.declared.deed.Deed.TheVariants.{Gain, Alter, Lose}
 use Rattle.mdl_steps.specs.declared.view.View.{View}
-use Rattle.mdl_steps.specs.Deeds.{HasAtLeast, MayBeGranted, MayClone, MayDowngrade, MayDo, MayJoin, MayMerge, MayUpgrade, NotWaited, booked, done}
+use Rattle.mdl_steps.specs.Deeds.{MayBeGranted, MayClone, MayDowngrade, MayDo, MayJoin, MayMerge, MayUpgrade, NotWaited, booked, done}
 use Rattle.mdl_steps.proofs.Tickets.{is_passed}
 
 -- ---- what the rule asks

@@ -1,5 +1,5 @@
 -- The wait was read unsettled and its grant tried, or it was read settled.
-use Rattle.std.proofs.Common.{◌≡◌, ℕ, inl, refl, sym, ◌∙◌, subst}
+use Rattle.std.proofs.Common.{inl, refl, sym, ◌∙◌, subst}
 use Rattle.atomic_table.specs.Seated.{TableId}
 use Rattle.mdl_steps.specs.declared.step_kind.StepKind.TheVariants.{ReadWait}
 use Rattle.mdl_steps.specs.declared.view.Held.{Held}

@@ -1,5 +1,5 @@
 -- The holder of the latch may leave just those flags up that tell of each ticket in the lists.
-use Rattle.std.proofs.Common.{ℕ, ◌+◌, ◌*◌, ◌<◌, List, sym, ap, ◌∙◌, subst, arith, bit_and, ◌≡◌}
+use Rattle.std.proofs.Common.{ℕ, ◌+◌, ◌*◌, ◌<◌, List, sym, ap, ◌∙◌, subst, arith, bit_and}
 use mathlib.Core.Option.{none}
 use Rattle.atomic_table.specs.Seated.{TableId}
 use Rattle.atomic_table.specs.Table.{Allows, step}
@@ -11,7 +11,7 @@ use Rattle.mdl_steps.specs.Seats.{Holds, elsewhere, IsPlace, MayLower}
 use Rattle.mdl_steps.specs.SeatStates.{SeatState}
 use Rattle.mdl_steps.proofs.Put.{lowers_allowed}
 use Rattle.mdl_steps.proofs.Hands.{holds_settled, elsewhere-settled}
-use Rattle.mdl_steps.proofs.Seating.{sits, value_is}
+use Rattle.mdl_steps.proofs.Seating.{sits}
 use Rattle.mdl_steps.proofs.table_seat.TableSeat.lower_flags_after.Goals as goal
 
 pub fetch_and-requires : goal.fetch_and-requires

@@ -1,14 +1,13 @@
 -- The holder of the directory's latch may give it back, and know what stands there.
 use Rattle.std.proofs.Common.{◌<◌, List, subst, arith, ap, ◌≡◌}
 use mathlib.Core.Option.{none}
-use Rattle.atomic_table.specs.Seated.{TableId}
 use Rattle.atomic_table.specs.Table.{Allows, step}
 use Rattle.mdl_steps.specs.declared.view.Known.{Known}
 use Rattle.mdl_steps.specs.Plays.{puts_directory, Mine}
 use Rattle.mdl_steps.specs.Rule.{Rule}
 use Rattle.mdl_steps.specs.Seats.{learnt, MayInform}
 use Rattle.mdl_steps.proofs.Desks.{learnt_known, puts_directory_allowed}
-use Rattle.mdl_steps.proofs.Seating.{sits, value_is}
+use Rattle.mdl_steps.proofs.Seating.{sits}
 use Rattle.mdl_steps.proofs.table_seat.TableSeat.put_directory_knowing.Goals as goal
 
 pub store-requires : goal.store-requires

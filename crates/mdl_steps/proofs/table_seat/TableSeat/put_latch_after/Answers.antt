@@ -1,14 +1,14 @@
 -- The holder of the latch may give it back, where the flags tell the lists exactly.
-use Rattle.std.proofs.Common.{ℕ, ◌*◌, ◌<◌, List, sym, subst, arith, ap, ◌≡◌}
+use Rattle.std.proofs.Common.{ℕ, ◌*◌, ◌<◌, List, sym, subst, arith, ap}
 use mathlib.Core.Option.{none}
 use Rattle.atomic_table.specs.Seated.{TableId}
 use Rattle.atomic_table.specs.Table.{Allows, step}
 use Rattle.mdl_steps.specs.declared.deed.Deed.{Deed}
-use Rattle.mdl_steps.specs.Plays.{puts_latch, Mine}
+use Rattle.mdl_steps.specs.Plays.{puts_latch}
 use Rattle.mdl_steps.specs.Rule.{Rule}
 use Rattle.mdl_steps.specs.Seats.{IsPlace, MayPut}
 use Rattle.mdl_steps.proofs.Put.{puts_allowed}
-use Rattle.mdl_steps.proofs.Seating.{sits, value_is}
+use Rattle.mdl_steps.proofs.Seating.{sits}
 use Rattle.mdl_steps.proofs.table_seat.TableSeat.put_latch_after.Goals as goal
 
 pub store-requires : goal.store-requires

@@ -1,5 +1,5 @@
 -- The holder of both latches may give the next place to a new key.
-use Rattle.std.proofs.Common.{ℕ, ◌<◌, sym, subst, arith, ap, ◌≡◌}
+use Rattle.std.proofs.Common.{ℕ, ◌<◌, sym, subst, arith, ap}
 use mathlib.Core.Option.{none}
 use Rattle.atomic_table.specs.Seated.{TableId}
 use Rattle.atomic_table.specs.Table.{Allows, step}
@@ -10,7 +10,7 @@ use Rattle.mdl_steps.specs.declared.view.Held.{Held}
 use Rattle.mdl_steps.specs.declared.view.Keys.{Keys}
 use Rattle.mdl_key.specs.Words.{KeyName}
 use Rattle.mdl_steps.proofs.NewKeys.{puts_key_allowed}
-use Rattle.mdl_steps.proofs.Seating.{sits, value_is}
+use Rattle.mdl_steps.proofs.Seating.{sits}
 use Rattle.mdl_steps.proofs.table_seat.TableSeat.put_latch_naming.Goals as goal
 
 pub store-requires : goal.store-requires

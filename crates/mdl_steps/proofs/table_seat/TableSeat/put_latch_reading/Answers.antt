@@ -1,13 +1,13 @@
 -- The holder of the latch may give it back and have read what stands, where the flags tell the lists exactly.
-use Rattle.std.proofs.Common.{ℕ, ◌<◌, sym, subst, arith, ap, ◌≡◌, []}
+use Rattle.std.proofs.Common.{ℕ, ◌<◌, sym, subst, arith, ap, []}
 use mathlib.Core.Option.{none}
 use Rattle.atomic_table.specs.Seated.{TableId}
 use Rattle.atomic_table.specs.Table.{Allows, step}
-use Rattle.mdl_steps.specs.Plays.{puts_reading, Mine}
+use Rattle.mdl_steps.specs.Plays.{puts_reading}
 use Rattle.mdl_steps.specs.Rule.{Rule}
 use Rattle.mdl_steps.specs.Seats.{IsPlace, MayPut}
 use Rattle.mdl_steps.proofs.Reading.{puts_reading_allowed}
-use Rattle.mdl_steps.proofs.Seating.{sits, value_is}
+use Rattle.mdl_steps.proofs.Seating.{sits}
 use Rattle.mdl_steps.proofs.table_seat.TableSeat.put_latch_reading.Goals as goal
 
 pub store-requires : goal.store-requires

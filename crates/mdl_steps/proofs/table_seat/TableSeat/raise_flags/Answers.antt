@@ -11,7 +11,7 @@ use Rattle.mdl_steps.specs.declared.view.Held.{Held}
 use Rattle.mdl_steps.specs.Cells.{held_at}
 use Rattle.mdl_steps.proofs.Flags.{raises_allowed}
 use Rattle.mdl_steps.proofs.Hands.{holds_stepped, elsewhere-stepped}
-use Rattle.mdl_steps.proofs.Seating.{sits, value_is}
+use Rattle.mdl_steps.proofs.Seating.{sits}
 use Rattle.mdl_steps.proofs.table_seat.TableSeat.raise_flags.Goals as goal
 
 pub fetch_or-requires : goal.fetch_or-requires

@@ -1,8 +1,7 @@
 -- A free latch of the directory may be taken, and what is recorded then is told.
-use Rattle.std.proofs.Common.{ℕ, ◌<◌, ◌==◌, refl, sym, subst, arith, ap, ◌≡◌}
+use Rattle.std.proofs.Common.{ℕ, ◌<◌, ◌==◌, refl, sym, subst, arith, ap}
 use mathlib.Core.Option.{none}
 use prog.Atomic.{either}
-use Rattle.atomic_table.specs.Seated.{TableId}
 use Rattle.atomic_table.specs.Table.{Allows, step}
 use Rattle.mdl_steps.specs.Plays.{IsDirectory, Mine, takes_directory}
 use Rattle.mdl_steps.specs.Rule.{Rule}

@@ -1,12 +1,12 @@
 -- A free latch may be taken, and what is recorded then is told.
-use Rattle.std.proofs.Common.{◌≡◌, ℕ, ◌*◌, ◌<◌, ◌==◌, refl, sym, ap, ◌∙◌, subst, arith}
+use Rattle.std.proofs.Common.{ℕ, ◌*◌, ◌<◌, ◌==◌, refl, sym, ap, ◌∙◌, subst, arith}
 use mathlib.Core.Option.{none}
 use prog.Atomic.{either}
 use Rattle.atomic_table.specs.Seated.{TableId}
 use Rattle.atomic_table.specs.Table.{Allows, step}
 use Rattle.mdl_steps.specs.Plays.{Mine, takes_latch}
 use Rattle.mdl_steps.specs.Rule.{Rule}
-use Rattle.mdl_steps.specs.Seats.{Holds, IsPlace, IsRising, elsewhere}
+use Rattle.mdl_steps.specs.Seats.{Holds, IsPlace, elsewhere}
 use Rattle.mdl_steps.proofs.Latch.{takes_latch_allowed}
 use Rattle.mdl_steps.proofs.Hands.{holds_taken, elsewhere-taken}
 use Rattle.mdl_steps.proofs.Seating.{sits, value_is}

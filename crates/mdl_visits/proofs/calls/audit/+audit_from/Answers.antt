@@ -6,7 +6,7 @@ use Rattle.mdl_steps.specs.Plays.{Mine}
 use Rattle.mdl_steps.specs.Seats.{Holds, MayPut}
 use Rattle.mdl_steps.specs.Cells.{held_at}
 use Rattle.mdl_visits.specs.Visits.{IsInside}
-use Rattle.mdl_visits.proofs.Seats.{mine, place_there, table_of}
+use Rattle.mdl_visits.proofs.Seats.{mine, table_of}
 use Rattle.mdl_visits.proofs.Gathering.{gathers_more, gathers_none, makes_same, may_put, rising_next, there_and_back, unlatched_at}
 use Rattle.mdl_visits.proofs.Steps.{quiet_none, quiet_there}
 use Rattle.mdl_visits.proofs.calls.audit.+audit_from.Goals as goal

@@ -1,5 +1,5 @@
 -- The flags tell the lists exactly, with the ticket that waits.
-use Rattle.std.proofs.Common.{◌≡◌, ℕ, sym, subst}
+use Rattle.std.proofs.Common.{◌≡◌, ℕ, subst}
 use Rattle.mdl_book.specs.Books.{enqueueing}
 use Rattle.mdl_steps.specs.Plays.{Mine}
 use Rattle.mdl_steps.specs.Seats.{written}

@@ -1,6 +1,5 @@
 -- Nobody waits, or waits were granted.
 use Rattle.std.proofs.Common.{[], sym, ap, ◌∙◌, subst}
-use Rattle.atomic_table.specs.Seated.{TableId}
 use Rattle.mdl_steps.specs.Plays.{Mine, unlatched}
 use Rattle.mdl_steps.specs.SeatStates.{SeatState}
 use Rattle.mdl_steps.specs.Seats.{Holds}

@@ -9,7 +9,7 @@ use Rattle.mdl_steps.specs.Seats.{Holds, MayPut}
 use Rattle.mdl_visits.specs.declared.audited.Audited.{Audited}
 use Rattle.mdl_visits.specs.Searches.{AreQueuesOf, KnowsFall, Searches, if_waited}
 use Rattle.mdl_visits.specs.Visits.{IsInside}
-use Rattle.mdl_visits.proofs.Seats.{mine, place_there, table_of}
+use Rattle.mdl_visits.proofs.Seats.{mine, table_of}
 use Rattle.mdl_visits.proofs.Gathering.{makes_same, may_put, rising_next, unlatched_at}
 use Rattle.mdl_visits.proofs.Holding.{back_heard, searches_more, searches_none}
 use Rattle.mdl_visits.proofs.Outcomes.{knows_on}
