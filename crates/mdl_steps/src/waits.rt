@@ -56,12 +56,8 @@ impl TableSeat {
         ensures made { self.new ≡ record self.old { me = met_wait self.old.table.slots session result.0 self.old.me } }
         ensures own { TellsOwn self.old.table.slots session result.0 self.old.me.0 }
     {
-        WaitWord(
-            self.table.shared.load::<ReadWait>(
-                &mut self.seat,
-                wait_word(self.table.slot_count(), session),
-            ),
-        )
+        let index = wait_word(self.table.slot_count(), session);
+        WaitWord(self.table.shared.load::<ReadWait>(&mut self.seat, index))
     }
 
     /// Settles a wait of a session as lost, if it is the session's last one and unsettled, and returns the word that was met. No latch

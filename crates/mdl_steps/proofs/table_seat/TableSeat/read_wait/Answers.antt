@@ -14,12 +14,12 @@ use Rattle.mdl_steps.proofs.table_seat.TableSeat.read_wait.Goals as goal
 pub load-requires : goal.load-requires
 load-requires c =
     let seat = c.self.inside.seat in
-    let table = c.deref.result.now.shared.table_id in
+    let table = c.deref-2.result.now.shared.table_id in
     let slots = table.slots in
-    let at = sits c.self.view_is c.self.invariant (ap (λ t. t.shared.table_id) c.deref.ensures) in
+    let at = sits c.self.view_is c.self.invariant (ap (λ t. t.shared.table_id) c.deref-2.ensures) in
     let here = at.here (λ (t : TableId). IsSession t c.args.session) c.requires.session in
-    let count : c.slot_count.result ≡ slots = c.slot_count.ensures ∙ ap (λ t. t.shared.table_id.slots) (c.deref-2.ensures ∙ sym c.deref.ensures) in
-    let word : c.wait_word.result ≡ 8 * slots + 8 + 8 * c.args.session = c.wait_word.ensures ∙ ap (λ (n : ℕ). wait_word n c.args.session) count in (
+    let count : c.slot_count.result ≡ slots = c.slot_count.ensures ∙ ap (λ t. t.shared.table_id.slots) (c.deref.ensures ∙ sym c.deref-2.ensures) in
+    let word : c.wait_word-index.result ≡ 8 * slots + 8 + 8 * c.args.session = c.wait_word-index.ensures ∙ ap (λ (n : ℕ). wait_word n c.args.session) count in (
       at.same,
       subst (λ (w : ℕ). w < table.words) (sym word) here.1,
       subst (λ (i : ℕ). Allows Rule slots seat.id seat.me i (λ n. n) (reads_wait (step slots i 0 0 none) seat.me)) (sym word)
@@ -28,8 +28,8 @@ load-requires c =
 
 pub returns-clause-own : goal.returns-clause-own
 returns-clause-own c =
-    let slots = c.deref.result.now.shared.table_id.slots in
-    let count : c.slot_count.result ≡ slots = c.slot_count.ensures ∙ ap (λ t. t.shared.table_id.slots) (c.deref-2.ensures ∙ sym c.deref.ensures) in
-    let word : c.wait_word.result ≡ 8 * slots + 8 + 8 * c.args.session = c.wait_word.ensures ∙ ap (λ (n : ℕ). wait_word n c.args.session) count in
-    rw (← c.self.view_is) (subst (λ (k : ℕ). TellsOwn k c.args.session c.load.result c.self.inside.seat.me.0) (ap (λ t. t.shared.table_id.slots) c.deref.ensures)
+    let slots = c.deref-2.result.now.shared.table_id.slots in
+    let count : c.slot_count.result ≡ slots = c.slot_count.ensures ∙ ap (λ t. t.shared.table_id.slots) (c.deref.ensures ∙ sym c.deref-2.ensures) in
+    let word : c.wait_word-index.result ≡ 8 * slots + 8 + 8 * c.args.session = c.wait_word-index.ensures ∙ ap (λ (n : ℕ). wait_word n c.args.session) count in
+    rw (← c.self.view_is) (subst (λ (k : ℕ). TellsOwn k c.args.session c.load.result c.self.inside.seat.me.0) (ap (λ t. t.shared.table_id.slots) c.deref-2.ensures)
     (c.load.ensures.2.1 c.args.session word).0)
