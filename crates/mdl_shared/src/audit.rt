@@ -20,7 +20,7 @@ use std::sync::Wait;
 impl Member {
     // The books of all places that have a key.
     fn audit<R: Wait>(&mut self, rt: &R) -> Result<Vec<Audited>, AllocError>
-        ensures same { (self.new.table ≡ self.old.table) × (self.new.seat.me.0.number ≡ self.old.seat.me.0.number) × (self.new.next ≡ self.old.next)
+        ensures same { (self.new.seat.table ≡ self.old.seat.table) × (self.new.seat.me.0.number ≡ self.old.seat.me.0.number) × (self.new.next ≡ self.old.next)
             × (self.new.known.items ≡ self.old.known.items) × (self.new.tickets.items ≡ self.old.tickets.items) }
         ensures wait { KeepsWait self.old self.new }
         ensures reads { ReadsNothing self.old.seat.me self.new.seat.me }

@@ -19,7 +19,7 @@ impl Member {
     // Grants the waits that can be granted at a place whose key the session knows.
     fn reschedule<R: Wait>(&mut self, rt: &R, place: usize)
         requires known { is_known_place self.old.known.items place ≡ true }
-        ensures same { (self.new.table ≡ self.old.table) × (self.new.seat.me.0.number ≡ self.old.seat.me.0.number) × (self.new.next ≡ self.old.next)
+        ensures same { (self.new.seat.table ≡ self.old.seat.table) × (self.new.seat.me.0.number ≡ self.old.seat.me.0.number) × (self.new.next ≡ self.old.next)
             × (self.new.known.items ≡ self.old.known.items) × (self.new.tickets.items ≡ self.old.tickets.items) }
         ensures wait { SeesWait self.old self.new }
         ensures reads { ReadsNothing self.old.seat.me self.new.seat.me }
