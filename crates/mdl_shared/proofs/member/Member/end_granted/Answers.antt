@@ -6,6 +6,7 @@ use Rattle.mdl_steps.specs.declared.view.Ask.{Ask}
 use Rattle.mdl_steps.specs.declared.view.Own.{Own}
 use Rattle.mdl_steps.specs.Plays.{Mine}
 use Rattle.mdl_visits.specs.Numbers.{is_ask_apart, is_no_number}
+use Rattle.mdl_visits.proofs.Seats.{mine}
 use Rattle.mdl_shared.specs.Endings.{ticket_asked}
 use Rattle.mdl_shared.specs.Members.{are_placed}
 use Rattle.mdl_shared.specs.Rememberings.{Remembers}
@@ -55,6 +56,6 @@ invariant_of-self-2-clause-remembers c =
     let tickets = self.tickets.items in
     let as_noted : Option ℕ → Own = λ noted. record { number = c.args.ask.number; place = c.args.ask.place; mode = c.args.ask.mode; noted = noted } in
     let pushed = c.push_reserved.ensures.items ∙ (λ i. self.tickets.items ++ as_noted (c.note_at-noted.ensures i) ∷ []) in
-    ∣ subst (λ (m : Mine). Remembers self.known.items c.push_reserved.new.self.items m.0.reads) (sym c.end_granted.ensures.made)
+    ∣ subst (λ (m : Mine). Remembers self.known.items c.push_reserved.new.self.items m.0.reads) (sym (mine c.end_granted.ensures.made))
     (subst (λ (ts : List Own). Remembers self.known.items ts self.seat.me.0.reads) (sym pushed)
     (remembers_gained self.known.items tickets self.seat.me.0.reads (remembered self.remembers) (ticket_asked a tickets) refl)) ∣₁

@@ -20,7 +20,8 @@ end_lost_wait-requires-clause-place g c =
 pub invariant_of-self : goal.invariant_of-self
 invariant_of-self g c =
     let self = c.args.self.now in
-    let now = c.end_lost_wait.ensures.ended.now in record {
+    let table = c.end_lost_wait.ensures.ended.0 in
+    let now = c.end_lost_wait.ensures.ended.1.now in record {
       narrow = narrow_there table self.narrow;
       idle = subst IsIdle (sym now) self.idle;
       slow = subst HasSlowAlone (sym now) self.slow;
@@ -37,7 +38,7 @@ invariant_of-self g c =
       apart = refl;
       rising = self.rising;
       last = refl;
-      settled = ap (is_ask_told None) (c.end_lost_wait.ensures.ended.way.unasked refl);
+      settled = ap (is_ask_told None) (c.end_lost_wait.ensures.ended.1.way.unasked refl);
       keys_apart = self.keys_apart;
       remembers = subst (λ (m : Mine). ∥ Remembers self.known.items self.tickets.items m.0.reads ∥₁) (sym now) self.remembers;
       fewer = self.fewer;
@@ -46,10 +47,10 @@ invariant_of-self g c =
     }
 
 pub returns-clause-reads : goal.returns-clause-reads
-returns-clause-reads g c = ap (λ (m : Mine). m.0.reads) c.end_lost_wait.ensures.ended.now
+returns-clause-reads g c = ap (λ (m : Mine). m.0.reads) c.end_lost_wait.ensures.ended.1.now
 
 pub returns-clause-goes : goal.returns-clause-goes
-returns-clause-goes g c = (c.end_lost_wait.ensures.ended.made, ap (λ (m : Mine). m.0.log) c.end_lost_wait.ensures.ended.now)
+returns-clause-goes g c = (c.end_lost_wait.ensures.ended.1.made, ap (λ (m : Mine). m.0.log) c.end_lost_wait.ensures.ended.1.now)
 
 pub returns-clause-ended : goal.returns-clause-ended
-returns-clause-ended g c = record { asks = refl; waits = refl; held = refl; unsettled = c.end_lost_wait.ensures.ended.way.unasked refl }
+returns-clause-ended g c = record { asks = refl; waits = refl; held = refl; unsettled = c.end_lost_wait.ensures.ended.1.way.unasked refl }
