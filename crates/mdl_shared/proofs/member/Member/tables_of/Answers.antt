@@ -1,12 +1,10 @@
 -- The session's lists are those of its view, with the schema's tables that it didn't know.
 use Rattle.std.proofs.Common.{◌≡◌, ℕ, ◌<◌, not, List, [], ◌++◌, None, sym, ap, ◌∙◌, subst, ◌≤◌}
-use Rattle.std.specs.Arc.{arc_value}
 use Rattle.std.proofs.lemmas.List.Elements.{All-filter}
 use Rattle.mdl_steps.specs.declared.view.Known.{Known}
 use Rattle.mdl_steps.specs.Plays.{Mine}
 use Rattle.mdl_steps.specs.Schemas.{is_known, unknown}
 use Rattle.mdl_visits.specs.Idle.{IsIdle, HasSlowAlone}
-use Rattle.mdl_visits.specs.Lookups.{TookDirectory}
 use Rattle.mdl_shared.specs.Members.{AreLearnt, are_apart, are_placed, are_within}
 use Rattle.mdl_visits.specs.Tables.{AreWithin, HasAsked, knowing_all}
 use Rattle.mdl_visits.specs.Visits.{and_made}
@@ -77,7 +75,7 @@ returns-clause-told g c =
     let none : mid.0.directory ≡ None = ap (λ (m : Mine). m.0.directory) found.2.1.1 ∙ sym (no_record old.0.directory self.idle.1) in
     let asked : HasAsked self.seat.me.0.number tables places mid new =
     subst (λ (n : ℕ). HasAsked n tables places mid new) (ap (λ (m : Mine). m.0.number) found.2.1.1)
-    (subst (λ (ts : List Known). HasAsked c.find_tables.new.seat.me.0.number ts places mid new) c.deref-3.ensures.value c.tables_defined.ensures.asked) in
+    (subst (λ (ts : List Known). HasAsked c.find_tables.new.seat.me.0.number ts places mid new) c.deref.ensures.value c.tables_defined.ensures.asked) in
     let known = c.learn.ensures ∙ ap (λ (ks : List Known). ks ++ unknown ks tables) c.in_ok-tables.ensures.same in (
       found.0,
       took_earlier self.seat.table.slots found.0 found.0 old mid new found.1.1 c.tables_defined.ensures.directory none,
