@@ -65,7 +65,7 @@ some-mapped part (Some x) y e = (x, refl, (cc))
 
 -- a call for the number that the session speaks for is one for its own number
 pub for-caller : (s t : SessionView) (call : ℕ → Call) (answer : Answer) (who : ℕ) → SpeaksFor (space_of s) who
-    → Joins (space_of s) (call s.number) answer (space_of t) → Shows (call s.number) answer s t
+    → Joins (space_of s) (call s.me.0.number) answer (space_of t) → Shows (call s.me.0.number) answer s t
     → Joins (space_of s) (call who) answer (space_of t) × Shows (call who) answer s t
 for-caller s t call answer who speaks joined shown =
     subst (λ (w : ℕ). Joins (space_of s) (call w) answer (space_of t) × Shows (call w) answer s t) (sym speaks.0) (joined, shown)

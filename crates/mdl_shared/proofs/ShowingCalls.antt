@@ -1,7 +1,6 @@
 -- What each call of a session promises of its steps is what it shows as a call of a lock space.
 use Rattle.std.proofs.Common.{◌≡◌, ◌⊎◌, ℕ, Bool, true, false, List, [], ◌∷◌, Option, Some, None, Result, Ok, Err, Vec, is_some, inl, inr, refl, sym, ap, subst, ◌∙◌}
 use Rattle.std.specs.Prelude.{◌<◌, ◌++◌, IfOk, IfErr, IfSome, OnOk, OnErr}
-use Rattle.std.specs.Arc.{arc_value}
 use Rattle.mdl_key.specs.declared.mode.Mode.{Mode}
 use Rattle.mdl_key.specs.declared.mode.Mode.TheVariants.{X}
 use Rattle.mdl_key.specs.Refusals.{Refuses, RefusesJust}
@@ -102,13 +101,13 @@ ended-of id settled_as.Victim = refl
 ended-of id settled_as.Timeout = refl
 ended-of id settled_as.Killed = refl
 
-module _ (m m′ : Member) (table : m′.table ≡ m.table) (sessions : m′.sessions ≡ m.sessions) where
+module _ (m m′ : Member) (table : m′.seat.table ≡ m.seat.table) (sessions : m′.sessions ≡ m.sessions) where
   shows : {call : Call} {answer : Answer} → IfSome (own_fault call (lists_of m)) (λ why. answer ≡ Refused why)
       → Does (done_by call answer m.tickets.items) m.seat.me m′.seat.me → SettlesSo call answer (lists_of m) (view_of m) (view_of m′)
       → KeepsTold call (view_of m) (view_of m′) → StepsSo call (view_of m) (view_of m′) → MeetsSo call answer (lists_of m) (view_of m) (view_of m′)
       → ShowsBy call answer (lists_of m) (view_of m) (view_of m′)
   shows refused did settled told steps met = record {
-    table = λ i. (arc_value (table i)).shared.table_id;
+    table = table;
     sessions = sessions;
     refused = refused;
     did = did;

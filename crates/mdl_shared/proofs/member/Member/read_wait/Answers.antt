@@ -12,5 +12,5 @@ returns-clause-met c =
     let self = c.args.self.now in
     let m : Mine = self.seat.me in
     let slots = c.slot_count-slots.ensures ∙ ap (λ table. table.shared.table_id.slots) c.deref.ensures in
-    met_word ReadWait self.seat.table.slots c.args.session c.read_wait.result.0 m c.read_wait.new.self.seat.me
+    met_word ReadWait self.seat.table.slots c.args.session c.read_wait.result.0 m c.read_wait.new.self.me
     (c.read_wait.ensures.made ∙ ap (λ (n : ℕ). met_wait n c.args.session c.read_wait.result.0 m) slots)

@@ -17,7 +17,7 @@ pub returns-clause-met : goal.returns-clause-met
 returns-clause-met c =
     let self = c.args.self.now in
     let m : Mine = self.seat.me in
-    let went : Mine = c.settle_wait.new.self.seat.me in
+    let went : Mine = c.settle_wait.new.self.me in
     let word : ℕ = c.settle_wait.result.0 in
     let slots = c.slot_count-slots.ensures ∙ ap (λ table. table.shared.table_id.slots) c.deref.ensures in
     subst (λ (n : ℕ). (e : Met) × IsStepOf m went e × MeetsWord n c.args.session word e) slots
@@ -27,7 +27,7 @@ pub invariant_of-self-clause-settled : goal.invariant_of-self-clause-settled
 invariant_of-self-clause-settled c =
     let self = c.args.self.now in
     let v = self.seat.me.0 in
-    let went : Mine = c.settle_wait.new.self.seat.me in
+    let went : Mine = c.settle_wait.new.self.me in
     let word : ℕ = c.settle_wait.result.0 in
     let slots = c.slot_count-slots.result in
     let tells = c.settle_wait.ensures.own in
