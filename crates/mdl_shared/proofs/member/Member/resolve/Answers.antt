@@ -12,6 +12,7 @@ use Rattle.mdl_shared.proofs.KnownKeys.{apart_more, new_place}
 use Rattle.mdl_shared.specs.Rememberings.{Remembers}
 use Rattle.mdl_shared.proofs.Remembering.{remembers_more}
 use Rattle.mdl_shared.proofs.Props.{remembered}
+use Rattle.mdl_shared.proofs.TableKept.{narrow_there, within_there, words_there}
 use Rattle.mdl_shared.proofs.member.Member.resolve.Goals as goal
 
 pub invariant_of-self-2 : goal.invariant_of-self-2
@@ -30,9 +31,7 @@ invariant_of-self-2 g c =
     let pushed = c.push_reserved.ensures.items
     ∙ ap (λ (key : KeyName). c.reserve.new.self.items ++ record { key = key; place = c.in_ok-place.place } ∷ []) kept
     ∙ ap (λ (ks : List Known). ks ++ one ∷ []) c.reserve.ensures.items in record {
-      seated = c.resolve.ensures.seat.0 ∙ self.seated;
-      sized = self.sized;
-      narrow = self.narrow;
+      narrow = narrow_there table self.narrow;
       idle = c.resolve.ensures.idle;
       slow = subst HasSlowAlone (sym now) self.slow;
       listed = self.listed ∙ sym (ap (λ (m : Mine). m.0.slow) now);
@@ -53,8 +52,8 @@ invariant_of-self-2 g c =
       remembers = ∣ subst (λ (m : Mine). Remembers c.push_reserved.new.self.items self.tickets.items m.0.reads) (sym now)
           (subst (λ (ks : List Known). Remembers ks self.tickets.items self.seat.me.0.reads) (sym pushed) (remembers_more self.known.items (one ∷ []) self.tickets.items self.seat.me.0.reads (remembered self.remembers))) ∣₁;
       fewer = self.fewer;
-      enrolled = subst (λ (n : ℕ). n ≤ self.sessions) (sym c.resolve.ensures.seat.1) self.enrolled;
-      words = self.words;
+      enrolled = subst (λ (n : ℕ). n ≤ self.sessions) (sym (ap (λ (m : Mine). m.0.number) now)) self.enrolled;
+      words = words_there self.sessions table self.words;
     }
 
 pub returns-clause-known : goal.returns-clause-known

@@ -22,6 +22,7 @@ use Rattle.mdl_shared.proofs.KnownKeys.{all_learnt, apart_and}
 use Rattle.mdl_shared.specs.Rememberings.{Remembers}
 use Rattle.mdl_shared.proofs.Remembering.{remembers_more}
 use Rattle.mdl_shared.proofs.Props.{remembered}
+use Rattle.mdl_shared.proofs.TableKept.{narrow_there, within_there, words_there}
 use Rattle.mdl_shared.proofs.member.Member.tables_of.Goals as goal
 
 pub invariant_of-self-2 : goal.invariant_of-self-2
@@ -30,15 +31,13 @@ invariant_of-self-2 g c =
     let tables : List Known = c.in_ok-tables.tables.items in
     let slots : ℕ = self.seat.table.slots in
     let found = c.in_ok-tables.ensures.found in
-    let asked = c.ask_all.ensures.steps in
-    let now : c.ask_all.new.seat.me ≡ and_made asked.0 (and_made found.2.1.0 (knowing_all tables self.seat.me)) =
+    let asked = c.tables_defined.ensures.steps in
+    let now : c.tables_defined.new.seat.me ≡ and_made asked.0 (and_made found.2.1.0 (knowing_all tables self.seat.me)) =
     asked.1 ∙ ap (and_made asked.0) found.2.1.1 in
     let learnt = c.learn.ensures ∙ ap (λ (ks : List Known). ks ++ unknown ks tables) c.in_ok-tables.ensures.same in
     let new : List Known = unknown self.known.items tables in
     let within : AreWithin slots tables = subst (λ table. AreWithin table.shared.table_id.slots tables) c.deref.ensures c.in_ok-tables.ensures.within in record {
-      seated = c.ask_all.ensures.seat.0 ∙ c.find_tables.ensures.seat.0 ∙ self.seated;
-      sized = self.sized;
-      narrow = self.narrow;
+      narrow = narrow_there table self.narrow;
       idle = subst IsIdle (sym now) self.idle;
       slow = subst HasSlowAlone (sym now) self.slow;
       listed = self.listed ∙ sym (ap (λ (m : Mine). m.0.slow) now);
@@ -61,8 +60,8 @@ invariant_of-self-2 g c =
       remembers = ∣ subst (λ (m : Mine). Remembers c.learn.new.known.items self.tickets.items m.0.reads) (sym now)
           (subst (λ (ks : List Known). Remembers ks self.tickets.items self.seat.me.0.reads) (sym learnt) (remembers_more self.known.items new self.tickets.items self.seat.me.0.reads (remembered self.remembers))) ∣₁;
       fewer = self.fewer;
-      enrolled = subst (λ (n : ℕ). n ≤ self.sessions) (sym (c.ask_all.ensures.seat.1 ∙ c.find_tables.ensures.seat.1)) self.enrolled;
-      words = self.words;
+      enrolled = subst (λ (n : ℕ). n ≤ self.sessions) (sym (ap (λ (m : Mine). m.0.number) now)) self.enrolled;
+      words = words_there self.sessions table self.words;
     }
 
 pub returns-clause-told : goal.returns-clause-told
@@ -71,17 +70,17 @@ returns-clause-told g c =
     let tables : List Known = c.in_ok-tables.tables.items in
     let old : Mine = self.seat.me in
     let mid : Mine = c.find_tables.new.seat.me in
-    let new : Mine = c.ask_all.new.seat.me in
+    let new : Mine = c.tables_defined.new.seat.me in
     let found = c.in_ok-tables.ensures.found in
-    let places : List ℕ = c.ask_all.new.places.items in
+    let places : List ℕ = c.tables_defined.new.places.items in
     let took = subst (λ table. TookDirectory table.shared.table_id.slots found.0 found.0 old mid) c.deref.ensures found.1 in
     let none : mid.0.directory ≡ None = ap (λ (m : Mine). m.0.directory) found.2.1.1 ∙ sym (no_record old.0.directory self.idle.1) in
     let asked : HasAsked self.seat.me.0.number tables places mid new =
     subst (λ (n : ℕ). HasAsked n tables places mid new) c.find_tables.ensures.seat.1
-    (subst (λ (ts : List Known). HasAsked c.find_tables.new.seat.me.0.number ts places mid new) c.deref-3.ensures.value c.ask_all.ensures.asked) in
+    (subst (λ (ts : List Known). HasAsked c.find_tables.new.seat.me.0.number ts places mid new) c.deref-3.ensures.value c.tables_defined.ensures.asked) in
     let known = c.learn.ensures ∙ ap (λ (ks : List Known). ks ++ unknown ks tables) c.in_ok-tables.ensures.same in (
       found.0,
-      took_earlier self.seat.table.slots found.0 found.0 old mid new took c.ask_all.ensures.directory none,
+      took_earlier self.seat.table.slots found.0 found.0 old mid new took c.tables_defined.ensures.directory none,
       (
         tables,
         found.2.0,
@@ -96,6 +95,6 @@ pub returns-clause-did : goal.returns-clause-did
 returns-clause-did g c =
     let old : Mine = c.args.self.now.seat.me in
     let mid : Mine = c.find_tables.new.seat.me in
-    let new : Mine = c.ask_all.new.seat.me in
+    let new : Mine = c.tables_defined.new.seat.me in
     let knowing = knowing_all c.in_ok-tables.tables.items old in
-    does_then [] [] old mid new (does_steps knowing mid c.in_ok-tables.ensures.found.2.1) (does_steps mid new c.ask_all.ensures.steps)
+    does_then [] [] old mid new (does_steps knowing mid c.in_ok-tables.ensures.found.2.1) (does_steps mid new c.tables_defined.ensures.steps)
