@@ -73,6 +73,7 @@ invariant_of-self-2 g c =
           (follows_newest place (stood.version + 1) stood self.seat.me redefines.follows (omega arith))
           (changed_fits place c.args.change.now c.in_ok-version.version self.seat.me c.change_definition.new.seat.me self.known.items self.known_is redefines known))) ∣₁;
       fewer = self.fewer;
+      counted = subst (λ (n : ℕ). 0 < n) (sym (ap (λ (m : Mine). m.0.number) now)) self.counted;
       enrolled = subst (λ (n : ℕ). n ≤ self.sessions) (sym (ap (λ (m : Mine). m.0.number) now)) self.enrolled;
       words = words_there self.sessions table self.words;
     }

@@ -71,6 +71,7 @@ invariant_of-self g c =
           (subst (λ (ts : List Own). Remembers self.known.items ts self.seat.me.0.reads) (sym (tickets)) (remembers_lost self.known.items (in_mode_at kept.place kept.number gone.mode self.tickets.items) self.seat.me.0.reads
           (remembers_altered self.known.items self.tickets.items self.seat.me.0.reads (remembered self.remembers) kept.place kept.number gone.mode) kept.place gone.number)) ∣₁;
       fewer = self.fewer;
+      counted = subst (λ (n : ℕ). 0 < n) (sym (ap (λ (m : Mine). m.0.number) now)) self.counted;
       enrolled = subst (λ (n : ℕ). n ≤ self.sessions) (sym (ap (λ (m : Mine). m.0.number) now)) self.enrolled;
       words = words_there self.sessions table self.words;
     }

@@ -58,6 +58,7 @@ invariant_of-self-2 g c =
           (remembers_read self.known.items self.tickets.items self.seat.me.0.reads (remembered self.remembers) place c.in_ok-standing.standing (follows_newest place version c.in_ok-standing.standing self.seat.me follows (omega arith))
           (follows_fits place c.in_ok-standing.standing self.seat.me self.known.items self.known_is follows known))) ∣₁;
       fewer = self.fewer;
+      counted = subst (λ (n : ℕ). 0 < n) (sym (ap (λ (m : Mine). m.0.number) now)) self.counted;
       enrolled = subst (λ (n : ℕ). n ≤ self.sessions) (sym (ap (λ (m : Mine). m.0.number) now)) self.enrolled;
       words = words_there self.sessions table self.words;
     }

@@ -12,34 +12,5 @@ reschedule-requires-clause-place g c =
     let self = c.args.self.now in
     known_within _ c.args.place self.known.items self.within c.requires.known
 
-pub invariant_of-self : goal.invariant_of-self
-invariant_of-self g c =
-    let self = c.args.self.now in
-    let table = c.reschedule.ensures.rescheduled.0 in
-    let now = c.reschedule.ensures.rescheduled.1.now in record {
-      narrow = narrow_there table self.narrow;
-      idle = subst IsIdle (sym now) self.idle;
-      slow = subst HasSlowAlone (sym now) self.slow;
-      listed = self.listed ∙ sym (ap (λ (m : Mine). m.0.slow) now);
-      known_is = self.known_is ∙ sym (ap (λ (m : Mine). m.0.known) now);
-      next_is = self.next_is ∙ sym (ap (λ (m : Mine). m.0.next) now);
-      asks_is = self.asks_is ∙ sym (ap (λ (m : Mine). m.0.asks) now);
-      waits_is = self.waits_is ∙ sym (ap (λ (m : Mine). m.0.waits) now);
-      placed = self.placed;
-      within = within_there self.known.items table self.within;
-      awaited = self.awaited;
-      below = self.below;
-      room = self.room;
-      apart = self.apart;
-      rising = self.rising;
-      last = self.last;
-      settled = told_stays self.asks self.seat.me.0.asks self.seat.me.0.told c.reschedule.new.seat.me.0.told self.asks_is c.reschedule.ensures.rescheduled.1.way.unasked self.settled;
-      keys_apart = self.keys_apart;
-      remembers = subst (λ (m : Mine). ∥ Remembers self.known.items self.tickets.items m.0.reads ∥₁) (sym now) self.remembers;
-      fewer = self.fewer;
-      enrolled = subst (λ (n : ℕ). n ≤ self.sessions) (sym (ap (λ (m : Mine). m.0.number) now)) self.enrolled;
-      words = words_there self.sessions table self.words;
-    }
-
 pub returns-clause-reads : goal.returns-clause-reads
 returns-clause-reads g c = ap (λ (m : Mine). m.0.reads) c.reschedule.ensures.rescheduled.1.now

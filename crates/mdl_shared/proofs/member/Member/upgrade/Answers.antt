@@ -39,7 +39,8 @@ upgrade_now-requires-clause-held g c =
 pub invariant_of-self : goal.invariant_of-self
 invariant_of-self g c =
     let self = c.args.self.now in
-    let now = (c.upgrade_now.ensures.granted c.in-Granted.is).0.now in record {
+    let table = (c.upgrade_now.ensures.granted c.in-Granted.is).0.0 in
+    let now = (c.upgrade_now.ensures.granted c.in-Granted.is).0.1.now in record {
       narrow = narrow_there table self.narrow;
       idle = subst IsIdle (sym now) self.idle;
       slow = subst HasSlowAlone (sym now) self.slow;
@@ -61,6 +62,7 @@ invariant_of-self g c =
       remembers = ∣ subst (λ (m : Mine). Remembers self.known.items c.set_mode.new.tickets.items m.0.reads) (sym now)
           (subst (λ (ts : List Own). Remembers self.known.items ts self.seat.me.0.reads) (sym (c.set_mode.ensures.changed)) (remembers_altered self.known.items self.tickets.items self.seat.me.0.reads (remembered self.remembers) c.args.place c.args.id c.args.mode)) ∣₁;
       fewer = self.fewer;
+      counted = subst (λ (n : ℕ). 0 < n) (sym (ap (λ (m : Mine). m.0.number) now)) self.counted;
       enrolled = subst (λ (n : ℕ). n ≤ self.sessions) (sym (ap (λ (m : Mine). m.0.number) now)) self.enrolled;
       words = words_there self.sessions table self.words;
     }
