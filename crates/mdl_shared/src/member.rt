@@ -50,6 +50,7 @@ pub(crate) struct Member {
     ghost keys_apart: { are_apart known.items ≡ true },
     ghost remembers: { ∥ Remembers known.items tickets.items seat.me.0.reads ∥₁ },
     ghost fewer: { (waits < next) × (waits < most_numbers) },
+    ghost counted: { 0 < seat.me.0.number },
     ghost enrolled: { seat.me.0.number ≤ sessions },
     ghost words: { seat.table.words ≡ word_count seat.table.slots sessions },
 }
@@ -58,6 +59,7 @@ impl Member {
     /// Of a session that has nothing yet. It takes no memory.
     pub(crate) fn new(alloc: Global, seat: TableSeat, sessions: usize) -> Member
         requires narrow { (0 < seat.table.slots) × (seat.table.slots ≤ 65536) }
+        requires counted { 0 < seat.me.0.number }
         requires enrolled { seat.me.0.number ≤ sessions }
         requires words { seat.table.words ≡ word_count seat.table.slots sessions }
         requires fresh { (word : ℕ) × (seat.me ≡ (logged Enrol [] word seat.me.0.number [] (blank seat.me.0.number no_numbers), [])) }
