@@ -1,6 +1,5 @@
 -- The wait was met settled, and what became of it follows from how.
 use Rattle.std.proofs.Common.{List, [], ◌∷◌, ◌++◌, Some, sym, ap, ◌∙◌, ◌≡◌, subst}
-use Rattle.std.specs.Arc.{arc_value}
 use Rattle.atomic_table.specs.Seated.{TableId}
 use Rattle.mdl_calls.specs.declared.answers.Settled.{Settled}
 use Rattle.mdl_steps.specs.declared.view.Own.{Own}
@@ -61,11 +60,10 @@ returns-in-Some-clause-way g c =
     let polled : Mine = c.poll_wait.new.self.seat.me in
     let went : Mine = c.end_lost.new.self.seat.me in
     let id = self.seat.table in
-    let number = c.poll_wait.new.self.seat.me.0.numbered.0 ∙ c.poll_wait.ensures.same.1 ∙ sym self.seat.me.0.numbered.0 in
-    let same : c.poll_wait.new.self.seat.table ≡ self.seat.table = λ i. (arc_value (c.poll_wait.ensures.same.0 i)).shared.table_id in
-    let way = subst (λ (x : TableId). MadeWay x c.args.ask.place (without_wait polled) went) same c.end_lost.ensures.way in
+    let did = c.poll_wait.ensures in
+    let way = subst (λ (x : TableId). MadeWay x c.args.ask.place (without_wait polled) went) did.same.0 c.end_lost.ensures.way in
     lost_way id c.args.ask.place m went how c.in-Some.ended (sym c.lost_end.ensures ∙ c.in-Some.is)
-    (way_met_before id c.args.ask.place m polled went c.poll_wait.ensures.stayed c.poll_wait.ensures.settles number way)
+    (way_met_before id c.args.ask.place m polled went did.stayed did.settles did.same.1 way)
 
 pub returns-in-Some-clause-did : goal.returns-in-Some-clause-did
 returns-in-Some-clause-did g c =

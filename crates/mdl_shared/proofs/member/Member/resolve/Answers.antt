@@ -21,12 +21,11 @@ invariant_of-self-2 g c =
     let known = c.in_ok-place.ensures.known in
     let now = known.2.1 in
     let one : Known = record { key = c.args.key.now; place = c.in_ok-place.place } in
-    let slots = c.slot_count-slots.ensures ∙ ap (λ table. table.shared.table_id.slots) c.deref.ensures in
-    let inside = subst (λ (n : ℕ). c.in_ok-place.place < n) slots known.1 in
     let answer = c.in_ok-place.ensures.answer in
+    let table = answer.2.0 in
     let v = self.seat.me.0 in
     let new_there = ap (λ (ks : List Known). is_known_place ks c.in_ok-place.place) self.known_is
-    ∙ new_place c.slot_count-slots.result c.in_ok-place.place c.args.key.now answer.0 answer.1 v answer.2.recorded.known answer.3 (ap (place_known c.args.key.now) (sym self.known_is) ∙ c.requires.unknown) in
+    ∙ new_place self.seat.table.slots c.in_ok-place.place c.args.key.now answer.0 answer.1 v answer.2.1.recorded.known answer.3 (ap (place_known c.args.key.now) (sym self.known_is) ∙ c.requires.unknown) in
     let kept : ◌≡◌ {A = KeyName} c.in-Ok.key_kept c.args.key.now = c.in-Ok.ensures.cases in
     let pushed = c.push_reserved.ensures.items
     ∙ ap (λ (key : KeyName). c.reserve.new.self.items ++ record { key = key; place = c.in_ok-place.place } ∷ []) kept
@@ -40,7 +39,7 @@ invariant_of-self-2 g c =
       asks_is = self.asks_is ∙ sym (ap (λ (m : Mine). m.0.asks) now);
       waits_is = self.waits_is ∙ sym (ap (λ (m : Mine). m.0.waits) now);
       placed = ap (λ (ks : List Known). are_placed ks self.tickets.items) pushed ∙ known_more self.known.items one self.tickets.items self.placed;
-      within = ap (are_within _) pushed ∙ within_more _ self.known.items one self.within (known.0, inside);
+      within = within_there c.push_reserved.new.self.items table (ap (are_within _) pushed ∙ within_more _ self.known.items one self.within (known.0, known.1));
       awaited = ap (λ (ks : List Known). is_ask_placed ks self.asks) pushed ∙ awaited_more self.known.items one self.asks self.awaited;
       below = self.below;
       room = self.room;
@@ -60,14 +59,13 @@ pub returns-clause-known : goal.returns-clause-known
 returns-clause-known g c =
     let self = c.args.self.now in
     let known = c.in_ok-place.ensures.known in
-    let slots = c.slot_count-slots.ensures ∙ ap (λ table. table.shared.table_id.slots) c.deref.ensures in
     let kept : ◌≡◌ {A = KeyName} c.in-Ok.key_kept c.args.key.now = c.in-Ok.ensures.cases in
     let answer = c.in_ok-place.ensures.answer in
     let v = self.seat.me.0 in (
       known.0,
-      subst (λ (n : ℕ). c.in_ok-place.place < n) slots known.1,
+      known.1,
       ap (λ (ks : List Known). is_known_place ks c.in_ok-place.place) self.known_is
-          ∙ new_place c.slot_count-slots.result c.in_ok-place.place c.args.key.now answer.0 answer.1 v answer.2.recorded.known answer.3 (ap (place_known c.args.key.now) (sym self.known_is) ∙ c.requires.unknown),
+          ∙ new_place self.seat.table.slots c.in_ok-place.place c.args.key.now answer.0 answer.1 v answer.2.1.recorded.known answer.3 (ap (place_known c.args.key.now) (sym self.known_is) ∙ c.requires.unknown),
       c.push_reserved.ensures.items
           ∙ ap (λ (key : KeyName). c.reserve.new.self.items ++ record { key = key; place = c.in_ok-place.place } ∷ []) kept
           ∙ ap (λ (ks : List Known). ks ++ record { key = c.args.key.now; place = c.in_ok-place.place } ∷ []) c.reserve.ensures.items,
