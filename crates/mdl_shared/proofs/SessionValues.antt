@@ -1,18 +1,15 @@
 -- What a session is by its own lists is what it is by its seat at the table.
-use Rattle.std.proofs.Common.{◌≡◌, ℕ, true, false, is_some, List, Option, Some, None, IfSome, refl, sym, ap, subst, ◌∙◌}
+use Rattle.std.proofs.Common.{◌≡◌, ℕ, true, Option, Some, None, IfSome, refl, sym, ap, subst}
 use Rattle.std.specs.Option.{option_map}
 use Rattle.mdl_calls.specs.declared.answers.Settled.{Settled}
 use Rattle.mdl_calls.specs.declared.space_error.SpaceError.{SpaceError}
 use Rattle.mdl_calls.specs.Words.{Answer, Call, IsCause, Refused, caller, is_answer_of}
-use Rattle.mdl_steps.specs.declared.view.Ask.{Ask}
-use Rattle.mdl_steps.specs.declared.view.Known.{Known}
-use Rattle.mdl_steps.specs.declared.view.Own.{Own}
 use Rattle.mdl_session_laws.specs.SessionJoins.{Joins, TellsTruly, has_call, met}
 use Rattle.mdl_session_laws.specs.SessionSpaces.{Knows, Space, SpeaksFor}
 use Rattle.mdl_shared.specs.declared.member.Member.{Member}
 use Rattle.mdl_shared.specs.SessionViews.{Lists, SessionView, lists_of, lists_seen, space_by, space_of, space_of_member, view_of}
 use Rattle.mdl_shared.specs.Showings.{Shows, ShowsBy}
-use Rattle.mdl_shared.proofs.SameSpace.{KeepsRest, Stays, refused}
+use Rattle.mdl_shared.proofs.SameSpace.{refused}
 use Rattle.mdl_shared.proofs.SoundSessions.{sound}
 use Rattle.mdl_shared.proofs.TellingCalls.{same-stays}
 

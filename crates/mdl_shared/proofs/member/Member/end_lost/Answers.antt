@@ -1,12 +1,10 @@
 -- The ticket waits at a place whose key the session knows.
-use Rattle.std.proofs.Common.{◌≡◌, ◌<◌, ◌≤◌, ℕ, true, None, refl, sym, ap, ◌∙◌, subst}
+use Rattle.std.proofs.Common.{◌≡◌, true, None, refl, ap, subst}
 use Rattle.std.specs.Prelude.{Option}
 use Rattle.mdl_steps.specs.declared.view.Ask.{Ask}
 use Rattle.mdl_steps.specs.Plays.{Mine}
-use Rattle.mdl_visits.specs.Idle.{IsIdle, HasSlowAlone}
 use Rattle.mdl_shared.specs.Waitings.{is_ask_placed, is_ask_told}
 use Rattle.mdl_shared.proofs.Membership.{known_within}
-use Rattle.mdl_shared.specs.Rememberings.{Remembers}
 use Rattle.mdl_shared.proofs.TableKept.{within_there}
 use Rattle.mdl_shared.proofs.member.Member.end_lost.Goals as goal
 

@@ -1,10 +1,7 @@
 -- The place is one of the table's, and nothing of the session's own changes.
-use Rattle.std.proofs.Common.{◌<◌, ◌≤◌, ℕ, sym, ap, ◌∙◌, subst}
+use Rattle.std.proofs.Common.{ap}
 use Rattle.mdl_steps.specs.Plays.{Mine}
-use Rattle.mdl_visits.specs.Idle.{IsIdle, HasSlowAlone}
 use Rattle.mdl_shared.proofs.Membership.{known_within}
-use Rattle.mdl_shared.proofs.Rising.{told_stays}
-use Rattle.mdl_shared.specs.Rememberings.{Remembers}
 use Rattle.mdl_shared.proofs.member.Member.reschedule.Goals as goal
 
 pub reschedule-requires-clause-place : goal.reschedule-requires-clause-place

@@ -1,5 +1,5 @@
 -- A list of what is held, by what the session keeps of its own, is one by its value.
-use Rattle.std.proofs.Common.{Ok, Err, refl}
+use Rattle.std.proofs.Common.{Ok, refl}
 use Rattle.mdl_calls.specs.declared.space_error.SpaceError.TheVariants.{OutOfMemory}
 use Rattle.mdl_calls.specs.Words.{Holds, List_held}
 use Rattle.mdl_shared.proofs.SessionValues.{joins-seen, refused-seen, speaks}

@@ -1,5 +1,5 @@
 -- The session speaks for its number.
-use Rattle.std.proofs.Common.{refl, subst}
+use Rattle.std.proofs.Common.{subst}
 use Rattle.mdl_session_laws.specs.SessionSpaces.{IsSound, Space}
 use Rattle.mdl_shared.proofs.SessionValues.{space-seen}
 use Rattle.mdl_shared.proofs.SoundSessions.{sound}

@@ -1,5 +1,5 @@
 -- A wish, by what the session keeps of its own, is one by its value.
-use Rattle.std.proofs.Common.{◌≡◌, true, false, ◌<◌, refl, sym, ◌∙◌, arith, inr}
+use Rattle.std.proofs.Common.{true, false, ◌<◌, refl, sym, ◌∙◌, arith, inr}
 use Rattle.mdl_calls.specs.declared.space_error.SpaceError.TheVariants.{AlreadyWaiting, BadMode, CounterFull, NoPlace}
 use Rattle.mdl_calls.specs.Words.{Try_now, attempted}
 use Rattle.mdl_shared.proofs.Faults.{causes-open, if-clear, if-refused}
