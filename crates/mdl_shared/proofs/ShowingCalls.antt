@@ -79,7 +79,6 @@ refuses-unfit : {T : Type 0} (fault : Option SpaceError) (memory : SpaceError) (
 refuses-unfit None memory result refuses = tt
 refuses-unfit (Some why) memory result refuses = refuses
 
-
 -- whoever doesn't lack a wait has one
 has-wait : (asks : Option Ask) → (asks ≡ None → ⊥) → is_some asks ≡ true
 has-wait None lacks = absurd (lacks refl)

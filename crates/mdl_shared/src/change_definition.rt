@@ -22,7 +22,12 @@ use std::sync::Wait;
 
 impl Member {
     // Changes what stands at a place where the session has an exclusive ticket, and notes the version under each ticket there.
-    fn change_definition<R: Wait>(&mut self, rt: &R, place: usize, change: &Change) -> Result<u64, ChangeError>
+    fn change_definition<R: Wait>(
+        &mut self,
+        rt: &R,
+        place: usize,
+        change: &Change,
+    ) -> Result<u64, ChangeError>
         requires held { HasExclusiveAt place self.old.tickets.items }
         ensures same { (self.new.table ≡ self.old.table) × (self.new.worker.number ≡ self.old.worker.number) × (self.new.next ≡ self.old.next) × (self.new.known.items ≡ self.old.known.items) }
         ensures wait { KeepsWait self.old self.new }

@@ -33,7 +33,12 @@ use std::sync::Wait;
 
 impl Member {
     // Makes a second ticket of one, in a mode of its lock's kind that its own covers. Answers the number of the second.
-    fn clone_ticket<R: Wait>(&mut self, rt: &R, held: Own, mode: Mode) -> Result<TicketId, SpaceError>
+    fn clone_ticket<R: Wait>(
+        &mut self,
+        rt: &R,
+        held: Own,
+        mode: Mode,
+    ) -> Result<TicketId, SpaceError>
         requires held { numbered held.number self.old.tickets.items ≡ Some held }
         requires fits { is_fit held.place mode self.old.known.items ≡ true }
         requires covers { covers held.mode mode ≡ true }

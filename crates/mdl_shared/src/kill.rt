@@ -16,8 +16,8 @@ ghost use Rattle.mdl_session_laws.specs.SessionJoins.{Joins};
 ghost use Rattle.mdl_shared.specs.Showings.{Shows};
 
 use crate::Session;
-use crate::wait_words::is_open;
 use crate::member::Member;
+use crate::wait_words::is_open;
 use mdl_calls::Settled;
 use mdl_steps::Loss;
 

@@ -18,8 +18,7 @@ ghost use Rattle.mdl_session_laws.specs.SessionJoins.{Joins};
 ghost use Rattle.mdl_shared.specs.Showings.{Shows};
 
 use crate::Session;
-use crate::holdings::strike;
-use crate::holdings::set_mode;
+use crate::holdings::{set_mode, strike};
 use crate::member::Member;
 use mdl_calls::{SpaceError, TicketId};
 use mdl_steps::Own;

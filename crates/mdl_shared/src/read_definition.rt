@@ -27,7 +27,12 @@ use std::sync::Wait;
 
 impl Member {
     // Reads what stands at the place of the ticket of a number, and notes the version under each ticket there.
-    fn read_definition<R: Wait>(&mut self, rt: &R, place: usize, _id: TicketId) -> Result<Standing, AllocError>
+    fn read_definition<R: Wait>(
+        &mut self,
+        rt: &R,
+        place: usize,
+        _id: TicketId,
+    ) -> Result<Standing, AllocError>
         requires held { option_map (λ (t : Own). t.place) (numbered _id self.old.tickets.items) ≡ Some place }
         ensures same { (self.new.table ≡ self.old.table) × (self.new.worker.number ≡ self.old.worker.number) × (self.new.next ≡ self.old.next) × (self.new.known.items ≡ self.old.known.items) }
         ensures wait { KeepsWait self.old self.new }

@@ -16,8 +16,8 @@ ghost use Rattle.mdl_session_laws.specs.SessionJoins.{Joins};
 ghost use Rattle.mdl_shared.specs.Showings.{Shows};
 
 use crate::Session;
-use crate::wait_words::settled_in;
 use crate::member::Member;
+use crate::wait_words::settled_in;
 use mdl_calls::{Settled, SpaceError, TimedOut};
 use mdl_steps::Loss;
 

@@ -36,18 +36,20 @@ pub returns-then-not-has_mode-clause-joined : goal.returns-then-not-has_mode-cla
 returns-then-not-has_mode-clause-joined g c =
     let m = c.self.inside.member in
     rw (← c.self.view_is)
-    (refused-seen m (Begin_wait m.worker.number c.args.place c.args.mode) BadMode (speaks m) refl refl
-    (waits-asks m.asks m.waits ∙ sym c.is_some.ensures ∙ c.if-is_some.false,
-    of-kind c.args.place m.known.items c.in-Some.kind c.args.mode false (sym c.kind_at.ensures ∙ c.in-Some.is) (sym c.has_mode.ensures ∙ c.if-not-has_mode.true))
+    (refused-seen m (Begin_wait m.worker.number c.args.place c.args.mode) BadMode (speaks m) refl refl (
+      waits-asks m.asks m.waits ∙ sym c.is_some.ensures ∙ c.if-is_some.false,
+      of-kind c.args.place m.known.items c.in-Some.kind c.args.mode false (sym c.kind_at.ensures ∙ c.in-Some.is) (sym c.has_mode.ensures ∙ c.if-not-has_mode.true),
+    )
     (λ state how is. cc) tt)
 
 pub returns-then-self-gt-MOST_NUMBERS-clause-joined : goal.returns-then-self-gt-MOST_NUMBERS-clause-joined
 returns-then-self-gt-MOST_NUMBERS-clause-joined g c =
     let m = c.self.inside.member in
     rw (← c.self.view_is)
-    (refused-seen m (Begin_wait m.worker.number c.args.place c.args.mode) CounterFull (speaks m) refl refl
-    (waits-asks m.asks m.waits ∙ sym c.is_some.ensures ∙ c.if-is_some.false,
-    of-kind c.args.place m.known.items c.in-Some.kind c.args.mode true (sym c.kind_at.ensures ∙ c.in-Some.is) (sym c.has_mode.ensures ∙ c.if-not-has_mode.false))
+    (refused-seen m (Begin_wait m.worker.number c.args.place c.args.mode) CounterFull (speaks m) refl refl (
+      waits-asks m.asks m.waits ∙ sym c.is_some.ensures ∙ c.if-is_some.false,
+      of-kind c.args.place m.known.items c.in-Some.kind c.args.mode true (sym c.kind_at.ensures ∙ c.in-Some.is) (sym c.has_mode.ensures ∙ c.if-not-has_mode.false),
+    )
     (λ state how is. cc) tt)
 
 -- it knows of its wait what it knew, which is nothing where it begins one

@@ -45,17 +45,17 @@ returns-clause-joined g c =
     let none : place_known key m.known.items ≡ None = sym c.known_place.ensures ∙ c.in_default.is in
     let sees = keeps-sees m m′ did.wait in
     rw (← c.self.view_is) (elim c.match-resolve.branch [
-      in-Ok w ↦ rw w.result-is (
-      joins-seen m m′ (Resolve m.worker.number key) (placed (Ok w.in-Ok.place))
+      | in-Ok w ↦ rw w.result-is (
+          joins-seen m m′ (Resolve m.worker.number key) (placed (Ok w.in-Ok.place))
           (resolve-joins m m′ m.worker.number key (Ok w.in-Ok.place) same.1 same.2 same.3 sees did.reads (speaks m)
           (subst (λ (known : Option ℕ). LearnsPlace key w.in-Ok.place known m.known.items m′.known.items) (sym none) (w.in-Ok.ensures.known.2, w.in-Ok.ensures.known.3)) tt tt)
-      )
-    | in-Err-NoPlace w ↦ rw w.result-is (
-      joins-seen m m′ (Resolve m.worker.number key) (placed (Err cause.NoPlace))
+          )
+      | in-Err-NoPlace w ↦ rw w.result-is (
+          joins-seen m m′ (Resolve m.worker.number key) (placed (Err cause.NoPlace))
           (resolve-joins m m′ m.worker.number key (Err cause.NoPlace) same.1 same.2 same.3 sees did.reads (speaks m) tt w.in-Err-NoPlace.ensures.unchanged (none, inl refl))
-      )
-    | in-Err-OutOfMemory w ↦ rw w.result-is (
-      joins-seen m m′ (Resolve m.worker.number key) (placed (Err cause.OutOfMemory))
+          )
+      | in-Err-OutOfMemory w ↦ rw w.result-is (
+          joins-seen m m′ (Resolve m.worker.number key) (placed (Err cause.OutOfMemory))
           (resolve-joins m m′ m.worker.number key (Err cause.OutOfMemory) same.1 same.2 same.3 sees did.reads (speaks m) tt w.in-Err-OutOfMemory.ensures.unchanged (none, inr refl))
-      )
+          )
     ])

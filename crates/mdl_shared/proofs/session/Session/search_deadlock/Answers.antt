@@ -26,12 +26,12 @@ returns-clause-joined g c =
     let same = did.same in
     let stays : Stays m m′ = record { number = same.1; tickets = same.4; next = same.2; known = same.3; wait = did.wait; reads = did.reads } in
     rw (← c.self.view_is) (elim c.match-search.branch [
-      in-Ok w ↦ rw w.result-is (
-      joins-seen m m′ (Search m.worker.number) (searched (Ok w.in-Ok.found))
+      | in-Ok w ↦ rw w.result-is (
+          joins-seen m m′ (Search m.worker.number) (searched (Ok w.in-Ok.found))
           (search-joins m m′ m.worker.number (Ok w.in-Ok.found) stays (speaks m) w.in-Ok.ensures.own tt)
-      )
-    | in-Err w ↦ rw w.result-is (
-      joins-seen m m′ (Search m.worker.number) (searched (Err OutOfMemory))
+          )
+      | in-Err w ↦ rw w.result-is (
+          joins-seen m m′ (Search m.worker.number) (searched (Err OutOfMemory))
           (search-joins m m′ m.worker.number (Err OutOfMemory) stays (speaks m) tt refl)
-      )
+          )
     ])

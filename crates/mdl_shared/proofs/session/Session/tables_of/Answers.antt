@@ -17,14 +17,14 @@ returns-clause-joined g c =
     let same = did.same in
     let sees = keeps-sees m m′ did.wait in
     rw (← c.self.view_is) (elim c.match-tables_of.branch [
-      in-Ok w ↦ rw w.result-is (
-      let told = w.in-Ok.ensures.told in
-      let h = told.2 in
-      joins-seen m m′ (Tables_of m.worker.number schema) (tables_told (Ok w.in-Ok.places))
+      | in-Ok w ↦ rw w.result-is (
+          let told = w.in-Ok.ensures.told in
+          let h = told.2 in
+          joins-seen m m′ (Tables_of m.worker.number schema) (tables_told (Ok w.in-Ok.places))
           (tables-joins m m′ m.worker.number schema (Ok w.in-Ok.places) same.1 same.2 same.3 sees did.reads (speaks m) (told.0, h.0, h.1, h.2, h.3, h.4) tt tt)
-      )
-    | in-Err w ↦ rw w.result-is (
-      joins-seen m m′ (Tables_of m.worker.number schema) (tables_told {Z = Unit {0}} (Err cause.OutOfMemory))
+          )
+      | in-Err w ↦ rw w.result-is (
+          joins-seen m m′ (Tables_of m.worker.number schema) (tables_told {Z = Unit {0}} (Err cause.OutOfMemory))
           (tables-joins {Z = Unit {0}} m m′ m.worker.number schema (Err cause.OutOfMemory) same.1 same.2 same.3 sees did.reads (speaks m) tt w.in-Err.ensures.unchanged refl)
-      )
+          )
     ])
