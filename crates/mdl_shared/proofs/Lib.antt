@@ -17,6 +17,8 @@ pub mod Faults
 pub mod PollCalls
 pub mod NotedOnce
 pub mod TicketFaults
+pub mod ClearCalls
+pub mod KeptLists
 pub mod TicketCalls
 pub mod TellingCalls
 pub mod WishFaults
@@ -28,3 +30,4 @@ pub mod KillCalls
 pub mod KeyCalls
 pub mod SoundSessions
 pub mod ShowingCalls
+pub mod SessionValues

@@ -30,6 +30,10 @@ pub asks-none : (asks : Option Ask) (why : SpaceError) → wait_fault asks ≡ S
 asks-none None why e = (refl, cc)
 asks-none (Some a) why e = cc
 
+pub asks-clear : (asks : Option Ask) → is_some asks ≡ true → wait_fault asks ≡ None
+asks-clear None e = cc
+asks-clear (Some a) e = refl
+
 -- a wait that was told to be in the state of a settlement is settled so
 pub same-settled : (state : ℕ) (how one : Settled) → settled_told (Some state) ≡ Some how → state_of one ≡ state → one ≡ how
 same-settled state how one knows is =
