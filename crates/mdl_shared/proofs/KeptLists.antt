@@ -1,18 +1,17 @@
 -- A session whose own lists are kept keeps them by its value.
 use Rattle.std.proofs.Common.{◌≡◌, sym, ◌∙◌}
-use Rattle.std.specs.Arc.{arc_value}
 use Rattle.mdl_visits.specs.Readings.{ReadsNothing}
 use Rattle.mdl_shared.specs.declared.member.Member.{Member}
 use Rattle.mdl_shared.specs.SessionViews.{lists_of, view_of}
 use Rattle.mdl_shared.specs.Showings.{KeepsLists}
 use Rattle.mdl_shared.proofs.SessionValues.{lists-seen}
 
-pub keeps-seen : (m m′ : Member) → m′.table ≡ m.table → m′.worker.number ≡ m.worker.number → m′.sessions ≡ m.sessions → m′.tickets.items ≡ m.tickets.items
-    → m′.known.items ≡ m.known.items → m′.next ≡ m.next → m′.asks ≡ m.asks → m′.waits ≡ m.waits → ReadsNothing m.worker.seat.me m′.worker.seat.me
+pub keeps-seen : (m m′ : Member) → m′.seat.table ≡ m.seat.table → m′.seat.me.0.number ≡ m.seat.me.0.number → m′.sessions ≡ m.sessions → m′.tickets.items ≡ m.tickets.items
+    → m′.known.items ≡ m.known.items → m′.next ≡ m.next → m′.asks ≡ m.asks → m′.waits ≡ m.waits → ReadsNothing m.seat.me m′.seat.me
     → KeepsLists (view_of m) (view_of m′)
 keeps-seen m m′ table number sessions tickets known next asks waits reads = record {
   number = number;
-  table = λ i. (arc_value (table i)).shared.table_id;
+  table = table;
   sessions = sessions;
   lists = sym (lists-seen m′) ∙ same ∙ lists-seen m;
   reads = reads;

@@ -4,6 +4,7 @@ pub mod Telling
 pub mod Awaiting
 pub mod KnownKeys
 pub mod Props
+pub mod TableKept
 pub mod Remembering
 pub mod Rising
 pub mod Polling

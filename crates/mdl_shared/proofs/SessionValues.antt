@@ -17,12 +17,12 @@ use Rattle.mdl_shared.proofs.SoundSessions.{sound}
 use Rattle.mdl_shared.proofs.TellingCalls.{same-stays}
 
 -- its lists
-pub lists-seen : (m : Member) → lists_of m ≡ lists_seen m.worker.seat.me.0
+pub lists-seen : (m : Member) → lists_of m ≡ lists_seen m.seat.me.0
 lists-seen m = λ i. record { tickets = m.listed i; known = m.known_is i; next = m.next_is i; asks = m.asks_is i; waits = m.waits_is i }
 
 -- what it has of the space
 pub space-seen : (m : Member) → space_of_member m ≡ space_of (view_of m)
-space-seen m = ap (λ (l : Lists). space_by m.worker.number l m.worker.seat.me.0.told m.worker.seat.me.0.reads) (lists-seen m)
+space-seen m = ap (λ (l : Lists). space_by m.seat.me.0.number l m.seat.me.0.told m.seat.me.0.reads) (lists-seen m)
 
 -- a call that joins the one joins the other
 pub joins-seen : (m m′ : Member) (call : Call) (answer : Answer) → Joins (space_of_member m) call answer (space_of_member m′)
@@ -39,12 +39,12 @@ shows-seen m m′ call answer shows = subst (λ (l : Lists). ShowsBy call answer
 -- ---- calls
 
 -- the session speaks for its number
-pub speaks : (m : Member) → SpeaksFor (space_of_member m) m.worker.number
+pub speaks : (m : Member) → SpeaksFor (space_of_member m) m.seat.me.0.number
 speaks m = (refl, sound m)
 
 -- a call that is refused, and changes nothing
 pub refused-seen : (m : Member) (call : Call) (why : SpaceError) → IfSome (caller call) (SpeaksFor (space_of_member m)) → has_call call ≡ true
-    → is_answer_of call (Refused why) ≡ true → IsCause (Knows (space_of_member m) m.worker.number) call why (space_of_member m).own
+    → is_answer_of call (Refused why) ≡ true → IsCause (Knows (space_of_member m) m.seat.me.0.number) call why (space_of_member m).own
     → ((state : Option Settled) (how : Settled) → met call (Refused why) ≡ Some state → (space_of_member m).settled ≡ Some how → state ≡ Some how)
     → TellsTruly call (Refused why) (space_of_member m) (space_of_member m)
     → Joins (space_of (view_of m)) call (Refused why) (space_of (view_of m))
@@ -65,7 +65,7 @@ some-mapped part (Some x) y e = (x, refl, (cc))
 
 -- a call for the number that the session speaks for is one for its own number
 pub for-caller : (s t : SessionView) (call : ℕ → Call) (answer : Answer) (who : ℕ) → SpeaksFor (space_of s) who
-    → Joins (space_of s) (call s.number) answer (space_of t) → Shows (call s.number) answer s t
+    → Joins (space_of s) (call s.me.0.number) answer (space_of t) → Shows (call s.me.0.number) answer s t
     → Joins (space_of s) (call who) answer (space_of t) × Shows (call who) answer s t
 for-caller s t call answer who speaks joined shown =
     subst (λ (w : ℕ). Joins (space_of s) (call w) answer (space_of t) × Shows (call w) answer s t) (sym speaks.0) (joined, shown)

@@ -56,7 +56,7 @@ chain-full false true false e = cc
 
 module _ (m : Member) where
   abbrev knows : Knowledge
-  knows = Knows (space_of_member m) m.worker.number
+  knows = Knows (space_of_member m) m.seat.me.0.number
 
   abbrev own : Mine
   own = (space_of_member m).own

@@ -23,7 +23,7 @@ pub record EndsWith (tickets : List Own) (m m′ : Member) : Type 0 where
   pub asks : m′.asks ≡ None
   pub waits : m′.waits ≡ m.waits
   pub held : m′.tickets.items ≡ tickets
-  pub unsettled : m′.worker.seat.me.0.told ≡ None
+  pub unsettled : m′.seat.me.0.told ≡ None
 
 -- how a wait has ended that was lost so
 abbrev pub lost_end : Settled → Option Ended

@@ -24,7 +24,7 @@ pass_table pass = (pass_view pass).table
 
 -- the session's number
 abbrev pub pass_number : Pass → ℕ
-pass_number pass = (pass_view pass).number
+pass_number pass = (pass_view pass).me.0.number
 
 -- a pass of a session of this number at this table, which knows and has nothing, and has made no step but that by which its number was drawn
 pub record IsPass (table : TableId) (number : ℕ) (pass : Pass) : Type 0 where

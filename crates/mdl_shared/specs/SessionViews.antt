@@ -1,6 +1,5 @@
 -- What a session of a shared space is to those that stand on lock spaces, by what it keeps of its own between two calls.
 use Rattle.std.specs.Prelude.{ℕ, ◌-◌, ◌==◌, List, map, filter_map, Option, Some, None, if◌then◌else◌}
-use Rattle.std.specs.Arc.{arc_value}
 use Rattle.std.specs.Option.{option_map}
 use Rattle.atomic_table.specs.Seated.{TableId}
 use Rattle.mdl_calls.specs.declared.answers.Settled.{Settled}
@@ -35,16 +34,15 @@ note_of t = option_map (λ version. record { place = t.place; version = version 
 
 -- ---- a session
 
--- a session: its number, the table at which it has its seat, how many sessions the space has, and what it knows and has there, with its steps
+-- a session: the table at which it has its seat, how many sessions the space has, and what it knows and has there, with its steps
 pub record SessionView : Type 0 where
-  pub number : ℕ
   pub table : TableId
   pub sessions : ℕ
   pub me : Mine
 
 -- what a session, open or not, is at the table
 abbrev pub view_of : Member → SessionView
-view_of m = record { number = m.worker.number; table = (arc_value m.table).shared.table_id; sessions = m.sessions; me = m.worker.seat.me }
+view_of m = record { table = m.seat.table; sessions = m.sessions; me = m.seat.me }
 
 -- ---- its lists
 
@@ -83,8 +81,8 @@ space_by number lists told reads = record {
 
 -- what a session has of the space, as plain data
 abbrev pub space_of : SessionView → Space
-space_of s = space_by s.number (lists_seen s.me.0) s.me.0.told s.me.0.reads
+space_of s = space_by s.me.0.number (lists_seen s.me.0) s.me.0.told s.me.0.reads
 
 -- the same by the lists that it keeps of its own
 abbrev pub space_of_member : Member → Space
-space_of_member m = space_by m.worker.number (lists_of m) m.worker.seat.me.0.told m.worker.seat.me.0.reads
+space_of_member m = space_by m.seat.me.0.number (lists_of m) m.seat.me.0.told m.seat.me.0.reads

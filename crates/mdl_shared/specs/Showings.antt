@@ -59,7 +59,7 @@ MakesNoStep a b = b.me ≡ a.me
 
 -- a step met the ticket of a number in the granted list of its place and did these deeds
 abbrev pub MeetsTicket : ℕ → List Deed → SessionView → SessionView → Own → Type 0
-MeetsTicket id ds a b t = HasStep a b (λ e. MeetsOwn t.place a.number id e × (e.deeds ≡ ds))
+MeetsTicket id ds a b t = HasStep a b (λ e. MeetsOwn t.place a.me.0.number id e × (e.deeds ≡ ds))
 
 -- way was made at its place
 abbrev pub MakesWay : SessionView → SessionView → Own → Type 0
@@ -77,11 +77,11 @@ LooksAtKeys a b = (k : Keys) × TookDirectory a.table.slots k k a.me b.me
 -- likewise, and the search found this by its record
 abbrev pub SearchesFor : Found → SessionView → SessionView → Type 0
 SearchesFor found a b =
-    (k : Keys) × TookDirectory a.table.slots k k a.me b.me × Searched a.table a.number k found a.me b.me
+    (k : Keys) × TookDirectory a.table.slots k k a.me b.me × Searched a.table a.me.0.number k found a.me b.me
 
 -- a step met the session's own wait in this state
 abbrev pub MeetsOwnWait : ℕ → Lists → SessionView → SessionView → Type 0
-MeetsOwnWait state l a b = HasStep a b (MeetsWait a.table.slots a.number l.waits state)
+MeetsOwnWait state l a b = HasStep a b (MeetsWait a.table.slots a.me.0.number l.waits state)
 
 -- why a wish is refused: for what the session has; or memory ran out; or a step met the book of the place full
 abbrev pub RefusesWish : Option SpaceError → SpaceError → Type 0 → Type 0
@@ -144,7 +144,7 @@ SettlesSo (Search who) (Victim_is victim) l a b = Unit {0}
 SettlesSo (End_wait who) (Lost how) l a b = Unit {0}
 SettlesSo (Release who id) Done l a b = Unit {0}
 SettlesSo (Downgrade who id mode) Done l a b = Unit {0}
-SettlesSo (Settle_timeout who) (Timed_out ByThisCall) l a b = Settles a.number l.waits 4 a.me b.me
+SettlesSo (Settle_timeout who) (Timed_out ByThisCall) l a b = Settles a.me.0.number l.waits 4 a.me b.me
 SettlesSo (Kill target number) (Has_killed true) l a b = Settles target number 5 a.me b.me
 SettlesSo _ _ l a b = SettlesNothing a.me b.me
 
@@ -158,14 +158,14 @@ MeetsSo (Resolve who key) (At_place place) l a b =
 MeetsSo (Resolve who key) (Refused why) l a b =
     (place_known key l.known ≡ None)
     × (((why ≡ cause.NoPlace) × LooksUp key (Err resolve_error.NoPlace) a b) ⊎ ((why ≡ cause.OutOfMemory) × (MakesNoStep a b ⊎ LooksAtKeys a b)))
-MeetsSo (Try_now who place mode) (Granted id) l a b = HasStep a b (MeetsGrantable place a.number mode (Gain id mode))
-MeetsSo (Try_now who place mode) Would_wait l a b = HasStep a b (MeetsBlocked place a.number mode)
+MeetsSo (Try_now who place mode) (Granted id) l a b = HasStep a b (MeetsGrantable place a.me.0.number mode (Gain id mode))
+MeetsSo (Try_now who place mode) Would_wait l a b = HasStep a b (MeetsBlocked place a.me.0.number mode)
 MeetsSo (Try_now who place mode) (Refused why) l a b =
     RefusesWish (own_fault (Try_now who place mode) l) why (HasStep a b (MeetsFull place))
-MeetsSo (Begin_wait who place mode) (Granted id) l a b = HasStep a b (MeetsGrantable place a.number mode (Gain id mode))
+MeetsSo (Begin_wait who place mode) (Granted id) l a b = HasStep a b (MeetsGrantable place a.me.0.number mode (Gain id mode))
 MeetsSo (Begin_wait who place mode) (Waits number) l a b =
-    (e f : Met) × AreStepsOf a.me b.me e f × MeetsBlocked place a.number mode e
-    × MeetsOpening a.table.slots place a.number l.waits l.next mode f
+    (e f : Met) × AreStepsOf a.me b.me e f × MeetsBlocked place a.me.0.number mode e
+    × MeetsOpening a.table.slots place a.me.0.number l.waits l.next mode f
 MeetsSo (Begin_wait who place mode) (Refused why) l a b =
     RefusesWish (own_fault (Begin_wait who place mode) l) why (HasStep a b (MeetsFull place))
 MeetsSo (Search who) No_cycle l a b = (l.asks ≡ None → MakesNoStep a b) × (is_some l.asks ≡ true → SearchesFor found.NoCycle a b)
@@ -198,28 +198,28 @@ MeetsSo (Clone_ticket who id mode) (Refused why) l a b =
     (OfTicket id l (λ t. HasStep a b (MeetsFull t.place)))
 MeetsSo (Upgrade_now who id mode) Upgraded l a b =
     (t : Own) → numbered id l.tickets ≡ Some t → covers t.mode mode ≡ false
-    → HasStep a b (MeetsGrantable t.place a.number mode (Alter id mode))
+    → HasStep a b (MeetsGrantable t.place a.me.0.number mode (Alter id mode))
 MeetsSo (Upgrade_now who id mode) Would_wait l a b =
-    OfTicket id l (λ t. (covers t.mode mode ≡ false) × HasStep a b (MeetsBlocked t.place a.number mode))
+    OfTicket id l (λ t. (covers t.mode mode ≡ false) × HasStep a b (MeetsBlocked t.place a.me.0.number mode))
 MeetsSo (Upgrade_now who id mode) (Refused why) l a b = own_fault (Upgrade_now who id mode) l ≡ Some why
 MeetsSo (Merge who old new) Done l a b =
     OfTicket old l (λ kept. OfTicket new l (λ gone. HasStep a b (λ e.
-    MeetsOwn kept.place a.number old e × MeetsOwn kept.place a.number new e × (e.deeds ≡ Alter old gone.mode ∷ Lose new ∷ []))))
+    MeetsOwn kept.place a.me.0.number old e × MeetsOwn kept.place a.me.0.number new e × (e.deeds ≡ Alter old gone.mode ∷ Lose new ∷ []))))
 MeetsSo (Merge who old new) (Refused why) l a b = own_fault (Merge who old new) l ≡ Some why
 MeetsSo (Downgrade who id mode) Done l a b = OfTicket id l (MeetsTicket id (Alter id mode ∷ []) a b) × OfTicket id l (MakesWay a b)
 MeetsSo (Downgrade who id mode) (Refused why) l a b = own_fault (Downgrade who id mode) l ≡ Some why
 MeetsSo (Read_definition who id) (Reads version definition) l a b =
     OfTicket id l (λ t. Follows t.place (record { version = version; definition = definition }) a.me
     × ReadsThere t.place (record { version = version; definition = definition }) a.me b.me
-    × HasStep a b (MeetsRead t.place a.number id (record { version = version; definition = definition })))
+    × HasStep a b (MeetsRead t.place a.me.0.number id (record { version = version; definition = definition })))
 MeetsSo (Change_definition who id change) (Changed version) l a b =
     OfTicket id l (λ t. (t.mode ≡ X) × Redefines t.place change version a.me b.me)
 MeetsSo (Change_definition who id change) (Refused why) l a b =
     (own_fault (Change_definition who id change) l ≡ Some why)
-    ⊎ OfTicket id l (λ t. IsRefusedAs t.place a.number change why a.me b.me)
+    ⊎ OfTicket id l (λ t. IsRefusedAs t.place a.me.0.number change why a.me b.me)
 MeetsSo (Tables_of who schema) (Tables places) l a b =
     (k : Keys) × TookDirectory a.table.slots k k a.me b.me
-    × ((tables : List Known) × AreTables schema k tables × HasAsked a.number tables places a.me b.me
+    × ((tables : List Known) × AreTables schema k tables × HasAsked a.me.0.number tables places a.me b.me
     × (b.me.0.known ≡ l.known ++ unknown l.known tables) × AreLearnt tables b.me.0.known)
 MeetsSo (Tables_of who schema) (Refused why) l a b = LooksAtKeys a b
 MeetsSo (Key_of who place) _ l a b = MakesNoStep a b
@@ -249,7 +249,7 @@ Shows call answer a b = ShowsBy call answer (lists_seen a.me.0) a b
 
 -- the session has the same number, at the same table, and the same lists, and read nothing
 pub record KeepsLists (a b : SessionView) : Type 0 where
-  pub number : b.number ≡ a.number
+  pub number : b.me.0.number ≡ a.me.0.number
   pub table : b.table ≡ a.table
   pub sessions : b.sessions ≡ a.sessions
   pub lists : lists_seen b.me.0 ≡ lists_seen a.me.0

@@ -1,6 +1,5 @@
 //! An audit of the table.
 ghost use Rattle.std.specs.Prelude.{[], IfErr, IfOk, ◌≡◌};
-ghost use Rattle.std.specs.Arc.{arc_value};
 ghost use Rattle.mdl_calls.specs.declared.space_error.SpaceError.TheVariants as cause;
 ghost use Rattle.mdl_steps.specs.declared.view.Keys.{Keys};
 ghost use Rattle.mdl_visits.specs.Audits.{Audits};
@@ -14,24 +13,24 @@ ghost use Rattle.mdl_shared.specs.Showings.{KeepsLists};
 use crate::Session;
 use crate::member::Member;
 use mdl_calls::SpaceError;
-use mdl_visits::{Audited, go_round};
+use mdl_visits::{Audited, audit};
 use std::alloc::AllocError;
 use std::sync::Wait;
 
 impl Member {
     // The books of all places that have a key.
     fn audit<R: Wait>(&mut self, rt: &R) -> Result<Vec<Audited>, AllocError>
-        ensures same { (self.new.table ≡ self.old.table) × (self.new.worker.number ≡ self.old.worker.number) × (self.new.next ≡ self.old.next)
+        ensures same { (self.new.seat.table ≡ self.old.seat.table) × (self.new.seat.me.0.number ≡ self.old.seat.me.0.number) × (self.new.next ≡ self.old.next)
             × (self.new.known.items ≡ self.old.known.items) × (self.new.tickets.items ≡ self.old.tickets.items) }
         ensures wait { KeepsWait self.old self.new }
-        ensures reads { ReadsNothing self.old.worker.seat.me self.new.worker.seat.me }
-        ensures settles { SettlesNothing self.old.worker.seat.me self.new.worker.seat.me }
-        ensures did { Does [] self.old.worker.seat.me self.new.worker.seat.me }
-        ensures told { (k : Keys) × TookDirectory (arc_value self.old.table).shared.table_id.slots k k self.old.worker.seat.me self.new.worker.seat.me
-            × IfOk result (λ audited. Audits k audited.items self.old.worker.seat.me self.new.worker.seat.me) }
+        ensures reads { ReadsNothing self.old.seat.me self.new.seat.me }
+        ensures settles { SettlesNothing self.old.seat.me self.new.seat.me }
+        ensures did { Does [] self.old.seat.me self.new.seat.me }
+        ensures told { (k : Keys) × TookDirectory self.old.seat.table.slots k k self.old.seat.me self.new.seat.me
+            × IfOk result (λ audited. Audits k audited.items self.old.seat.me self.new.seat.me) }
     {
         let mut audited = Vec::new(*self.known.allocator());
-        go_round(rt, &mut self.worker, &self.table.shared, &mut audited)?;
+        audit(rt, &mut self.seat, &mut audited)?;
         Ok(audited)
     }
 }

@@ -1,6 +1,5 @@
 //! A lock is asked for, and waited for where it can't be had now.
 ghost use Rattle.std.specs.Prelude.{[], Err, IfErr, None, Ok, OnErr, Some, true, ℕ, ◌++◌, ◌+◌, ◌<◌, ◌∷◌, ◌≡◌, ◌⊎◌};
-ghost use Rattle.std.specs.Arc.{arc_value};
 ghost use Rattle.mdl_key.specs.Words.{is_mode_of};
 ghost use Rattle.mdl_calls.specs.declared.answers.Begun.TheVariants.{Granted, Waiting};
 ghost use Rattle.mdl_calls.specs.declared.space_error.SpaceError.TheVariants as cause;
@@ -27,7 +26,7 @@ use mdl_book::BookError;
 use mdl_calls::{Begun, Place, SpaceError};
 use mdl_key::{Kind, Mode};
 use mdl_steps::{Ask, Own};
-use mdl_visits::{Queued, grant_or_wait};
+use mdl_visits::{Queued, begin_wait};
 use std::sync::Wait;
 
 impl Member {
@@ -44,21 +43,21 @@ impl Member {
         requires mode { is_mode_of kind mode ≡ true }
         requires unwaited { self.old.asks ≡ None }
         requires room { self.old.next < most_numbers }
-        ensures same { (self.new.table ≡ self.old.table) × (self.new.worker.number ≡ self.old.worker.number) × (self.new.known.items ≡ self.old.known.items)
+        ensures same { (self.new.seat.table ≡ self.old.seat.table) × (self.new.seat.me.0.number ≡ self.old.seat.me.0.number) × (self.new.known.items ≡ self.old.known.items)
             × (self.new.sessions ≡ self.old.sessions) }
-        ensures reads { ReadsNothing self.old.worker.seat.me self.new.worker.seat.me }
-        ensures settles { SettlesNothing self.old.worker.seat.me self.new.worker.seat.me }
-        ensures did { Does (begin_deeds mode result) self.old.worker.seat.me self.new.worker.seat.me }
+        ensures reads { ReadsNothing self.old.seat.me self.new.seat.me }
+        ensures settles { SettlesNothing self.old.seat.me self.new.seat.me }
+        ensures did { Does (begin_deeds mode result) self.old.seat.me self.new.seat.me }
         ensures granted { (id : ℕ) → result ≡ Ok (Granted id) → KeepsWait self.old self.new × (id ≡ self.old.next)
             × (self.new.tickets.items ≡ self.old.tickets.items ++ record { number = id; place = place; mode = mode; noted = note_at place self.old.tickets.items } ∷ [])
-            × ((e : Met) × IsStepOf self.old.worker.seat.me self.new.worker.seat.me e × MeetsGrantable place self.old.worker.number mode (Gain id mode) e) }
+            × ((e : Met) × IsStepOf self.old.seat.me self.new.seat.me e × MeetsGrantable place self.old.seat.me.0.number mode (Gain id mode) e) }
         ensures next { (id : ℕ) → result ≡ Ok (Granted id) → self.new.next ≡ id + 1 }
         ensures waiting { (number : ℕ) → result ≡ Ok (Waiting number) → (number ≡ self.old.waits + 1) × Begins place mode self.old self.new
-            × ((e f : Met) × AreStepsOf self.old.worker.seat.me self.new.worker.seat.me e f × MeetsBlocked place self.old.worker.number mode e
-            × MeetsOpening (arc_value self.old.table).shared.table_id.slots place self.old.worker.number self.old.waits self.old.next mode f) }
+            × ((e f : Met) × AreStepsOf self.old.seat.me self.new.seat.me e f × MeetsBlocked place self.old.seat.me.0.number mode e
+            × MeetsOpening self.old.seat.table.slots place self.old.seat.me.0.number self.old.waits self.old.next mode f) }
         ensures unchanged { OnErr result (KeepsWait self.old self.new × (self.new.tickets.items ≡ self.old.tickets.items) × (self.new.next ≡ self.old.next)) }
         ensures refused { IfErr result (λ why. (why ≡ cause.OutOfMemory)
-            ⊎ ((why ≡ cause.Full) × ((e : Met) × IsStepOf self.old.worker.seat.me self.new.worker.seat.me e × MeetsFull place e))) }
+            ⊎ ((why ≡ cause.Full) × ((e : Met) × IsStepOf self.old.seat.me self.new.seat.me e × MeetsFull place e))) }
     {
         let noted = self.note_at(place);
         if self.tickets.reserve(1).is_err() {
@@ -66,18 +65,7 @@ impl Member {
         }
         let number = self.next;
         let wait = self.waits + 1;
-        let slots = self.table.slot_count();
-        match grant_or_wait(
-            rt,
-            &mut self.worker,
-            &self.table.shared,
-            slots,
-            place,
-            kind,
-            number,
-            mode,
-            wait,
-        ) {
+        match begin_wait(rt, &mut self.seat, place, kind, number, mode, wait) {
             Ok(Queued::Granted) => {
                 self.tickets.push_reserved(Own {
                     number,
@@ -108,8 +96,8 @@ impl<R: Wait> Session<R> {
     /// Asks for a lock, and begins to wait for it where it can't be had now. Nobody is waited for here but those who hold the latch of the
     /// place.
     pub fn begin_wait(&mut self, place: Place, mode: Mode) -> Result<Begun, SpaceError>
-        ensures joined { Joins (space_of self.old) (Begin_wait self.old.number place mode) (begun result) (space_of self.new) }
-        ensures shown { Shows (Begin_wait self.old.number place mode) (begun result) self.old self.new }
+        ensures joined { Joins (space_of self.old) (Begin_wait self.old.me.0.number place mode) (begun result) (space_of self.new) }
+        ensures shown { Shows (Begin_wait self.old.me.0.number place mode) (begun result) self.old self.new }
     {
         let place = place as usize;
         let Some(kind) = self.member.kind_at(place) else {

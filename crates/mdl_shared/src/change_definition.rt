@@ -17,7 +17,7 @@ use crate::member::Member;
 use mdl_calls::{SpaceError, TicketId};
 use mdl_defs::{Change, ChangeError};
 use mdl_key::Mode;
-use mdl_visits::redefine_at;
+use mdl_visits::change_definition;
 use std::sync::Wait;
 
 impl Member {
@@ -29,16 +29,16 @@ impl Member {
         change: &Change,
     ) -> Result<u64, ChangeError>
         requires held { HasExclusiveAt place self.old.tickets.items }
-        ensures same { (self.new.table ≡ self.old.table) × (self.new.worker.number ≡ self.old.worker.number) × (self.new.next ≡ self.old.next) × (self.new.known.items ≡ self.old.known.items) }
+        ensures same { (self.new.seat.table ≡ self.old.seat.table) × (self.new.seat.me.0.number ≡ self.old.seat.me.0.number) × (self.new.next ≡ self.old.next) × (self.new.known.items ≡ self.old.known.items) }
         ensures wait { KeepsWait self.old self.new }
-        ensures settles { SettlesNothing self.old.worker.seat.me self.new.worker.seat.me }
-        ensures did { Does [] self.old.worker.seat.me self.new.worker.seat.me }
+        ensures settles { SettlesNothing self.old.seat.me self.new.seat.me }
+        ensures did { Does [] self.old.seat.me self.new.seat.me }
         ensures changed { IfOk result (λ version. (self.new.tickets.items ≡ noting_version place version self.old.tickets.items)
-            × Redefines place change.now version self.old.worker.seat.me self.new.worker.seat.me) }
-        ensures unchanged { OnErr result ((self.new.tickets.items ≡ self.old.tickets.items) × ReadsNothing self.old.worker.seat.me self.new.worker.seat.me) }
-        ensures refused { IfErr result (λ why. IsRefusedFor place self.old.worker.number change.now why self.old.worker.seat.me self.new.worker.seat.me) }
+            × Redefines place change.now version self.old.seat.me self.new.seat.me) }
+        ensures unchanged { OnErr result ((self.new.tickets.items ≡ self.old.tickets.items) × ReadsNothing self.old.seat.me self.new.seat.me) }
+        ensures refused { IfErr result (λ why. IsRefusedFor place self.old.seat.me.0.number change.now why self.old.seat.me self.new.seat.me) }
     {
-        let version = redefine_at(rt, &mut self.worker, &self.table.shared, place, change)?;
+        let version = change_definition(rt, &mut self.seat, place, change)?;
         note_all(&mut self.tickets, place, version);
         Ok(version)
     }
@@ -48,8 +48,8 @@ impl<R: Wait> Session<R> {
     /// Changes what stands under the key of the place of an exclusive ticket, and answers the new version, one greater than before. `Drop`
     /// takes no memory.
     pub fn change_definition(&mut self, id: TicketId, change: &Change) -> Result<u64, SpaceError>
-        ensures joined { Joins (space_of self.old) (Change_definition self.old.number id change.now) (redefined result) (space_of self.new) }
-        ensures shown { Shows (Change_definition self.old.number id change.now) (redefined result) self.old self.new }
+        ensures joined { Joins (space_of self.old) (Change_definition self.old.me.0.number id change.now) (redefined result) (space_of self.new) }
+        ensures shown { Shows (Change_definition self.old.me.0.number id change.now) (redefined result) self.old self.new }
     {
         let Some((place, mode)) = self.member.place_and_mode(id) else {
             return Err(SpaceError::NotHeld);

@@ -28,7 +28,7 @@ use mdl_calls::{SpaceError, TicketId};
 use mdl_key::Mode;
 use mdl_steps::Own;
 use mdl_system::covers;
-use mdl_visits::double;
+use mdl_visits::clone_ticket;
 use std::sync::Wait;
 
 impl Member {
@@ -44,25 +44,25 @@ impl Member {
         requires covers { covers held.mode mode ≡ true }
         requires unwaited { self.old.asks ≡ None }
         requires room { self.old.next < most_numbers }
-        ensures same { (self.new.table ≡ self.old.table) × (self.new.worker.number ≡ self.old.worker.number) × (self.new.known.items ≡ self.old.known.items) }
+        ensures same { (self.new.seat.table ≡ self.old.seat.table) × (self.new.seat.me.0.number ≡ self.old.seat.me.0.number) × (self.new.known.items ≡ self.old.known.items) }
         ensures wait { KeepsWait self.old self.new }
-        ensures reads { ReadsNothing self.old.worker.seat.me self.new.worker.seat.me }
-        ensures settles { SettlesNothing self.old.worker.seat.me self.new.worker.seat.me }
-        ensures did { Does (deeds_if_done (Gain self.old.next mode ∷ []) result) self.old.worker.seat.me self.new.worker.seat.me }
+        ensures reads { ReadsNothing self.old.seat.me self.new.seat.me }
+        ensures settles { SettlesNothing self.old.seat.me self.new.seat.me }
+        ensures did { Does (deeds_if_done (Gain self.old.next mode ∷ []) result) self.old.seat.me self.new.seat.me }
         ensures doubled { IfOk result (λ id. (id ≡ self.old.next) × (self.new.next ≡ id + 1)
             × (self.new.tickets.items ≡ self.old.tickets.items ++ record { number = id; place = held.place; mode = mode; noted = note_at held.place self.old.tickets.items } ∷ [])
-            × ((e : Met) × IsStepOf self.old.worker.seat.me self.new.worker.seat.me e × MeetsOwn held.place self.old.worker.number held.number e
+            × ((e : Met) × IsStepOf self.old.seat.me self.new.seat.me e × MeetsOwn held.place self.old.seat.me.0.number held.number e
             × (e.deeds ≡ Gain id mode ∷ []))) }
         ensures unchanged { OnErr result ((self.new.tickets.items ≡ self.old.tickets.items) × (self.new.next ≡ self.old.next)) }
         ensures refused { IfErr result (λ why. (why ≡ cause.OutOfMemory)
-            ⊎ ((why ≡ cause.Full) × ((e : Met) × IsStepOf self.old.worker.seat.me self.new.worker.seat.me e × MeetsFull held.place e))) }
+            ⊎ ((why ≡ cause.Full) × ((e : Met) × IsStepOf self.old.seat.me self.new.seat.me e × MeetsFull held.place e))) }
     {
         let noted = self.note_at(held.place);
         if self.tickets.reserve(1).is_err() {
             return Err(SpaceError::OutOfMemory);
         }
         let number = self.next;
-        match double(rt, &mut self.worker, &self.table.shared, held, number, mode) {
+        match clone_ticket(rt, &mut self.seat, held, number, mode) {
             Ok(()) => {
                 self.tickets.push_reserved(Own {
                     number,
@@ -82,8 +82,8 @@ impl Member {
 impl<R: Wait> Session<R> {
     /// A second ticket of a held one's place, in a mode that this one is at least as strong as. It overtakes waiters. Answers its number.
     pub fn clone_ticket(&mut self, id: TicketId, mode: Mode) -> Result<TicketId, SpaceError>
-        ensures joined { Joins (space_of self.old) (Clone_ticket self.old.number id mode) (cloned result) (space_of self.new) }
-        ensures shown { Shows (Clone_ticket self.old.number id mode) (cloned result) self.old self.new }
+        ensures joined { Joins (space_of self.old) (Clone_ticket self.old.me.0.number id mode) (cloned result) (space_of self.new) }
+        ensures shown { Shows (Clone_ticket self.old.me.0.number id mode) (cloned result) self.old self.new }
     {
         let Some(held) = self.member.ticket(id) else {
             return Err(SpaceError::NotHeld);

@@ -1,6 +1,5 @@
 //! A ticket gets a weaker mode.
 ghost use Rattle.std.specs.Prelude.{[], Some, true, ◌∷◌, ◌≡◌};
-ghost use Rattle.std.specs.Arc.{arc_value};
 ghost use Rattle.mdl_steps.specs.declared.deed.Deed.TheVariants.{Alter};
 ghost use Rattle.mdl_steps.specs.declared.view.Met.{Met};
 ghost use Rattle.mdl_steps.specs.declared.view.Own.{Own};
@@ -24,7 +23,7 @@ use mdl_calls::{SpaceError, TicketId};
 use mdl_key::Mode;
 use mdl_steps::Own;
 use mdl_system::may_downgrade;
-use mdl_visits::weaken;
+use mdl_visits::downgrade;
 use std::sync::Wait;
 
 impl Member {
@@ -33,16 +32,16 @@ impl Member {
         requires held { numbered held.number self.old.tickets.items ≡ Some held }
         requires fits { is_fit held.place mode self.old.known.items ≡ true }
         requires weaker { may_downgrade held.mode mode ≡ true }
-        ensures same { (self.new.table ≡ self.old.table) × (self.new.worker.number ≡ self.old.worker.number) × (self.new.next ≡ self.old.next) × (self.new.known.items ≡ self.old.known.items) }
+        ensures same { (self.new.seat.table ≡ self.old.seat.table) × (self.new.seat.me.0.number ≡ self.old.seat.me.0.number) × (self.new.next ≡ self.old.next) × (self.new.known.items ≡ self.old.known.items) }
         ensures wait { SeesWait self.old self.new }
-        ensures reads { ReadsNothing self.old.worker.seat.me self.new.worker.seat.me }
-        ensures did { Does (Alter held.number mode ∷ []) self.old.worker.seat.me self.new.worker.seat.me }
+        ensures reads { ReadsNothing self.old.seat.me self.new.seat.me }
+        ensures did { Does (Alter held.number mode ∷ []) self.old.seat.me self.new.seat.me }
         ensures weakened { self.new.tickets.items ≡ in_mode_at held.place held.number mode self.old.tickets.items }
-        ensures step { (e : Met) × IsStepOf self.old.worker.seat.me self.new.worker.seat.me e × MeetsOwn held.place self.old.worker.number held.number e
+        ensures step { (e : Met) × IsStepOf self.old.seat.me self.new.seat.me e × MeetsOwn held.place self.old.seat.me.0.number held.number e
             × (e.deeds ≡ Alter held.number mode ∷ []) }
-        ensures way { MadeWay (arc_value self.old.table).shared.table_id held.place self.old.worker.seat.me self.new.worker.seat.me }
+        ensures way { MadeWay self.old.seat.table held.place self.old.seat.me self.new.seat.me }
     {
-        weaken(rt, &mut self.worker, &self.table, held, mode);
+        downgrade(rt, &mut self.seat, held, mode);
         set_mode(&mut self.tickets, held.place, held.number, mode);
     }
 }
@@ -51,8 +50,8 @@ impl<R: Wait> Session<R> {
     /// Lets a held ticket have a weaker mode: X becomes SU, SNW or SNRW, and SNW becomes SU. The waits at its place that can be granted then
     /// are granted. It takes no memory.
     pub fn downgrade(&mut self, id: TicketId, mode: Mode) -> Result<(), SpaceError>
-        ensures joined { Joins (space_of self.old) (Downgrade self.old.number id mode) (done result) (space_of self.new) }
-        ensures shown { Shows (Downgrade self.old.number id mode) (done result) self.old self.new }
+        ensures joined { Joins (space_of self.old) (Downgrade self.old.me.0.number id mode) (done result) (space_of self.new) }
+        ensures shown { Shows (Downgrade self.old.me.0.number id mode) (done result) self.old self.new }
     {
         let Some(held) = self.member.ticket(id) else {
             return Err(SpaceError::NotHeld);

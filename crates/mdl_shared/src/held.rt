@@ -49,8 +49,8 @@ fn told(ticket: Own) -> Held
 impl<R> Session<R> {
     /// The tickets that the session holds, in order of gain.
     pub fn held(&self) -> Result<Vec<Held>, SpaceError>
-        ensures joined { Joins (space_of self.now) (List_held self.now.number) (listed result) (space_of self.now) }
-        ensures shown { Shows (List_held self.now.number) (listed result) self.now self.now }
+        ensures joined { Joins (space_of self.now) (List_held self.now.me.0.number) (listed result) (space_of self.now) }
+        ensures shown { Shows (List_held self.now.me.0.number) (listed result) self.now self.now }
     {
         match self.member.held() {
             Ok(held) => Ok(held),

@@ -28,8 +28,8 @@ impl Member {
 impl<R> Session<R> {
     /// The key of a place that the session has looked up.
     pub fn key_of(&mut self, place: Place) -> Result<Key, SpaceError>
-        ensures joined { Joins (space_of self.old) (Key_of self.old.number place) (keyed result) (space_of self.new) }
-        ensures shown { Shows (Key_of self.old.number place) (keyed result) self.old self.new }
+        ensures joined { Joins (space_of self.old) (Key_of self.old.me.0.number place) (keyed result) (space_of self.new) }
+        ensures shown { Shows (Key_of self.old.me.0.number place) (keyed result) self.old self.new }
     {
         let Some(key) = self.member.key_of(place as usize) else {
             return Err(SpaceError::NoPlace);

@@ -1,6 +1,5 @@
 //! Waits are settled as killed.
 ghost use Rattle.std.specs.Prelude.{[], Some, false, true, ◌<◌, ◌≡◌, ◌≤◌};
-ghost use Rattle.std.specs.Arc.{arc_value};
 ghost use Rattle.mdl_calls.specs.declared.answers.Settled.{Settled};
 ghost use Rattle.mdl_steps.specs.declared.view.Met.{Met};
 ghost use Rattle.mdl_steps.specs.declared.wait_word.Loss.TheVariants as loss;
@@ -25,20 +24,20 @@ impl Member {
     // Settles a session's last wait as killed, where it has this number and isn't settled. Whether this call settled it.
     fn kill(&mut self, session: u16, number: u64) -> bool
         requires session { (0 < session) × (session ≤ self.old.sessions) }
-        ensures same { (self.new.table ≡ self.old.table) × (self.new.worker.number ≡ self.old.worker.number) × (self.new.next ≡ self.old.next)
+        ensures same { (self.new.seat.table ≡ self.old.seat.table) × (self.new.seat.me.0.number ≡ self.old.seat.me.0.number) × (self.new.next ≡ self.old.next)
             × (self.new.known.items ≡ self.old.known.items) × (self.new.tickets.items ≡ self.old.tickets.items) }
         ensures wait { SeesWait self.old self.new }
-        ensures reads { ReadsNothing self.old.worker.seat.me self.new.worker.seat.me }
-        ensures did { Does [] self.old.worker.seat.me self.new.worker.seat.me }
-        ensures killed { result ≡ true → Settles session number 5 self.old.worker.seat.me self.new.worker.seat.me
-            × ((e : Met) × IsStepOf self.old.worker.seat.me self.new.worker.seat.me e
-            × MeetsWait (arc_value self.old.table).shared.table_id.slots session number unsettled_state e) }
-        ensures missed { result ≡ false → SettlesNothing self.old.worker.seat.me self.new.worker.seat.me
-            × ((e : Met) × IsStepOf self.old.worker.seat.me self.new.worker.seat.me e
-            × MeetsOther (arc_value self.old.table).shared.table_id.slots session (wait_in number unsettled_state) e) }
-        ensures own { session ≡ self.old.worker.number → result ≡ true → (own_number self.old.waits self.old.asks ≡ Some number) × (self.new.worker.seat.me.0.told ≡ Some (lost_state loss.Killed)) }
-        ensures settled { session ≡ self.old.worker.number → result ≡ false → own_number self.old.waits self.old.asks ≡ Some number
-            → (how : Settled) × (self.new.worker.seat.me.0.told ≡ Some (state_of how)) }
+        ensures reads { ReadsNothing self.old.seat.me self.new.seat.me }
+        ensures did { Does [] self.old.seat.me self.new.seat.me }
+        ensures killed { result ≡ true → Settles session number 5 self.old.seat.me self.new.seat.me
+            × ((e : Met) × IsStepOf self.old.seat.me self.new.seat.me e
+            × MeetsWait self.old.seat.table.slots session number unsettled_state e) }
+        ensures missed { result ≡ false → SettlesNothing self.old.seat.me self.new.seat.me
+            × ((e : Met) × IsStepOf self.old.seat.me self.new.seat.me e
+            × MeetsOther self.old.seat.table.slots session (wait_in number unsettled_state) e) }
+        ensures own { session ≡ self.old.seat.me.0.number → result ≡ true → (own_number self.old.waits self.old.asks ≡ Some number) × (self.new.seat.me.0.told ≡ Some (lost_state loss.Killed)) }
+        ensures settled { session ≡ self.old.seat.me.0.number → result ≡ false → own_number self.old.waits self.old.asks ≡ Some number
+            → (how : Settled) × (self.new.seat.me.0.told ≡ Some (state_of how)) }
     {
         if !is_open(self.read_wait(session), number) {
             return false;

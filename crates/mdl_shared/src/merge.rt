@@ -23,7 +23,7 @@ use crate::member::Member;
 use mdl_calls::{SpaceError, TicketId};
 use mdl_steps::Own;
 use mdl_system::covers;
-use mdl_visits::fold;
+use mdl_visits::merge;
 use std::sync::Wait;
 
 impl Member {
@@ -35,17 +35,17 @@ impl Member {
         requires here { kept.place ≡ gone.place }
         requires covers { covers gone.mode kept.mode ≡ true }
         requires unwaited { self.old.asks ≡ None }
-        ensures same { (self.new.table ≡ self.old.table) × (self.new.worker.number ≡ self.old.worker.number) × (self.new.next ≡ self.old.next) × (self.new.known.items ≡ self.old.known.items) }
+        ensures same { (self.new.seat.table ≡ self.old.seat.table) × (self.new.seat.me.0.number ≡ self.old.seat.me.0.number) × (self.new.next ≡ self.old.next) × (self.new.known.items ≡ self.old.known.items) }
         ensures wait { KeepsWait self.old self.new }
-        ensures reads { ReadsNothing self.old.worker.seat.me self.new.worker.seat.me }
-        ensures settles { SettlesNothing self.old.worker.seat.me self.new.worker.seat.me }
-        ensures did { Does (Alter kept.number gone.mode ∷ Lose gone.number ∷ []) self.old.worker.seat.me self.new.worker.seat.me }
+        ensures reads { ReadsNothing self.old.seat.me self.new.seat.me }
+        ensures settles { SettlesNothing self.old.seat.me self.new.seat.me }
+        ensures did { Does (Alter kept.number gone.mode ∷ Lose gone.number ∷ []) self.old.seat.me self.new.seat.me }
         ensures folded { self.new.tickets.items ≡ without_at kept.place gone.number (in_mode_at kept.place kept.number gone.mode self.old.tickets.items) }
-        ensures step { (e : Met) × IsStepOf self.old.worker.seat.me self.new.worker.seat.me e
-            × MeetsOwn kept.place self.old.worker.number kept.number e × MeetsOwn kept.place self.old.worker.number gone.number e
+        ensures step { (e : Met) × IsStepOf self.old.seat.me self.new.seat.me e
+            × MeetsOwn kept.place self.old.seat.me.0.number kept.number e × MeetsOwn kept.place self.old.seat.me.0.number gone.number e
             × (e.deeds ≡ Alter kept.number gone.mode ∷ Lose gone.number ∷ []) }
     {
-        fold(rt, &mut self.worker, &self.table.shared, kept, gone);
+        merge(rt, &mut self.seat, kept, gone);
         set_mode(&mut self.tickets, kept.place, kept.number, gone.mode);
         strike(&mut self.tickets, kept.place, gone.number);
     }
@@ -62,8 +62,8 @@ impl<R: Wait> Session<R> {
     /// Lets a held ticket have the mode of another one of its place, which is at least as strong, and gives that one up. The first ticket keeps
     /// its number. It takes no memory.
     pub fn merge(&mut self, old: TicketId, new: TicketId) -> Result<(), SpaceError>
-        ensures joined { Joins (space_of self.old) (Merge self.old.number old new) (done result) (space_of self.new) }
-        ensures shown { Shows (Merge self.old.number old new) (done result) self.old self.new }
+        ensures joined { Joins (space_of self.old) (Merge self.old.me.0.number old new) (done result) (space_of self.new) }
+        ensures shown { Shows (Merge self.old.me.0.number old new) (done result) self.old self.new }
     {
         let Some(kept) = self.member.ticket(old) else {
             return Err(SpaceError::NotHeld);

@@ -21,7 +21,7 @@ use crate::member::Member;
 use mdl_calls::{SpaceError, TicketId};
 use mdl_defs::Standing;
 use mdl_steps::Own;
-use mdl_visits::read_at;
+use mdl_visits::read_definition;
 use std::alloc::AllocError;
 use std::sync::Wait;
 
@@ -34,18 +34,18 @@ impl Member {
         _id: TicketId,
     ) -> Result<Standing, AllocError>
         requires held { option_map (λ (t : Own). t.place) (numbered _id self.old.tickets.items) ≡ Some place }
-        ensures same { (self.new.table ≡ self.old.table) × (self.new.worker.number ≡ self.old.worker.number) × (self.new.next ≡ self.old.next) × (self.new.known.items ≡ self.old.known.items) }
+        ensures same { (self.new.seat.table ≡ self.old.seat.table) × (self.new.seat.me.0.number ≡ self.old.seat.me.0.number) × (self.new.next ≡ self.old.next) × (self.new.known.items ≡ self.old.known.items) }
         ensures wait { KeepsWait self.old self.new }
-        ensures settles { SettlesNothing self.old.worker.seat.me self.new.worker.seat.me }
-        ensures did { Does [] self.old.worker.seat.me self.new.worker.seat.me }
-        ensures quiet { StaysQuiet self.old.worker.seat.me self.new.worker.seat.me }
+        ensures settles { SettlesNothing self.old.seat.me self.new.seat.me }
+        ensures did { Does [] self.old.seat.me self.new.seat.me }
+        ensures quiet { StaysQuiet self.old.seat.me self.new.seat.me }
         ensures read { IfOk result (λ standing. (self.new.tickets.items ≡ noting_version place standing.version self.old.tickets.items)
-            × ReadsThere place standing self.old.worker.seat.me self.new.worker.seat.me
-            × ((e : Met) × IsStepOf self.old.worker.seat.me self.new.worker.seat.me e × MeetsRead place self.old.worker.number _id standing e)) }
-        ensures follows { IfOk result (λ standing. Follows place standing self.old.worker.seat.me) }
-        ensures unchanged { OnErr result ((self.new.tickets.items ≡ self.old.tickets.items) × ReadsNothing self.old.worker.seat.me self.new.worker.seat.me) }
+            × ReadsThere place standing self.old.seat.me self.new.seat.me
+            × ((e : Met) × IsStepOf self.old.seat.me self.new.seat.me e × MeetsRead place self.old.seat.me.0.number _id standing e)) }
+        ensures follows { IfOk result (λ standing. Follows place standing self.old.seat.me) }
+        ensures unchanged { OnErr result ((self.new.tickets.items ≡ self.old.tickets.items) × ReadsNothing self.old.seat.me self.new.seat.me) }
     {
-        let standing = read_at(rt, &mut self.worker, &self.table.shared, place)?;
+        let standing = read_definition(rt, &mut self.seat, place)?;
         note_all(&mut self.tickets, place, standing.version);
         Ok(standing)
     }
@@ -54,8 +54,8 @@ impl Member {
 impl<R: Wait> Session<R> {
     /// What stands under the key of a ticket's place, and its version.
     pub fn read_definition(&mut self, id: TicketId) -> Result<Standing, SpaceError>
-        ensures joined { Joins (space_of self.old) (Read_definition self.old.number id) (read result) (space_of self.new) }
-        ensures shown { Shows (Read_definition self.old.number id) (read result) self.old self.new }
+        ensures joined { Joins (space_of self.old) (Read_definition self.old.me.0.number id) (read result) (space_of self.new) }
+        ensures shown { Shows (Read_definition self.old.me.0.number id) (read result) self.old self.new }
     {
         let Some(place) = self.member.place_held(id) else {
             return Err(SpaceError::NotHeld);

@@ -1,6 +1,5 @@
 //! Tickets are given up.
 ghost use Rattle.std.specs.Prelude.{[], Some, ◌∷◌, ◌≡◌};
-ghost use Rattle.std.specs.Arc.{arc_value};
 ghost use Rattle.std.specs.Option.{option_map};
 ghost use Rattle.mdl_steps.specs.declared.deed.Deed.TheVariants.{Lose};
 ghost use Rattle.mdl_steps.specs.declared.view.Met.{Met};
@@ -29,16 +28,16 @@ impl Member {
     // Gives up the ticket of a number, which is at this place.
     fn release<R: Wait>(&mut self, rt: &R, place: usize, id: TicketId)
         requires held { option_map (λ (t : Own). t.place) (numbered id self.old.tickets.items) ≡ Some place }
-        ensures same { (self.new.table ≡ self.old.table) × (self.new.worker.number ≡ self.old.worker.number) × (self.new.next ≡ self.old.next) × (self.new.known.items ≡ self.old.known.items) }
+        ensures same { (self.new.seat.table ≡ self.old.seat.table) × (self.new.seat.me.0.number ≡ self.old.seat.me.0.number) × (self.new.next ≡ self.old.next) × (self.new.known.items ≡ self.old.known.items) }
         ensures wait { SeesWait self.old self.new }
-        ensures reads { ReadsNothing self.old.worker.seat.me self.new.worker.seat.me }
-        ensures did { Does (Lose id ∷ []) self.old.worker.seat.me self.new.worker.seat.me }
+        ensures reads { ReadsNothing self.old.seat.me self.new.seat.me }
+        ensures did { Does (Lose id ∷ []) self.old.seat.me self.new.seat.me }
         ensures released { self.new.tickets.items ≡ without_at place id self.old.tickets.items }
-        ensures step { (e : Met) × IsStepOf self.old.worker.seat.me self.new.worker.seat.me e × MeetsOwn place self.old.worker.number id e
+        ensures step { (e : Met) × IsStepOf self.old.seat.me self.new.seat.me e × MeetsOwn place self.old.seat.me.0.number id e
             × (e.deeds ≡ Lose id ∷ []) }
-        ensures way { MadeWay (arc_value self.old.table).shared.table_id place self.old.worker.seat.me self.new.worker.seat.me }
+        ensures way { MadeWay self.old.seat.table place self.old.seat.me self.new.seat.me }
     {
-        release(rt, &mut self.worker, &self.table, place, id);
+        release(rt, &mut self.seat, place, id);
         strike(&mut self.tickets, place, id);
     }
 }
@@ -46,8 +45,8 @@ impl Member {
 impl<R: Wait> Session<R> {
     /// Gives up a ticket, and grants the waits at its place that can be granted then. It takes no memory.
     pub fn release(&mut self, id: TicketId) -> Result<(), SpaceError>
-        ensures joined { Joins (space_of self.old) (Release self.old.number id) (done result) (space_of self.new) }
-        ensures shown { Shows (Release self.old.number id) (done result) self.old self.new }
+        ensures joined { Joins (space_of self.old) (Release self.old.me.0.number id) (done result) (space_of self.new) }
+        ensures shown { Shows (Release self.old.me.0.number id) (done result) self.old self.new }
     {
         let Some(place) = self.member.place_held(id) else {
             return Err(SpaceError::NotHeld);

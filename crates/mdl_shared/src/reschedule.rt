@@ -1,6 +1,5 @@
 //! A session makes way at a place where it gives up nothing.
 ghost use Rattle.std.specs.Prelude.{[], true, ◌≡◌};
-ghost use Rattle.std.specs.Arc.{arc_value};
 ghost use Rattle.mdl_visits.specs.Grantings.{MadeWay};
 ghost use Rattle.mdl_shared.specs.Keepings.{SeesWait};
 ghost use Rattle.mdl_shared.specs.Members.{is_known_place};
@@ -13,21 +12,21 @@ ghost use Rattle.mdl_session_laws.specs.SessionSpaces.{is_known};
 use crate::Session;
 use crate::member::Member;
 use mdl_calls::Place;
-use mdl_visits::serve_place;
+use mdl_visits::reschedule;
 use std::sync::Wait;
 
 impl Member {
     // Grants the waits that can be granted at a place whose key the session knows.
     fn reschedule<R: Wait>(&mut self, rt: &R, place: usize)
         requires known { is_known_place self.old.known.items place ≡ true }
-        ensures same { (self.new.table ≡ self.old.table) × (self.new.worker.number ≡ self.old.worker.number) × (self.new.next ≡ self.old.next)
+        ensures same { (self.new.seat.table ≡ self.old.seat.table) × (self.new.seat.me.0.number ≡ self.old.seat.me.0.number) × (self.new.next ≡ self.old.next)
             × (self.new.known.items ≡ self.old.known.items) × (self.new.tickets.items ≡ self.old.tickets.items) }
         ensures wait { SeesWait self.old self.new }
-        ensures reads { ReadsNothing self.old.worker.seat.me self.new.worker.seat.me }
-        ensures did { Does [] self.old.worker.seat.me self.new.worker.seat.me }
-        ensures way { MadeWay (arc_value self.old.table).shared.table_id place self.old.worker.seat.me self.new.worker.seat.me }
+        ensures reads { ReadsNothing self.old.seat.me self.new.seat.me }
+        ensures did { Does [] self.old.seat.me self.new.seat.me }
+        ensures way { MadeWay self.old.seat.table place self.old.seat.me self.new.seat.me }
     {
-        serve_place(rt, &mut self.worker, &self.table, place);
+        reschedule(rt, &mut self.seat, place);
     }
 }
 

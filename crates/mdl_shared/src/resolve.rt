@@ -1,6 +1,5 @@
 //! The places of keys, as a session looks them up.
 ghost use Rattle.std.specs.Prelude.{[], Err, IfOk, None, Ok, OnErr, Some, false, ◌++◌, ◌<◌, ◌∷◌, ◌≡◌, ◌⊎◌};
-ghost use Rattle.std.specs.Arc.{arc_value};
 ghost use Rattle.mdl_steps.specs.declared.view.Keys.{Keys};
 ghost use Rattle.mdl_visits.specs.declared.resolve_error.ResolveError.TheVariants.{NoPlace, OutOfMemory};
 ghost use Rattle.mdl_shared.specs.Keepings.{KeepsWait};
@@ -36,21 +35,21 @@ impl Member {
     // Looks a key up in the directory. All that takes memory of its own is done before.
     fn resolve<R: Wait>(&mut self, rt: &R, key: &Key) -> Result<usize, ResolveError>
         requires unknown { place_known key.now self.old.known.items ≡ None }
-        ensures same { (self.new.table ≡ self.old.table) × (self.new.worker.number ≡ self.old.worker.number) × (self.new.next ≡ self.old.next) × (self.new.tickets.items ≡ self.old.tickets.items) }
+        ensures same { (self.new.seat.table ≡ self.old.seat.table) × (self.new.seat.me.0.number ≡ self.old.seat.me.0.number) × (self.new.next ≡ self.old.next) × (self.new.tickets.items ≡ self.old.tickets.items) }
         ensures wait { KeepsWait self.old self.new }
-        ensures reads { ReadsNothing self.old.worker.seat.me self.new.worker.seat.me }
-        ensures settles { SettlesNothing self.old.worker.seat.me self.new.worker.seat.me }
-        ensures did { Does [] self.old.worker.seat.me self.new.worker.seat.me }
-        ensures known { IfOk result (λ place. (0 < place) × (place < (arc_value self.old.table).shared.table_id.slots)
+        ensures reads { ReadsNothing self.old.seat.me self.new.seat.me }
+        ensures settles { SettlesNothing self.old.seat.me self.new.seat.me }
+        ensures did { Does [] self.old.seat.me self.new.seat.me }
+        ensures known { IfOk result (λ place. (0 < place) × (place < self.old.seat.table.slots)
             × (is_known_place self.old.known.items place ≡ false)
             × (self.new.known.items ≡ self.old.known.items ++ record { key = key.now; place = place } ∷ [])) }
         ensures unchanged { OnErr result (self.new.known.items ≡ self.old.known.items) }
-        ensures answer { IfOk result (λ place. (k left : Keys) × TookDirectory (arc_value self.old.table).shared.table_id.slots k left self.old.worker.seat.me self.new.worker.seat.me
-            × IsAnswer (arc_value self.old.table).shared.table_id.slots key.now k left (Ok place)) }
-        ensures full { result ≡ Err NoPlace → (k left : Keys) × TookDirectory (arc_value self.old.table).shared.table_id.slots k left self.old.worker.seat.me self.new.worker.seat.me
-            × IsAnswer (arc_value self.old.table).shared.table_id.slots key.now k left (Err NoPlace) }
-        ensures memory { result ≡ Err OutOfMemory → (self.new.worker.seat.me ≡ self.old.worker.seat.me)
-            ⊎ ((k : Keys) × TookDirectory (arc_value self.old.table).shared.table_id.slots k k self.old.worker.seat.me self.new.worker.seat.me) }
+        ensures answer { IfOk result (λ place. (k left : Keys) × TookDirectory self.old.seat.table.slots k left self.old.seat.me self.new.seat.me
+            × IsAnswer self.old.seat.table.slots key.now k left (Ok place)) }
+        ensures full { result ≡ Err NoPlace → (k left : Keys) × TookDirectory self.old.seat.table.slots k left self.old.seat.me self.new.seat.me
+            × IsAnswer self.old.seat.table.slots key.now k left (Err NoPlace) }
+        ensures memory { result ≡ Err OutOfMemory → (self.new.seat.me ≡ self.old.seat.me)
+            ⊎ ((k : Keys) × TookDirectory self.old.seat.table.slots k k self.old.seat.me self.new.seat.me) }
     {
         let alloc = *self.known.allocator();
         if self.known.reserve(1).is_err() {
@@ -59,8 +58,7 @@ impl Member {
         let Ok(key_kept) = key.clone() else {
             return Err(ResolveError::OutOfMemory);
         };
-        let slots = self.table.slot_count();
-        let place = resolve(rt, &mut self.worker, &self.table.shared, alloc, slots, key)?;
+        let place = resolve(rt, &mut self.seat, alloc, key)?;
         self.known.push_reserved(Known {
             key: key_kept,
             place,
@@ -72,8 +70,8 @@ impl Member {
 impl<R: Wait> Session<R> {
     /// The place of a key, which stays its place. A new key takes the next place that is free. The directory is looked at once for a key.
     pub fn resolve(&mut self, key: &Key) -> Result<Place, SpaceError>
-        ensures joined { Joins (space_of self.old) (Resolve self.old.number key.now) (placed result) (space_of self.new) }
-        ensures shown { Shows (Resolve self.old.number key.now) (placed result) self.old self.new }
+        ensures joined { Joins (space_of self.old) (Resolve self.old.me.0.number key.now) (placed result) (space_of self.new) }
+        ensures shown { Shows (Resolve self.old.me.0.number key.now) (placed result) self.old self.new }
     {
         if let Some(place) = self.member.known_place(key) {
             return Ok(place as u16);

@@ -1,6 +1,5 @@
 //! Deadlocks are looked for.
 ghost use Rattle.std.specs.Prelude.{[], IfOk, Ok, OnErr, is_some, true, ◌≡◌};
-ghost use Rattle.std.specs.Arc.{arc_value};
 ghost use Rattle.mdl_steps.specs.declared.view.Keys.{Keys};
 ghost use Rattle.mdl_shared.specs.Keepings.{SeesWait};
 ghost use Rattle.mdl_visits.specs.Lookups.{TookDirectory};
@@ -16,7 +15,7 @@ ghost use Rattle.mdl_shared.specs.Showings.{Shows};
 use crate::Session;
 use crate::member::Member;
 use mdl_calls::{Search, SpaceError};
-use mdl_visits::search_all;
+use mdl_visits::search_deadlock;
 use std::alloc::AllocError;
 use std::sync::Wait;
 
@@ -24,18 +23,18 @@ impl Member {
     // Looks for a deadlock that the session waits in, and settles the wait of its victim.
     fn search<R: Wait>(&mut self, rt: &R) -> Result<Search, AllocError>
         requires waiting { is_some self.old.asks ≡ true }
-        ensures same { (self.new.table ≡ self.old.table) × (self.new.worker.number ≡ self.old.worker.number) × (self.new.next ≡ self.old.next)
+        ensures same { (self.new.seat.table ≡ self.old.seat.table) × (self.new.seat.me.0.number ≡ self.old.seat.me.0.number) × (self.new.next ≡ self.old.next)
             × (self.new.known.items ≡ self.old.known.items) × (self.new.tickets.items ≡ self.old.tickets.items) }
         ensures wait { SeesWait self.old self.new }
-        ensures reads { ReadsNothing self.old.worker.seat.me self.new.worker.seat.me }
-        ensures did { Does [] self.old.worker.seat.me self.new.worker.seat.me }
-        ensures searched { (k : Keys) × TookDirectory (arc_value self.old.table).shared.table_id.slots k k self.old.worker.seat.me self.new.worker.seat.me
-            × IfOk result (λ found. Searched (arc_value self.old.table).shared.table_id self.old.worker.number k found self.old.worker.seat.me self.new.worker.seat.me) }
-        ensures own { IfOk result (λ found. KnowsFall self.old.worker.number found self.new.worker.seat.me) }
-        ensures nothing { OnErr result (SettlesNothing self.old.worker.seat.me self.new.worker.seat.me) }
+        ensures reads { ReadsNothing self.old.seat.me self.new.seat.me }
+        ensures did { Does [] self.old.seat.me self.new.seat.me }
+        ensures searched { (k : Keys) × TookDirectory self.old.seat.table.slots k k self.old.seat.me self.new.seat.me
+            × IfOk result (λ found. Searched self.old.seat.table self.old.seat.me.0.number k found self.old.seat.me self.new.seat.me) }
+        ensures own { IfOk result (λ found. KnowsFall self.old.seat.me.0.number found self.new.seat.me) }
+        ensures nothing { OnErr result (SettlesNothing self.old.seat.me self.new.seat.me) }
     {
         let alloc = *self.known.allocator();
-        search_all(rt, &mut self.worker, &self.table, alloc)
+        search_deadlock(rt, &mut self.seat, alloc)
     }
 }
 
@@ -45,8 +44,8 @@ impl<R: Wait> Session<R> {
     ///
     /// The latches of all places that have a key are taken for it, so other sessions' calls there wait meanwhile.
     pub fn search_deadlock(&mut self) -> Result<Search, SpaceError>
-        ensures joined { Joins (space_of self.old) (Search_by self.old.number) (searched result) (space_of self.new) }
-        ensures shown { Shows (Search_by self.old.number) (searched result) self.old self.new }
+        ensures joined { Joins (space_of self.old) (Search_by self.old.me.0.number) (searched result) (space_of self.new) }
+        ensures shown { Shows (Search_by self.old.me.0.number) (searched result) self.old self.new }
     {
         if self.member.asks.is_none() {
             return Ok(Search::NoCycle);

@@ -43,10 +43,10 @@ impl<R> Session<R> {
 
     /// The session's number: that of its pass. As a lock space the session speaks for it, and for no other.
     pub fn number(&self) -> u16
-        ensures number { result ≡ self.now.number }
+        ensures number { result ≡ self.now.me.0.number }
         ensures speaks { SpeaksFor (space_of self.now) result }
     {
-        self.member.worker.number()
+        self.member.seat.number()
     }
 }
 

@@ -1,6 +1,5 @@
 //! Which tables of a schema have a definition.
 ghost use Rattle.std.specs.Prelude.{[], IfOk, List, OnErr, ◌++◌, ◌+◌, ◌≡◌, ◌≤◌};
-ghost use Rattle.std.specs.Arc.{arc_value};
 ghost use Rattle.std.specs.Vec.{vec_capacity, vec_len};
 ghost use Rattle.mdl_steps.specs.declared.view.Keys.{Keys};
 ghost use Rattle.mdl_steps.specs.declared.view.Known.{Known};
@@ -22,42 +21,29 @@ use crate::member::Member;
 use mdl_calls::{Place, SpaceError};
 use mdl_key::Key;
 use mdl_steps::Known;
-use mdl_visits::{ask_all, find_tables};
+use mdl_visits::{find_tables, tables_defined};
 use std::alloc::AllocError;
 use std::sync::Wait;
 
 impl Member {
     // The places of a schema's tables that have a definition. All memory is had before the session knows more keys.
     fn tables_of<R: Wait>(&mut self, rt: &R, schema: &str) -> Result<Vec<Place>, AllocError>
-        ensures same { (self.new.table ≡ self.old.table) × (self.new.worker.number ≡ self.old.worker.number) × (self.new.next ≡ self.old.next) × (self.new.tickets.items ≡ self.old.tickets.items) }
+        ensures same { (self.new.seat.table ≡ self.old.seat.table) × (self.new.seat.me.0.number ≡ self.old.seat.me.0.number) × (self.new.next ≡ self.old.next) × (self.new.tickets.items ≡ self.old.tickets.items) }
         ensures wait { KeepsWait self.old self.new }
-        ensures reads { ReadsNothing self.old.worker.seat.me self.new.worker.seat.me }
-        ensures settles { SettlesNothing self.old.worker.seat.me self.new.worker.seat.me }
-        ensures did { Does [] self.old.worker.seat.me self.new.worker.seat.me }
-        ensures told { (k : Keys) × TookDirectory (arc_value self.old.table).shared.table_id.slots k k self.old.worker.seat.me self.new.worker.seat.me
+        ensures reads { ReadsNothing self.old.seat.me self.new.seat.me }
+        ensures settles { SettlesNothing self.old.seat.me self.new.seat.me }
+        ensures did { Does [] self.old.seat.me self.new.seat.me }
+        ensures told { (k : Keys) × TookDirectory self.old.seat.table.slots k k self.old.seat.me self.new.seat.me
             × IfOk result (λ places. (tables : List Known)
             × AreTables schema.now k tables
-            × HasAsked self.old.worker.number tables places.items self.old.worker.seat.me self.new.worker.seat.me
+            × HasAsked self.old.seat.me.0.number tables places.items self.old.seat.me self.new.seat.me
             × (self.new.known.items ≡ self.old.known.items ++ unknown self.old.known.items tables)
             × AreLearnt tables self.new.known.items) }
         ensures unchanged { OnErr result (self.new.known.items ≡ self.old.known.items) }
     {
         let alloc = *self.known.allocator();
-        let (tables, mut places) = find_tables(
-            rt,
-            &mut self.worker,
-            &self.table.shared,
-            alloc,
-            &mut self.known,
-            schema,
-        )?;
-        ask_all(
-            rt,
-            &mut self.worker,
-            &self.table.shared,
-            &tables,
-            &mut places,
-        );
+        let (tables, mut places) = find_tables(rt, &mut self.seat, alloc, &mut self.known, schema)?;
+        tables_defined(rt, &mut self.seat, &tables, &mut places);
         learn(&mut self.known, tables);
         Ok(places)
     }
@@ -91,8 +77,8 @@ impl<R: Wait> Session<R> {
     /// The places of a schema's tables that have a definition, in the order of their keys. The session knows the schema's tables from
     /// then on. The directory is looked at once, and then each table's place.
     pub fn tables_of(&mut self, schema: &str) -> Result<Vec<Place>, SpaceError>
-        ensures joined { Joins (space_of self.old) (Tables_of self.old.number schema.now) (tables_told result) (space_of self.new) }
-        ensures shown { Shows (Tables_of self.old.number schema.now) (tables_told result) self.old self.new }
+        ensures joined { Joins (space_of self.old) (Tables_of self.old.me.0.number schema.now) (tables_told result) (space_of self.new) }
+        ensures shown { Shows (Tables_of self.old.me.0.number schema.now) (tables_told result) self.old self.new }
     {
         match self.member.tables_of(&self.rt, schema) {
             Ok(places) => Ok(places),

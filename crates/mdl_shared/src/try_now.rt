@@ -25,7 +25,7 @@ use mdl_book::BookError;
 use mdl_calls::{Attempt, Place, SpaceError};
 use mdl_key::{Kind, Mode};
 use mdl_steps::Own;
-use mdl_visits::{Tried, try_grant};
+use mdl_visits::{Tried, try_now};
 use std::sync::Wait;
 
 impl Member {
@@ -41,35 +41,27 @@ impl Member {
         requires mode { is_mode_of kind mode ≡ true }
         requires unwaited { self.old.asks ≡ None }
         requires room { self.old.next < most_numbers }
-        ensures same { (self.new.table ≡ self.old.table) × (self.new.worker.number ≡ self.old.worker.number) × (self.new.known.items ≡ self.old.known.items) }
+        ensures same { (self.new.seat.table ≡ self.old.seat.table) × (self.new.seat.me.0.number ≡ self.old.seat.me.0.number) × (self.new.known.items ≡ self.old.known.items) }
         ensures wait { KeepsWait self.old self.new }
-        ensures reads { ReadsNothing self.old.worker.seat.me self.new.worker.seat.me }
-        ensures settles { SettlesNothing self.old.worker.seat.me self.new.worker.seat.me }
-        ensures did { Does (wish_deeds mode result) self.old.worker.seat.me self.new.worker.seat.me }
+        ensures reads { ReadsNothing self.old.seat.me self.new.seat.me }
+        ensures settles { SettlesNothing self.old.seat.me self.new.seat.me }
+        ensures did { Does (wish_deeds mode result) self.old.seat.me self.new.seat.me }
         ensures granted { (id : ℕ) → result ≡ Ok (Granted id) → (id ≡ self.old.next)
             × (self.new.tickets.items ≡ self.old.tickets.items ++ record { number = id; place = place; mode = mode; noted = note_at place self.old.tickets.items } ∷ [])
-            × ((e : Met) × IsStepOf self.old.worker.seat.me self.new.worker.seat.me e × MeetsGrantable place self.old.worker.number mode (Gain id mode) e) }
+            × ((e : Met) × IsStepOf self.old.seat.me self.new.seat.me e × MeetsGrantable place self.old.seat.me.0.number mode (Gain id mode) e) }
         ensures next { (id : ℕ) → result ≡ Ok (Granted id) → self.new.next ≡ id + 1 }
         ensures would_wait { result ≡ Ok WouldWait → (self.new.tickets.items ≡ self.old.tickets.items) × (self.new.next ≡ self.old.next)
-            × ((e : Met) × IsStepOf self.old.worker.seat.me self.new.worker.seat.me e × MeetsBlocked place self.old.worker.number mode e) }
+            × ((e : Met) × IsStepOf self.old.seat.me self.new.seat.me e × MeetsBlocked place self.old.seat.me.0.number mode e) }
         ensures unchanged { OnErr result ((self.new.tickets.items ≡ self.old.tickets.items) × (self.new.next ≡ self.old.next)) }
         ensures refused { IfErr result (λ why. (why ≡ cause.OutOfMemory)
-            ⊎ ((why ≡ cause.Full) × ((e : Met) × IsStepOf self.old.worker.seat.me self.new.worker.seat.me e × MeetsFull place e))) }
+            ⊎ ((why ≡ cause.Full) × ((e : Met) × IsStepOf self.old.seat.me self.new.seat.me e × MeetsFull place e))) }
     {
         let noted = self.note_at(place);
         if self.tickets.reserve(1).is_err() {
             return Err(SpaceError::OutOfMemory);
         }
         let number = self.next;
-        match try_grant(
-            rt,
-            &mut self.worker,
-            &self.table.shared,
-            place,
-            kind,
-            number,
-            mode,
-        ) {
+        match try_now(rt, &mut self.seat, place, kind, number, mode) {
             Ok(Tried::Granted) => {
                 self.tickets.push_reserved(Own {
                     number,
@@ -90,8 +82,8 @@ impl Member {
 impl<R: Wait> Session<R> {
     /// Asks for a lock, without waiting. Nobody is waited for but those who hold the latch of the place.
     pub fn try_now(&mut self, place: Place, mode: Mode) -> Result<Attempt, SpaceError>
-        ensures joined { Joins (space_of self.old) (Try_now self.old.number place mode) (attempted result) (space_of self.new) }
-        ensures shown { Shows (Try_now self.old.number place mode) (attempted result) self.old self.new }
+        ensures joined { Joins (space_of self.old) (Try_now self.old.me.0.number place mode) (attempted result) (space_of self.new) }
+        ensures shown { Shows (Try_now self.old.me.0.number place mode) (attempted result) self.old self.new }
     {
         let place = place as usize;
         let Some(kind) = self.member.kind_at(place) else {

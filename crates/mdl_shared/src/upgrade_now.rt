@@ -26,7 +26,7 @@ use crate::member::Member;
 use mdl_calls::{SpaceError, TicketId, Upgrade};
 use mdl_key::{Kind, Mode};
 use mdl_system::{covers, may_upgrade};
-use mdl_visits::{Tried, try_strengthen};
+use mdl_visits::{Tried, upgrade_now};
 use std::sync::Wait;
 
 impl Member {
@@ -43,17 +43,17 @@ impl Member {
         requires known { kind_known place self.old.known.items ≡ Some _kind }
         requires mode { (is_mode_of _kind mode ≡ true) × (is_obtrusive _kind mode ≡ true) }
         requires unwaited { self.old.asks ≡ None }
-        ensures same { (self.new.table ≡ self.old.table) × (self.new.worker.number ≡ self.old.worker.number) × (self.new.next ≡ self.old.next) × (self.new.known.items ≡ self.old.known.items) }
+        ensures same { (self.new.seat.table ≡ self.old.seat.table) × (self.new.seat.me.0.number ≡ self.old.seat.me.0.number) × (self.new.next ≡ self.old.next) × (self.new.known.items ≡ self.old.known.items) }
         ensures wait { KeepsWait self.old self.new }
-        ensures reads { ReadsNothing self.old.worker.seat.me self.new.worker.seat.me }
-        ensures settles { SettlesNothing self.old.worker.seat.me self.new.worker.seat.me }
-        ensures did { Does (rise_deeds id mode result) self.old.worker.seat.me self.new.worker.seat.me }
+        ensures reads { ReadsNothing self.old.seat.me self.new.seat.me }
+        ensures settles { SettlesNothing self.old.seat.me self.new.seat.me }
+        ensures did { Does (rise_deeds id mode result) self.old.seat.me self.new.seat.me }
         ensures upgraded { result ≡ Upgraded → (self.new.tickets.items ≡ in_mode_at place id mode self.old.tickets.items)
-            × ((e : Met) × IsStepOf self.old.worker.seat.me self.new.worker.seat.me e × MeetsGrantable place self.old.worker.number mode (Alter id mode) e) }
+            × ((e : Met) × IsStepOf self.old.seat.me self.new.seat.me e × MeetsGrantable place self.old.seat.me.0.number mode (Alter id mode) e) }
         ensures would_wait { result ≡ WouldWait → (self.new.tickets.items ≡ self.old.tickets.items)
-            × ((e : Met) × IsStepOf self.old.worker.seat.me self.new.worker.seat.me e × MeetsBlocked place self.old.worker.number mode e) }
+            × ((e : Met) × IsStepOf self.old.seat.me self.new.seat.me e × MeetsBlocked place self.old.seat.me.0.number mode e) }
     {
-        match try_strengthen(rt, &mut self.worker, &self.table.shared, place, id, mode) {
+        match upgrade_now(rt, &mut self.seat, place, id, mode) {
             Tried::Granted => {
                 set_mode(&mut self.tickets, place, id, mode);
                 Upgrade::Upgraded
@@ -67,8 +67,8 @@ impl<R: Wait> Session<R> {
     /// Asks for a stronger mode of a ticket, without waiting: of SU for SNW, SNRW or X, of SNW for SNRW or X, of SNRW for X. A mode that
     /// the ticket's covers it has already. The session's other tickets don't stand in the way. It takes no memory.
     pub fn upgrade_now(&mut self, id: TicketId, mode: Mode) -> Result<Upgrade, SpaceError>
-        ensures joined { Joins (space_of self.old) (Upgrade_now self.old.number id mode) (upgrade_tried result) (space_of self.new) }
-        ensures shown { Shows (Upgrade_now self.old.number id mode) (upgrade_tried result) self.old self.new }
+        ensures joined { Joins (space_of self.old) (Upgrade_now self.old.me.0.number id mode) (upgrade_tried result) (space_of self.new) }
+        ensures shown { Shows (Upgrade_now self.old.me.0.number id mode) (upgrade_tried result) self.old self.new }
     {
         let Some((place, held)) = self.member.place_and_mode(id) else {
             return Err(SpaceError::NotHeld);

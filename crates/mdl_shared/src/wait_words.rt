@@ -1,6 +1,5 @@
 //! The words of waits, as a session reads and settles them. No latch is needed for that, and no memory: the ticket waits on until its session ends the wait.
 ghost use Rattle.std.specs.Prelude.{[], IfSome, None, Some, false, true, ◌<◌, ◌^◌, ◌≡◌, ◌≢◌, ◌≤◌, ◌⊎◌};
-ghost use Rattle.std.specs.Arc.{arc_value};
 ghost use Rattle.mdl_calls.specs.declared.answers.Settled.{Settled};
 ghost use Rattle.mdl_steps.specs.declared.view.Met.{Met};
 ghost use Rattle.mdl_steps.specs.WaitPlays.{TellsOwn};
@@ -41,41 +40,38 @@ impl Member {
     // Reads the word of a session's wait. Where it is the session's own and settled, the session knows that from then on.
     pub(crate) fn read_wait(&mut self, session: u16) -> WaitWord
         requires session { (0 < session) × (session ≤ self.old.sessions) }
-        ensures same { (self.new.table ≡ self.old.table) × (self.new.worker.number ≡ self.old.worker.number) × (self.new.next ≡ self.old.next)
+        ensures same { (self.new.seat.table ≡ self.old.seat.table) × (self.new.seat.me.0.number ≡ self.old.seat.me.0.number) × (self.new.next ≡ self.old.next)
             × (self.new.known.items ≡ self.old.known.items) × (self.new.tickets.items ≡ self.old.tickets.items) }
         ensures wait { SeesWait self.old self.new }
-        ensures reads { ReadsNothing self.old.worker.seat.me self.new.worker.seat.me }
-        ensures settles { SettlesNothing self.old.worker.seat.me self.new.worker.seat.me }
-        ensures did { Does [] self.old.worker.seat.me self.new.worker.seat.me }
-        ensures stayed { StaysOn self.old.worker.seat.me self.new.worker.seat.me }
-        ensures met { (e : Met) × IsStepOf self.old.worker.seat.me self.new.worker.seat.me e
-            × MeetsWord (arc_value self.old.table).shared.table_id.slots session result.0 e }
-        ensures own { TellsOwn (arc_value self.old.table).shared.table_id.slots session result.0 self.old.worker.seat.me.0 }
-        ensures told { session ≡ self.old.worker.number → IsSettled (wait_state result.0) → self.new.worker.seat.me.0.told ≡ Some (wait_state result.0) }
+        ensures reads { ReadsNothing self.old.seat.me self.new.seat.me }
+        ensures settles { SettlesNothing self.old.seat.me self.new.seat.me }
+        ensures did { Does [] self.old.seat.me self.new.seat.me }
+        ensures stayed { StaysOn self.old.seat.me self.new.seat.me }
+        ensures met { (e : Met) × IsStepOf self.old.seat.me self.new.seat.me e
+            × MeetsWord self.old.seat.table.slots session result.0 e }
+        ensures own { TellsOwn self.old.seat.table.slots session result.0 self.old.seat.me.0 }
+        ensures told { session ≡ self.old.seat.me.0.number → IsSettled (wait_state result.0) → self.new.seat.me.0.told ≡ Some (wait_state result.0) }
     {
-        let slots = self.table.slot_count();
-        self.worker.read_wait(&self.table.shared, slots, session)
+        self.seat.read_wait(session)
     }
 
     // Settles a session's last wait as lost, where it has this number and isn't settled, and answers the word that was met.
     pub(crate) fn settle(&mut self, session: u16, wait: u64, how: Loss) -> WaitWord
         requires session { (0 < session) × (session ≤ self.old.sessions) }
         requires wait { wait < 2 ^ 61 }
-        ensures same { (self.new.table ≡ self.old.table) × (self.new.worker.number ≡ self.old.worker.number) × (self.new.next ≡ self.old.next)
+        ensures same { (self.new.seat.table ≡ self.old.seat.table) × (self.new.seat.me.0.number ≡ self.old.seat.me.0.number) × (self.new.next ≡ self.old.next)
             × (self.new.known.items ≡ self.old.known.items) × (self.new.tickets.items ≡ self.old.tickets.items) }
         ensures wait { SeesWait self.old self.new }
-        ensures reads { ReadsNothing self.old.worker.seat.me self.new.worker.seat.me }
-        ensures did { Does [] self.old.worker.seat.me self.new.worker.seat.me }
-        ensures met { (e : Met) × IsStepOf self.old.worker.seat.me self.new.worker.seat.me e
-            × MeetsWord (arc_value self.old.table).shared.table_id.slots session result.0 e }
-        ensures settled { result.0 ≡ wait_in wait unsettled_state → Settles session wait (lost_state how) self.old.worker.seat.me self.new.worker.seat.me }
-        ensures missed { result.0 ≢ wait_in wait unsettled_state → SettlesNothing self.old.worker.seat.me self.new.worker.seat.me }
-        ensures own { TellsOwn (arc_value self.old.table).shared.table_id.slots session result.0 self.old.worker.seat.me.0 }
-        ensures lost { session ≡ self.old.worker.number → result.0 ≡ wait_in wait unsettled_state → self.new.worker.seat.me.0.told ≡ Some (lost_state how) }
-        ensures told { session ≡ self.old.worker.number → result.0 ≢ wait_in wait unsettled_state → IsSettled (wait_state result.0) → self.new.worker.seat.me.0.told ≡ Some (wait_state result.0) }
+        ensures reads { ReadsNothing self.old.seat.me self.new.seat.me }
+        ensures did { Does [] self.old.seat.me self.new.seat.me }
+        ensures met { (e : Met) × IsStepOf self.old.seat.me self.new.seat.me e
+            × MeetsWord self.old.seat.table.slots session result.0 e }
+        ensures settled { result.0 ≡ wait_in wait unsettled_state → Settles session wait (lost_state how) self.old.seat.me self.new.seat.me }
+        ensures missed { result.0 ≢ wait_in wait unsettled_state → SettlesNothing self.old.seat.me self.new.seat.me }
+        ensures own { TellsOwn self.old.seat.table.slots session result.0 self.old.seat.me.0 }
+        ensures lost { session ≡ self.old.seat.me.0.number → result.0 ≡ wait_in wait unsettled_state → self.new.seat.me.0.told ≡ Some (lost_state how) }
+        ensures told { session ≡ self.old.seat.me.0.number → result.0 ≢ wait_in wait unsettled_state → IsSettled (wait_state result.0) → self.new.seat.me.0.told ≡ Some (wait_state result.0) }
     {
-        let slots = self.table.slot_count();
-        self.worker
-            .settle_wait(&self.table.shared, slots, session, wait, how)
+        self.seat.settle_wait(session, wait, how)
     }
 }

@@ -18,19 +18,20 @@ use Rattle.mdl_shared.proofs.Rising.{rising_noted}
 use Rattle.mdl_shared.specs.Rememberings.{Remembers}
 use Rattle.mdl_shared.proofs.Remembering.{changed_fits, follows_newest, remembers_read}
 use Rattle.mdl_shared.proofs.Props.{remembered}
+use Rattle.mdl_shared.proofs.TableKept.{narrow_there, within_there, words_there}
 use Rattle.mdl_shared.proofs.member.Member.change_definition.Goals as goal
 
-pub redefine_at-requires-clause-place : goal.redefine_at-requires-clause-place
-redefine_at-requires-clause-place g c =
+pub change_definition-requires-clause-place : goal.change_definition-requires-clause-place
+change_definition-requires-clause-place g c =
     let self = c.args.self.now in
     let held = c.requires.held in
     let at = ap (option_map (λ (t : Own). t.place)) held.2 ∙ ap Some held.3 in
     let has = has_numbered c.args.place held.0 self.tickets.items at in
     let known = placed_at self.known.items self.tickets.items c.args.place held.0 self.placed has in
-    subst (λ table. (0 < c.args.place) × (c.args.place < table.shared.table_id.slots)) (sym c.deref.ensures) (known_within _ c.args.place self.known.items self.within known)
+    known_within _ c.args.place self.known.items self.within known
 
-pub redefine_at-requires-clause-held : goal.redefine_at-requires-clause-held
-redefine_at-requires-clause-held g c = subst (λ (ts : List Own). HasExclusiveAt c.args.place ts) c.args.self.now.listed c.requires.held
+pub change_definition-requires-clause-held : goal.change_definition-requires-clause-held
+change_definition-requires-clause-held g c = subst (λ (ts : List Own). HasExclusiveAt c.args.place ts) c.args.self.now.listed c.requires.held
 
 pub invariant_of-self-2 : goal.invariant_of-self-2
 invariant_of-self-2 g c =
@@ -39,7 +40,8 @@ invariant_of-self-2 g c =
     let knows = c.in_ok-version.ensures.changed.1 in
     let standing = knows.0 in
     let now = knows.2.1 in
-    let redefines = c.in_ok-version.ensures.changed.0 in
+    let table = c.in_ok-version.ensures.changed.0.0 in
+    let redefines = c.in_ok-version.ensures.changed.0.1 in
     let stood : Standing = redefines.meets.latch.book.standing in
     let changed : Standing = standing_after c.args.change.now stood in
     let noting = c.note_all.ensures.noted ∙ ap (λ (n : ℕ). noting_version place n self.tickets.items) redefines.meets.newer in
@@ -47,18 +49,16 @@ invariant_of-self-2 g c =
     let at = ap (option_map (λ (t : Own). t.place)) held.2 ∙ ap Some held.3 in
     let known = placed_at self.known.items self.tickets.items place held.0 self.placed (has_numbered place held.0 self.tickets.items at) in
     let noted = c.note_all.ensures.noted ∙ ap (λ (n : ℕ). noting_version place n self.tickets.items) (sym knows.1) in record {
-      seated = c.redefine_at.ensures.seat.0 ∙ self.seated;
-      sized = self.sized;
-      narrow = self.narrow;
+      narrow = narrow_there table self.narrow;
       idle = subst IsIdle (sym now) self.idle;
-      slow = ap (λ (m : Mine). length m.0.fast) now ∙ none_noted place standing.version self.worker.seat.me.0.fast self.slow;
+      slow = ap (λ (m : Mine). length m.0.fast) now ∙ none_noted place standing.version self.seat.me.0.fast self.slow;
       listed = noted ∙ ap (noting_version place standing.version) self.listed ∙ sym (ap (λ (m : Mine). m.0.slow) now);
       known_is = self.known_is ∙ sym (ap (λ (m : Mine). m.0.known) now);
       next_is = self.next_is ∙ sym (ap (λ (m : Mine). m.0.next) now);
       asks_is = self.asks_is ∙ sym (ap (λ (m : Mine). m.0.asks) now);
       waits_is = self.waits_is ∙ sym (ap (λ (m : Mine). m.0.waits) now);
       placed = ap (are_placed self.known.items) noted ∙ noted_placed self.known.items self.tickets.items place standing.version self.placed;
-      within = self.within;
+      within = within_there self.known.items table self.within;
       awaited = self.awaited;
       below = ap (are_below self.next) noted ∙ still_below (λ n. nat_lt n self.next) place standing.version self.tickets.items self.below;
       room = λ some. let before = self.room some in let after = c.note_all.ensures.room in omega arith;
@@ -68,17 +68,18 @@ invariant_of-self-2 g c =
       settled = ap (λ (m : Mine). is_ask_told self.asks m.0.told) now ∙ self.settled;
       keys_apart = self.keys_apart;
       remembers = ∣ subst (λ (rs : List Read). Remembers self.known.items c.note_all.new.tickets.items rs) (sym redefines.learnt)
-          (subst (λ (ts : List Own). Remembers self.known.items ts (self.worker.seat.me.0.reads ++ record { place = place; standing = changed } ∷ [])) (sym noting)
-          (remembers_read self.known.items self.tickets.items self.worker.seat.me.0.reads (remembered self.remembers) place changed
-          (follows_newest place (stood.version + 1) stood self.worker.seat.me redefines.follows (omega arith))
-          (changed_fits place c.args.change.now c.in_ok-version.version self.worker.seat.me c.redefine_at.new.worker.seat.me self.known.items self.known_is redefines known))) ∣₁;
+          (subst (λ (ts : List Own). Remembers self.known.items ts (self.seat.me.0.reads ++ record { place = place; standing = changed } ∷ [])) (sym noting)
+          (remembers_read self.known.items self.tickets.items self.seat.me.0.reads (remembered self.remembers) place changed
+          (follows_newest place (stood.version + 1) stood self.seat.me redefines.follows (omega arith))
+          (changed_fits place c.args.change.now c.in_ok-version.version self.seat.me c.change_definition.new.seat.me self.known.items self.known_is redefines known))) ∣₁;
       fewer = self.fewer;
-      enrolled = subst (λ (n : ℕ). n ≤ self.sessions) (sym c.redefine_at.ensures.seat.1) self.enrolled;
-      words = self.words;
+      counted = subst (λ (n : ℕ). 0 < n) (sym (ap (λ (m : Mine). m.0.number) now)) self.counted;
+      enrolled = subst (λ (n : ℕ). n ≤ self.sessions) (sym (ap (λ (m : Mine). m.0.number) now)) self.enrolled;
+      words = words_there self.sessions table self.words;
     }
 
-pub redefine_at-requires-clause-apart : goal.redefine_at-requires-clause-apart
-redefine_at-requires-clause-apart g c =
+pub change_definition-requires-clause-apart : goal.change_definition-requires-clause-apart
+change_definition-requires-clause-apart g c =
     let self = c.args.self.now in
-    let v = self.worker.seat.me.0 in
+    let v = self.seat.me.0 in
     apart_seen self.next v.next self.tickets.items v.slow self.asks v.asks self.next_is self.listed self.asks_is self.apart

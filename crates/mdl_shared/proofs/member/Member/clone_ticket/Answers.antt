@@ -16,30 +16,30 @@ use Rattle.mdl_shared.proofs.Rising.{last_none, rising_gained}
 use Rattle.mdl_shared.specs.Rememberings.{Remembers}
 use Rattle.mdl_shared.proofs.Remembering.{remembers_gained}
 use Rattle.mdl_shared.proofs.Props.{remembered}
+use Rattle.mdl_shared.proofs.TableKept.{narrow_there, within_there, words_there}
 use Rattle.mdl_shared.proofs.member.Member.clone_ticket.Goals as goal
 
-pub double-requires-clause-place : goal.double-requires-clause-place
-double-requires-clause-place g c =
+pub clone_ticket-requires-clause-place : goal.clone_ticket-requires-clause-place
+clone_ticket-requires-clause-place g c =
     let self = c.args.self.now in
     let place = c.args.held.place in
     let known = fit_place place c.args.mode self.known.items c.requires.fits in
-    subst (λ table. (0 < place) × (place < table.shared.table_id.slots)) (sym c.deref.ensures) (known_within _ place self.known.items self.within known)
+    known_within _ place self.known.items self.within known
 
-pub double-requires-clause-fits : goal.double-requires-clause-fits
-double-requires-clause-fits g c =
+pub clone_ticket-requires-clause-fits : goal.clone_ticket-requires-clause-fits
+clone_ticket-requires-clause-fits g c =
     let self = c.args.self.now in
-    fit_there c.args.held.place c.args.mode self.worker.seat.me.0.known (subst (λ (ks : List Known). is_fit c.args.held.place c.args.mode ks ≡ true) self.known_is c.requires.fits)
+    fit_there c.args.held.place c.args.mode self.seat.me.0.known (subst (λ (ks : List Known). is_fit c.args.held.place c.args.mode ks ≡ true) self.known_is c.requires.fits)
 
 pub invariant_of-self-in-Ok : goal.invariant_of-self-in-Ok
 invariant_of-self-in-Ok g c =
     let self = c.args.self.now in
     let as_noted : Option ℕ → Own = λ noted. record { number = self.next; place = c.args.held.place; mode = c.args.mode; noted = noted } in
     let t : Own = as_noted (note_at c.args.held.place self.tickets.items) in
-    let now = c.in-Ok.ensures.doubled.now in
+    let table = c.in-Ok.ensures.cloned.0 in
+    let now = c.in-Ok.ensures.cloned.1.now in
     let pushed = c.push_reserved.ensures.items ∙ (λ i. c.reserve.ensures.items i ++ as_noted (c.note_at-noted.ensures i) ∷ []) in record {
-      seated = c.double.ensures.seat.0 ∙ self.seated;
-      sized = self.sized;
-      narrow = self.narrow;
+      narrow = narrow_there table self.narrow;
       idle = subst IsIdle (sym now) self.idle;
       slow = subst HasSlowAlone (sym now) self.slow;
       listed = pushed ∙ ap (λ (ts : List Own). ts ++ as_noted (note_at c.args.held.place ts) ∷ []) self.listed ∙ sym (ap (λ (m : Mine). m.0.slow) now);
@@ -48,7 +48,7 @@ invariant_of-self-in-Ok g c =
       asks_is = self.asks_is ∙ sym (ap (λ (m : Mine). m.0.asks) now);
       waits_is = self.waits_is ∙ sym (ap (λ (m : Mine). m.0.waits) now);
       placed = ap (are_placed self.known.items) pushed ∙ one_placed self.known.items self.tickets.items t self.placed (fit_place c.args.held.place c.args.mode self.known.items c.requires.fits);
-      within = self.within;
+      within = within_there self.known.items table self.within;
       awaited = self.awaited;
       below = ap (are_below (self.next + 1)) pushed ∙ below_gained self.next self.tickets.items t refl self.below;
       room = λ some. let none = sym (ap is_some c.requires.unwaited) ∙ some in absurd (cc);
@@ -58,8 +58,9 @@ invariant_of-self-in-Ok g c =
       settled = ap (λ (m : Mine). is_ask_told self.asks m.0.told) now ∙ self.settled;
       keys_apart = self.keys_apart;
       remembers = ∣ subst (λ (m : Mine). Remembers self.known.items c.push_reserved.new.self.items m.0.reads) (sym now)
-          (subst (λ (ts : List Own). Remembers self.known.items ts self.worker.seat.me.0.reads) (sym (pushed)) (remembers_gained self.known.items self.tickets.items self.worker.seat.me.0.reads (remembered self.remembers) t refl)) ∣₁;
+          (subst (λ (ts : List Own). Remembers self.known.items ts self.seat.me.0.reads) (sym (pushed)) (remembers_gained self.known.items self.tickets.items self.seat.me.0.reads (remembered self.remembers) t refl)) ∣₁;
       fewer = (let less = self.fewer.0 in omega arith, self.fewer.1);
-      enrolled = subst (λ (n : ℕ). n ≤ self.sessions) (sym c.double.ensures.seat.1) self.enrolled;
-      words = self.words;
+      counted = subst (λ (n : ℕ). 0 < n) (sym (ap (λ (m : Mine). m.0.number) now)) self.counted;
+      enrolled = subst (λ (n : ℕ). n ≤ self.sessions) (sym (ap (λ (m : Mine). m.0.number) now)) self.enrolled;
+      words = words_there self.sessions table self.words;
     }

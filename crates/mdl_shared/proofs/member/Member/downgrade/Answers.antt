@@ -16,32 +16,32 @@ use Rattle.mdl_shared.proofs.Rising.{rising_altered, told_stays}
 use Rattle.mdl_shared.specs.Rememberings.{Remembers}
 use Rattle.mdl_shared.proofs.Remembering.{remembers_altered}
 use Rattle.mdl_shared.proofs.Props.{remembered}
+use Rattle.mdl_shared.proofs.TableKept.{narrow_there, within_there, words_there}
 use Rattle.mdl_shared.proofs.member.Member.downgrade.Goals as goal
 
-pub weaken-requires-clause-place : goal.weaken-requires-clause-place
-weaken-requires-clause-place g c =
+pub downgrade-requires-clause-place : goal.downgrade-requires-clause-place
+downgrade-requires-clause-place g c =
     let self = c.args.self.now in
     let place = c.args.held.place in
     let known = fit_place place c.args.mode self.known.items c.requires.fits in
-    subst (λ table. (0 < place) × (place < table.shared.table_id.slots)) (sym c.deref.ensures) (known_within _ place self.known.items self.within known)
+    known_within _ place self.known.items self.within known
 
-pub weaken-requires-clause-held : goal.weaken-requires-clause-held
-weaken-requires-clause-held g c =
+pub downgrade-requires-clause-held : goal.downgrade-requires-clause-held
+downgrade-requires-clause-held g c =
     subst (λ (ts : List Own). numbered c.args.held.number ts ≡ Some c.args.held) c.args.self.now.listed c.requires.held
 
-pub weaken-requires-clause-fits : goal.weaken-requires-clause-fits
-weaken-requires-clause-fits g c =
+pub downgrade-requires-clause-fits : goal.downgrade-requires-clause-fits
+downgrade-requires-clause-fits g c =
     let self = c.args.self.now in
-    fit_there c.args.held.place c.args.mode self.worker.seat.me.0.known (subst (λ (ks : List Known). is_fit c.args.held.place c.args.mode ks ≡ true) self.known_is c.requires.fits)
+    fit_there c.args.held.place c.args.mode self.seat.me.0.known (subst (λ (ks : List Known). is_fit c.args.held.place c.args.mode ks ≡ true) self.known_is c.requires.fits)
 
 pub invariant_of-self : goal.invariant_of-self
 invariant_of-self g c =
     let self = c.args.self.now in
     let held = c.args.held in
-    let now = c.weaken.ensures.weakened.now in record {
-      seated = c.weaken.ensures.seat.0 ∙ self.seated;
-      sized = self.sized;
-      narrow = self.narrow;
+    let table = c.downgrade.ensures.downgraded.0 in
+    let now = c.downgrade.ensures.downgraded.1.now in record {
+      narrow = narrow_there table self.narrow;
       idle = subst IsIdle (sym now) self.idle;
       slow = subst HasSlowAlone (sym now) self.slow;
       listed = c.set_mode.ensures.changed ∙ ap (in_mode_at held.place held.number c.args.mode) self.listed ∙ sym (ap (λ (m : Mine). m.0.slow) now);
@@ -50,26 +50,27 @@ invariant_of-self g c =
       asks_is = self.asks_is ∙ sym (ap (λ (m : Mine). m.0.asks) now);
       waits_is = self.waits_is ∙ sym (ap (λ (m : Mine). m.0.waits) now);
       placed = ap (are_placed self.known.items) c.set_mode.ensures.changed ∙ altered_placed self.known.items held.place held.number c.args.mode self.tickets.items self.placed;
-      within = self.within;
+      within = within_there self.known.items table self.within;
       awaited = self.awaited;
       below = ap (are_below self.next) c.set_mode.ensures.changed ∙ altered (λ n. nat_lt n self.next) held.place held.number c.args.mode self.tickets.items self.below;
       room = λ some. let before = self.room some in let after = c.set_mode.ensures.room in omega arith;
       apart = ap (λ (ts : List Own). is_ask_apart self.next ts self.asks) c.set_mode.ensures.changed ∙ apart_altered self.next self.tickets.items held.place held.number c.args.mode self.asks self.apart;
       rising = ap are_rising c.set_mode.ensures.changed ∙ rising_altered held.place held.number c.args.mode self.tickets.items self.rising;
       last = self.last;
-      settled = told_stays self.asks self.worker.seat.me.0.asks self.worker.seat.me.0.told c.weaken.new.worker.seat.me.0.told self.asks_is c.weaken.ensures.weakened.way.unasked self.settled;
+      settled = told_stays self.asks self.seat.me.0.asks self.seat.me.0.told c.downgrade.new.seat.me.0.told self.asks_is c.downgrade.ensures.downgraded.1.way.unasked self.settled;
       keys_apart = self.keys_apart;
       remembers = ∣ subst (λ (m : Mine). Remembers self.known.items c.set_mode.new.tickets.items m.0.reads) (sym now)
-          (subst (λ (ts : List Own). Remembers self.known.items ts self.worker.seat.me.0.reads) (sym (c.set_mode.ensures.changed)) (remembers_altered self.known.items self.tickets.items self.worker.seat.me.0.reads (remembered self.remembers) held.place held.number c.args.mode)) ∣₁;
+          (subst (λ (ts : List Own). Remembers self.known.items ts self.seat.me.0.reads) (sym (c.set_mode.ensures.changed)) (remembers_altered self.known.items self.tickets.items self.seat.me.0.reads (remembered self.remembers) held.place held.number c.args.mode)) ∣₁;
       fewer = self.fewer;
-      enrolled = subst (λ (n : ℕ). n ≤ self.sessions) (sym c.weaken.ensures.seat.1) self.enrolled;
-      words = self.words;
+      counted = subst (λ (n : ℕ). 0 < n) (sym (ap (λ (m : Mine). m.0.number) now)) self.counted;
+      enrolled = subst (λ (n : ℕ). n ≤ self.sessions) (sym (ap (λ (m : Mine). m.0.number) now)) self.enrolled;
+      words = words_there self.sessions table self.words;
     }
 
 pub returns-clause-reads : goal.returns-clause-reads
-returns-clause-reads g c = ap (λ (m : Mine). m.0.reads) c.weaken.ensures.weakened.now
+returns-clause-reads g c = ap (λ (m : Mine). m.0.reads) c.downgrade.ensures.downgraded.1.now
 
-pub weaken-requires-clause-unwaited : goal.weaken-requires-clause-unwaited
-weaken-requires-clause-unwaited g c =
+pub downgrade-requires-clause-unwaited : goal.downgrade-requires-clause-unwaited
+downgrade-requires-clause-unwaited g c =
     let self = c.args.self.now in
-    waits_apart self.worker.seat.me.0 self.next c.args.held.number self.tickets.items self.asks self.next_is self.listed self.asks_is self.apart (ap is_some c.requires.held)
+    waits_apart self.seat.me.0 self.next c.args.held.number self.tickets.items self.asks self.next_is self.listed self.asks_is self.apart (ap is_some c.requires.held)

@@ -1,6 +1,5 @@
 -- The wait was met settled, and what became of it follows from how.
 use Rattle.std.proofs.Common.{List, [], ◌∷◌, ◌++◌, Some, sym, ap, ◌∙◌, ◌≡◌, subst}
-use Rattle.std.specs.Arc.{arc_value}
 use Rattle.atomic_table.specs.Seated.{TableId}
 use Rattle.mdl_calls.specs.declared.answers.Settled.{Settled}
 use Rattle.mdl_steps.specs.declared.view.Own.{Own}
@@ -25,11 +24,11 @@ returns-in-Some-clause-ended g c =
     let met = (c.poll_wait.ensures.settled how c.in-Settled.is).1 in
     let so = lost_so c.args.ask how c.in-Some.ended self.tickets.items (sym c.lost_end.ensures ∙ c.in-Some.is) in
     let e = c.end_lost.ensures.ended in
-    let m : Mine = self.worker.seat.me in (
+    let m : Mine = self.seat.me in (
       how,
       so.0,
       record { asks = e.asks; waits = e.waits ∙ c.poll_wait.ensures.wait.1; held = e.held ∙ c.poll_wait.ensures.same.4 ∙ so.1; unsettled = e.unsettled },
-      (met.0, step_earlier met.0 m c.poll_wait.new.self.worker.seat.me c.end_lost.new.self.worker.seat.me met.1 c.end_lost.ensures.goes, met.2),
+      (met.0, step_earlier met.0 m c.poll_wait.new.self.seat.me c.end_lost.new.self.seat.me met.1 c.end_lost.ensures.goes, met.2),
     )
 
 pub end_granted-requires-clause-granted : goal.end_granted-requires-clause-granted
@@ -46,33 +45,32 @@ returns-clause-ended g c =
     let met = (c.poll_wait.ensures.settled how c.in-Settled.is).1 in
     let so = granted_so c.args.ask how self.tickets.items (sym c.lost_end.ensures ∙ c.in_default-lost_end.is) in
     let e = c.end_granted.ensures.ended in
-    let m : Mine = self.worker.seat.me in (
+    let m : Mine = self.seat.me in (
       how,
       so.1,
       record { asks = e.asks; waits = e.waits ∙ c.poll_wait.ensures.wait.1; held = e.held ∙ ap (λ (ts : List Own). ts ++ ticket_asked c.args.ask ts ∷ []) c.poll_wait.ensures.same.4 ∙ so.2; unsettled = e.unsettled },
-      (met.0, step_earlier met.0 m c.poll_wait.new.self.worker.seat.me c.end_granted.new.self.worker.seat.me met.1 c.end_granted.ensures.goes, met.2),
+      (met.0, step_earlier met.0 m c.poll_wait.new.self.seat.me c.end_granted.new.self.seat.me met.1 c.end_granted.ensures.goes, met.2),
     )
 
 pub returns-in-Some-clause-way : goal.returns-in-Some-clause-way
 returns-in-Some-clause-way g c =
     let self = c.args.self.now in
     let how : Settled = c.in-Settled.how in
-    let m : Mine = self.worker.seat.me in
-    let polled : Mine = c.poll_wait.new.self.worker.seat.me in
-    let went : Mine = c.end_lost.new.self.worker.seat.me in
-    let id = (arc_value self.table).shared.table_id in
-    let number = c.poll_wait.new.self.worker.numbered.0 ∙ c.poll_wait.ensures.same.1 ∙ sym self.worker.numbered.0 in
-    let same : (arc_value c.poll_wait.new.self.table).shared.table_id ≡ (arc_value self.table).shared.table_id = λ i. (arc_value (c.poll_wait.ensures.same.0 i)).shared.table_id in
-    let way = subst (λ (x : TableId). MadeWay x c.args.ask.place (without_wait polled) went) same c.end_lost.ensures.way in
+    let m : Mine = self.seat.me in
+    let polled : Mine = c.poll_wait.new.self.seat.me in
+    let went : Mine = c.end_lost.new.self.seat.me in
+    let id = self.seat.table in
+    let did = c.poll_wait.ensures in
+    let way = subst (λ (x : TableId). MadeWay x c.args.ask.place (without_wait polled) went) did.same.0 c.end_lost.ensures.way in
     lost_way id c.args.ask.place m went how c.in-Some.ended (sym c.lost_end.ensures ∙ c.in-Some.is)
-    (way_met_before id c.args.ask.place m polled went c.poll_wait.ensures.stayed c.poll_wait.ensures.settles number way)
+    (way_met_before id c.args.ask.place m polled went did.stayed did.settles did.same.1 way)
 
 pub returns-in-Some-clause-did : goal.returns-in-Some-clause-did
 returns-in-Some-clause-did g c =
-    let polled : Mine = c.poll_wait.new.self.worker.seat.me in
-    does_then [] [] c.args.self.now.worker.seat.me polled c.end_lost.new.self.worker.seat.me c.poll_wait.ensures.did c.end_lost.ensures.did
+    let polled : Mine = c.poll_wait.new.self.seat.me in
+    does_then [] [] c.args.self.now.seat.me polled c.end_lost.new.self.seat.me c.poll_wait.ensures.did c.end_lost.ensures.did
 
 pub returns-clause-did : goal.returns-clause-did
 returns-clause-did g c =
-    let polled : Mine = c.poll_wait.new.self.worker.seat.me in
-    does_then [] [] c.args.self.now.worker.seat.me polled c.end_granted.new.self.worker.seat.me c.poll_wait.ensures.did c.end_granted.ensures.did
+    let polled : Mine = c.poll_wait.new.self.seat.me in
+    does_then [] [] c.args.self.now.seat.me polled c.end_granted.new.self.seat.me c.poll_wait.ensures.did c.end_granted.ensures.did

@@ -16,34 +16,34 @@ use Rattle.mdl_shared.proofs.Rising.{rising_altered, rising_lost}
 use Rattle.mdl_shared.specs.Rememberings.{Remembers}
 use Rattle.mdl_shared.proofs.Remembering.{remembers_altered, remembers_lost}
 use Rattle.mdl_shared.proofs.Props.{remembered}
+use Rattle.mdl_shared.proofs.TableKept.{narrow_there, within_there, words_there}
 use Rattle.mdl_shared.proofs.member.Member.merge.Goals as goal
 
-pub fold-requires-clause-place : goal.fold-requires-clause-place
-fold-requires-clause-place g c =
+pub merge-requires-clause-place : goal.merge-requires-clause-place
+merge-requires-clause-place g c =
     let self = c.args.self.now in
     let kept = c.args.kept in
     let has = has_numbered kept.place kept.number self.tickets.items (ap (option_map (λ (t : Own). t.place)) c.requires.kept) in
     let known = placed_at self.known.items self.tickets.items kept.place kept.number self.placed has in
-    subst (λ table. (0 < kept.place) × (kept.place < table.shared.table_id.slots)) (sym c.deref.ensures) (known_within _ kept.place self.known.items self.within known)
+    known_within _ kept.place self.known.items self.within known
 
-pub fold-requires-clause-known : goal.fold-requires-clause-known
-fold-requires-clause-known g c =
+pub merge-requires-clause-known : goal.merge-requires-clause-known
+merge-requires-clause-known g c =
     let self = c.args.self.now in
     let kept = c.args.kept in
     let has = has_numbered kept.place kept.number self.tickets.items (ap (option_map (λ (t : Own). t.place)) c.requires.kept) in
     let known = placed_at self.known.items self.tickets.items kept.place kept.number self.placed has in
-    some_key kept.place self.worker.seat.me.0.known (ap (λ ks. is_known_place ks kept.place) (sym self.known_is) ∙ known)
+    some_key kept.place self.seat.me.0.known (ap (λ ks. is_known_place ks kept.place) (sym self.known_is) ∙ known)
 
 pub invariant_of-self : goal.invariant_of-self
 invariant_of-self g c =
     let self = c.args.self.now in
     let kept = c.args.kept in
     let gone = c.args.gone in
-    let now = c.fold.ensures.folded.now in
+    let table = c.merge.ensures.merged.0 in
+    let now = c.merge.ensures.merged.1.now in
     let tickets = c.strike.ensures.struck ∙ ap (without_at kept.place gone.number) c.set_mode.ensures.changed in record {
-      seated = c.fold.ensures.seat.0 ∙ self.seated;
-      sized = self.sized;
-      narrow = self.narrow;
+      narrow = narrow_there table self.narrow;
       idle = subst IsIdle (sym now) self.idle;
       slow = subst HasSlowAlone (sym now) self.slow;
       listed = tickets ∙ ap (λ ts. without_at kept.place gone.number (in_mode_at kept.place kept.number gone.mode ts)) self.listed ∙ sym (ap (λ (m : Mine). m.0.slow) now);
@@ -53,7 +53,7 @@ invariant_of-self g c =
       waits_is = self.waits_is ∙ sym (ap (λ (m : Mine). m.0.waits) now);
       placed = ap (are_placed self.known.items) tickets
           ∙ still_placed self.known.items (in_mode_at kept.place kept.number gone.mode self.tickets.items) kept.place gone.number (altered_placed self.known.items kept.place kept.number gone.mode self.tickets.items self.placed);
-      within = self.within;
+      within = within_there self.known.items table self.within;
       awaited = self.awaited;
       below = ap (are_below self.next) tickets
           ∙ lost (λ n. nat_lt n self.next) kept.place gone.number (in_mode_at kept.place kept.number gone.mode self.tickets.items)
@@ -68,12 +68,13 @@ invariant_of-self g c =
       settled = ap (λ (m : Mine). is_ask_told self.asks m.0.told) now ∙ self.settled;
       keys_apart = self.keys_apart;
       remembers = ∣ subst (λ (m : Mine). Remembers self.known.items c.strike.new.tickets.items m.0.reads) (sym now)
-          (subst (λ (ts : List Own). Remembers self.known.items ts self.worker.seat.me.0.reads) (sym (tickets)) (remembers_lost self.known.items (in_mode_at kept.place kept.number gone.mode self.tickets.items) self.worker.seat.me.0.reads
-          (remembers_altered self.known.items self.tickets.items self.worker.seat.me.0.reads (remembered self.remembers) kept.place kept.number gone.mode) kept.place gone.number)) ∣₁;
+          (subst (λ (ts : List Own). Remembers self.known.items ts self.seat.me.0.reads) (sym (tickets)) (remembers_lost self.known.items (in_mode_at kept.place kept.number gone.mode self.tickets.items) self.seat.me.0.reads
+          (remembers_altered self.known.items self.tickets.items self.seat.me.0.reads (remembered self.remembers) kept.place kept.number gone.mode) kept.place gone.number)) ∣₁;
       fewer = self.fewer;
-      enrolled = subst (λ (n : ℕ). n ≤ self.sessions) (sym c.fold.ensures.seat.1) self.enrolled;
-      words = self.words;
+      counted = subst (λ (n : ℕ). 0 < n) (sym (ap (λ (m : Mine). m.0.number) now)) self.counted;
+      enrolled = subst (λ (n : ℕ). n ≤ self.sessions) (sym (ap (λ (m : Mine). m.0.number) now)) self.enrolled;
+      words = words_there self.sessions table self.words;
     }
 
 pub returns-clause-reads : goal.returns-clause-reads
-returns-clause-reads g c = ap (λ (m : Mine). m.0.reads) c.fold.ensures.folded.now
+returns-clause-reads g c = ap (λ (m : Mine). m.0.reads) c.merge.ensures.merged.1.now

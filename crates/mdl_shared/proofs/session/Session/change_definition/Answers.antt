@@ -28,8 +28,8 @@ returns-in_default-clause-joined g c =
     let none = none-mapped (λ (t : Own). (t.place, t.mode)) (numbered id m.tickets.items) (sym c.place_and_mode.ensures ∙ c.in_default.is) in
     let fault : exclusive_fault (numbered id m.tickets.items) ≡ Some NotHeld = ap exclusive_fault none in
     rw (← c.self.view_is)
-    (joins-seen m m (Change_definition m.worker.number id c.args.change.now) (redefined (Err NotHeld))
-    (change-joins m m m.worker.number id (same-rest m) refl (speaks m) c.args.change.now (Err NotHeld) tt (refl, refl)
+    (joins-seen m m (Change_definition m.seat.me.0.number id c.args.change.now) (redefined (Err NotHeld))
+    (change-joins m m m.seat.me.0.number id (same-rest m) refl (speaks m) c.args.change.now (Err NotHeld) tt (refl, refl)
     (subst (λ (o : Option SpaceError). IfSome o (λ why. refusal ℕ NotHeld ≡ Err why)) (sym fault) refl) (inl fault)))
 
 pub returns-then-ne-clause-joined : goal.returns-then-ne-clause-joined
@@ -43,8 +43,8 @@ returns-then-ne-clause-joined g c =
     let fault : exclusive_fault (numbered id m.tickets.items) ≡ Some NotExclusive =
     ap exclusive_fault held.1 ∙ ap (λ (b : Bool). if b then None else Some NotExclusive) other in
     rw (← c.self.view_is)
-    (joins-seen m m (Change_definition m.worker.number id c.args.change.now) (redefined (Err NotExclusive))
-    (change-joins m m m.worker.number id (same-rest m) refl (speaks m) c.args.change.now (Err NotExclusive) tt (refl, refl)
+    (joins-seen m m (Change_definition m.seat.me.0.number id c.args.change.now) (redefined (Err NotExclusive))
+    (change-joins m m m.seat.me.0.number id (same-rest m) refl (speaks m) c.args.change.now (Err NotExclusive) tt (refl, refl)
     (subst (λ (o : Option SpaceError). IfSome o (λ why. refusal ℕ NotExclusive ≡ Err why)) (sym fault) refl) (inl fault)))
 
 pub returns : goal.returns
@@ -54,7 +54,7 @@ returns g c =
     let did = c.change_definition.ensures in
     let same = did.same in
     let id = c.args.id in
-    let who = m.worker.number in
+    let who = m.seat.me.0.number in
     let change = c.args.change.now in
     let held = held_so (numbered id m.tickets.items) c.in-Some.place c.in-Some.mode (sym c.place_and_mode.ensures ∙ c.in-Some.is) in
     let t = held.0 in
@@ -67,7 +67,7 @@ returns g c =
       | in-Ok w ↦
           let version = w.in-Ok.version in
           let changed = w.in-Ok.ensures.changed in
-          let redefines = subst (λ (p : ℕ). Redefines p change version m.worker.seat.me m′.worker.seat.me) place changed.1 in
+          let redefines = subst (λ (p : ℕ). Redefines p change version m.seat.me m′.seat.me) place changed.1 in
           rw (w.result-is, ← c.self.view_is) (record {
             joined = joins-seen m m′ (Change_definition who id change) (redefined (Ok version))
                 (change-joins m m′ who id (record { number = same.1; known = same.3; wait = keeps-sees m m′ did.wait }) same.2 (speaks m) change (Ok version)
@@ -79,8 +79,8 @@ returns g c =
       | in-Err w ↦
           let why = w.in-Err.why in
           let cause = w.from.result in
-          let refused : IsRefusedAs t.place who change cause m.worker.seat.me m′.worker.seat.me =
-          (why, w.from.ensures, subst (λ (p : ℕ). IsRefusedFor p who change why m.worker.seat.me m′.worker.seat.me) place w.in-Err.ensures.refused) in
+          let refused : IsRefusedAs t.place who change cause m.seat.me m′.seat.me =
+          (why, w.from.ensures, subst (λ (p : ℕ). IsRefusedFor p who change why m.seat.me m′.seat.me) place w.in-Err.ensures.refused) in
           rw (w.result-is, ← c.self.view_is) (record {
             joined = joins-seen m m′ (Change_definition who id change) (redefined (Err cause))
                 (change-joins m m′ who id (record { number = same.1; known = same.3; wait = keeps-sees m m′ did.wait }) same.2 (speaks m) change (Err cause)

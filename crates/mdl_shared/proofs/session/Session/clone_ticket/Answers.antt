@@ -23,7 +23,7 @@ pub returns-in_default-clause-joined : goal.returns-in_default-clause-joined
 returns-in_default-clause-joined g c =
     let m = c.self.inside.member in
     rw (← c.self.view_is)
-    (refused-seen m (Clone_ticket m.worker.number c.args.id c.args.mode) NotHeld (speaks m) refl refl
+    (refused-seen m (Clone_ticket m.seat.me.0.number c.args.id c.args.mode) NotHeld (speaks m) refl refl
     (holds-told c.args.id m.tickets.items false (ap is_some (sym c.ticket.ensures.found ∙ c.in_default.is))) (λ state how is. cc) tt)
 
 pub returns-then-is_some-clause-joined : goal.returns-then-is_some-clause-joined
@@ -31,7 +31,7 @@ returns-then-is_some-clause-joined g c =
     let m = c.self.inside.member in
     let its : numbered c.args.id m.tickets.items ≡ Some c.in-Some.held = sym c.ticket.ensures.found ∙ c.in-Some.is in
     rw (← c.self.view_is)
-    (refused-seen m (Clone_ticket m.worker.number c.args.id c.args.mode) AlreadyWaiting (speaks m) refl refl
+    (refused-seen m (Clone_ticket m.seat.me.0.number c.args.id c.args.mode) AlreadyWaiting (speaks m) refl refl
     (holds-told c.args.id m.tickets.items true (ap is_some its), waits-asks m.asks m.waits ∙ sym c.is_some.ensures ∙ c.if-is_some.true)
     (λ state how is. cc) tt)
 
@@ -49,7 +49,7 @@ returns-then-not-covers-clause-joined g c =
           ap (λ b. b && is_fit t.place mode m.known.items) (sym c.covers.ensures ∙ w.if-not-covers.false) ∙ sym w.is_fit.ensures ∙ w.if-not-is_fit.true
     ] in
     rw (← c.self.view_is)
-    (refused-seen m (Clone_ticket m.worker.number c.args.id mode) BadMode (speaks m) refl refl (
+    (refused-seen m (Clone_ticket m.seat.me.0.number c.args.id mode) BadMode (speaks m) refl refl (
       waits-asks m.asks m.waits ∙ sym c.is_some.ensures ∙ c.if-is_some.false,
       of-held c.args.id m.tickets.items t (MayNotClone (knows m) mode) its (λ covered.
           fit-known t.place mode m.known.items false (other-false (covers t.mode mode) (is_fit t.place mode m.known.items) unfit covered)),
@@ -63,7 +63,7 @@ returns-then-self-gt-MOST_NUMBERS-clause-joined g c =
     let t = c.in-Some.held in
     let its : numbered c.args.id m.tickets.items ≡ Some t = sym c.ticket.ensures.found ∙ c.in-Some.is in
     rw (← c.self.view_is)
-    (refused-seen m (Clone_ticket m.worker.number c.args.id mode) CounterFull (speaks m) refl refl (
+    (refused-seen m (Clone_ticket m.seat.me.0.number c.args.id mode) CounterFull (speaks m) refl refl (
       waits-asks m.asks m.waits ∙ sym c.is_some.ensures ∙ c.if-is_some.false,
       of-held c.args.id m.tickets.items t (MayClone (knows m) mode) its
           (sym c.covers.ensures ∙ c.if-not-covers.false, fit-known t.place mode m.known.items true (sym c.is_fit.ensures ∙ c.if-not-is_fit.false)),
@@ -87,11 +87,11 @@ returns g c =
     let clear = clone-open mode m.known.items m.asks m.next (numbered id m.tickets.items) t its (sym c.is_some.ensures ∙ c.if-is_some.false)
     (sym c.covers.ensures ∙ c.if-not-covers.false) (sym c.is_fit.ensures ∙ c.if-not-is_fit.false) below in
     rw (← c.self.view_is) (record {
-      joined = joins-seen m m′ (Clone_ticket m.worker.number id mode) (cloned result)
-          (clone-joins m m′ (keeps-sees m m′ did.wait) same.1 same.2 did.reads m.worker.number id mode result (speaks m)
+      joined = joins-seen m m′ (Clone_ticket m.seat.me.0.number id mode) (cloned result)
+          (clone-joins m m′ (keeps-sees m m′ did.wait) same.1 same.2 did.reads m.seat.me.0.number id mode result (speaks m)
           (part-of result (λ new h. (h.0, h.1, (t, its, h.2))) did.doubled) did.unchanged (if-clear _ _ clear) (causes-open _ _ _ result did.refused));
-      shown = shows-seen m m′ (Clone_ticket m.worker.number id mode) (cloned result)
-          (clone-shows m m′ same.0 did.wait.2 m.worker.number id mode result did.wait.3 (if-clear _ _ clear) did.settles did.did
-          (part-of result (λ new h. (h.0, (t, its, (h.3.0, h.3.1, (subst (λ (n : ℕ). MeetsOwn t.place m.worker.number n h.3.0) number h.3.2, h.3.3))))) did.doubled)
+      shown = shows-seen m m′ (Clone_ticket m.seat.me.0.number id mode) (cloned result)
+          (clone-shows m m′ same.0 did.wait.2 m.seat.me.0.number id mode result did.wait.3 (if-clear _ _ clear) did.settles did.did
+          (part-of result (λ new h. (h.0, (t, its, (h.3.0, h.3.1, (subst (λ (n : ℕ). MeetsOwn t.place m.seat.me.0.number n h.3.0) number h.3.2, h.3.3))))) did.doubled)
           (if-refused result (λ why is. inr (told-full (λ met. (t, its, met)) is)) did.refused));
     })

@@ -25,7 +25,7 @@ pub returns-in_default-clause-joined : goal.returns-in_default-clause-joined
 returns-in_default-clause-joined g c =
     let m = c.self.inside.member in
     rw (← c.self.view_is)
-    (refused-seen m (Downgrade m.worker.number c.args.id c.args.mode) NotHeld (speaks m) refl refl
+    (refused-seen m (Downgrade m.seat.me.0.number c.args.id c.args.mode) NotHeld (speaks m) refl refl
     (holds-told c.args.id m.tickets.items false (ap is_some (sym c.ticket.ensures.found ∙ c.in_default.is))) (λ state how is. cc) tt)
 
 pub returns-then-not-may_downgrade-clause-joined : goal.returns-then-not-may_downgrade-clause-joined
@@ -42,7 +42,7 @@ returns-then-not-may_downgrade-clause-joined g c =
           ap (λ b. b && is_fit t.place mode m.known.items) (sym c.may_downgrade.ensures ∙ w.if-not-may_downgrade.false) ∙ sym w.is_fit.ensures ∙ w.if-not-is_fit.true
     ] in
     rw (← c.self.view_is)
-    (refused-seen m (Downgrade m.worker.number c.args.id mode) NotUpgradable (speaks m) refl refl
+    (refused-seen m (Downgrade m.seat.me.0.number c.args.id mode) NotUpgradable (speaks m) refl refl
     (of-held c.args.id m.tickets.items t (MayNotDowngrade (knows m) mode) its (λ may.
     fit-known t.place mode m.known.items false (other-false (may_downgrade t.mode mode) (is_fit t.place mode m.known.items) unfit may)))
     (λ state how is. cc) tt)
@@ -61,14 +61,14 @@ returns g c =
     let clear = downgrade-open mode m.known.items (numbered id m.tickets.items) t its (sym c.may_downgrade.ensures ∙ c.if-not-may_downgrade.false)
     (sym c.is_fit.ensures ∙ c.if-not-is_fit.false) in
     let just = just-clear (downgrade_fault (numbered id m.tickets.items) mode m.known.items) tt clear in
-    let step = subst (λ (n : ℕ). (e : Met) × IsStepOf m.worker.seat.me m′.worker.seat.me e × MeetsOwn t.place m.worker.number n e × (e.deeds ≡ Alter n mode ∷ []))
+    let step = subst (λ (n : ℕ). (e : Met) × IsStepOf m.seat.me m′.seat.me e × MeetsOwn t.place m.seat.me.0.number n e × (e.deeds ≡ Alter n mode ∷ []))
     number did.step in
     rw (← c.self.view_is) (record {
-      joined = joins-seen m m′ (Downgrade m.worker.number id mode) Done
-          (downgrade-joins m m′ m.worker.number id (record { number = same.1; known = same.3; wait = did.wait }) same.2 did.reads (speaks m) mode (Ok tt)
+      joined = joins-seen m m′ (Downgrade m.seat.me.0.number id mode) Done
+          (downgrade-joins m m′ m.seat.me.0.number id (record { number = same.1; known = same.3; wait = did.wait }) same.2 did.reads (speaks m) mode (Ok tt)
           (t, its, did.weakened ∙ ap (λ (n : ℕ). in_mode_at t.place n mode m.tickets.items) number) tt just);
-      shown = shows-seen m m′ (Downgrade m.worker.number id mode) Done
-          (downgrade-shows m m′ same.0 did.wait.2 m.worker.number id mode (Ok tt) just tt
-          (subst (λ (n : ℕ). Does (Alter n mode ∷ []) m.worker.seat.me m′.worker.seat.me) number did.did)
+      shown = shows-seen m m′ (Downgrade m.seat.me.0.number id mode) Done
+          (downgrade-shows m m′ same.0 did.wait.2 m.seat.me.0.number id mode (Ok tt) just tt
+          (subst (λ (n : ℕ). Does (Alter n mode ∷ []) m.seat.me m′.seat.me) number did.did)
           (t, its, (step.0, step.1, (step.2, step.3))) (t, its, did.way));
     })

@@ -10,9 +10,9 @@ pub returns-in-Ok-clause-joined : goal.returns-in-Ok-clause-joined
 returns-in-Ok-clause-joined g c =
     let m = c.self.inside.member in
     rw (← c.self.view_is)
-    (joins-seen m m (List_held m.worker.number) (Holds c.in-Ok.held.items) (held-joins m m.worker.number (Ok c.in-Ok.held) (speaks m) c.in-Ok.ensures tt))
+    (joins-seen m m (List_held m.seat.me.0.number) (Holds c.in-Ok.held.items) (held-joins m m.seat.me.0.number (Ok c.in-Ok.held) (speaks m) c.in-Ok.ensures tt))
 
 pub returns-in-Err-clause-joined : goal.returns-in-Err-clause-joined
 returns-in-Err-clause-joined g c =
     let m = c.self.inside.member in
-    rw (← c.self.view_is) (refused-seen m (List_held m.worker.number) OutOfMemory (speaks m) refl refl tt (λ state how is. cc) tt)
+    rw (← c.self.view_is) (refused-seen m (List_held m.seat.me.0.number) OutOfMemory (speaks m) refl refl tt (λ state how is. cc) tt)

@@ -26,24 +26,24 @@ pub returns-in_default-clause-joined : goal.returns-in_default-clause-joined
 returns-in_default-clause-joined g c =
     let m = c.self.inside.member in
     rw (← c.self.view_is)
-    (refused-seen m (Merge m.worker.number c.args.old c.args.new) NotHeld (speaks m) refl refl
-    (merge-cause m m.worker.number c.args.old c.args.new NotHeld None (numbered c.args.new m.tickets.items)
+    (refused-seen m (Merge m.seat.me.0.number c.args.old c.args.new) NotHeld (speaks m) refl refl
+    (merge-cause m m.seat.me.0.number c.args.old c.args.new NotHeld None (numbered c.args.new m.tickets.items)
     (sym c.ticket.ensures.found ∙ c.in_default.is) refl refl) (λ state how is. cc) tt)
 
 pub returns-in_default-ticket-clause-joined : goal.returns-in_default-ticket-clause-joined
 returns-in_default-ticket-clause-joined g c =
     let m = c.self.inside.member in
     rw (← c.self.view_is)
-    (refused-seen m (Merge m.worker.number c.args.old c.args.new) NotHeld (speaks m) refl refl
-    (merge-cause m m.worker.number c.args.old c.args.new NotHeld (Some c.in-Some.kept) None
+    (refused-seen m (Merge m.seat.me.0.number c.args.old c.args.new) NotHeld (speaks m) refl refl
+    (merge-cause m m.seat.me.0.number c.args.old c.args.new NotHeld (Some c.in-Some.kept) None
     (sym c.ticket.ensures.found ∙ c.in-Some.is) (sym c.ticket-2.ensures.found ∙ c.in_default-ticket.is) refl) (λ state how is. cc) tt)
 
 pub returns-then-is_some-clause-joined : goal.returns-then-is_some-clause-joined
 returns-then-is_some-clause-joined g c =
     let m = c.self.inside.member in
     rw (← c.self.view_is)
-    (refused-seen m (Merge m.worker.number c.args.old c.args.new) AlreadyWaiting (speaks m) refl refl
-    (merge-cause m m.worker.number c.args.old c.args.new AlreadyWaiting (Some c.in-Some.kept) (Some c.in-Some-ticket.gone)
+    (refused-seen m (Merge m.seat.me.0.number c.args.old c.args.new) AlreadyWaiting (speaks m) refl refl
+    (merge-cause m m.seat.me.0.number c.args.old c.args.new AlreadyWaiting (Some c.in-Some.kept) (Some c.in-Some-ticket.gone)
     (sym c.ticket.ensures.found ∙ c.in-Some.is) (sym c.ticket-2.ensures.found ∙ c.in-Some-ticket.is)
     (merge-waits m.asks c.in-Some.kept c.in-Some-ticket.gone (sym c.is_some.ensures ∙ c.if-is_some.true))) (λ state how is. cc) tt)
 
@@ -51,8 +51,8 @@ pub returns-then-not-may_merge-clause-joined : goal.returns-then-not-may_merge-c
 returns-then-not-may_merge-clause-joined g c =
     let m = c.self.inside.member in
     rw (← c.self.view_is)
-    (refused-seen m (Merge m.worker.number c.args.old c.args.new) BadMode (speaks m) refl refl
-    (merge-cause m m.worker.number c.args.old c.args.new BadMode (Some c.in-Some.kept) (Some c.in-Some-ticket.gone)
+    (refused-seen m (Merge m.seat.me.0.number c.args.old c.args.new) BadMode (speaks m) refl refl
+    (merge-cause m m.seat.me.0.number c.args.old c.args.new BadMode (Some c.in-Some.kept) (Some c.in-Some-ticket.gone)
     (sym c.ticket.ensures.found ∙ c.in-Some.is) (sym c.ticket-2.ensures.found ∙ c.in-Some-ticket.is)
     (merge-unfit m.asks c.in-Some.kept c.in-Some-ticket.gone (sym c.is_some.ensures ∙ c.if-is_some.false) (sym c.may_merge.ensures ∙ c.if-not-may_merge.true)))
     (λ state how is. cc) tt)
@@ -77,13 +77,13 @@ returns g c =
     let deeds : Alter kept.number gone.mode ∷ Lose gone.number ∷ [] ≡ merge_deeds old new (Ok tt) (numbered new m.tickets.items) =
     ap (λ (n : ℕ). Alter n gone.mode ∷ Lose gone.number ∷ []) first ∙ ap (λ (n : ℕ). Alter old gone.mode ∷ Lose n ∷ []) second
     ∙ sym (ap (λ (o : Option Own). merge_deeds old new (Ok tt) o) other) in
-    let step = subst (λ (n : ℕ). (e : Met) × IsStepOf m.worker.seat.me m′.worker.seat.me e × MeetsOwn kept.place m.worker.number n e
-    × MeetsOwn kept.place m.worker.number gone.number e × (e.deeds ≡ Alter n gone.mode ∷ Lose gone.number ∷ [])) first did.step in
-    let met = subst (λ (n : ℕ). (e : Met) × IsStepOf m.worker.seat.me m′.worker.seat.me e × MeetsOwn kept.place m.worker.number old e
-    × MeetsOwn kept.place m.worker.number n e × (e.deeds ≡ Alter old gone.mode ∷ Lose n ∷ [])) second step in
+    let step = subst (λ (n : ℕ). (e : Met) × IsStepOf m.seat.me m′.seat.me e × MeetsOwn kept.place m.seat.me.0.number n e
+    × MeetsOwn kept.place m.seat.me.0.number gone.number e × (e.deeds ≡ Alter n gone.mode ∷ Lose gone.number ∷ [])) first did.step in
+    let met = subst (λ (n : ℕ). (e : Met) × IsStepOf m.seat.me m′.seat.me e × MeetsOwn kept.place m.seat.me.0.number old e
+    × MeetsOwn kept.place m.seat.me.0.number n e × (e.deeds ≡ Alter old gone.mode ∷ Lose n ∷ [])) second step in
     rw (← c.self.view_is) (record {
-      joined = joins-seen m m′ (Merge m.worker.number old new) Done
-          (merge-joins m m′ m.worker.number old (record { number = same.1; known = same.3; wait = keeps-sees m m′ did.wait }) same.2 did.reads (speaks m) new (Ok tt) (
+      joined = joins-seen m m′ (Merge m.seat.me.0.number old new) Done
+          (merge-joins m m′ m.seat.me.0.number old (record { number = same.1; known = same.3; wait = keeps-sees m m′ did.wait }) same.2 did.reads (speaks m) new (Ok tt) (
             kept,
             gone,
             one,
@@ -91,8 +91,8 @@ returns g c =
             did.folded ∙ ap (λ (n : ℕ). without_at kept.place gone.number (in_mode_at kept.place n gone.mode m.tickets.items)) first
                 ∙ ap (λ (n : ℕ). without_at kept.place n (in_mode_at kept.place old gone.mode m.tickets.items)) second,
           ) tt just);
-      shown = shows-seen m m′ (Merge m.worker.number old new) Done
-          (merge-shows m m′ same.0 did.wait.2 m.worker.number old new (Ok tt) did.wait.3 just did.settles
-          (subst (λ (ds : List Deed). Does ds m.worker.seat.me m′.worker.seat.me) deeds did.did)
+      shown = shows-seen m m′ (Merge m.seat.me.0.number old new) Done
+          (merge-shows m m′ same.0 did.wait.2 m.seat.me.0.number old new (Ok tt) did.wait.3 just did.settles
+          (subst (λ (ds : List Deed). Does ds m.seat.me m′.seat.me) deeds did.did)
           (kept, one, (gone, other, (met.0, met.1, (met.2, met.3, met.4)))));
     })

@@ -22,7 +22,7 @@ returns-in_default-clause-joined g c =
     let m = c.self.inside.member in
     let none = none-mapped (λ (t : Own). t.place) (numbered c.args.id m.tickets.items) (sym c.place_held.ensures ∙ c.in_default.is) in
     rw (← c.self.view_is)
-    (refused-seen m (Read_definition m.worker.number c.args.id) NotHeld (speaks m) refl refl
+    (refused-seen m (Read_definition m.seat.me.0.number c.args.id) NotHeld (speaks m) refl refl
     (holds-told c.args.id m.tickets.items false (ap is_some none)) (λ state how is. cc) tt)
 
 pub returns : goal.returns
@@ -32,7 +32,7 @@ returns g c =
     let did = c.read_definition.ensures in
     let same = did.same in
     let id = c.args.id in
-    let who = m.worker.number in
+    let who = m.seat.me.0.number in
     let held = some-mapped (λ (t : Own). t.place) (numbered id m.tickets.items) c.in-Some.place (sym c.place_held.ensures ∙ c.in-Some.is) in
     let t = held.0 in
     let place = sym held.2 in
@@ -43,19 +43,19 @@ returns g c =
           let met = w.in-Ok.ensures.read in
           let follows = w.in-Ok.ensures.follows in
           let refuses = refuses-clear (holding_fault id m.tickets.items) OutOfMemory s clear in
-          let there = subst (λ (p : ℕ). ReadsThere p s m.worker.seat.me m′.worker.seat.me) place met.1 in
+          let there = subst (λ (p : ℕ). ReadsThere p s m.seat.me m′.seat.me) place met.1 in
           rw (w.result-is, ← c.self.view_is) (record {
             joined = joins-seen m m′ (Read_definition who id) (read (Ok s))
                 (read-joins m m′ who id (record { number = same.1; known = same.3; wait = keeps-sees m m′ did.wait }) same.2 (speaks m) (Ok s)
                 (t, held.1, met.0 ∙ ap (λ (p : ℕ). noting_version p s.version m.tickets.items) place, there)
-                (λ u its. subst (λ (p : ℕ). Follows p s m.worker.seat.me)
+                (λ u its. subst (λ (p : ℕ). Follows p s m.seat.me)
                 (place ∙ ap (λ (o : Own). o.place) (one-ticket (numbered id m.tickets.items) t u held.1 its)) follows) tt refuses);
             shown = shows-seen m m′ (Read_definition who id) (read (Ok s))
                 (read-shows m m′ same.0 did.wait.2 who id (Ok s) did.wait.3 refuses did.settles did.did did.quiet (
                   t,
                   held.1,
                   (
-                    subst (λ (p : ℕ). Follows p s m.worker.seat.me) place follows,
+                    subst (λ (p : ℕ). Follows p s m.seat.me) place follows,
                     there,
                     (met.2.0, met.2.1, subst (λ (p : ℕ). MeetsRead p who id s met.2.0) place met.2.2),
                   ),

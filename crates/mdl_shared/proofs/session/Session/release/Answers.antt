@@ -16,7 +16,7 @@ returns-in_default-clause-joined g c =
     let m = c.self.inside.member in
     let none = none-mapped (λ (t : Own). t.place) (numbered c.args.id m.tickets.items) (sym c.place_held.ensures ∙ c.in_default.is) in
     rw (← c.self.view_is)
-    (refused-seen m (Release m.worker.number c.args.id) NotHeld (speaks m) refl refl
+    (refused-seen m (Release m.seat.me.0.number c.args.id) NotHeld (speaks m) refl refl
     (holds-told c.args.id m.tickets.items false (ap is_some none)) (λ state how is. cc) tt)
 
 pub returns-clause-joined : goal.returns-clause-joined
@@ -28,7 +28,7 @@ returns-clause-joined g c =
     let held = some-mapped (λ (t : Own). t.place) (numbered id m.tickets.items) c.in-Some.place (sym c.place_held.ensures ∙ c.in-Some.is) in
     let clear : holding_fault id m.tickets.items ≡ None = ap (λ (o : Option Own). if is_some o then None else Some NotHeld) held.1 in
     rw (← c.self.view_is)
-    (joins-seen m c.release.new.self (Release m.worker.number id) Done
-    (release-joins m c.release.new.self m.worker.number id (record { number = same.1; known = same.3; wait = did.wait }) same.2 did.reads (speaks m) (Ok tt)
+    (joins-seen m c.release.new.self (Release m.seat.me.0.number id) Done
+    (release-joins m c.release.new.self m.seat.me.0.number id (record { number = same.1; known = same.3; wait = did.wait }) same.2 did.reads (speaks m) (Ok tt)
     (held.0, held.1, did.released ∙ ap (λ (p : ℕ). without_at p id m.tickets.items) (sym held.2)) tt
     (just-clear (holding_fault id m.tickets.items) tt clear)))

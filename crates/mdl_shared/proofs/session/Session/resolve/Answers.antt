@@ -28,10 +28,10 @@ returns-in-Some g c =
     let found : place_known key m.known.items ≡ Some place = sym c.known_place.ensures ∙ c.in-Some.is in
     let learns = subst (λ (known : Option ℕ). LearnsPlace key place known m.known.items m.known.items) (sym found) (refl, refl) in
     rw (← c.self.view_is) (record {
-      joined = joins-seen m m (Resolve m.worker.number key) (At_place place)
-          (resolve-joins m m m.worker.number key (Ok place) refl refl refl (refl, refl, refl, λ state told. told) refl (speaks m) learns tt tt);
-      shown = shows-seen m m (Resolve m.worker.number key) (At_place place)
-          (resolve-shows m m refl refl m.worker.number key (Ok place) refl refl ([], sym (append-nil _), refl) (place_within _ place key m.known.items m.within found)
+      joined = joins-seen m m (Resolve m.seat.me.0.number key) (At_place place)
+          (resolve-joins m m m.seat.me.0.number key (Ok place) refl refl refl (refl, refl, refl, λ state told. told) refl (speaks m) learns tt tt);
+      shown = shows-seen m m (Resolve m.seat.me.0.number key) (At_place place)
+          (resolve-shows m m refl refl m.seat.me.0.number key (Ok place) refl refl ([], sym (append-nil _), refl) (place_within _ place key m.known.items m.within found)
           (λ known is. refl) (λ none. let e = sym none ∙ found in cc) tt (λ is. cc) (λ is. cc));
     })
 
@@ -46,16 +46,16 @@ returns-clause-joined g c =
     let sees = keeps-sees m m′ did.wait in
     rw (← c.self.view_is) (elim c.match-resolve.branch [
       | in-Ok w ↦ rw w.result-is (
-          joins-seen m m′ (Resolve m.worker.number key) (placed (Ok w.in-Ok.place))
-          (resolve-joins m m′ m.worker.number key (Ok w.in-Ok.place) same.1 same.2 same.3 sees did.reads (speaks m)
+          joins-seen m m′ (Resolve m.seat.me.0.number key) (placed (Ok w.in-Ok.place))
+          (resolve-joins m m′ m.seat.me.0.number key (Ok w.in-Ok.place) same.1 same.2 same.3 sees did.reads (speaks m)
           (subst (λ (known : Option ℕ). LearnsPlace key w.in-Ok.place known m.known.items m′.known.items) (sym none) (w.in-Ok.ensures.known.2, w.in-Ok.ensures.known.3)) tt tt)
           )
       | in-Err-NoPlace w ↦ rw w.result-is (
-          joins-seen m m′ (Resolve m.worker.number key) (placed (Err cause.NoPlace))
-          (resolve-joins m m′ m.worker.number key (Err cause.NoPlace) same.1 same.2 same.3 sees did.reads (speaks m) tt w.in-Err-NoPlace.ensures.unchanged (none, inl refl))
+          joins-seen m m′ (Resolve m.seat.me.0.number key) (placed (Err cause.NoPlace))
+          (resolve-joins m m′ m.seat.me.0.number key (Err cause.NoPlace) same.1 same.2 same.3 sees did.reads (speaks m) tt w.in-Err-NoPlace.ensures.unchanged (none, inl refl))
           )
       | in-Err-OutOfMemory w ↦ rw w.result-is (
-          joins-seen m m′ (Resolve m.worker.number key) (placed (Err cause.OutOfMemory))
-          (resolve-joins m m′ m.worker.number key (Err cause.OutOfMemory) same.1 same.2 same.3 sees did.reads (speaks m) tt w.in-Err-OutOfMemory.ensures.unchanged (none, inr refl))
+          joins-seen m m′ (Resolve m.seat.me.0.number key) (placed (Err cause.OutOfMemory))
+          (resolve-joins m m′ m.seat.me.0.number key (Err cause.OutOfMemory) same.1 same.2 same.3 sees did.reads (speaks m) tt w.in-Err-OutOfMemory.ensures.unchanged (none, inr refl))
           )
     ])

@@ -15,8 +15,8 @@ pub returns-then-is_none-clause-joined : goal.returns-then-is_none-clause-joined
 returns-then-is_none-clause-joined g c =
     let m = c.self.inside.member in
     rw (← c.self.view_is)
-    (joins-seen m m (Search m.worker.number) (searched (Ok found.NoCycle))
-    (search-joins m m m.worker.number (Ok found.NoCycle) (same-stays m m refl) (speaks m) tt tt))
+    (joins-seen m m (Search m.seat.me.0.number) (searched (Ok found.NoCycle))
+    (search-joins m m m.seat.me.0.number (Ok found.NoCycle) (same-stays m m refl) (speaks m) tt tt))
 
 pub returns-clause-joined : goal.returns-clause-joined
 returns-clause-joined g c =
@@ -27,11 +27,11 @@ returns-clause-joined g c =
     let stays : Stays m m′ = record { number = same.1; tickets = same.4; next = same.2; known = same.3; wait = did.wait; reads = did.reads } in
     rw (← c.self.view_is) (elim c.match-search.branch [
       | in-Ok w ↦ rw w.result-is (
-          joins-seen m m′ (Search m.worker.number) (searched (Ok w.in-Ok.found))
-          (search-joins m m′ m.worker.number (Ok w.in-Ok.found) stays (speaks m) w.in-Ok.ensures.own tt)
+          joins-seen m m′ (Search m.seat.me.0.number) (searched (Ok w.in-Ok.found))
+          (search-joins m m′ m.seat.me.0.number (Ok w.in-Ok.found) stays (speaks m) w.in-Ok.ensures.own tt)
           )
       | in-Err w ↦ rw w.result-is (
-          joins-seen m m′ (Search m.worker.number) (searched (Err OutOfMemory))
-          (search-joins m m′ m.worker.number (Err OutOfMemory) stays (speaks m) tt refl)
+          joins-seen m m′ (Search m.seat.me.0.number) (searched (Err OutOfMemory))
+          (search-joins m m′ m.seat.me.0.number (Err OutOfMemory) stays (speaks m) tt refl)
           )
     ])

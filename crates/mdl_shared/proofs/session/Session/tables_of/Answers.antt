@@ -20,11 +20,11 @@ returns-clause-joined g c =
       | in-Ok w ↦ rw w.result-is (
           let told = w.in-Ok.ensures.told in
           let h = told.2 in
-          joins-seen m m′ (Tables_of m.worker.number schema) (tables_told (Ok w.in-Ok.places))
-          (tables-joins m m′ m.worker.number schema (Ok w.in-Ok.places) same.1 same.2 same.3 sees did.reads (speaks m) (told.0, h.0, h.1, h.2, h.3, h.4) tt tt)
+          joins-seen m m′ (Tables_of m.seat.me.0.number schema) (tables_told (Ok w.in-Ok.places))
+          (tables-joins m m′ m.seat.me.0.number schema (Ok w.in-Ok.places) same.1 same.2 same.3 sees did.reads (speaks m) (told.0, h.0, h.1, h.2, h.3, h.4) tt tt)
           )
       | in-Err w ↦ rw w.result-is (
-          joins-seen m m′ (Tables_of m.worker.number schema) (tables_told {Z = Unit {0}} (Err cause.OutOfMemory))
-          (tables-joins {Z = Unit {0}} m m′ m.worker.number schema (Err cause.OutOfMemory) same.1 same.2 same.3 sees did.reads (speaks m) tt w.in-Err.ensures.unchanged refl)
+          joins-seen m m′ (Tables_of m.seat.me.0.number schema) (tables_told {Z = Unit {0}} (Err cause.OutOfMemory))
+          (tables-joins {Z = Unit {0}} m m′ m.seat.me.0.number schema (Err cause.OutOfMemory) same.1 same.2 same.3 sees did.reads (speaks m) tt w.in-Err.ensures.unchanged refl)
           )
     ])

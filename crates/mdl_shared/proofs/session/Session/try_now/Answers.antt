@@ -15,21 +15,21 @@ pub returns-in_default-clause-joined : goal.returns-in_default-clause-joined
 returns-in_default-clause-joined g c =
     let m = c.self.inside.member in
     rw (← c.self.view_is)
-    (refused-seen m (Try_now m.worker.number c.args.place c.args.mode) NoPlace (speaks m) refl refl
+    (refused-seen m (Try_now m.seat.me.0.number c.args.place c.args.mode) NoPlace (speaks m) refl refl
     (no-kind c.args.place m.known.items (sym c.kind_at.ensures ∙ c.in_default.is)) (λ state how is. cc) tt)
 
 pub returns-then-is_some-clause-joined : goal.returns-then-is_some-clause-joined
 returns-then-is_some-clause-joined g c =
     let m = c.self.inside.member in
     rw (← c.self.view_is)
-    (refused-seen m (Try_now m.worker.number c.args.place c.args.mode) AlreadyWaiting (speaks m) refl refl
+    (refused-seen m (Try_now m.seat.me.0.number c.args.place c.args.mode) AlreadyWaiting (speaks m) refl refl
     (waits-asks m.asks m.waits ∙ sym c.is_some.ensures ∙ c.if-is_some.true) (λ state how is. cc) tt)
 
 pub returns-then-not-has_mode-clause-joined : goal.returns-then-not-has_mode-clause-joined
 returns-then-not-has_mode-clause-joined g c =
     let m = c.self.inside.member in
     rw (← c.self.view_is)
-    (refused-seen m (Try_now m.worker.number c.args.place c.args.mode) BadMode (speaks m) refl refl (
+    (refused-seen m (Try_now m.seat.me.0.number c.args.place c.args.mode) BadMode (speaks m) refl refl (
       waits-asks m.asks m.waits ∙ sym c.is_some.ensures ∙ c.if-is_some.false,
       of-kind c.args.place m.known.items c.in-Some.kind c.args.mode false (sym c.kind_at.ensures ∙ c.in-Some.is) (sym c.has_mode.ensures ∙ c.if-not-has_mode.true),
     )
@@ -39,7 +39,7 @@ pub returns-then-self-gt-MOST_NUMBERS-clause-joined : goal.returns-then-self-gt-
 returns-then-self-gt-MOST_NUMBERS-clause-joined g c =
     let m = c.self.inside.member in
     rw (← c.self.view_is)
-    (refused-seen m (Try_now m.worker.number c.args.place c.args.mode) CounterFull (speaks m) refl refl (
+    (refused-seen m (Try_now m.seat.me.0.number c.args.place c.args.mode) CounterFull (speaks m) refl refl (
       waits-asks m.asks m.waits ∙ sym c.is_some.ensures ∙ c.if-is_some.false,
       of-kind c.args.place m.known.items c.in-Some.kind c.args.mode true (sym c.kind_at.ensures ∙ c.in-Some.is) (sym c.has_mode.ensures ∙ c.if-not-has_mode.false),
     )
@@ -56,11 +56,11 @@ returns g c =
     let clear = wish-open m c.args.place c.in-Some.kind c.args.mode (sym c.kind_at.ensures ∙ c.in-Some.is) (sym c.is_some.ensures ∙ c.if-is_some.false)
     (sym c.has_mode.ensures ∙ c.if-not-has_mode.false) below in
     rw (← c.self.view_is) (record {
-      joined = joins-seen m m′ (Try_now m.worker.number c.args.place c.args.mode) (attempted c.try_now.result)
-          (try-joins m m′ (keeps-sees m m′ did.wait) same.1 same.2 did.reads m.worker.number c.args.place c.args.mode c.try_now.result (speaks m)
+      joined = joins-seen m m′ (Try_now m.seat.me.0.number c.args.place c.args.mode) (attempted c.try_now.result)
+          (try-joins m m′ (keeps-sees m m′ did.wait) same.1 same.2 did.reads m.seat.me.0.number c.args.place c.args.mode c.try_now.result (speaks m)
           (λ id is. let h = did.granted id is in (h.0, h.1)) did.next (λ is. let h = did.would_wait is in (h.0, h.1)) did.unchanged
           (if-clear _ _ clear) (causes-open _ _ _ c.try_now.result did.refused));
-      shown = shows-seen m m′ (Try_now m.worker.number c.args.place c.args.mode) (attempted c.try_now.result)
-          (try-shows m m′ same.0 did.wait.2 m.worker.number c.args.place c.args.mode c.try_now.result did.wait.3 (if-clear _ _ clear) did.settles did.did
+      shown = shows-seen m m′ (Try_now m.seat.me.0.number c.args.place c.args.mode) (attempted c.try_now.result)
+          (try-shows m m′ same.0 did.wait.2 m.seat.me.0.number c.args.place c.args.mode c.try_now.result did.wait.3 (if-clear _ _ clear) did.settles did.did
           (λ id is. (did.granted id is).2) (λ is. (did.would_wait is).2) (if-refused c.try_now.result (λ why is. inr is) did.refused));
     })

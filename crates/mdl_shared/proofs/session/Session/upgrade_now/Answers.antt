@@ -32,7 +32,7 @@ returns-in_default-clause-joined g c =
     let m = c.self.inside.member in
     let none = none-mapped (λ (t : Own). (t.place, t.mode)) (numbered c.args.id m.tickets.items) (sym c.place_and_mode.ensures ∙ c.in_default.is) in
     rw (← c.self.view_is)
-    (refused-seen m (Upgrade_now m.worker.number c.args.id c.args.mode) NotHeld (speaks m) refl refl
+    (refused-seen m (Upgrade_now m.seat.me.0.number c.args.id c.args.mode) NotHeld (speaks m) refl refl
     (holds-told c.args.id m.tickets.items false (ap is_some none)) (λ state how is. cc) tt)
 
 pub returns-in_default-kind_at-clause-joined : goal.returns-in_default-kind_at-clause-joined
@@ -42,8 +42,8 @@ returns-in_default-kind_at-clause-joined g c =
     let t = held.0 in
     let none : kind_known t.place m.known.items ≡ None = ap (λ (p : ℕ). kind_known p m.known.items) held.2 ∙ sym c.kind_at.ensures ∙ c.in_default-kind_at.is in
     rw (← c.self.view_is)
-    (refused-seen m (Upgrade_now m.worker.number c.args.id c.args.mode) NotUpgradable (speaks m) refl refl
-    (upgrade-cause m m.worker.number c.args.id c.args.mode NotUpgradable (Some t) held.1
+    (refused-seen m (Upgrade_now m.seat.me.0.number c.args.id c.args.mode) NotUpgradable (speaks m) refl refl
+    (upgrade-cause m m.seat.me.0.number c.args.id c.args.mode NotUpgradable (Some t) held.1
     (upgrade-not_allowed c.args.mode m.known.items m.asks t (ap (λ o. can_have c.args.mode t o) none)))
     (λ state how is. cc) tt)
 
@@ -66,8 +66,8 @@ returns-then-not-is_allowed-clause-joined g c =
           ap (λ b. b && is_mode_of c.in-Some-kind_at.kind mode) w.if-not-is_allowed.false ∙ sym w.has_mode.ensures ∙ w.if-not-has_mode.true
     ] in
     rw (← c.self.view_is)
-    (refused-seen m (Upgrade_now m.worker.number c.args.id mode) NotUpgradable (speaks m) refl refl
-    (upgrade-cause m m.worker.number c.args.id mode NotUpgradable (Some t) held.1
+    (refused-seen m (Upgrade_now m.seat.me.0.number c.args.id mode) NotUpgradable (speaks m) refl refl
+    (upgrade-cause m m.seat.me.0.number c.args.id mode NotUpgradable (Some t) held.1
     (upgrade-not_allowed mode m.known.items m.asks t
     (can-have m.known.items t c.in-Some.place c.in-Some.held mode c.in-Some-kind_at.kind false held.2 held.3 (sym c.kind_at.ensures ∙ c.in-Some-kind_at.is) can)))
     (λ state how is. cc) tt)
@@ -86,8 +86,8 @@ returns-then-is_some-clause-joined g c =
     let can : ((covers c.in-Some.held mode || may_upgrade c.in-Some.held mode) && is_mode_of c.in-Some-kind_at.kind mode) ≡ true =
     ap (λ b. b && is_mode_of c.in-Some-kind_at.kind mode) (allowed ∙ c.if-not-is_allowed.false) ∙ sym c.has_mode.ensures ∙ c.if-not-has_mode.false in
     rw (← c.self.view_is)
-    (refused-seen m (Upgrade_now m.worker.number c.args.id mode) AlreadyWaiting (speaks m) refl refl
-    (upgrade-cause m m.worker.number c.args.id mode AlreadyWaiting (Some t) held.1
+    (refused-seen m (Upgrade_now m.seat.me.0.number c.args.id mode) AlreadyWaiting (speaks m) refl refl
+    (upgrade-cause m m.seat.me.0.number c.args.id mode AlreadyWaiting (Some t) held.1
     (upgrade-waits mode m.known.items m.asks t
     (can-have m.known.items t c.in-Some.place c.in-Some.held mode c.in-Some-kind_at.kind true held.2 held.3 (sym c.kind_at.ensures ∙ c.in-Some-kind_at.is) can)
     (sym c.is_some.ensures ∙ c.if-is_some.true)))
@@ -108,8 +108,8 @@ returns-then-is_covered-2-clause-joined g c =
     (sym c.is_some.ensures ∙ c.if-is_some.false) in
     let here : covers t.mode mode ≡ true = ap (λ (h : Mode). covers h mode) held.3 ∙ covered in
     rw (← c.self.view_is)
-    (joins-seen m m (Upgrade_now m.worker.number id mode) (upgrade_tried (Ok Upgraded))
-    (upgrade-joins m m m.worker.number id (same-rest m) refl refl (speaks m) mode (Ok Upgraded) (λ u its has. refl)
+    (joins-seen m m (Upgrade_now m.seat.me.0.number id mode) (upgrade_tried (Ok Upgraded))
+    (upgrade-joins m m m.seat.me.0.number id (same-rest m) refl refl (speaks m) mode (Ok Upgraded) (λ u its has. refl)
     (λ u its short is. absurd (false≢true (sym short ∙ ap (λ (o : Own). covers o.mode mode) (sym (one-ticket (numbered id m.tickets.items) t u held.1 its)) ∙ here)))
     (λ is. cc) tt (just-clear (upgrade_fault mode m.known.items m.asks (numbered id m.tickets.items)) Upgraded clear)))
 
@@ -141,16 +141,16 @@ returns g c =
     let deeds : rise_deeds id mode c.upgrade.result ≡ upgrade_deeds id mode (Ok c.upgrade.result) (numbered id m.tickets.items) =
     sym (ap (λ (o : Option Own). upgrade_deeds id mode (Ok c.upgrade.result) o) held.1 ∙ ap (λ (b : Bool). if b then [] else rise_deeds id mode c.upgrade.result) here) in
     rw (← c.self.view_is) (record {
-      joined = joins-seen m m′ (Upgrade_now m.worker.number id mode) (upgrade_tried (Ok c.upgrade.result))
-          (upgrade-joins m m′ m.worker.number id (record { number = same.1; known = same.3; wait = keeps-sees m m′ did.wait }) same.2 did.reads (speaks m) mode (Ok c.upgrade.result)
+      joined = joins-seen m m′ (Upgrade_now m.seat.me.0.number id mode) (upgrade_tried (Ok c.upgrade.result))
+          (upgrade-joins m m′ m.seat.me.0.number id (record { number = same.1; known = same.3; wait = keeps-sees m m′ did.wait }) same.2 did.reads (speaks m) mode (Ok c.upgrade.result)
           (λ u its has. absurd (false≢true (sym here ∙ ap (λ (o : Own). covers o.mode mode) (one-ticket (numbered id m.tickets.items) t u held.1 its) ∙ has)))
           (λ u its less is. (did.upgraded (cc)).0 ∙ ap (λ (p : ℕ). in_mode_at p id mode m.tickets.items) (place u its))
           (λ is. ((did.would_wait (cc)).0, (t, held.1, here))) tt just);
-      shown = shows-seen m m′ (Upgrade_now m.worker.number id mode) (upgrade_tried (Ok c.upgrade.result))
-          (upgrade-shows m m′ same.0 did.wait.2 m.worker.number id mode (Ok c.upgrade.result) did.wait.3 just did.settles
-          (subst (λ ds. Does ds m.worker.seat.me m′.worker.seat.me) deeds did.did)
+      shown = shows-seen m m′ (Upgrade_now m.seat.me.0.number id mode) (upgrade_tried (Ok c.upgrade.result))
+          (upgrade-shows m m′ same.0 did.wait.2 m.seat.me.0.number id mode (Ok c.upgrade.result) did.wait.3 just did.settles
+          (subst (λ ds. Does ds m.seat.me m′.seat.me) deeds did.did)
           (λ u its less is. let met = (did.upgraded (cc)).1 in
-          (met.0, met.1, subst (λ (p : ℕ). MeetsGrantable p m.worker.number mode (Alter id mode) met.0) (place u its) met.2))
+          (met.0, met.1, subst (λ (p : ℕ). MeetsGrantable p m.seat.me.0.number mode (Alter id mode) met.0) (place u its) met.2))
           (λ is. let met = (did.would_wait (cc)).1 in
-          (t, held.1, (here, (met.0, met.1, subst (λ (p : ℕ). MeetsBlocked p m.worker.number mode met.0) (sym held.2) met.2)))));
+          (t, held.1, (here, (met.0, met.1, subst (λ (p : ℕ). MeetsBlocked p m.seat.me.0.number mode met.0) (sym held.2) met.2)))));
     })
