@@ -11,7 +11,7 @@ use Rattle.mdl_calls.specs.Words.{Has_killed, No_cycle, Victim_is, Kill, Search,
 use Rattle.mdl_session_laws.specs.SessionJoins.{Joins}
 use Rattle.mdl_session_laws.specs.SessionSpaces.{SpeaksFor, Knows}
 use Rattle.mdl_visits.specs.Polls.{state_of}
-use Rattle.mdl_visits.specs.Searches.{KnowsFall}
+use Rattle.mdl_visits.specs.Searches.{KnowsVictim}
 use Rattle.mdl_shared.specs.declared.member.Member.{Member}
 use Rattle.mdl_shared.specs.SessionViews.{space_of_member}
 use Rattle.mdl_shared.specs.Waitings.{own_number}
@@ -32,7 +32,7 @@ kill-joins m m′ target number false stays killed settled =
     let h = settled mine refl (number-told m.asks m.waits ∙ waits) in ap is_some (told-settled m′.seat.me.0.told h.0 h.1))
 
 pub search-joins : (m m′ : Member) (who : ℕ) (result : Result Found SpaceError) → Stays m m′ → SpeaksFor (space_of_member m) who
-    → IfOk result (λ f. KnowsFall m.seat.me.0.number f m′.seat.me) → IfErr result (λ why. why ≡ OutOfMemory)
+    → IfOk result (λ f. KnowsVictim m.seat.me.0.number f m′.seat.me) → IfErr result (λ why. why ≡ OutOfMemory)
     → Joins (space_of_member m) (Search who) (searched result) (space_of_member m′)
 search-joins m m′ who (Ok found.NoCycle) stays speaks falls memory =
     joins-still m m′ (Search who) No_cycle stays speaks refl refl refl refl tt tt refl (λ state how is. cc) (λ how is. cc) refl (λ r. r) tt

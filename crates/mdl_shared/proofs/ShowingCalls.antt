@@ -48,13 +48,13 @@ use Rattle.mdl_visits.specs.Visits.{AreStepsOf, Does, MeetsBlocked, MeetsFull, M
 use Rattle.mdl_visits.specs.WaitOpenings.{MeetsOpening}
 use Rattle.mdl_shared.specs.declared.member.Member.{Member}
 use Rattle.mdl_shared.specs.Doings.{begin_deeds, deeds_if_done, merge_deeds, upgrade_deeds, wish_deeds}
-use Rattle.mdl_shared.specs.Endings.{EndMakesWay, end_of}
+use Rattle.mdl_shared.specs.Endings.{EndReschedules, end_of}
 use Rattle.mdl_calls.specs.Limits.{is_within}
 use Rattle.mdl_shared.specs.Members.{AreLearnt, holding_fault, kind_known, place_known, wish_fault}
 use Rattle.mdl_shared.specs.Modes.{clone_fault, downgrade_fault, merge_fault}
 use Rattle.mdl_shared.specs.OwnLists.{naming_fault}
 use Rattle.mdl_shared.specs.SessionViews.{lists_of, view_of}
-use Rattle.mdl_shared.specs.Showings.{HasStep, KeepsTold, LooksAtKeys, LooksUp, MakesNoStep, MakesWay, MeetsOwnWait, MeetsSo, MeetsTicket, OfTicket, RefusesWish, SettlesSo, ShowsBy, StepsSo, done_by, own_fault}
+use Rattle.mdl_shared.specs.Showings.{HasStep, KeepsTold, LooksAtKeys, LooksUp, MakesNoStep, Reschedules, MeetsOwnWait, MeetsSo, MeetsTicket, OfTicket, RefusesWish, SettlesSo, ShowsBy, StepsSo, done_by, own_fault}
 use Rattle.mdl_shared.specs.Upgrades.{upgrade_fault}
 use Rattle.mdl_shared.specs.Waitings.{wait_fault}
 use Rattle.mdl_shared.proofs.Faults.{just-refused}
@@ -220,7 +220,7 @@ module _ (m m′ : Member) (table : m′.seat.table ≡ m.seat.table) (sessions 
 
   pub end-shows : (who : ℕ) (result : Result Ended SpaceError)
       → IfSome (wait_fault m.asks) (λ why. result ≡ Err why) → OnErr result (SettlesNothing m.seat.me m′.seat.me) → Does [] m.seat.me m′.seat.me
-      → IfOk result (λ over. (a : Ask) × (m.asks ≡ Some a) × EndMakesWay (view_of m).table a.place over m.seat.me m′.seat.me)
+      → IfOk result (λ over. (a : Ask) × (m.asks ≡ Some a) × EndReschedules (view_of m).table a.place over m.seat.me m′.seat.me)
       → IfOk result (λ over. (a : Ask) × (how : Settled) × (over ≡ end_of a.number how) × MeetsOwnWait (state_of how) (lists_of m) (view_of m) (view_of m′))
       → IfErr result (λ why. (wait_fault m.asks ≡ Some why) ⊎ ((why ≡ cause.Unsettled) × MeetsOwnWait 1 (lists_of m) (view_of m) (view_of m′)))
       → ShowsBy (End_wait who) (ended result) (lists_of m) (view_of m) (view_of m′)
@@ -230,7 +230,7 @@ module _ (m m′ : Member) (table : m′.seat.table ≡ m.seat.table) (sessions 
       its : so.1 ≡ ended_of over
       its = sym (ended-of so.0.number so.1) ∙ ap ended_of (sym so.2)
 
-      by : (over : Ended) → IfSome (wait_fault m.asks) (λ why. ended (Ok over) ≡ Refused why) → (a : Ask) × (m.asks ≡ Some a) × EndMakesWay (view_of m).table a.place over m.seat.me m′.seat.me
+      by : (over : Ended) → IfSome (wait_fault m.asks) (λ why. ended (Ok over) ≡ Refused why) → (a : Ask) × (m.asks ≡ Some a) × EndReschedules (view_of m).table a.place over m.seat.me m′.seat.me
           → MeetsOwnWait (state_of (ended_of over)) (lists_of m) (view_of m) (view_of m′) → ShowsBy (End_wait who) (ended (Ok over)) (lists_of m) (view_of m) (view_of m′)
       by (ended_as.Granted id) fault way met = shows fault did (way.2) tt tt met
       by ended_as.Victim fault way met = shows fault did tt tt tt (met, way)
@@ -259,7 +259,7 @@ module _ (m m′ : Member) (table : m′.seat.table ≡ m.seat.table) (sessions 
   pub release-shows : (who id : ℕ) (result : Result (Unit {0}) SpaceError)
       → RefusesJust (holding_fault id m.tickets.items) result → OnErr result (SettlesNothing m.seat.me m′.seat.me)
       → Does (deeds_if_done (Lose id ∷ []) result) m.seat.me m′.seat.me
-      → OnOk result (OfTicket id (lists_of m) (MeetsTicket id (Lose id ∷ []) (view_of m) (view_of m′))) → OnOk result (OfTicket id (lists_of m) (MakesWay (view_of m) (view_of m′)))
+      → OnOk result (OfTicket id (lists_of m) (MeetsTicket id (Lose id ∷ []) (view_of m) (view_of m′))) → OnOk result (OfTicket id (lists_of m) (Reschedules (view_of m) (view_of m′)))
       → ShowsBy (Release who id) (done result) (lists_of m) (view_of m) (view_of m′)
   release-shows who id (Ok x) just settles did gone way = shows (unfit-told (holding_fault id m.tickets.items) done (λ why. refl) (Ok x) (just-unfit (holding_fault id m.tickets.items) (Ok x) just)) did tt tt tt ((gone, way))
   release-shows who id (Err why) just settles did gone way = shows (unfit-told (holding_fault id m.tickets.items) done (λ why. refl) (Err why) (just-unfit (holding_fault id m.tickets.items) (Err why) just)) did settles tt tt (just-refused (Unit {0}) (holding_fault id m.tickets.items) why just)
@@ -267,7 +267,7 @@ module _ (m m′ : Member) (table : m′.seat.table ≡ m.seat.table) (sessions 
   pub downgrade-shows : (who id : ℕ) (mode : Mode) (result : Result (Unit {0}) SpaceError)
       → RefusesJust (downgrade_fault (numbered id m.tickets.items) mode m.known.items) result → OnErr result (SettlesNothing m.seat.me m′.seat.me)
       → Does (deeds_if_done (Alter id mode ∷ []) result) m.seat.me m′.seat.me
-      → OnOk result (OfTicket id (lists_of m) (MeetsTicket id (Alter id mode ∷ []) (view_of m) (view_of m′))) → OnOk result (OfTicket id (lists_of m) (MakesWay (view_of m) (view_of m′)))
+      → OnOk result (OfTicket id (lists_of m) (MeetsTicket id (Alter id mode ∷ []) (view_of m) (view_of m′))) → OnOk result (OfTicket id (lists_of m) (Reschedules (view_of m) (view_of m′)))
       → ShowsBy (Downgrade who id mode) (done result) (lists_of m) (view_of m) (view_of m′)
   downgrade-shows who id mode (Ok x) just settles did weakened way = shows (unfit-told (downgrade_fault (numbered id m.tickets.items) mode m.known.items) done (λ why. refl) (Ok x) (just-unfit (downgrade_fault (numbered id m.tickets.items) mode m.known.items) (Ok x) just)) did tt tt tt ((weakened, way))
   downgrade-shows who id mode (Err why) just settles did weakened way = shows (unfit-told (downgrade_fault (numbered id m.tickets.items) mode m.known.items) done (λ why. refl) (Err why) (just-unfit (downgrade_fault (numbered id m.tickets.items) mode m.known.items) (Err why) just)) did settles tt tt (just-refused (Unit {0}) (downgrade_fault (numbered id m.tickets.items) mode m.known.items) why just)

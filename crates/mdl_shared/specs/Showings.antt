@@ -22,7 +22,7 @@ use Rattle.mdl_steps.specs.Schemas.{unknown}
 use Rattle.mdl_steps.specs.WaitStates.{granted_state, unsettled_state, wait_in}
 use Rattle.mdl_visits.specs.declared.resolve_error.ResolveError.{ResolveError}
 use Rattle.mdl_visits.specs.declared.resolve_error.ResolveError.TheVariants as resolve_error
-use Rattle.mdl_visits.specs.Grantings.{MadeWay}
+use Rattle.mdl_visits.specs.Grantings.{HasRescheduled}
 use Rattle.mdl_visits.specs.Leavings.{MeetsOwn}
 use Rattle.mdl_visits.specs.Lookups.{TookDirectory, IsAnswer}
 use Rattle.mdl_visits.specs.Numbers.{numbered}
@@ -62,8 +62,8 @@ abbrev pub MeetsTicket : ℕ → List Deed → SessionView → SessionView → O
 MeetsTicket id ds a b t = HasStep a b (λ e. MeetsOwn t.place a.me.0.number id e × (e.deeds ≡ ds))
 
 -- way was made at its place
-abbrev pub MakesWay : SessionView → SessionView → Own → Type 0
-MakesWay a b t = MadeWay a.table t.place a.me b.me
+abbrev pub Reschedules : SessionView → SessionView → Own → Type 0
+Reschedules a b t = HasRescheduled a.table t.place a.me b.me
 
 -- the directory was looked at once, and so a key is answered by it
 abbrev pub LooksUp : KeyName → Result ℕ ResolveError → SessionView → SessionView → Type 0
@@ -137,7 +137,7 @@ done_by (Release who id) Done tickets = Lose id ∷ []
 done_by (Downgrade who id mode) Done tickets = Alter id mode ∷ []
 done_by _ _ tickets = []
 
--- which waits they settled. `MadeWay` tells that where way was made, and `Searched` of a search
+-- which waits they settled. `HasRescheduled` tells that where way was made, and `Searched` of a search
 abbrev pub SettlesSo : Call → Answer → Lists → SessionView → SessionView → Type 0
 SettlesSo (Search who) No_cycle l a b = Unit {0}
 SettlesSo (Search who) (Victim_is victim) l a b = Unit {0}
@@ -180,7 +180,7 @@ MeetsSo (Settle_timeout who) (Refused why) l a b = own_fault (Settle_timeout who
 MeetsSo (End_wait who) (Granted id) l a b = MeetsOwnWait granted_state l a b
 MeetsSo (End_wait who) (Lost how) l a b =
     MeetsOwnWait (state_of how) l a b
-    × ((ask : Ask) × (l.asks ≡ Some ask) × MadeWay a.table ask.place (without_wait a.me) b.me)
+    × ((ask : Ask) × (l.asks ≡ Some ask) × HasRescheduled a.table ask.place (without_wait a.me) b.me)
 MeetsSo (End_wait who) (Refused why) l a b = (own_fault (End_wait who) l ≡ Some why) ⊎ ((why ≡ cause.Unsettled) × MeetsOwnWait unsettled_state l a b)
 MeetsSo (Wait_of target) (Has_wait number) l a b =
     (is_within a.sessions target ≡ false → (number ≡ None) × MakesNoStep a b)
@@ -190,7 +190,7 @@ MeetsSo (Kill target number) (Has_killed true) l a b =
 MeetsSo (Kill target number) (Has_killed false) l a b =
     (is_within a.sessions target ≡ false → MakesNoStep a b)
     × (is_within a.sessions target ≡ true → HasStep a b (MeetsOther a.table.slots target (wait_in number unsettled_state)))
-MeetsSo (Release who id) Done l a b = OfTicket id l (MeetsTicket id (Lose id ∷ []) a b) × OfTicket id l (MakesWay a b)
+MeetsSo (Release who id) Done l a b = OfTicket id l (MeetsTicket id (Lose id ∷ []) a b) × OfTicket id l (Reschedules a b)
 MeetsSo (Release who id) (Refused why) l a b = own_fault (Release who id) l ≡ Some why
 MeetsSo (Clone_ticket who id mode) (Granted new) l a b = OfTicket id l (MeetsTicket id (Gain new mode ∷ []) a b)
 MeetsSo (Clone_ticket who id mode) (Refused why) l a b =
@@ -206,7 +206,7 @@ MeetsSo (Merge who old new) Done l a b =
     OfTicket old l (λ kept. OfTicket new l (λ gone. HasStep a b (λ e.
     MeetsOwn kept.place a.me.0.number old e × MeetsOwn kept.place a.me.0.number new e × (e.deeds ≡ Alter old gone.mode ∷ Lose new ∷ []))))
 MeetsSo (Merge who old new) (Refused why) l a b = own_fault (Merge who old new) l ≡ Some why
-MeetsSo (Downgrade who id mode) Done l a b = OfTicket id l (MeetsTicket id (Alter id mode ∷ []) a b) × OfTicket id l (MakesWay a b)
+MeetsSo (Downgrade who id mode) Done l a b = OfTicket id l (MeetsTicket id (Alter id mode ∷ []) a b) × OfTicket id l (Reschedules a b)
 MeetsSo (Downgrade who id mode) (Refused why) l a b = own_fault (Downgrade who id mode) l ≡ Some why
 MeetsSo (Read_definition who id) (Reads version definition) l a b =
     OfTicket id l (λ t. Follows t.place (record { version = version; definition = definition }) a.me

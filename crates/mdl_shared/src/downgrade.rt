@@ -3,7 +3,7 @@ ghost use Rattle.std.specs.Prelude.{[], Some, true, ◌∷◌, ◌≡◌};
 ghost use Rattle.mdl_steps.specs.declared.deed.Deed.TheVariants.{Alter};
 ghost use Rattle.mdl_steps.specs.declared.view.Met.{Met};
 ghost use Rattle.mdl_steps.specs.declared.view.Own.{Own};
-ghost use Rattle.mdl_visits.specs.Grantings.{MadeWay};
+ghost use Rattle.mdl_visits.specs.Grantings.{HasRescheduled};
 ghost use Rattle.mdl_shared.specs.Keepings.{SeesWait};
 ghost use Rattle.mdl_visits.specs.Leavings.{MeetsOwn};
 ghost use Rattle.mdl_visits.specs.Numbers.{numbered};
@@ -39,7 +39,7 @@ impl Member {
         ensures weakened { self.new.tickets.items ≡ in_mode_at held.place held.number mode self.old.tickets.items }
         ensures step { (e : Met) × IsStepOf self.old.seat.me self.new.seat.me e × MeetsOwn held.place self.old.seat.me.0.number held.number e
             × (e.deeds ≡ Alter held.number mode ∷ []) }
-        ensures way { MadeWay self.old.seat.table held.place self.old.seat.me self.new.seat.me }
+        ensures way { HasRescheduled self.old.seat.table held.place self.old.seat.me self.new.seat.me }
     {
         downgrade(rt, &mut self.seat, held, mode);
         set_mode(&mut self.tickets, held.place, held.number, mode);

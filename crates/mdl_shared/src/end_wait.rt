@@ -5,9 +5,9 @@ ghost use Rattle.mdl_calls.specs.declared.space_error.SpaceError.TheVariants as 
 ghost use Rattle.mdl_steps.specs.declared.view.Ask.{Ask};
 ghost use Rattle.mdl_steps.specs.declared.view.Met.{Met};
 ghost use Rattle.mdl_steps.specs.WaitStates.{IsLost, granted_state, unsettled_state};
-ghost use Rattle.mdl_shared.specs.Endings.{EndMakesWay, EndsWith, end_of, lost_end, ticket_asked, tickets_after};
+ghost use Rattle.mdl_shared.specs.Endings.{EndReschedules, EndsWith, end_of, lost_end, ticket_asked, tickets_after};
 ghost use Rattle.mdl_visits.specs.WaitEndings.{without_wait};
-ghost use Rattle.mdl_visits.specs.Grantings.{MadeWay};
+ghost use Rattle.mdl_visits.specs.Grantings.{HasRescheduled};
 ghost use Rattle.mdl_shared.specs.Keepings.{SeesWait};
 ghost use Rattle.mdl_visits.specs.Polls.{MeetsWait, SettlesNothing, state_of};
 ghost use Rattle.mdl_visits.specs.Readings.{ReadsNothing};
@@ -68,7 +68,7 @@ impl Member {
             × (self.new.known.items ≡ self.old.known.items) × (self.new.sessions ≡ self.old.sessions) }
         ensures reads { ReadsNothing self.old.seat.me self.new.seat.me }
         ensures did { Does [] self.old.seat.me self.new.seat.me }
-        ensures way { MadeWay self.old.seat.table ask.place (without_wait self.old.seat.me) self.new.seat.me }
+        ensures way { HasRescheduled self.old.seat.table ask.place (without_wait self.old.seat.me) self.new.seat.me }
         ensures goes { GoesOn self.old.seat.me self.new.seat.me }
         ensures ended { EndsWith self.old.tickets.items self.old self.new }
     {
@@ -84,7 +84,7 @@ impl Member {
         ensures reads { ReadsNothing self.old.seat.me self.new.seat.me }
         ensures settles { OnErr result (SettlesNothing self.old.seat.me self.new.seat.me) }
         ensures did { Does [] self.old.seat.me self.new.seat.me }
-        ensures way { IfOk result (λ ended. EndMakesWay self.old.seat.table ask.place ended self.old.seat.me self.new.seat.me) }
+        ensures way { IfOk result (λ ended. EndReschedules self.old.seat.table ask.place ended self.old.seat.me self.new.seat.me) }
         ensures ended { IfOk result (λ ended. (how : Settled) × (ended ≡ end_of ask.number how)
             × EndsWith (tickets_after ask how self.old.tickets.items) self.old self.new
             × ((e : Met) × IsStepOf self.old.seat.me self.new.seat.me e

@@ -4,7 +4,7 @@ ghost use Rattle.std.specs.Option.{option_map};
 ghost use Rattle.mdl_steps.specs.declared.deed.Deed.TheVariants.{Lose};
 ghost use Rattle.mdl_steps.specs.declared.view.Met.{Met};
 ghost use Rattle.mdl_steps.specs.declared.view.Own.{Own};
-ghost use Rattle.mdl_visits.specs.Grantings.{MadeWay};
+ghost use Rattle.mdl_visits.specs.Grantings.{HasRescheduled};
 ghost use Rattle.mdl_shared.specs.Keepings.{SeesWait};
 ghost use Rattle.mdl_visits.specs.Leavings.{MeetsOwn};
 ghost use Rattle.mdl_visits.specs.Numbers.{numbered};
@@ -35,7 +35,7 @@ impl Member {
         ensures released { self.new.tickets.items ≡ without_at place id self.old.tickets.items }
         ensures step { (e : Met) × IsStepOf self.old.seat.me self.new.seat.me e × MeetsOwn place self.old.seat.me.0.number id e
             × (e.deeds ≡ Lose id ∷ []) }
-        ensures way { MadeWay self.old.seat.table place self.old.seat.me self.new.seat.me }
+        ensures way { HasRescheduled self.old.seat.table place self.old.seat.me self.new.seat.me }
     {
         release(rt, &mut self.seat, place, id);
         strike(&mut self.tickets, place, id);

@@ -1,6 +1,6 @@
 //! A session makes way at a place where it gives up nothing.
 ghost use Rattle.std.specs.Prelude.{[], true, ◌≡◌};
-ghost use Rattle.mdl_visits.specs.Grantings.{MadeWay};
+ghost use Rattle.mdl_visits.specs.Grantings.{HasRescheduled};
 ghost use Rattle.mdl_shared.specs.Keepings.{SeesWait};
 ghost use Rattle.mdl_shared.specs.Members.{is_known_place};
 ghost use Rattle.mdl_visits.specs.Readings.{ReadsNothing};
@@ -24,7 +24,7 @@ impl Member {
         ensures wait { SeesWait self.old self.new }
         ensures reads { ReadsNothing self.old.seat.me self.new.seat.me }
         ensures did { Does [] self.old.seat.me self.new.seat.me }
-        ensures way { MadeWay self.old.seat.table place self.old.seat.me self.new.seat.me }
+        ensures way { HasRescheduled self.old.seat.table place self.old.seat.me self.new.seat.me }
     {
         reschedule(rt, &mut self.seat, place);
     }
@@ -37,7 +37,7 @@ impl<R: Wait> Session<R> {
         requires known { is_known place (space_of self.old).known ≡ true }
         ensures same { KeepsLists self.old self.new × RemembersWait self.old self.new }
         ensures did { Does [] self.old.me self.new.me }
-        ensures way { MadeWay self.old.table place self.old.me self.new.me }
+        ensures way { HasRescheduled self.old.table place self.old.me self.new.me }
     {
         self.member.reschedule(&self.rt, place as usize);
     }

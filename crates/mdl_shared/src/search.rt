@@ -5,7 +5,7 @@ ghost use Rattle.mdl_shared.specs.Keepings.{SeesWait};
 ghost use Rattle.mdl_visits.specs.Lookups.{TookDirectory};
 ghost use Rattle.mdl_visits.specs.Polls.{SettlesNothing};
 ghost use Rattle.mdl_visits.specs.Readings.{ReadsNothing};
-ghost use Rattle.mdl_visits.specs.Searches.{KnowsFall, Searched};
+ghost use Rattle.mdl_visits.specs.Searches.{KnowsVictim, Searched};
 ghost use Rattle.mdl_visits.specs.Visits.{Does};
 ghost use Rattle.mdl_shared.specs.SessionViews.{space_of};
 ghost use Rattle.mdl_calls.specs.Words.{Search as Search_by, searched};
@@ -30,7 +30,7 @@ impl Member {
         ensures did { Does [] self.old.seat.me self.new.seat.me }
         ensures searched { (k : Keys) × TookDirectory self.old.seat.table.slots k k self.old.seat.me self.new.seat.me
             × IfOk result (λ found. Searched self.old.seat.table self.old.seat.me.0.number k found self.old.seat.me self.new.seat.me) }
-        ensures own { IfOk result (λ found. KnowsFall self.old.seat.me.0.number found self.new.seat.me) }
+        ensures own { IfOk result (λ found. KnowsVictim self.old.seat.me.0.number found self.new.seat.me) }
         ensures nothing { OnErr result (SettlesNothing self.old.seat.me self.new.seat.me) }
     {
         let alloc = *self.known.allocator();

@@ -6,10 +6,10 @@ use Rattle.mdl_steps.specs.declared.view.Own.{Own}
 use Rattle.mdl_steps.specs.Plays.{Mine}
 use Rattle.mdl_shared.specs.Endings.{ticket_asked}
 use Rattle.mdl_visits.specs.WaitEndings.{without_wait}
-use Rattle.mdl_visits.specs.Grantings.{MadeWay}
+use Rattle.mdl_visits.specs.Grantings.{HasRescheduled}
 use Rattle.mdl_visits.specs.Polls.{state_of}
 use Rattle.mdl_visits.proofs.Steps.{does_then}
-use Rattle.mdl_shared.proofs.Ends.{granted_so, lost_over, lost_so, lost_way, step_earlier, way_met_before}
+use Rattle.mdl_shared.proofs.Ends.{granted_so, lost_over, lost_so, lost_rescheduled, step_earlier, rescheduled_met_before}
 use Rattle.mdl_shared.proofs.member.Member.end_wait.Goals as goal
 
 pub end_lost-requires-clause-lost : goal.end_lost-requires-clause-lost
@@ -61,9 +61,9 @@ returns-in-Some-clause-way g c =
     let went : Mine = c.end_lost.new.self.seat.me in
     let id = self.seat.table in
     let did = c.poll_wait.ensures in
-    let way = subst (λ (x : TableId). MadeWay x c.args.ask.place (without_wait polled) went) did.same.0 c.end_lost.ensures.way in
-    lost_way id c.args.ask.place m went how c.in-Some.ended (sym c.lost_end.ensures ∙ c.in-Some.is)
-    (way_met_before id c.args.ask.place m polled went did.stayed did.settles did.same.1 way)
+    let way = subst (λ (x : TableId). HasRescheduled x c.args.ask.place (without_wait polled) went) did.same.0 c.end_lost.ensures.way in
+    lost_rescheduled id c.args.ask.place m went how c.in-Some.ended (sym c.lost_end.ensures ∙ c.in-Some.is)
+    (rescheduled_met_before id c.args.ask.place m polled went did.stayed did.settles did.same.1 way)
 
 pub returns-in-Some-clause-did : goal.returns-in-Some-clause-did
 returns-in-Some-clause-did g c =
