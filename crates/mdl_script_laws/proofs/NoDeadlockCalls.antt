@@ -15,7 +15,7 @@ use Rattle.mdl_book.specs.declared.ticket.Ticket.{Ticket}
 use Rattle.mdl_core.proofs.CallDeadlocks.{only-new_waits}
 use Rattle.mdl_core.proofs.CallLaws.{core-keeps, joins-comes}
 use Rattle.mdl_core.proofs.CoreSound.{calls_keep-sound}
-use Rattle.mdl_core.proofs.Ways.{Way, Stay, Open, Settle_wait, Make, makes_room, granted_if, space_by}
+use Rattle.mdl_core.proofs.Ways.{Way, Stay, Open, Settle_wait, Make, makes_room, served_if, space_by}
 use Rattle.mdl_system.specs.Deadlocks.{DeadlocksGoThrough, HasNoDeadlock}
 use Rattle.mdl_script_laws.proofs.OutcomeLemmas.{joins-outcome}
 
@@ -40,7 +40,7 @@ seats-granting zero a place = refl
 seats-granting (suc n) a place =
     seats-granting n (admitting_if place (next_ready place a) a) place ∙ seats-admitting a place (next_ready place a)
 
-seats-served : (a : Core) (room : Bool) (place : ℕ) → length (granted_if room place a).seats ≡ length a.seats
+seats-served : (a : Core) (room : Bool) (place : ℕ) → length (served_if room place a).seats ≡ length a.seats
 seats-served a true place = seats-granting (length (book_at place a).waiting) a place
 seats-served a false place = refl
 

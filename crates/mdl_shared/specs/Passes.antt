@@ -2,10 +2,7 @@
 use Rattle.std.specs.Prelude.{◌≡◌, ℕ, ◌+◌, ◌<◌, List, [], length, slice_index_or}
 use Rattle.std.specs.Arc.{arc_value}
 use Rattle.atomic_table.specs.Seated.{TableId}
-use Rattle.mdl_steps.specs.declared.step_kind.StepKind.TheVariants.{Enrol}
-use Rattle.mdl_steps.specs.Cells.{blank, no_numbers}
-use Rattle.mdl_steps.specs.Layout.{enrol_word}
-use Rattle.mdl_steps.specs.Plays.{logged}
+use Rattle.mdl_steps.specs.SeatStates.{enrolled_seat}
 use Rattle.mdl_shared.specs.declared.manager.Manager.{Manager}
 use Rattle.mdl_shared.specs.declared.pass.Pass.{Pass}
 use Rattle.mdl_shared.specs.SessionViews.{SessionView, view_of}
@@ -30,7 +27,7 @@ pass_number pass = (pass_view pass).me.0.number
 pub record IsPass (table : TableId) (number : ℕ) (pass : Pass) : Type 0 where
   pub theirs : pass_table pass ≡ table
   pub numbered : pass_number pass ≡ number
-  pub fresh : (pass_view pass).me ≡ (logged Enrol [] (enrol_word table.slots) number [] (blank number no_numbers), [])
+  pub fresh : (pass_view pass).me ≡ (enrolled_seat table number).me
 
 -- the passes of the sessions from 1 on, in order
 abbrev pub ArePasses : TableId → List Pass → Type 0

@@ -1,10 +1,8 @@
 //! What a session has of the space, whether it is open or not.
 ghost use Rattle.std.specs.Prelude.{◌≡◌, ◌<◌, ◌≤◌, ℕ, true, [], length, is_some, None};
 ghost use Rattle.std.specs.Vec.{vec_capacity, vec_len};
-ghost use Rattle.mdl_steps.specs.declared.step_kind.StepKind.TheVariants.{Enrol};
-ghost use Rattle.mdl_steps.specs.Cells.{blank, no_numbers};
 ghost use Rattle.mdl_steps.specs.Layout.{word_count};
-ghost use Rattle.mdl_steps.specs.Plays.{logged};
+ghost use Rattle.mdl_steps.specs.SeatStates.{enrolled_seat};
 ghost use Rattle.mdl_visits.specs.Idle.{IsIdle, HasSlowAlone};
 ghost use Rattle.mdl_shared.specs.Members.{are_apart, are_placed, are_within, most_numbers};
 ghost use Rattle.mdl_shared.specs.Rememberings.{Remembers};
@@ -62,7 +60,7 @@ impl Member {
         requires counted { 0 < seat.me.0.number }
         requires enrolled { seat.me.0.number ≤ sessions }
         requires words { seat.table.words ≡ word_count seat.table.slots sessions }
-        requires fresh { (word : ℕ) × (seat.me ≡ (logged Enrol [] word seat.me.0.number [] (blank seat.me.0.number no_numbers), [])) }
+        requires fresh { seat.me ≡ (enrolled_seat seat.table seat.me.0.number).me }
         ensures made { (result.seat ≡ seat) × (result.sessions ≡ sessions) }
         ensures nothing { (result.tickets.items ≡ []) × (result.known.items ≡ []) × (result.next ≡ 1)
             × (result.asks ≡ None) × (result.waits ≡ 0) }

@@ -24,7 +24,7 @@ use Rattle.mdl_steps.specs.Rule.{Lawful, NotedCounts, Rule}
 use Rattle.mdl_system.specs.BookLaws.{of_lock}
 use Rattle.mdl_system.specs.Events.{SameElsewhere, SameWaits, IsNewNumber, GrantsNew, ClonesTicket, Releases, Upgrades, Merges, Downgrades, ChangesDefinition}
 use Rattle.mdl_system.specs.Strength.{downgrades}
-use Rattle.mdl_system.specs.Systems.{System, LatchRecord, HasNoWait, lock_kind}
+use Rattle.mdl_system.specs.Systems.{System, Held, HasNoWait, lock_kind}
 use Rattle.mdl_steps_laws.specs.Locks.{Lock, AreLocksOf, Tells}
 use Rattle.mdl_steps_laws.specs.TableLaws.{IsOnly}
 
@@ -86,7 +86,7 @@ abbrev pub LosingReleases : Type 0
 LosingReleases =
     (session number : ℕ) (key : KeyName) (old new : KeyName → Lock) (a b : System Definition) →
     Does session (Lose number ∷ []) key old new a b →
-    (t : Ticket) → IsOnly session number (old key) t → LatchRecord a session (of_lock key t) →
+    (t : Ticket) → IsOnly session number (old key) t → Held a session (of_lock key t) →
     Releases (of_lock key t) a b
 
 -- to gain one of a new number is to be granted it, where the wish may be taken
@@ -103,7 +103,7 @@ GainingClones =
     (session number : ℕ) (mode : Mode) (key : KeyName) (old new : KeyName → Lock) (a b : System Definition) →
     Does session (Gain number mode ∷ []) key old new a b →
     HasNoWait a session → IsNewNumber a session number →
-    (t : Ticket) → LatchRecord a session (of_lock key t) → IsAtLeast (lock_kind key) t.mode mode →
+    (t : Ticket) → Held a session (of_lock key t) → IsAtLeast (lock_kind key) t.mode mode →
     ClonesTicket (of_lock key t) (of_lock key (record { session = session; number = number; mode = mode })) a b
 
 -- to alter a ticket is to downgrade it, where the new mode is one of those below the old one
@@ -111,7 +111,7 @@ abbrev pub AlteringDowngrades : Type 0
 AlteringDowngrades =
     (session number : ℕ) (mode : Mode) (key : KeyName) (old new : KeyName → Lock) (a b : System Definition) →
     Does session (Alter number mode ∷ []) key old new a b →
-    (t : Ticket) → IsOnly session number (old key) t → LatchRecord a session (of_lock key t) → Contains (downgrades t.mode) mode →
+    (t : Ticket) → IsOnly session number (old key) t → Held a session (of_lock key t) → Contains (downgrades t.mode) mode →
     Downgrades (of_lock key t) mode a b
 
 -- and to upgrade it, where the wish for the new mode may be taken
@@ -119,7 +119,7 @@ abbrev pub AlteringUpgrades : Type 0
 AlteringUpgrades =
     (session number : ℕ) (mode : Mode) (key : KeyName) (old new : KeyName → Lock) (a b : System Definition) →
     Does session (Alter number mode ∷ []) key old new a b →
-    (t : Ticket) → IsOnly session number (old key) t → LatchRecord a session (of_lock key t) → MayTake session mode (old key) a →
+    (t : Ticket) → IsOnly session number (old key) t → Held a session (of_lock key t) → MayTake session mode (old key) a →
     Upgrades (of_lock key t) mode a b
 
 -- to alter one to the mode of another, at least as strong, and to lose that is to merge the two
@@ -128,7 +128,7 @@ MovingMerges =
     (session kept lost : ℕ) (key : KeyName) (old new : KeyName → Lock) (a b : System Definition) →
     (t u : Ticket) → IsOnly session kept (old key) t → IsOnly session lost (old key) u → kept ≢ lost →
     Does session (Alter kept u.mode ∷ Lose lost ∷ []) key old new a b →
-    HasNoWait a session → LatchRecord a session (of_lock key t) → LatchRecord a session (of_lock key u) → IsAtLeast (lock_kind key) u.mode t.mode →
+    HasNoWait a session → Held a session (of_lock key t) → Held a session (of_lock key u) → IsAtLeast (lock_kind key) u.mode t.mode →
     Merges (of_lock key t) (of_lock key u) a b
 
 -- a change of a definition that can be made, by a session that holds the key exclusively, is one of the system
@@ -136,5 +136,5 @@ abbrev pub RedefiningChanges : Type 0
 RedefiningChanges =
     (session : ℕ) (change : Change) (key : KeyName) (old new : KeyName → Lock) (a b : System Definition) →
     Redefines change key old new a b →
-    (t : Ticket) → LatchRecord a session (of_lock key t) → t.mode ≡ X → standing_fault key.namespace change (old key).book.standing ≡ None →
+    (t : Ticket) → Held a session (of_lock key t) → t.mode ≡ X → standing_fault key.namespace change (old key).book.standing ≡ None →
     ChangesDefinition (λ (at : KeyName). applied at.namespace) (of_lock key t) change a b

@@ -69,6 +69,7 @@ invariant_of-self-in-Ok-Granted g c =
       remembers = ∣ subst (λ (m : Mine). Remembers self.known.items c.push_reserved.new.self.items m.0.reads) (sym now)
           (subst (λ (ts : List Own). Remembers self.known.items ts self.seat.me.0.reads) (sym (pushed)) (remembers_gained self.known.items self.tickets.items self.seat.me.0.reads (remembered self.remembers) t refl)) ∣₁;
       fewer = (let less = self.fewer.0 in omega arith, self.fewer.1);
+      counted = subst (λ (n : ℕ). 0 < n) (sym (ap (λ (m : Mine). m.0.number) now)) self.counted;
       enrolled = subst (λ (n : ℕ). n ≤ self.sessions) (sym (ap (λ (m : Mine). m.0.number) now)) self.enrolled;
       words = words_there self.sessions table self.words;
     }
@@ -105,6 +106,7 @@ invariant_of-self-in-Ok-Waiting g c =
       remembers = ∣ subst (λ (m : Mine). Remembers self.known.items c.reserve.new.self.items m.0.reads) (sym now)
           (subst (λ (ts : List Own). Remembers self.known.items ts self.seat.me.0.reads) (sym (same)) ((remembered self.remembers))) ∣₁;
       fewer = (let less = self.fewer.0 in omega arith, let less = self.fewer.0 in let room = c.requires.room in omega arith);
+      counted = subst (λ (n : ℕ). 0 < n) (sym (ap (λ (m : Mine). m.0.number) now)) self.counted;
       enrolled = subst (λ (n : ℕ). n ≤ self.sessions) (sym (ap (λ (m : Mine). m.0.number) now)) self.enrolled;
       words = words_there self.sessions table self.words;
     }

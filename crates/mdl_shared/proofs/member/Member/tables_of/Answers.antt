@@ -59,6 +59,7 @@ invariant_of-self-2 g c =
       remembers = ∣ subst (λ (m : Mine). Remembers c.learn.new.known.items self.tickets.items m.0.reads) (sym now)
           (subst (λ (ks : List Known). Remembers ks self.tickets.items self.seat.me.0.reads) (sym learnt) (remembers_more self.known.items new self.tickets.items self.seat.me.0.reads (remembered self.remembers))) ∣₁;
       fewer = self.fewer;
+      counted = subst (λ (n : ℕ). 0 < n) (sym (ap (λ (m : Mine). m.0.number) now)) self.counted;
       enrolled = subst (λ (n : ℕ). n ≤ self.sessions) (sym (ap (λ (m : Mine). m.0.number) now)) self.enrolled;
       words = words_there self.sessions table self.words;
     }

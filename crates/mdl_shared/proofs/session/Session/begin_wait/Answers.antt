@@ -22,21 +22,21 @@ pub returns-in_default-clause-joined : goal.returns-in_default-clause-joined
 returns-in_default-clause-joined g c =
     let m = c.self.inside.member in
     rw (← c.self.view_is)
-    (refused-seen m (Begin_wait m.worker.number c.args.place c.args.mode) NoPlace (speaks m) refl refl
+    (refused-seen m (Begin_wait m.seat.me.0.number c.args.place c.args.mode) NoPlace (speaks m) refl refl
     (no-kind c.args.place m.known.items (sym c.kind_at.ensures ∙ c.in_default.is)) (λ state how is. cc) tt)
 
 pub returns-then-is_some-clause-joined : goal.returns-then-is_some-clause-joined
 returns-then-is_some-clause-joined g c =
     let m = c.self.inside.member in
     rw (← c.self.view_is)
-    (refused-seen m (Begin_wait m.worker.number c.args.place c.args.mode) AlreadyWaiting (speaks m) refl refl
+    (refused-seen m (Begin_wait m.seat.me.0.number c.args.place c.args.mode) AlreadyWaiting (speaks m) refl refl
     (waits-asks m.asks m.waits ∙ sym c.is_some.ensures ∙ c.if-is_some.true) (λ state how is. cc) tt)
 
 pub returns-then-not-has_mode-clause-joined : goal.returns-then-not-has_mode-clause-joined
 returns-then-not-has_mode-clause-joined g c =
     let m = c.self.inside.member in
     rw (← c.self.view_is)
-    (refused-seen m (Begin_wait m.worker.number c.args.place c.args.mode) BadMode (speaks m) refl refl (
+    (refused-seen m (Begin_wait m.seat.me.0.number c.args.place c.args.mode) BadMode (speaks m) refl refl (
       waits-asks m.asks m.waits ∙ sym c.is_some.ensures ∙ c.if-is_some.false,
       of-kind c.args.place m.known.items c.in-Some.kind c.args.mode false (sym c.kind_at.ensures ∙ c.in-Some.is) (sym c.has_mode.ensures ∙ c.if-not-has_mode.true),
     )
@@ -46,7 +46,7 @@ pub returns-then-self-gt-MOST_NUMBERS-clause-joined : goal.returns-then-self-gt-
 returns-then-self-gt-MOST_NUMBERS-clause-joined g c =
     let m = c.self.inside.member in
     rw (← c.self.view_is)
-    (refused-seen m (Begin_wait m.worker.number c.args.place c.args.mode) CounterFull (speaks m) refl refl (
+    (refused-seen m (Begin_wait m.seat.me.0.number c.args.place c.args.mode) CounterFull (speaks m) refl refl (
       waits-asks m.asks m.waits ∙ sym c.is_some.ensures ∙ c.if-is_some.false,
       of-kind c.args.place m.known.items c.in-Some.kind c.args.mode true (sym c.kind_at.ensures ∙ c.in-Some.is) (sym c.has_mode.ensures ∙ c.if-not-has_mode.false),
     )
@@ -54,9 +54,9 @@ returns-then-self-gt-MOST_NUMBERS-clause-joined g c =
 
 -- it knows of its wait what it knew, which is nothing where it begins one
 kept : (m m′ : Member) (result : Result Begun SpaceError) → m.asks ≡ None → ((id : ℕ) → result ≡ Ok (Granted id) → KeepsWait m m′)
-    → ((number : ℕ) → result ≡ Ok (Waiting number) → m′.worker.seat.me.0.told ≡ None)
+    → ((number : ℕ) → result ≡ Ok (Waiting number) → m′.seat.me.0.told ≡ None)
     → OnErr result (KeepsWait m m′ × (m′.tickets.items ≡ m.tickets.items) × (m′.next ≡ m.next))
-    → m′.worker.seat.me.0.told ≡ m.worker.seat.me.0.told
+    → m′.seat.me.0.told ≡ m.seat.me.0.told
 kept m m′ (Ok (Granted id)) idle granted waits unchanged = (granted id refl).3
 kept m m′ (Ok (Waiting number)) idle granted waits unchanged = waits number refl ∙ sym (nothing-told m idle)
 kept m m′ (Err why) idle granted waits unchanged = unchanged.0.3
@@ -74,11 +74,11 @@ returns g c =
     let told = kept m m′ c.begin_wait.result (no-asks m.asks m.waits (waits-asks m.asks m.waits ∙ waits-not)) (λ id is. (did.granted id is).0)
     (λ number is. (did.waiting number is).1.unsettled) did.unchanged in
     rw (← c.self.view_is) (record {
-      joined = joins-seen m m′ (Begin_wait m.worker.number c.args.place c.args.mode) (begun c.begin_wait.result)
-          (begin-joins m m′ m.worker.number c.args.place c.args.mode same.1 same.2 did.reads (speaks m) c.begin_wait.result
+      joined = joins-seen m m′ (Begin_wait m.seat.me.0.number c.args.place c.args.mode) (begun c.begin_wait.result)
+          (begin-joins m m′ m.seat.me.0.number c.args.place c.args.mode same.1 same.2 did.reads (speaks m) c.begin_wait.result
           (λ id is. let h = did.granted id is in (h.0, h.1, h.2)) did.next (λ number is. let h = did.waiting number is in (h.0, h.1)) did.unchanged
           (if-clear _ _ clear) (causes-open _ _ _ c.begin_wait.result did.refused));
-      shown = shows-seen m m′ (Begin_wait m.worker.number c.args.place c.args.mode) (begun c.begin_wait.result)
-          (begin-shows m m′ same.0 same.3 m.worker.number c.args.place c.args.mode c.begin_wait.result told (if-clear _ _ clear) did.settles did.did
+      shown = shows-seen m m′ (Begin_wait m.seat.me.0.number c.args.place c.args.mode) (begun c.begin_wait.result)
+          (begin-shows m m′ same.0 same.3 m.seat.me.0.number c.args.place c.args.mode c.begin_wait.result told (if-clear _ _ clear) did.settles did.did
           (λ id is. (did.granted id is).3) (λ number is. (did.waiting number is).2) (if-refused c.begin_wait.result (λ why is. inr is) did.refused));
     })

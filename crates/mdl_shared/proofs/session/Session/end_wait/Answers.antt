@@ -17,7 +17,7 @@ pub returns-in_default-clause-joined : goal.returns-in_default-clause-joined
 returns-in_default-clause-joined g c =
     let m = c.self.inside.member in
     rw (← c.self.view_is)
-    (refused-seen m (End_wait m.worker.number) NoWait (speaks m) refl refl (waits-asks m.asks m.waits ∙ ap is_some c.in_default.is) (λ state how is. cc) tt)
+    (refused-seen m (End_wait m.seat.me.0.number) NoWait (speaks m) refl refl (waits-asks m.asks m.waits ∙ ap is_some c.in_default.is) (λ state how is. cc) tt)
 
 pub returns-clause-joined : goal.returns-clause-joined
 returns-clause-joined g c =
@@ -28,8 +28,8 @@ returns-clause-joined g c =
     let did = c.end_wait.ensures in
     let same = did.same in
     rw (← c.self.view_is)
-    (joins-seen m m′ (End_wait m.worker.number) (ended result)
-    (end-joins m m′ m.worker.number same.1 same.2 same.3 did.reads (speaks m) result
+    (joins-seen m m′ (End_wait m.seat.me.0.number) (ended result)
+    (end-joins m m′ m.seat.me.0.number same.1 same.2 same.3 did.reads (speaks m) result
     (part-of result (λ over h. (ask, h.0, c.in-Some.is, h.1, h.2)) did.ended)
     (λ a state asks told.
     let its : ask ≡ a = (let e : Some ask ≡ Some a = sym c.in-Some.is ∙ asks in cc) in

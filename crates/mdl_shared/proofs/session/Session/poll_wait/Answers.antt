@@ -15,7 +15,7 @@ pub returns-then-is_none-clause-joined : goal.returns-then-is_none-clause-joined
 returns-then-is_none-clause-joined g c =
     let m = c.self.inside.member in
     rw (← c.self.view_is)
-    (refused-seen m (Poll_wait m.worker.number) NoWait (speaks m) refl refl
+    (refused-seen m (Poll_wait m.seat.me.0.number) NoWait (speaks m) refl refl
     (waits-asks m.asks m.waits ∙ c.is_none.ensures ∙ ap not c.if-is_none.true) (λ state how is. cc) tt)
 
 pub returns : goal.returns
@@ -28,10 +28,10 @@ returns g c =
     let stays : Stays m m′ = record { number = same.1; tickets = same.4; next = same.2; known = same.3; wait = did.wait; reads = did.reads } in
     let just = just-clear (wait_fault m.asks) result (asks-clear m.asks (c.is_none.ensures ∙ ap not c.if-is_none.false)) in
     rw (← c.self.view_is) (record {
-      joined = joins-seen m m′ (Poll_wait m.worker.number) (polled (Ok result))
-          (poll-joins m m′ m.worker.number stays (speaks m) (Ok result)
+      joined = joins-seen m m′ (Poll_wait m.seat.me.0.number) (polled (Ok result))
+          (poll-joins m m′ m.seat.me.0.number stays (speaks m) (Ok result)
           (λ how e. let is : result ≡ poll.Settled how = cc in (did.settled how is).0) did.stays just);
-      shown = shows-seen m m′ (Poll_wait m.worker.number) (polled (Ok result))
-          (poll-shows m m′ same.0 did.wait.2 m.worker.number (Ok result) just did.settles did.did did.stayed
+      shown = shows-seen m m′ (Poll_wait m.seat.me.0.number) (polled (Ok result))
+          (poll-shows m m′ same.0 did.wait.2 m.seat.me.0.number (Ok result) just did.settles did.did did.stayed
           (λ e. let is : result ≡ poll.Pending = cc in did.pending is) (λ how e. let is : result ≡ poll.Settled how = cc in (did.settled how is).1));
     })
