@@ -1,6 +1,5 @@
 -- The line that is worked off is that which makes the first schema.
-use Rattle.std.proofs.Common.{[], ◌∷◌, Ok, ℕ, List, subst}
-use Rattle.mdl_rows.specs.declared.reply.Reply.{Reply}
+use Rattle.std.proofs.Common.{[], ◌∷◌, ℕ, List, subst}
 use Rattle.mdl_syntax.specs.declared.script.Line.{Line}
 use Rattle.mdl_syntax.specs.declared.statement.Statement.TheVariants.{CreateSchema}
 use Rattle.mdl_script.specs.Answers.{WorksOff}
