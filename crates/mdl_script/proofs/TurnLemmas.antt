@@ -16,7 +16,7 @@ use Rattle.mdl_shared.specs.Passes.{pass_number, pass_table, table_of}
 use Rattle.mdl_rows.specs.declared.reply.Reply.{Reply}
 use Rattle.mdl_script.specs.Answers.{AreAnswers}
 use Rattle.mdl_script.specs.RunTexts.{answers_text, transcripts_text}
-use Rattle.mdl_script.specs.Turns.{GainsAnswers, IsAbout, IsTurn, has_pass}
+use Rattle.mdl_script.specs.Turns.{GainsAnswers, IsAbout, has_pass}
 use Rattle.mdl_script.specs.declared.turns.AnswersOf.{AnswersOf}
 use Rattle.mdl_script.specs.declared.turns.Turn.{Turn}
 

@@ -6,9 +6,8 @@ use Rattle.mdl_session_laws.specs.SessionJoins.{Joins}
 use Rattle.mdl_session_laws.specs.SessionSpaces.{SpeaksFor, own_of}
 use Rattle.mdl_rows.specs.declared.reply.Reply.{Reply}
 use Rattle.mdl_syntax.specs.declared.script.Line.{Line}
-use Rattle.mdl_shared.specs.declared.member.Member.{Member}
-use Rattle.mdl_shared.specs.SessionViews.{space_of_member}
-use Rattle.mdl_shared.specs.Showings.{Shows, table_at}
+use Rattle.mdl_shared.specs.SessionViews.{SessionView, space_of}
+use Rattle.mdl_shared.specs.Showings.{Shows}
 use Rattle.mdl_work.specs.Works.{lines_of, newcomer, working_off}
 
 -- no ticket and no wait
@@ -16,23 +15,23 @@ abbrev pub nothing : Own
 nothing = record { held = []; wait = None }
 
 -- a call joins what a session has before it to what it has after it, and its steps show what they met and did
-abbrev pub JoinsSteps : Member → Call → Answer → Member → Type 0
-JoinsSteps m call answer m′ = Joins (space_of_member m) call answer (space_of_member m′) × Shows call answer m m′
+abbrev pub JoinsSteps : SessionView → Call → Answer → SessionView → Type 0
+JoinsSteps s call answer t = Joins (space_of s) call answer (space_of t) × Shows call answer s t
 
 -- by such calls, from one state to another, a session has worked off its own of these lines with this patience, and answered so
-abbrev pub WorksOff : ℕ → List Line → ℕ → Member → List (ℕ × Reply) → Member → Type 0
-WorksOff patience lines who m answers m′ = Runs JoinsSteps m (working_off patience (lines_of who lines) (newcomer who)) (Some answers) m′
+abbrev pub WorksOff : ℕ → List Line → ℕ → SessionView → List (ℕ × Reply) → SessionView → Type 0
+WorksOff patience lines who s answers t = Runs JoinsSteps s (working_off patience (lines_of who lines) (newcomer who)) (Some answers) t
 
 -- a session at this table can have answered so to its lines of a script: it has worked them off with this patience, from where it had nothing until it had
 -- nothing again; and each line has its answer, in order
 pub record AreAnswers (table : TableId) (patience : ℕ) (lines : List Line) (who : ℕ) (answers : List (ℕ × Reply)) : Type 0 where
-  pub before : Member
-  pub after : Member
-  pub there : table_at before ≡ table
-  pub speaks : SpeaksFor (space_of_member before) who
-  pub had_nothing : own_of (space_of_member before) who ≡ nothing
+  pub before : SessionView
+  pub after : SessionView
+  pub there : before.table ≡ table
+  pub speaks : SpeaksFor (space_of before) who
+  pub had_nothing : own_of (space_of before) who ≡ nothing
   pub run : WorksOff patience lines who before answers after
-  pub has_nothing : own_of (space_of_member after) who ≡ nothing
+  pub has_nothing : own_of (space_of after) who ≡ nothing
   pub numbers : map (λ (answer : ℕ × Reply). answer.0) answers ≡ map (λ (line : Line). line.number) (lines_of who lines)
 
 -- a session, and what it can have answered; one of the sessions answered this

@@ -1,15 +1,14 @@
 -- The books that a session finds as it looks at all places of the shared table.
 use Rattle.std.specs.Prelude.{List}
 use Rattle.mdl_steps.specs.declared.view.Keys.{Keys}
-use Rattle.mdl_shared.specs.declared.member.Member.{Member}
-use Rattle.mdl_shared.specs.Showings.{mine, table_at}
+use Rattle.mdl_shared.specs.SessionViews.{SessionView}
 use Rattle.mdl_visits.specs.declared.audited.Audited.{Audited}
 use Rattle.mdl_visits.specs.Audits.{Audits}
 use Rattle.mdl_visits.specs.Lookups.{TookDirectory}
 
 -- a session has found these between two of its states: it took the directory, and had the latches of all places that have a key at one moment, when these
 -- were their books
-pub record AreOfOneAudit (books : List Audited) (m m′ : Member) : Type 0 where
+pub record AreOfOneAudit (books : List Audited) (s t : SessionView) : Type 0 where
   pub keys : Keys
-  pub took : TookDirectory (table_at m).slots keys keys (mine m) (mine m′)
-  pub audited : Audits keys books (mine m) (mine m′)
+  pub took : TookDirectory s.table.slots keys keys s.me t.me
+  pub audited : Audits keys books s.me t.me

@@ -6,10 +6,9 @@ use Rattle.mdl_rows.specs.declared.reply.Reply.{Reply}
 use Rattle.mdl_steps.specs.Layout.{word_count}
 use Rattle.mdl_syntax.specs.declared.script.Line.{Line}
 use Rattle.mdl_syntax.specs.declared.statement.Statement.TheVariants.{CreateSchema}
-use Rattle.mdl_shared.specs.declared.member.Member.{Member}
 use Rattle.mdl_shared.specs.declared.pass.Pass.{Pass}
-use Rattle.mdl_shared.specs.Passes.{IsPass}
-use Rattle.mdl_shared.specs.Showings.{table_at}
+use Rattle.mdl_shared.specs.Passes.{IsPass, pass_view}
+use Rattle.mdl_shared.specs.SessionViews.{SessionView}
 use Rattle.mdl_visits.specs.declared.audited.Audited.{Audited}
 use Rattle.mdl_script.specs.Answers.{IsTranscript, WorksOff}
 use Rattle.mdl_script.specs.Books.{AreOfOneAudit}
@@ -22,21 +21,21 @@ first_line who = record { number = 1; session = who; statement = CreateSchema (c
 -- a text tells of a run of a script with this patience, by what the session that asks did between two of its states: it made the first schema (`first`),
 -- worked off its own lines (`turn`), and then found the books by one audit (`audited`). Each session that the script names can have answered so to its
 -- lines at the same table (`answered`)
-pub record IsRunBetween (patience : ℕ) (lines : List Line) (before after : Member) (text : List ℕ) : Type 0 where
+pub record IsRunBetween (patience : ℕ) (lines : List Line) (before after : SessionView) (text : List ℕ) : Type 0 where
   pub transcripts : List (ℕ × List (ℕ × Reply))
   pub books : List Audited
-  pub made : Member
-  pub worked : Member
-  pub first : (answers : List (ℕ × Reply)) × WorksOff patience (first_line before.worker.number ∷ []) before.worker.number before answers made
+  pub made : SessionView
+  pub worked : SessionView
+  pub first : (answers : List (ℕ × Reply)) × WorksOff patience (first_line before.me.0.number ∷ []) before.me.0.number before answers made
   pub own : List (ℕ × Reply)
-  pub turn : WorksOff patience lines before.worker.number made own worked
+  pub turn : WorksOff patience lines before.me.0.number made own worked
   pub audited : AreOfOneAudit books worked after
-  pub answered : All (IsTranscript (table_at before) patience lines before.worker.number own) transcripts
+  pub answered : All (IsTranscript before.table patience lines before.me.0.number own) transcripts
   pub told : IsRunText lines transcripts books text
 
 -- the same, from where the session that asks was, to where it came
-abbrev pub IsRunFrom : ℕ → List Line → Member → List ℕ → Type 0
-IsRunFrom patience lines before text = (after : Member) × IsRunBetween patience lines before after text
+abbrev pub IsRunFrom : ℕ → List Line → SessionView → List ℕ → Type 0
+IsRunFrom patience lines before text = (after : SessionView) × IsRunBetween patience lines before after text
 
 -- the same at a new table of full size, where the session that asks is the first, and had done nothing yet
 pub record IsRunOf (patience : ℕ) (lines : List Line) (text : List ℕ) : Type 0 where
@@ -45,4 +44,4 @@ pub record IsRunOf (patience : ℕ) (lines : List Line) (text : List ℕ) : Type
   pub words : table.words ≡ word_count (most_places + 1) most_sessions
   pub pass : Pass
   pub new : IsPass table 1 pass
-  pub run : IsRunFrom patience lines pass.member text
+  pub run : IsRunFrom patience lines (pass_view pass) text

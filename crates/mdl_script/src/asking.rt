@@ -3,7 +3,6 @@ ghost use Rattle.std.specs.Prelude.{◌≡◌, ℕ, List, [], ◌∷◌, IfOk, O
 ghost use Rattle.mdl_session_laws.specs.SessionSpaces.{SpeaksFor};
 ghost use Rattle.mdl_rows.specs.declared.reply.Reply.{Reply};
 ghost use Rattle.mdl_shared.specs.SessionViews.{space_of};
-ghost use Rattle.mdl_shared.specs.Showings.{table_at};
 ghost use Rattle.mdl_script.specs.Answers.{AreAnswers, WorksOff, nothing};
 ghost use Rattle.mdl_script.specs.Books.{AreOfOneAudit};
 ghost use Rattle.mdl_script.specs.Runs.{first_line};
@@ -29,7 +28,7 @@ pub(crate) fn make_first_schema<R: Wait, G>(
     requires nothing { (space_of asker.old).own ≡ nothing }
     ensures nothing { (space_of asker.new).own ≡ nothing }
     ensures speaks { SpeaksFor (space_of asker.new) who }
-    ensures first { OnOk result ((answers : List (ℕ × Reply)) × WorksOff run.now.patience (first_line who ∷ []) who asker.old.member answers asker.new.member) }
+    ensures first { OnOk result ((answers : List (ℕ × Reply)) × WorksOff run.now.patience (first_line who ∷ []) who asker.old answers asker.new) }
 {
     let Ok(name) = Name::new(run.alloc, FIRST_SCHEMA) else {
         return Err(AllocError);
@@ -53,8 +52,8 @@ pub(crate) fn take_turn<R: Wait, G: Gate>(
     requires nothing { (space_of asker.old).own ≡ nothing }
     ensures nothing { (space_of asker.new).own ≡ nothing }
     ensures who { IfOk result (λ own. own.who ≡ who) }
-    ensures worked { IfOk result (λ own. WorksOff run.now.patience run.now.script.now who asker.old.member own.answers.items asker.new.member) }
-    ensures answered { IfOk result (λ own. AreAnswers (table_at asker.old.member) run.now.patience run.now.script.now who own.answers.items) }
+    ensures worked { IfOk result (λ own. WorksOff run.now.patience run.now.script.now who asker.old own.answers.items asker.new) }
+    ensures answered { IfOk result (λ own. AreAnswers asker.old.table run.now.patience run.now.script.now who own.answers.items) }
 {
     let answers = work(run.alloc, asker, who, run.script, run.patience, run.gate)?;
     Ok(Transcript { who, answers })
@@ -64,7 +63,7 @@ pub(crate) fn take_turn<R: Wait, G: Gate>(
 pub(crate) fn books<R: Wait>(asker: &mut Session<&R>) -> Result<Vec<Audited>, AllocError>
     requires nothing { (space_of asker.old).own ≡ nothing }
     ensures nothing { (space_of asker.new).own ≡ nothing }
-    ensures audited { IfOk result (λ books. AreOfOneAudit books.items asker.old.member asker.new.member) }
+    ensures audited { IfOk result (λ books. AreOfOneAudit books.items asker.old asker.new) }
 {
     match asker.audit() {
         Ok(books) => Ok(books),

@@ -3,9 +3,8 @@ ghost use Rattle.std.specs.Prelude.{◌≡◌, ◌≢◌, ◌≤◌, Some, true,
 ghost use Rattle.std.specs.String.{string_bytes};
 ghost use Rattle.mdl_session_laws.specs.SessionSpaces.{SpeaksFor};
 ghost use Rattle.mdl_shared.specs.declared.pass.Pass.{Pass};
-ghost use Rattle.mdl_shared.specs.Passes.{pass_number, pass_table, table_of};
+ghost use Rattle.mdl_shared.specs.Passes.{pass_number, pass_table, pass_view, table_of};
 ghost use Rattle.mdl_shared.specs.SessionViews.{space_of};
-ghost use Rattle.mdl_shared.specs.Showings.{table_at};
 ghost use Rattle.mdl_script.specs.Answers.{nothing};
 ghost use Rattle.mdl_script.specs.RunTexts.{named_sessions};
 ghost use Rattle.mdl_script.specs.Runs.{IsRunBetween, IsRunFrom, IsRunOf};
@@ -42,7 +41,7 @@ pub fn run_on<R: Threads + Wait + Sync, G: Gate + Sync>(
     requires some { 1 ≤ length passes.items }
     requires theirs { All (λ pass. pass_table pass ≡ table_of manager.now) passes.items }
     requires there { All (λ who. has_pass passes.items who ≡ true) (named_sessions script.now) }
-    ensures { IfOk result (λ text. (first : Pass) × (slice_get passes.items 0 ≡ Some first) × IsRunFrom patience script.now first.member (string_bytes text)) }
+    ensures { IfOk result (λ text. (first : Pass) × (slice_get passes.items 0 ≡ Some first) × IsRunFrom patience script.now (pass_view first) (string_bytes text)) }
 {
     let mut others = passes;
     let first = take_first(&mut others);
@@ -53,7 +52,7 @@ pub fn run_on<R: Threads + Wait + Sync, G: Gate + Sync>(
             requires first { pass_table first ≡ table_of manager.now }
             requires theirs { All (λ pass. pass_table pass ≡ table_of manager.now) others.items }
             requires there { All (λ who. who ≢ pass_number first → has_pass others.items who ≡ true) (named_sessions script.now) }
-            ensures { IfOk result (λ text. IsRunFrom patience script.entry.now first.member (string_bytes text)) }
+            ensures { IfOk result (λ text. IsRunFrom patience script.entry.now (pass_view first) (string_bytes text)) }
         {
             let run = Run {
                 rt,
@@ -78,7 +77,7 @@ fn text_in<'s, E, R: Threads + Wait + Sync, G: Gate + Sync>(
     requires first { pass_table first ≡ table_of run.now.manager.now }
     requires theirs { All (λ pass. pass_table pass ≡ table_of run.now.manager.now) others.items }
     requires there { All (λ who. who ≢ pass_number first → has_pass others.items who ≡ true) (named_sessions run.now.script.now) }
-    ensures { IfOk result (λ text. IsRunFrom run.now.patience run.now.script.now first.member (string_bytes text)) }
+    ensures { IfOk result (λ text. IsRunFrom run.now.patience run.now.script.now (pass_view first) (string_bytes text)) }
 {
     let mut asker = Session::open(run.rt, run.manager, first);
     let who = asker.number();
@@ -97,10 +96,10 @@ fn text_by<'s, E, R: Threads + Wait + Sync, G: Gate + Sync>(
 ) -> Result<String, AllocError>
     requires theirs { All (λ pass. pass_table pass ≡ table_of run.now.manager.now) others.items }
     requires there { All (λ other. other ≢ who → has_pass others.items other ≡ true) (named_sessions run.now.script.now) }
-    requires table { table_at asker.old.member ≡ table_of run.now.manager.now }
+    requires table { asker.old.table ≡ table_of run.now.manager.now }
     requires speaks { SpeaksFor (space_of asker.old) who }
     requires nothing { (space_of asker.old).own ≡ nothing }
-    ensures text { IfOk result (λ text. IsRunBetween run.now.patience run.now.script.now asker.old.member asker.new.member (string_bytes text)) }
+    ensures text { IfOk result (λ text. IsRunBetween run.now.patience run.now.script.now asker.old asker.new (string_bytes text)) }
     ensures nothing { (space_of asker.new).own ≡ nothing }
 {
     make_first_schema(run, asker, who)?;

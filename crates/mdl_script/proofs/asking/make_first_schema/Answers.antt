@@ -1,17 +1,13 @@
 -- The line that is worked off is that which makes the first schema.
-use Rattle.std.proofs.Common.{[], ◌∷◌, Ok, ℕ, List, subst}
-use Rattle.mdl_rows.specs.declared.reply.Reply.{Reply}
+use Rattle.std.proofs.Common.{[], ◌∷◌, ℕ, List, subst}
 use Rattle.mdl_syntax.specs.declared.script.Line.{Line}
 use Rattle.mdl_syntax.specs.declared.statement.Statement.TheVariants.{CreateSchema}
 use Rattle.mdl_script.specs.Answers.{WorksOff}
-use Rattle.mdl_script.proofs.ThreadLemmas.{works-off}
 use Rattle.mdl_script.proofs.asking.make_first_schema.Goals as goal
 
 pub returns-clause-first : goal.returns-clause-first
 returns-clause-first g c =
     let patience = c.args.run.now.patience in let who = c.args.who in let answers = c.in_ok-_answers._answers in
-    let before = c.args.asker.now.member in let after = c.work_lines.new.space.member in
+    let before = c.args.asker.now in let after = c.work_lines.new.space in
     let line : List ℕ → Line = λ name. record { number = 1; session = who; statement = CreateSchema name } in
-    let worked : WorksOff patience (line c.in-Ok.name ∷ []) who before answers.items after =
-    works-off {E = Unit {0}} (λ s. s.member) patience (line c.in-Ok.name ∷ []) who c.args.asker.now c.work_lines.new.space (Ok answers) c.in_ok-_answers.ensures.answered in
-    (answers.items, subst (λ name. WorksOff patience (line name ∷ []) who before answers.items after) c.in-Ok.ensures.made worked)
+    (answers.items, subst (λ name. WorksOff patience (line name ∷ []) who before answers.items after) c.in-Ok.ensures.made c.in_ok-_answers.ensures.answered)

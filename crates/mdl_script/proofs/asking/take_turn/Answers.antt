@@ -1,15 +1,9 @@
 -- What the session had of the shared table before its lines, it hadn't more behind them.
 use Rattle.std.proofs.Common.{Ok}
-use Rattle.mdl_shared.specs.declared.session.Session.{Session}
-use Rattle.mdl_script.proofs.ThreadLemmas.{answers-are, works-off}
+use Rattle.mdl_script.proofs.ThreadLemmas.{answers-are}
 use Rattle.mdl_script.proofs.asking.take_turn.Goals as goal
-
-pub returns-clause-worked : goal.returns-clause-worked
-returns-clause-worked g c =
-    works-off {E = Unit {0}} (λ s. s.member) c.args.run.now.patience c.args.run.now.script.now c.args.who c.args.asker.now c.work.new.space
-    (Ok c.in_ok-answers.answers) c.in_ok-answers.ensures.answered
 
 pub returns-clause-answered : goal.returns-clause-answered
 returns-clause-answered g c =
-    answers-are {E = Unit {0}} c.args.run.now.patience c.args.run.now.script.now c.args.who c.args.asker.now.member c.work.new.space.member
-    (Ok c.in_ok-answers.answers) c.requires.speaks c.requires.nothing c.in_ok-answers.ensures.nothing (returns-clause-worked g c) c.in_ok-answers.ensures.lines
+    answers-are {E = Unit {0}} c.args.run.now.patience c.args.run.now.script.now c.args.who c.args.asker.now c.work.new.space
+    (Ok c.in_ok-answers.answers) c.requires.speaks c.requires.nothing c.in_ok-answers.ensures.nothing c.in_ok-answers.ensures.answered c.in_ok-answers.ensures.lines

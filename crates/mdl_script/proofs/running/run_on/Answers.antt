@@ -1,6 +1,7 @@
 -- The first pass and the others are what the closure needs.
 use Rattle.std.proofs.Common.{IfOk, of_calls, rules}
 use Rattle.std.specs.String.{string_bytes}
+use Rattle.mdl_shared.specs.Passes.{pass_view}
 use Rattle.mdl_script.specs.Runs.{IsRunFrom}
 use Rattle.mdl_script.proofs.PassLemmas.{first-taken}
 use Rattle.mdl_script.proofs.TextLemmas.{run-first}
@@ -16,5 +17,5 @@ scoped-requires g c =
 
 pub returns : goal.returns
 returns g c =
-    let ran : IfOk c.scoped.result (λ text. IsRunFrom c.args.patience c.args.script.now c.take_first-first.result.member (string_bytes text)) = search rules in
+    let ran : IfOk c.scoped.result (λ text. IsRunFrom c.args.patience c.args.script.now (pass_view c.take_first-first.result) (string_bytes text)) = search rules in
     run-first string_bytes c.args.patience c.args.script.now c.args.passes.items c.take_first-first.result c.scoped.result c.take_first-first.ensures.first ran

@@ -1,5 +1,4 @@
 -- A new space has a pass for each session, and the first is that of session 1.
-use Rattle.std.proofs.Common.{arith}
 use Rattle.std.specs.String.{string_bytes}
 use Rattle.mdl_shared.specs.Passes.{table_of}
 use Rattle.mdl_script.proofs.PassLemmas.{all-there}
