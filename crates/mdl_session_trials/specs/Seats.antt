@@ -3,12 +3,11 @@ use Rattle.mdl_session_laws.specs.SessionJoins.{Joins}
 use Rattle.mdl_session_laws.specs.SessionSpaces.{SpeaksFor, own_of, numbers_of, Knows, IsSettledAs, HasRead, HasSeen, Pins, Owes}
 use Rattle.mdl_calls.specs.declared.lock_space.LockSpace.{Ghosts}
 use Rattle.mdl_context.specs.Contexts.{ContextView, Attends}
-use Rattle.mdl_shared.specs.declared.session.Session.{Session}
-use Rattle.mdl_shared.specs.SessionViews.{space_of}
+use Rattle.mdl_shared.specs.SessionViews.{SessionView, space_of}
 use Rattle.mdl_shared.specs.Showings.{Shows}
 
 -- what a session gives the trait
-abbrev pub session_space : {R : Type 0} → Ghosts (Session R)
+abbrev pub session_space : Ghosts SessionView
 session_space = record {
   speaks_for = λ s. SpeaksFor (space_of s);
   own = λ s. own_of (space_of s);
@@ -19,9 +18,9 @@ session_space = record {
   has_seen = λ s. HasSeen (space_of s);
   pins = λ s. Pins (space_of s);
   owes = λ s. Owes (space_of s);
-  joins = λ s call answer t. Joins (space_of s) call answer (space_of t) × Shows call answer s.member t.member;
+  joins = λ s call answer t. Joins (space_of s) call answer (space_of t) × Shows call answer s t;
 }
 
 -- the session attends to the context
-abbrev pub AttendsTo : {R : Type 0} → Session R → ContextView → Type 0
+abbrev pub AttendsTo : SessionView → ContextView → Type 0
 AttendsTo session context = Attends session_space session context

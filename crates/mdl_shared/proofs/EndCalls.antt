@@ -60,14 +60,14 @@ same-end id settled_as.Killed settled_as.Victim e = cc
 same-end id settled_as.Killed settled_as.Timeout e = cc
 same-end id settled_as.Killed settled_as.Killed e = refl
 
-module _ (m m′ : Member) (who : ℕ) (number : m′.worker.number ≡ m.worker.number) (next : m′.next ≡ m.next) (known : m′.known.items ≡ m.known.items)
-    (reads : ReadNothing m.worker.seat.me m′.worker.seat.me) (speaks : SpeaksFor (space_of_member m) who) where
+module _ (m m′ : Member) (who : ℕ) (number : m′.seat.me.0.number ≡ m.seat.me.0.number) (next : m′.next ≡ m.next) (known : m′.known.items ≡ m.known.items)
+    (reads : ReadNothing m.seat.me m′.seat.me) (speaks : SpeaksFor (space_of_member m) who) where
   -- it is met as it was known to be settled
   agrees : (a : Ask) (how one : Settled)
-      → ((state : ℕ) → m.worker.seat.me.0.told ≡ Some state → (other : Settled) × (end_of a.number how ≡ end_of a.number other) × (state_of other ≡ state))
+      → ((state : ℕ) → m.seat.me.0.told ≡ Some state → (other : Settled) × (end_of a.number how ≡ end_of a.number other) × (state_of other ≡ state))
       → (space_of_member m).settled ≡ Some one → how ≡ one
   agrees a how one stays knows =
-      let h = settled-told m.worker.seat.me.0.told one knows in
+      let h = settled-told m.seat.me.0.told one knows in
       let other = stays h.0 h.1 in
       same-end a.number how other.0 other.1 ∙ same-settled h.0 one other.0 h.2 other.2
 
@@ -135,7 +135,7 @@ module _ (m m′ : Member) (who : ℕ) (number : m′.worker.number ≡ m.worker
 
   -- refused
   unended : (why : SpaceError) → m′.tickets.items ≡ m.tickets.items → SeesWait m m′
-      → ((a : Ask) (state : ℕ) → m.asks ≡ Some a → m.worker.seat.me.0.told ≡ Some state → ⊥)
+      → ((a : Ask) (state : ℕ) → m.asks ≡ Some a → m.seat.me.0.told ≡ Some state → ⊥)
       → (wait_fault m.asks ≡ Some why) ⊎ ((why ≡ Unsettled) × (wait_fault m.asks ≡ None))
       → Joins (space_of_member m) (End_wait who) (Refused why) (space_of_member m′)
   unended why same sees untold (inl fault) =
@@ -149,7 +149,7 @@ module _ (m m′ : Member) (who : ℕ) (number : m′.worker.number ≡ m.worker
       (refused m m′ (End_wait who) Unsettled (record { number = number; tickets = same; next = next; known = known; wait = sees; reads = reads }) speaks refl refl
       (waits-asks m.asks m.waits ∙ some)
       (λ state how is knows.
-      let h = settled-told m.worker.seat.me.0.told how knows in absurd (by m.asks refl some (λ a asks. untold a h.0 asks h.1))) tt)
+      let h = settled-told m.seat.me.0.told how knows in absurd (by m.asks refl some (λ a asks. untold a h.0 asks h.1))) tt)
     where
       by : (o : Option Ask) → m.asks ≡ o → is_some o ≡ true → ((a : Ask) → m.asks ≡ Some a → ⊥) → ⊥
       by None asks e never = cc
@@ -157,7 +157,7 @@ module _ (m m′ : Member) (who : ℕ) (number : m′.worker.number ≡ m.worker
 
   pub end-joins : (result : Result Ended SpaceError)
       → IfOk result (λ over. (a : Ask) × (how : Settled) × (m.asks ≡ Some a) × (over ≡ end_of a.number how) × EndsWith (tickets_after a how m.tickets.items) m m′)
-      → ((a : Ask) (state : ℕ) → m.asks ≡ Some a → m.worker.seat.me.0.told ≡ Some state → (how : Settled) × (result ≡ Ok (end_of a.number how)) × (state_of how ≡ state))
+      → ((a : Ask) (state : ℕ) → m.asks ≡ Some a → m.seat.me.0.told ≡ Some state → (how : Settled) × (result ≡ Ok (end_of a.number how)) × (state_of how ≡ state))
       → OnErr result ((m′.tickets.items ≡ m.tickets.items) × SeesWait m m′) → IfSome (wait_fault m.asks) (λ why. result ≡ Err why)
       → IfErr result (λ why. (wait_fault m.asks ≡ Some why) ⊎ (why ≡ Unsettled))
       → Joins (space_of_member m) (End_wait who) (ended result) (space_of_member m′)

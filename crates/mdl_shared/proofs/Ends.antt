@@ -9,12 +9,12 @@ use Rattle.mdl_steps.specs.declared.view.Ask.{Ask}
 use Rattle.mdl_steps.specs.declared.view.Met.{Met}
 use Rattle.mdl_steps.specs.declared.view.Own.{Own}
 use Rattle.mdl_steps.specs.Plays.{Mine}
-use Rattle.mdl_shared.specs.Endings.{EndMakesWay, end_of, lost_end, ticket_asked, tickets_after}
-use Rattle.mdl_visits.specs.Grantings.{MadeWay}
+use Rattle.mdl_shared.specs.Endings.{EndReschedules, end_of, lost_end, ticket_asked, tickets_after}
+use Rattle.mdl_visits.specs.Grantings.{HasRescheduled}
 use Rattle.mdl_visits.specs.Polls.{state_of}
 use Rattle.mdl_visits.specs.Visits.{GoesOn, IsStepOf, StaysOn}
 use Rattle.mdl_visits.specs.WaitEndings.{without_wait}
-use Rattle.mdl_visits.proofs.WayOut.{way_after}
+use Rattle.mdl_visits.proofs.Rescheduling.{rescheduled_after}
 
 -- a step stays one of a call that goes on
 pub step_earlier : (e : Met) (m m′ m″ : Mine) → IsStepOf m m′ e → GoesOn m′ m″ → IsStepOf m m″ e
@@ -44,19 +44,19 @@ granted_so a settled.Timeout tickets is = absurd (cc)
 granted_so a settled.Killed tickets is = absurd (cc)
 
 -- a wait that was lost made way
-pub lost_way : (id : TableId) (place : ℕ) (m m′ : Mine) (how : Settled) (ended : Ended) → lost_end how ≡ Some ended → MadeWay id place (without_wait m) m′ → EndMakesWay id place ended m m′
-lost_way id place m m′ how (ended_as.Granted number) is way = absurd (never how is)
+pub lost_rescheduled : (id : TableId) (place : ℕ) (m m′ : Mine) (how : Settled) (ended : Ended) → lost_end how ≡ Some ended → HasRescheduled id place (without_wait m) m′ → EndReschedules id place ended m m′
+lost_rescheduled id place m m′ how (ended_as.Granted number) is way = absurd (never how is)
   where
     never : (how : Settled) → lost_end how ≡ Some (ended_as.Granted number) → ⊥
     never settled.Granted is = absurd (cc)
     never settled.Victim is = absurd (cc)
     never settled.Timeout is = absurd (cc)
     never settled.Killed is = absurd (cc)
-lost_way id place m m′ how ended_as.Victim is way = way
-lost_way id place m m′ how ended_as.Timeout is way = way
-lost_way id place m m′ how ended_as.Killed is way = way
+lost_rescheduled id place m m′ how ended_as.Victim is way = way
+lost_rescheduled id place m m′ how ended_as.Timeout is way = way
+lost_rescheduled id place m m′ how ended_as.Killed is way = way
 
 -- as it did where the wait was only met before
-pub way_met_before : (id : TableId) (place : ℕ) (m m′ m″ : Mine) → StaysOn m m′ → m′.0.settles ≡ m.0.settles → m′.0.number ≡ m.0.number → MadeWay id place (without_wait m′) m″
-    → MadeWay id place (without_wait m) m″
-way_met_before id place m m′ m″ stays settles number way = way_after id place (without_wait m) (without_wait m′) m″ stays settles refl number refl way
+pub rescheduled_met_before : (id : TableId) (place : ℕ) (m m′ m″ : Mine) → StaysOn m m′ → m′.0.settles ≡ m.0.settles → m′.0.number ≡ m.0.number → HasRescheduled id place (without_wait m′) m″
+    → HasRescheduled id place (without_wait m) m″
+rescheduled_met_before id place m m′ m″ stays settles number way = rescheduled_after id place (without_wait m) (without_wait m′) m″ stays settles refl number refl way

@@ -1,5 +1,5 @@
 -- Why calls are refused, by what they answered.
-use Rattle.std.proofs.Common.{◌≡◌, ◌⊎◌, Bool, true, false, if◌then◌else◌, Option, Some, None, Result, Ok, Err, inl, inr, refl}
+use Rattle.std.proofs.Common.{◌≡◌, ◌⊎◌, Bool, true, false, if◌then◌else◌, Option, Some, None, IfSome, Result, Ok, Err, inl, inr, refl}
 use Rattle.std.specs.Prelude.{OnOk, IfOk, IfErr}
 use Rattle.mdl_key.specs.Refusals.{Refuses, RefusesJust}
 use Rattle.mdl_calls.specs.declared.space_error.SpaceError.{SpaceError}
@@ -54,3 +54,29 @@ causes-of T X fault (Ok x) all = tt
 causes-of T X fault (Err why) (inl is) = inl is
 causes-of T X fault (Err why) (inr (inl memory)) = inr (inl memory)
 causes-of T X fault (Err why) (inr (inr full)) = inr (inr full.0)
+
+-- without a fault a call is done
+pub just-clear : {T E : Type 0} (fault : Option E) (x : T) → fault ≡ None → RefusesJust fault (Ok x)
+just-clear None x e = refl
+just-clear (Some why) x e = cc
+
+pub refuses-clear : {T E : Type 0} (fault : Option E) (memory : E) (x : T) → fault ≡ None → Refuses fault memory (Ok x)
+refuses-clear None memory x e = tt
+refuses-clear (Some why) memory x e = cc
+
+-- nothing has to be so of one that isn't there
+pub if-clear : {E : Type 0} (P : E → Type 0) (fault : Option E) → fault ≡ None → IfSome fault P
+if-clear P None e = tt
+if-clear P (Some why) e = cc
+
+-- a refusal without a fault of the session's own
+pub causes-open : (T X : Type 0) (fault : Option SpaceError) (result : Result T SpaceError)
+    → IfErr result (λ why. (why ≡ OutOfMemory) ⊎ ((why ≡ Full) × X)) → IfErr result (λ why. (fault ≡ Some why) ⊎ ((why ≡ OutOfMemory) ⊎ (why ≡ Full)))
+causes-open T X fault (Ok x) all = tt
+causes-open T X fault (Err why) (inl memory) = inr (inl memory)
+causes-open T X fault (Err why) (inr full) = inr (inr full.0)
+
+-- what is so of a refusal by what is so of it
+pub if-refused : {T E : Type 0} {P Q : E → Type 0} (result : Result T E) → ((why : E) → P why → Q why) → IfErr result P → IfErr result Q
+if-refused (Ok x) part all = tt
+if-refused (Err why) part all = part why all

@@ -58,8 +58,8 @@ apart-told (k ∷ ks) = ap (λ b. b && are_apart_in (map known_of ks)) (two-told
 
 -- ---- the place of a key
 
-pub resolve-joins : (m m′ : Member) (who : ℕ) (key : KeyName) (result : Result ℕ SpaceError) → m′.worker.number ≡ m.worker.number → m′.next ≡ m.next
-    → m′.tickets.items ≡ m.tickets.items → SeesWait m m′ → ReadNothing m.worker.seat.me m′.worker.seat.me → SpeaksFor (space_of_member m) who
+pub resolve-joins : (m m′ : Member) (who : ℕ) (key : KeyName) (result : Result ℕ SpaceError) → m′.seat.me.0.number ≡ m.seat.me.0.number → m′.next ≡ m.next
+    → m′.tickets.items ≡ m.tickets.items → SeesWait m m′ → ReadNothing m.seat.me m′.seat.me → SpeaksFor (space_of_member m) who
     → IfOk result (λ place. LearnsPlace key place (place_known key m.known.items) m.known.items m′.known.items)
     → OnErr result (m′.known.items ≡ m.known.items)
     → IfErr result (λ why. (place_known key m.known.items ≡ None) × ((why ≡ NoPlace) ⊎ (why ≡ OutOfMemory)))
@@ -92,13 +92,13 @@ resolve-joins m m′ who key (Err why) number next tickets sees reads speaks lea
     refused m m′ (Resolve who key) why (record { number = number; tickets = tickets; next = next; known = unchanged; wait = sees; reads = reads }) speaks refl refl
     (by causes.1) (λ state how is. cc) tt
   where
-    by : (why ≡ NoPlace) ⊎ (why ≡ OutOfMemory) → IsCause (Knows (space_of_member m) m.worker.number) (Resolve who key) why (space_of_member m).own
+    by : (why ≡ NoPlace) ⊎ (why ≡ OutOfMemory) → IsCause (Knows (space_of_member m) m.seat.me.0.number) (Resolve who key) why (space_of_member m).own
     by (inl none) =
-        subst (λ w. IsCause (Knows (space_of_member m) m.worker.number) (Resolve who key) w (space_of_member m).own) (sym none)
+        subst (λ w. IsCause (Knows (space_of_member m) m.seat.me.0.number) (Resolve who key) w (space_of_member m).own) (sym none)
         (λ place knows.
         let there = place-of_key (space_of_member m).known place key speaks.1.apart knows in
         let e : Some place ≡ None = sym there ∙ place-told key m.known.items ∙ causes.0 in cc)
-    by (inr memory) = subst (λ w. IsCause (Knows (space_of_member m) m.worker.number) (Resolve who key) w (space_of_member m).own) (sym memory) tt
+    by (inr memory) = subst (λ w. IsCause (Knows (space_of_member m) m.seat.me.0.number) (Resolve who key) w (space_of_member m).own) (sym memory) tt
 
 -- ---- tables
 
@@ -157,10 +157,10 @@ tables-learnt schema k before after tables more asked places are same those grow
 
 -- ---- the tables of a schema
 
-pub tables-joins : {Z : Type 0} (m m′ : Member) (who : ℕ) (schema : List ℕ) (result : Result (Vec ℕ Z) SpaceError) → m′.worker.number ≡ m.worker.number
-    → m′.next ≡ m.next → m′.tickets.items ≡ m.tickets.items → SeesWait m m′ → ReadNothing m.worker.seat.me m′.worker.seat.me → SpeaksFor (space_of_member m) who
+pub tables-joins : {Z : Type 0} (m m′ : Member) (who : ℕ) (schema : List ℕ) (result : Result (Vec ℕ Z) SpaceError) → m′.seat.me.0.number ≡ m.seat.me.0.number
+    → m′.next ≡ m.next → m′.tickets.items ≡ m.tickets.items → SeesWait m m′ → ReadNothing m.seat.me m′.seat.me → SpeaksFor (space_of_member m) who
     → IfOk result (λ places. (k : Keys) × (tables : List Known) × AreTables schema k tables
-    × HasAsked m.worker.number tables places.items m.worker.seat.me m′.worker.seat.me
+    × HasAsked m.seat.me.0.number tables places.items m.seat.me m′.seat.me
     × (m′.known.items ≡ m.known.items ++ unknown m.known.items tables) × AreLearnt tables m′.known.items)
     → OnErr result (m′.known.items ≡ m.known.items) → IsOkUnless result OutOfMemory
     → Joins (space_of_member m) (Tables_of who schema) (tables_told result) (space_of_member m′)
@@ -183,5 +183,5 @@ tables-joins m m′ who schema (Ok places) number next tickets sees reads speaks
 }
 tables-joins m m′ who schema (Err why) number next tickets sees reads speaks learns unchanged memory =
     refused m m′ (Tables_of who schema) why (record { number = number; tickets = tickets; next = next; known = unchanged; wait = sees; reads = reads }) speaks refl refl
-    (subst (λ w. IsCause (Knows (space_of_member m) m.worker.number) (Tables_of who schema) w (space_of_member m).own) (sym memory) tt)
+    (subst (λ w. IsCause (Knows (space_of_member m) m.seat.me.0.number) (Tables_of who schema) w (space_of_member m).own) (sym memory) tt)
     (λ state how is. cc) tt

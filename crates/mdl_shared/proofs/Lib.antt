@@ -4,6 +4,7 @@ pub mod Telling
 pub mod Awaiting
 pub mod KnownKeys
 pub mod Props
+pub mod TableKept
 pub mod Remembering
 pub mod Rising
 pub mod Polling
@@ -17,6 +18,8 @@ pub mod Faults
 pub mod PollCalls
 pub mod NotedOnce
 pub mod TicketFaults
+pub mod ClearCalls
+pub mod KeptLists
 pub mod TicketCalls
 pub mod TellingCalls
 pub mod WishFaults
@@ -28,3 +31,4 @@ pub mod KillCalls
 pub mod KeyCalls
 pub mod SoundSessions
 pub mod ShowingCalls
+pub mod SessionValues

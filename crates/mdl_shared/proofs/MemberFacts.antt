@@ -6,8 +6,8 @@ use Rattle.mdl_shared.specs.declared.member.Member.{Member}
 use Rattle.mdl_shared.specs.Waitings.{is_ask_last, is_ask_told}
 
 -- it was told nothing of a wait that it hasn't
-pub nothing-told : (m : Member) → m.asks ≡ None → m.worker.seat.me.0.told ≡ None
-nothing-told m idle = by m.worker.seat.me.0.told (subst (λ (o : Option Ask). is_ask_told o m.worker.seat.me.0.told ≡ true) idle m.settled)
+pub nothing-told : (m : Member) → m.asks ≡ None → m.seat.me.0.told ≡ None
+nothing-told m idle = by m.seat.me.0.told (subst (λ (o : Option Ask). is_ask_told o m.seat.me.0.told ≡ true) idle m.settled)
   where
     by : (told : Option ℕ) → is_ask_told None told ≡ true → told ≡ None
     by None e = refl

@@ -45,7 +45,7 @@ abbrev refusal_of : (T : Type 0) → SpaceError → Result T SpaceError
 refusal_of T why = Err why
 
 module _ (m m′ : Member) (who id : ℕ) (rest : KeepsRest m m′) (next : m′.next ≡ m.next) (speaks : SpeaksFor (space_of_member m) who) where
-  still : m′.tickets.items ≡ m.tickets.items → ReadNothing m.worker.seat.me m′.worker.seat.me → Stays m m′
+  still : m′.tickets.items ≡ m.tickets.items → ReadNothing m.seat.me m′.seat.me → Stays m m′
   still same reads = record { number = rest.number; tickets = same; next = next; known = rest.known; wait = rest.wait; reads = reads }
 
   drawn : (space_of_member m′).numbers ≡ (space_of_member m).numbers
@@ -55,9 +55,9 @@ module _ (m m′ : Member) (who id : ℕ) (rest : KeepsRest m m′) (next : m′
 
   pub read-joins : (result : Result Standing SpaceError)
       → IfOk result (λ standing. (t : Own) × (numbered id m.tickets.items ≡ Some t)
-      × (m′.tickets.items ≡ noting_version t.place standing.version m.tickets.items) × ReadsThere t.place standing m.worker.seat.me m′.worker.seat.me)
-      → IfOk result (λ standing. (t : Own) → numbered id m.tickets.items ≡ Some t → Follows t.place standing m.worker.seat.me)
-      → OnErr result ((m′.tickets.items ≡ m.tickets.items) × ReadNothing m.worker.seat.me m′.worker.seat.me)
+      × (m′.tickets.items ≡ noting_version t.place standing.version m.tickets.items) × ReadsThere t.place standing m.seat.me m′.seat.me)
+      → IfOk result (λ standing. (t : Own) → numbered id m.tickets.items ≡ Some t → Follows t.place standing m.seat.me)
+      → OnErr result ((m′.tickets.items ≡ m.tickets.items) × ReadNothing m.seat.me m′.seat.me)
       → Refuses (holding_fault id m.tickets.items) OutOfMemory result
       → Joins (space_of_member m) (Read_definition who id) (read result) (space_of_member m′)
   read-joins (Ok standing) told follows unchanged refuses =
@@ -74,17 +74,17 @@ module _ (m m′ : Member) (who id : ℕ) (rest : KeepsRest m m′) (next : m′
       (by (refused-for Standing (holding_fault id m.tickets.items) OutOfMemory why refuses)) (λ state how is. cc) tt
     where
       by : (holding_fault id m.tickets.items ≡ Some why) ⊎ (why ≡ OutOfMemory)
-          → IsCause (Knows (space_of_member m) m.worker.number) (Read_definition who id) why (space_of_member m).own
+          → IsCause (Knows (space_of_member m) m.seat.me.0.number) (Read_definition who id) why (space_of_member m).own
       by (inl fault) =
           let none = held-fault id m.tickets.items why fault in
-          subst (λ w. IsCause (Knows (space_of_member m) m.worker.number) (Read_definition who id) w (space_of_member m).own) (sym none.1)
+          subst (λ w. IsCause (Knows (space_of_member m) m.seat.me.0.number) (Read_definition who id) w (space_of_member m).own) (sym none.1)
           (holds-told id m.tickets.items false none.0)
-      by (inr memory) = subst (λ w. IsCause (Knows (space_of_member m) m.worker.number) (Read_definition who id) w (space_of_member m).own) (sym memory) tt
+      by (inr memory) = subst (λ w. IsCause (Knows (space_of_member m) m.seat.me.0.number) (Read_definition who id) w (space_of_member m).own) (sym memory) tt
 
   -- ---- changes
 
   -- the key that the session knows at a place is that of the book which it met
-  named-there : (place : ℕ) (met key : KeyName) → IsNamed place met m.worker.seat.me → key_known_in place (space_of_member m).known ≡ Some key → met ≡ key
+  named-there : (place : ℕ) (met key : KeyName) → IsNamed place met m.seat.me → key_known_in place (space_of_member m).known ≡ Some key → met ≡ key
   named-there place met key named knows =
       let there = known-there place key m.known.items (sym (key-told place m.known.items) ∙ knows) in
       named there.0 there.1 (ap (λ ks. get_elem? ks there.0) (sym m.known_is) ∙ there.2) there.3 ∙ there.4
@@ -95,7 +95,7 @@ module _ (m m′ : Member) (who id : ℕ) (rest : KeepsRest m m′) (next : m′
       let e : Some ticket ≡ Some (told_of t) = sym held ∙ ticket-told id m.tickets.items ∙ ap (option_map told_of) its in cc
 
   abbrev cause-so : Change → SpaceError → Type 0
-  cause-so change w = IsCause (Knows (space_of_member m) m.worker.number) (Change_definition who id change) w (space_of_member m).own
+  cause-so change w = IsCause (Knows (space_of_member m) m.seat.me.0.number) (Change_definition who id change) w (space_of_member m).own
 
   -- refused before anything was met
   unfit-cause : (change : Change) (why : SpaceError) (o : Option Own) → numbered id m.tickets.items ≡ o → exclusive_fault o ≡ Some why
@@ -133,12 +133,12 @@ module _ (m m′ : Member) (who id : ℕ) (rest : KeepsRest m m′) (next : m′
 
   -- refused for what was met, or since memory ran out
   met-cause : (change : Change) (w : ChangeError) (t : Own) → numbered id m.tickets.items ≡ Some t → same_mode t.mode X ≡ true
-      → IsRefusedFor t.place m.worker.number change w m.worker.seat.me m′.worker.seat.me
+      → IsRefusedFor t.place m.seat.me.0.number change w m.seat.me m′.seat.me
       → cause-so change (cause_of w) × TellsTruly (Change_definition who id change) (Refused (cause_of w)) (space_of_member m) (space_of_member m′)
   met-cause change w t its exclusive (inl met) =
       let fault = met.2.fault in
       let latch = met.2.latch in (
-        redefined-cause (Knows (space_of_member m) m.worker.number) who id change (space_of_member m).own latch.book.key latch.book.standing (cause_of w)
+        redefined-cause (Knows (space_of_member m) m.seat.me.0.number) who id change (space_of_member m).own latch.book.key latch.book.standing (cause_of w)
             (of-held id m.tickets.items t (λ (h : Held). same_mode h.mode X ≡ true) its exclusive)
             (inr (subst (λ o. MatchOption o (Refused (cause_of w) ≡ Changed (latch.book.standing.version + 1)) (λ why. Refused (cause_of w) ≡ Refused (cause_of why))) (sym fault) refl))
             (memory-cause change w latch.book.key latch.book.standing fault),
@@ -177,11 +177,11 @@ module _ (m m′ : Member) (who id : ℕ) (rest : KeepsRest m m′) (next : m′
 
   pub change-joins : (change : Change) (result : Result ℕ SpaceError)
       → IfOk result (λ version. (t : Own) × (numbered id m.tickets.items ≡ Some t) × (t.mode ≡ X)
-      × (m′.tickets.items ≡ noting_version t.place version m.tickets.items) × Redefines t.place change version m.worker.seat.me m′.worker.seat.me)
-      → OnErr result ((m′.tickets.items ≡ m.tickets.items) × ReadNothing m.worker.seat.me m′.worker.seat.me)
+      × (m′.tickets.items ≡ noting_version t.place version m.tickets.items) × Redefines t.place change version m.seat.me m′.seat.me)
+      → OnErr result ((m′.tickets.items ≡ m.tickets.items) × ReadNothing m.seat.me m′.seat.me)
       → IfSome (exclusive_fault (numbered id m.tickets.items)) (λ why. result ≡ Err why)
       → IfErr result (λ why. (exclusive_fault (numbered id m.tickets.items) ≡ Some why)
-      ⊎ ((t : Own) × (numbered id m.tickets.items ≡ Some t) × IsRefusedAs t.place m.worker.number change why m.worker.seat.me m′.worker.seat.me))
+      ⊎ ((t : Own) × (numbered id m.tickets.items ≡ Some t) × IsRefusedAs t.place m.seat.me.0.number change why m.seat.me m′.seat.me))
       → Joins (space_of_member m) (Change_definition who id change) (redefined result) (space_of_member m′)
   change-joins change (Ok version) changed unchanged unfit causes =
       let t = changed.0 in
@@ -216,7 +216,7 @@ module _ (m m′ : Member) (who id : ℕ) (rest : KeepsRest m m′) (next : m′
           let same : x ≡ cause_of w = cc in absurd (never-unfit w (numbered id m.tickets.items) (e ∙ ap (λ s. Some s) same))
 
       by : (exclusive_fault (numbered id m.tickets.items) ≡ Some why)
-          ⊎ ((t : Own) × (numbered id m.tickets.items ≡ Some t) × IsRefusedAs t.place m.worker.number change why m.worker.seat.me m′.worker.seat.me)
+          ⊎ ((t : Own) × (numbered id m.tickets.items ≡ Some t) × IsRefusedAs t.place m.seat.me.0.number change why m.seat.me m′.seat.me)
           → Joins (space_of_member m) (Change_definition who id change) (Refused why) (space_of_member m′)
       by (inl fault) = joined why (unfit-cause change why (numbered id m.tickets.items) refl fault)
       by (inr met) =

@@ -85,18 +85,18 @@ settled-stays told told′ how stays is = let h = settled-told told how is in ap
 
 -- its tickets may have changed, and the number of the next one, and nothing else than that
 pub record KeepsRest (m m′ : Member) : Type 0 where
-  pub number : m′.worker.number ≡ m.worker.number
+  pub number : m′.seat.me.0.number ≡ m.seat.me.0.number
   pub known : m′.known.items ≡ m.known.items
   pub wait : SeesWait m m′
 
 -- nothing else than that has changed
 pub record Stays (m m′ : Member) : Type 0 where
-  pub number : m′.worker.number ≡ m.worker.number
+  pub number : m′.seat.me.0.number ≡ m.seat.me.0.number
   pub tickets : m′.tickets.items ≡ m.tickets.items
   pub next : m′.next ≡ m.next
   pub known : m′.known.items ≡ m.known.items
   pub wait : SeesWait m m′
-  pub reads : ReadNothing m.worker.seat.me m′.worker.seat.me
+  pub reads : ReadNothing m.seat.me m′.seat.me
 
 pub numbers-same : (next next′ waits waits′ : ℕ) → next′ ≡ next → waits′ ≡ waits
     → numbers_by next′ waits′ ≡ numbers_by next waits
@@ -115,7 +115,7 @@ no-asks (Some a) waits idle = cc
 -- it knows of its wait what it knew, and may know more, where it waits
 pub keeps-settled : (m m′ : Member) → SeesWait m m′ → KeepsSettled false (space_of_member m) (space_of_member m′)
 keeps-settled m m′ sees = (
-  λ how is. settled-stays m.worker.seat.me.0.told m′.worker.seat.me.0.told how sees.3 is,
+  λ how is. settled-stays m.seat.me.0.told m′.seat.me.0.told how sees.3 is,
   λ idle.
       let none = no-asks m.asks m.waits idle in
       ap settled_told (nothing-told m′ (sees.0 ∙ none) ∙ sym (nothing-told m none)),
@@ -135,7 +135,7 @@ keeps-all m m′ stays = record {
 
 -- a refused call joins the two
 pub refused : (m m′ : Member) (call : Call) (why : SpaceError) → Stays m m′ → IfSome (caller call) (SpeaksFor (space_of_member m)) → has_call call ≡ true
-    → is_answer_of call (Refused why) ≡ true → IsCause (Knows (space_of_member m) m.worker.number) call why (space_of_member m).own
+    → is_answer_of call (Refused why) ≡ true → IsCause (Knows (space_of_member m) m.seat.me.0.number) call why (space_of_member m).own
     → ((state : Option Settled) (how : Settled) → met call (Refused why) ≡ Some state → (space_of_member m).settled ≡ Some how → state ≡ Some how)
     → TellsTruly call (Refused why) (space_of_member m) (space_of_member m′) → Joins (space_of_member m) call (Refused why) (space_of_member m′)
 refused m m′ call why stays mine has fits cause agreed truly =
@@ -145,7 +145,7 @@ refused m m′ call why stays mine has fits cause agreed truly =
 pub joins-still : (m m′ : Member) (call : Call) (answer : Answer) → Stays m m′ → IfSome (caller call) (SpeaksFor (space_of_member m)) → has_call call ≡ true
     → is_answer_of call answer ≡ true → own_after call answer (space_of_member m).own ≡ (space_of_member m).own
     → Draws call answer (space_of_member m).numbers (space_of_member m).numbers
-    → IsExplained (Knows (space_of_member m) m.worker.number) call answer (space_of_member m).own
+    → IsExplained (Knows (space_of_member m) m.seat.me.0.number) call answer (space_of_member m).own
     → IfSome (gained_at call answer) (λ place. is_known place (space_of_member m).known ≡ true)
     → Learns call answer (space_of_member m).known (space_of_member m).known
     → ((state : Option Settled) (how : Settled) → met call answer ≡ Some state → (space_of_member m).settled ≡ Some how → state ≡ Some how)
@@ -178,7 +178,7 @@ pub joins-held : (m m′ : Member) (call : Call) (answer : Answer) (held : List 
     → has_call call ≡ true → is_answer_of call answer ≡ true → map told_of m′.tickets.items ≡ held
     → own_after call answer (space_of_member m).own ≡ own_of held (wait_by m.waits m.asks)
     → Draws call answer (space_of_member m).numbers (space_of_member m′).numbers
-    → IsExplained (Knows (space_of_member m) m.worker.number) call answer (space_of_member m).own
+    → IsExplained (Knows (space_of_member m) m.seat.me.0.number) call answer (space_of_member m).own
     → IfSome (gained_at call answer) (λ place. is_known place (space_of_member m).known ≡ true)
     → Learns call answer (space_of_member m).known (space_of_member m).known
     → ((state : Option Settled) (how : Settled) → met call answer ≡ Some state → (space_of_member m).settled ≡ Some how → state ≡ Some how)

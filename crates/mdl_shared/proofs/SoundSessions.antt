@@ -74,9 +74,9 @@ awaited-told m None at = tt
 awaited-told m (Some a) at = known-told a.place m.known.items ∙ at
 
 -- only a wait is settled
-settled-waits : (m : Member) (asks : Option Ask) → m.asks ≡ asks → is_some (settled_told m.worker.seat.me.0.told) ≡ true → is_some (wait_by m.waits asks) ≡ true
+settled-waits : (m : Member) (asks : Option Ask) → m.asks ≡ asks → is_some (settled_told m.seat.me.0.told) ≡ true → is_some (wait_by m.waits asks) ≡ true
 settled-waits m None asks settled =
-    let nothing : is_some (settled_told m.worker.seat.me.0.told) ≡ false = ap (λ o. is_some (settled_told o)) (nothing-told m asks) in
+    let nothing : is_some (settled_told m.seat.me.0.told) ≡ false = ap (λ o. is_some (settled_told o)) (nothing-told m asks) in
     let both = sym settled ∙ nothing in cc
 settled-waits m (Some a) asks settled = refl
 
@@ -105,7 +105,7 @@ each-at place reads (t ∷ ts) each =
 -- ---- the whole
 
 -- by what it remembers
-sound-so : (m : Member) → Remembers m.known.items m.tickets.items m.worker.seat.me.0.reads → IsSound (space_of_member m)
+sound-so : (m : Member) → Remembers m.known.items m.tickets.items m.seat.me.0.reads → IsSound (space_of_member m)
 sound-so m remembers = record {
   rising = rising-told m.tickets.items ∙ m.rising;
   below = below-free m m.asks refl;
@@ -114,15 +114,15 @@ sound-so m remembers = record {
   apart = apart-told m.known.items ∙ m.keys_apart;
   settled = settled-waits m m.asks refl;
   noted = λ place version noted.
-      ap (option_map (λ (s : Standing). s.version)) (last-told place m.worker.seat.me.0.reads)
-      ∙ noted-each (λ v. option_map (λ (s : Standing). s.version) (last_read place m.worker.seat.me.0.reads) ≡ Some v) place version m.tickets.items
-      (each-at place m.worker.seat.me.0.reads m.tickets.items remembers.noted) noted;
+      ap (option_map (λ (s : Standing). s.version)) (last-told place m.seat.me.0.reads)
+      ∙ noted-each (λ v. option_map (λ (s : Standing). s.version) (last_read place m.seat.me.0.reads) ≡ Some v) place version m.tickets.items
+      (each-at place m.seat.me.0.reads m.tickets.items remembers.noted) noted;
   newest = λ place standing last.
-      newest-told place standing.version m.worker.seat.me.0.reads
-      ∙ remembers.newest place standing (sym (last-told place m.worker.seat.me.0.reads) ∙ last);
+      newest-told place standing.version m.seat.me.0.reads
+      ∙ remembers.newest place standing (sym (last-told place m.seat.me.0.reads) ∙ last);
   fits = λ place standing last.
       subst (λ (o : Option KeyName). MatchOption o ⊥ (λ (key : KeyName). MayStand key.namespace standing)) (sym (key-told place m.known.items))
-      (remembers.fits place standing (sym (last-told place m.worker.seat.me.0.reads) ∙ last));
+      (remembers.fits place standing (sym (last-told place m.seat.me.0.reads) ∙ last));
 }
 
 -- a session is sound

@@ -130,7 +130,7 @@ noted-gained at id place mode tickets all =
 
 -- ---- a session that reads nothing
 
-pub nothing-read : (m m′ : Member) → ReadNothing m.worker.seat.me m′.worker.seat.me
+pub nothing-read : (m m′ : Member) → ReadNothing m.seat.me m′.seat.me
     → ((place : ℕ) → AllNoted place (noted_under place m.tickets.items) m′.tickets.items) → ReadsNothing (space_of_member m) (space_of_member m′)
 nothing-read m m′ reads all = record {
   reads = ap (map reading_of) reads;

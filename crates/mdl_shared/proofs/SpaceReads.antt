@@ -109,7 +109,7 @@ last-each place standing last (r ∷ rs) each e same =
 
 -- ---- what is met at a place
 
-pub meets-there : (m : Member) (place : ℕ) (standing : Standing) → Follows place standing m.worker.seat.me → Meets place standing (space_of_member m)
+pub meets-there : (m : Member) (place : ℕ) (standing : Standing) → Follows place standing m.seat.me → Meets place standing (space_of_member m)
 meets-there m place standing follows = record {
   fits = λ key knows.
       let there = known-there place key m.known.items (sym (key-told place m.known.items) ∙ knows) in
@@ -118,16 +118,16 @@ meets-there m place standing follows = record {
   noted = λ version is.
       noted-each (λ v. v ≡ standing.version) place version m.tickets.items
       (subst (λ ts. Each (λ (t : Own). (v : ℕ) → t.noted ≡ Some v → v ≡ standing.version) (own_at place ts)) (sym m.listed) follows.noted) is;
-  newest = newest-each place standing m.worker.seat.me.0.reads follows.reads;
-  same = λ last is same. last-each place standing last m.worker.seat.me.0.reads follows.reads is same;
+  newest = newest-each place standing m.seat.me.0.reads follows.reads;
+  same = λ last is same. last-each place standing last m.seat.me.0.reads follows.reads is same;
 }
 
 -- it has been read, and is noted there
 pub notes-there : (m m′ : Member) (id place : ℕ) (t : Own) (standing : Standing) → numbered id m.tickets.items ≡ Some t → t.place ≡ place
-    → m′.tickets.items ≡ noting_version place standing.version m.tickets.items → ReadsThere place standing m.worker.seat.me m′.worker.seat.me
+    → m′.tickets.items ≡ noting_version place standing.version m.tickets.items → ReadsThere place standing m.seat.me m′.seat.me
     → NotesThere place standing (space_of_member m) (space_of_member m′)
 notes-there m m′ id place t standing its here noted reads = record {
-  last = inl (ap (map reading_of) reads ∙ map-append reading_of m.worker.seat.me.0.reads (record { place = place; standing = standing } ∷ []));
+  last = inl (ap (map reading_of) reads ∙ map-append reading_of m.seat.me.0.reads (record { place = place; standing = standing } ∷ []));
   here = ap (noted_under place) noted ∙ noting-placed place standing.version m.tickets.items (placed-some place id m.tickets.items t its here);
   elsewhere = λ other apart. ap (noted_under other) noted ∙ noting-elsewhere place standing.version other m.tickets.items apart;
 }

@@ -22,7 +22,7 @@ use Rattle.mdl_shared.proofs.SpaceLists.{key-told}
 -- the session itself is the same
 pub same-stays : (m m′ : Member) → m′ ≡ m → Stays m m′
 same-stays m m′ same = record {
-  number = ap (λ (x : Member). x.worker.number) same;
+  number = ap (λ (x : Member). x.seat.me.0.number) same;
   tickets = ap (λ (x : Member). x.tickets.items) same;
   next = ap (λ (x : Member). x.next) same;
   known = ap (λ (x : Member). x.known.items) same;
@@ -30,9 +30,9 @@ same-stays m m′ same = record {
     ap (λ (x : Member). x.asks) same,
     ap (λ (x : Member). x.waits) same,
     ap (λ (x : Member). x.sessions) same,
-    λ state told. ap (λ (x : Member). x.worker.seat.me.0.told) same ∙ told,
+    λ state told. ap (λ (x : Member). x.seat.me.0.told) same ∙ told,
   );
-  reads = ap (λ (x : Member). x.worker.seat.me.0.reads) same;
+  reads = ap (λ (x : Member). x.seat.me.0.reads) same;
 }
 
 -- ---- what is held
@@ -45,16 +45,16 @@ held-joins m who (Ok held) speaks told memory =
     (λ state how is. cc) (λ how is. cc) refl (λ r. r) told
 held-joins m who (Err why) speaks told memory =
     refused m m (List_held who) why (same-stays m m refl) speaks refl refl
-    (subst (λ w. IsCause (Knows (space_of_member m) m.worker.number) (List_held who) w (space_of_member m).own) (sym memory) tt)
+    (subst (λ w. IsCause (Knows (space_of_member m) m.seat.me.0.number) (List_held who) w (space_of_member m).own) (sym memory) tt)
     (λ state how is. cc) tt
 
 -- ---- the key of a place
 
 key-cause : (m : Member) (who place : ℕ) (why : SpaceError) → naming_fault place m.known.items ≡ Some why
-    → IsCause (Knows (space_of_member m) m.worker.number) (Key_of who place) why (space_of_member m).own
+    → IsCause (Knows (space_of_member m) m.seat.me.0.number) (Key_of who place) why (space_of_member m).own
 key-cause m who place why e =
     let none = test-failed (is_some (key_known place m.known.items)) NoPlace why e in
-    subst (λ w. IsCause (Knows (space_of_member m) m.worker.number) (Key_of who place) w (space_of_member m).own) (sym none.1)
+    subst (λ w. IsCause (Knows (space_of_member m) m.seat.me.0.number) (Key_of who place) w (space_of_member m).own) (sym none.1)
     (λ key knows. let some = sym none.0 ∙ ap is_some (sym (key-told place m.known.items) ∙ knows) in cc)
 
 pub key-joins : (m m′ : Member) (who place : ℕ) (result : Result KeyName SpaceError) → Stays m m′ → SpeaksFor (space_of_member m) who
@@ -68,9 +68,9 @@ key-joins m m′ who place (Err why) stays speaks told refuses =
     (by (refused-for KeyName (naming_fault place m.known.items) OutOfMemory why refuses)) (λ state how is. cc) tt
   where
     by : (naming_fault place m.known.items ≡ Some why) ⊎ (why ≡ OutOfMemory)
-        → IsCause (Knows (space_of_member m) m.worker.number) (Key_of who place) why (space_of_member m).own
+        → IsCause (Knows (space_of_member m) m.seat.me.0.number) (Key_of who place) why (space_of_member m).own
     by (inl fault) = key-cause m who place why fault
-    by (inr memory) = subst (λ w. IsCause (Knows (space_of_member m) m.worker.number) (Key_of who place) w (space_of_member m).own) (sym memory) tt
+    by (inr memory) = subst (λ w. IsCause (Knows (space_of_member m) m.seat.me.0.number) (Key_of who place) w (space_of_member m).own) (sym memory) tt
 
 -- ---- the number of a wait
 
@@ -78,7 +78,7 @@ pub number-told : (asks : Option Ask) (waits : ℕ) → own_number waits asks �
 number-told None waits = refl
 number-told (Some a) waits = refl
 
-pub number-joins : (m m′ : Member) (target : ℕ) (result : Option ℕ) → Stays m m′ → (target ≡ m.worker.number → result ≡ own_number m.waits m.asks)
+pub number-joins : (m m′ : Member) (target : ℕ) (result : Option ℕ) → Stays m m′ → (target ≡ m.seat.me.0.number → result ≡ own_number m.waits m.asks)
     → Joins (space_of_member m) (Wait_of target) (Has_wait result) (space_of_member m′)
 number-joins m m′ target result stays own =
     joins-still m m′ (Wait_of target) (Has_wait result) stays tt refl refl refl refl tt tt refl

@@ -34,7 +34,7 @@ use Rattle.mdl_shared.proofs.TicketFaults.{downgrade-cause, downgrade-clear, hel
 
 -- ---- releases
 
-module _ (m m′ : Member) (who id : ℕ) (rest : KeepsRest m m′) (next : m′.next ≡ m.next) (reads : ReadNothing m.worker.seat.me m′.worker.seat.me)
+module _ (m m′ : Member) (who id : ℕ) (rest : KeepsRest m m′) (next : m′.next ≡ m.next) (reads : ReadNothing m.seat.me m′.seat.me)
     (speaks : SpeaksFor (space_of_member m) who) where
   -- nothing has changed
   still : m′.tickets.items ≡ m.tickets.items → Stays m m′
@@ -62,7 +62,7 @@ module _ (m m′ : Member) (who id : ℕ) (rest : KeepsRest m m′) (next : m′
   release-joins (Err why) released unchanged just =
       let none = held-fault id m.tickets.items why (just-refused (Unit {0}) (holding_fault id m.tickets.items) why just) in
       refused m m′ (Release who id) why (still unchanged) speaks refl refl
-      (subst (λ w. IsCause (Knows (space_of_member m) m.worker.number) (Release who id) w (space_of_member m).own) (sym none.1)
+      (subst (λ w. IsCause (Knows (space_of_member m) m.seat.me.0.number) (Release who id) w (space_of_member m).own) (sym none.1)
       (holds-told id m.tickets.items false none.0)) (λ state how is. cc) tt
 
   -- ---- downgrades

@@ -67,7 +67,7 @@ merge-here kept gone asks e = by (is_some asks) e
 
 module _ (m : Member) where
   abbrev pub knows : Knowledge
-  knows = Knows (space_of_member m) m.worker.number
+  knows = Knows (space_of_member m) m.seat.me.0.number
 
   abbrev pub own : Mine
   own = (space_of_member m).own

@@ -56,8 +56,8 @@ next-some m = let fewer = m.fewer.0 in omega arith
 abbrev pub gained : ℕ → ℕ → Mode → List Own → Own
 gained id place mode tickets = record { number = id; place = place; mode = mode; noted = note_at place tickets }
 
-module _ (m m′ : Member) (sees : SeesWait m m′) (number : m′.worker.number ≡ m.worker.number) (known : m′.known.items ≡ m.known.items)
-    (reads : ReadNothing m.worker.seat.me m′.worker.seat.me) where
+module _ (m m′ : Member) (sees : SeesWait m m′) (number : m′.seat.me.0.number ≡ m.seat.me.0.number) (known : m′.known.items ≡ m.known.items)
+    (reads : ReadNothing m.seat.me m′.seat.me) where
   rest : KeepsRest m m′
   rest = record { number = number; known = known; wait = sees }
 
@@ -68,7 +68,7 @@ module _ (m m′ : Member) (sees : SeesWait m m′) (number : m′.worker.number
       → is_answer_of call (Granted id) ≡ true → id ≡ m.next → m′.next ≡ id + 1 → m′.tickets.items ≡ m.tickets.items ++ gained id place mode m.tickets.items ∷ []
       → own_after call (Granted id) (space_of_member m).own ≡ gaining id place mode (space_of_member m).own
       → (DrawsTicket id (space_of_member m).numbers (space_of_member m′).numbers → Draws call (Granted id) (space_of_member m).numbers (space_of_member m′).numbers)
-      → IsExplained (Knows (space_of_member m) m.worker.number) call (Granted id) (space_of_member m).own
+      → IsExplained (Knows (space_of_member m) m.seat.me.0.number) call (Granted id) (space_of_member m).own
       → IfSome (gained_at call (Granted id)) (λ place. is_known place (space_of_member m).known ≡ true)
       → Learns call (Granted id) (space_of_member m).known (space_of_member m).known
       → ((state : Option Settled) (how : Settled) → met call (Granted id) ≡ Some state → (space_of_member m).settled ≡ Some how → state ≡ Some how)
@@ -110,7 +110,7 @@ module _ (m m′ : Member) (sees : SeesWait m m′) (number : m′.worker.number
       (waits-asks m.asks m.waits ∙ clear.0, clear.1) tt refl (λ state how is. cc) (λ how is. cc) refl (λ r. r) tt
   try-joins who place mode (Err why) speaks granted next blocked unchanged unfit causes =
       refused m m′ (Try_now who place mode) why (still unchanged.0 unchanged.1) speaks refl refl
-      (wish-why m Attempt (λ w. IsCause (Knows (space_of_member m) m.worker.number) (Try_now who place mode) w (space_of_member m).own) place mode why
+      (wish-why m Attempt (λ w. IsCause (Knows (space_of_member m) m.seat.me.0.number) (Try_now who place mode) w (space_of_member m).own) place mode why
       (λ h. h) (λ h. h) (λ h. h) (λ h. h) tt (λ h. h) unfit causes)
       (λ state how is. cc) tt
 
@@ -132,14 +132,14 @@ module _ (m m′ : Member) (sees : SeesWait m m′) (number : m′.worker.number
       (waits-asks m.asks m.waits ∙ clear.0, clear.1) tt refl (λ state how is. cc) (λ how is. cc) refl (λ r. r) tt
   clone-joins who id mode (Err why) speaks doubled unchanged unfit causes =
       refused m m′ (Clone_ticket who id mode) why (still unchanged.0 unchanged.1) speaks refl refl
-      (clone-why m ℕ (λ w. IsCause (Knows (space_of_member m) m.worker.number) (Clone_ticket who id mode) w (space_of_member m).own) id mode why
+      (clone-why m ℕ (λ w. IsCause (Knows (space_of_member m) m.seat.me.0.number) (Clone_ticket who id mode) w (space_of_member m).own) id mode why
       (λ h. h) (λ h. h) (λ h. h) (λ h. h) tt (λ h. h) unfit causes)
       (λ state how is. cc) tt
 
 -- ---- waits that begin
 
-module _ (m m′ : Member) (who place : ℕ) (mode : Mode) (number : m′.worker.number ≡ m.worker.number) (known : m′.known.items ≡ m.known.items)
-    (reads : ReadNothing m.worker.seat.me m′.worker.seat.me) (speaks : SpeaksFor (space_of_member m) who) where
+module _ (m m′ : Member) (who place : ℕ) (mode : Mode) (number : m′.seat.me.0.number ≡ m.seat.me.0.number) (known : m′.known.items ≡ m.known.items)
+    (reads : ReadNothing m.seat.me m′.seat.me) (speaks : SpeaksFor (space_of_member m) who) where
   waits-joins : (waits : ℕ) → waits ≡ m.waits + 1 → Begins place mode m m′ → wish_fault (kind_known place m.known.items) m.asks mode m.next ≡ None
       → Joins (space_of_member m) (Begin_wait who place mode) (Waits waits) (space_of_member m′)
   waits-joins waits is begins fit =
@@ -186,6 +186,6 @@ module _ (m m′ : Member) (who place : ℕ) (mode : Mode) (number : m′.worker
       waits-joins waits begun.0 begun.1 (unfit-clear (wish_fault (kind_known place m.known.items) m.asks mode m.next) (begun_as.Waiting waits) unfit)
   begin-joins (Err why) granted next waiting unchanged unfit causes =
       refused m m′ (Begin_wait who place mode) why (still m m′ (keeps-sees m m′ unchanged.0) number known reads unchanged.1 unchanged.2) speaks refl refl
-      (wish-why m Begun (λ w. IsCause (Knows (space_of_member m) m.worker.number) (Begin_wait who place mode) w (space_of_member m).own) place mode why
+      (wish-why m Begun (λ w. IsCause (Knows (space_of_member m) m.seat.me.0.number) (Begin_wait who place mode) w (space_of_member m).own) place mode why
       (λ h. h) (λ h. h) (λ h. h) (λ h. h) tt (λ h. h) unfit causes)
       (λ state how is. cc) tt

@@ -1,7 +1,7 @@
 -- Why wishes for locks and clones are refused, in the words of a lock space.
 use Rattle.std.proofs.Common.{◌≡◌, ◌⊎◌, ℕ, Bool, true, false, not, ◌&&◌, is_some, Option, Some, None, Result, Ok, Err, inl, inr, IfSome, if◌then◌else◌, refl, sym, ap, subst, ◌∙◌}
-use Rattle.std.specs.Prelude.{nat_le}
-use Rattle.std.proofs.lemmas.Bool.{and_parts}
+use Rattle.std.specs.Prelude.{◌<◌, nat_le}
+use Rattle.std.proofs.lemmas.Bool.{and_parts, lt-leb}
 use Rattle.mdl_key.specs.declared.mode.Mode.{Mode}
 use Rattle.mdl_key.specs.declared.namespace.Kind.{Kind}
 use Rattle.mdl_key.specs.Words.{is_mode_of}
@@ -56,7 +56,7 @@ chain-full false true false e = cc
 
 module _ (m : Member) where
   abbrev knows : Knowledge
-  knows = Knows (space_of_member m) m.worker.number
+  knows = Knows (space_of_member m) m.seat.me.0.number
 
   abbrev own : Mine
   own = (space_of_member m).own
@@ -77,6 +77,19 @@ module _ (m : Member) where
       by (Some kind) is e =
           let clear = chain-clear (is_some m.asks) (is_mode_of kind mode) (nat_le most_numbers m.next) AlreadyWaiting BadMode CounterFull e in
           (clear.0, of-kind place m.known.items kind mode true is clear.1, kind-is_known place kind m.known.items is)
+
+  -- by the tests that are made one after another
+  pub wish-open : (place : ℕ) (kind : Kind) (mode : Mode) → kind_known place m.known.items ≡ Some kind → is_some m.asks ≡ false → is_mode_of kind mode ≡ true
+      → m.next < most_numbers → wish_fault (kind_known place m.known.items) m.asks mode m.next ≡ None
+  wish-open place kind mode known asks fits below =
+      ap (λ (o : Option Kind). wish_fault o m.asks mode m.next) known ∙ by (is_some m.asks) (is_mode_of kind mode) (nat_le most_numbers m.next) asks fits (lt-leb most_numbers m.next below)
+    where
+      by : (waits fits full : Bool) → waits ≡ false → fits ≡ true → full ≡ false
+          → (if waits then Some AlreadyWaiting else (if not fits then Some BadMode else (if full then Some CounterFull else None))) ≡ None
+      by true fits full asks is below = cc
+      by false false full asks is below = cc
+      by false true true asks is below = cc
+      by false true false asks is below = refl
 
   -- the causes of faults
   pub wish-cause : (P : SpaceError → Type 0) (place : ℕ) (mode : Mode) (why : SpaceError) → (IsUnknown knows place → P NoPlace) → (is_waiting own ≡ true → P AlreadyWaiting)

@@ -9,4 +9,4 @@ pub record Begins (place : ℕ) (mode : Mode) (m m′ : Member) : Type 0 where
   pub waits : m′.waits ≡ m.waits + 1
   pub next : m′.next ≡ m.next + 1
   pub tickets : m′.tickets.items ≡ m.tickets.items
-  pub unsettled : m′.worker.seat.me.0.told ≡ None
+  pub unsettled : m′.seat.me.0.told ≡ None

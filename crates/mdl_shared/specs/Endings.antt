@@ -10,7 +10,7 @@ use Rattle.mdl_steps.specs.declared.view.Own.{Own}
 use Rattle.mdl_steps.specs.Cells.{note_at}
 use Rattle.mdl_steps.specs.Plays.{Mine}
 use Rattle.mdl_shared.specs.declared.member.Member.{Member}
-use Rattle.mdl_visits.specs.Grantings.{MadeWay}
+use Rattle.mdl_visits.specs.Grantings.{HasRescheduled}
 use Rattle.mdl_visits.specs.Polls.{SettlesNothing}
 use Rattle.mdl_visits.specs.WaitEndings.{without_wait}
 
@@ -23,7 +23,7 @@ pub record EndsWith (tickets : List Own) (m m′ : Member) : Type 0 where
   pub asks : m′.asks ≡ None
   pub waits : m′.waits ≡ m.waits
   pub held : m′.tickets.items ≡ tickets
-  pub unsettled : m′.worker.seat.me.0.told ≡ None
+  pub unsettled : m′.seat.me.0.told ≡ None
 
 -- how a wait has ended that was lost so
 abbrev pub lost_end : Settled → Option Ended
@@ -45,6 +45,6 @@ tickets_after a settled.Granted tickets = tickets ++ ticket_asked a tickets ∷ 
 tickets_after a _ tickets = tickets
 
 -- the end of a wait at a place settled no wait where it was granted. Where it was lost, way was made there without it
-abbrev pub EndMakesWay : TableId → ℕ → Ended → Mine → Mine → Type 0
-EndMakesWay id place (ended.Granted number) m m′ = SettlesNothing m m′
-EndMakesWay id place _ m m′ = MadeWay id place (without_wait m) m′
+abbrev pub EndReschedules : TableId → ℕ → Ended → Mine → Mine → Type 0
+EndReschedules id place (ended.Granted number) m m′ = SettlesNothing m m′
+EndReschedules id place _ m m′ = HasRescheduled id place (without_wait m) m′

@@ -1,4 +1,6 @@
--- The words of the crate below that the public clauses of this one cite, under this crate's own paths.
+-- The words of the crates below that the public clauses of this one cite, under this crate's own paths.
+pub use Rattle.mdl_session_laws.specs.SessionJoins
+pub use Rattle.mdl_session_laws.specs.SessionSpaces
 pub use Rattle.mdl_visits.specs.Audits
 pub use Rattle.mdl_visits.specs.Grantings
 pub use Rattle.mdl_visits.specs.Leavings

@@ -2,31 +2,32 @@
 use Rattle.std.specs.Prelude.{◌≡◌, ℕ, ◌+◌, ◌<◌, List, [], length, slice_index_or}
 use Rattle.std.specs.Arc.{arc_value}
 use Rattle.atomic_table.specs.Seated.{TableId}
-use Rattle.mdl_steps.specs.declared.step_kind.StepKind.TheVariants.{Enrol}
-use Rattle.mdl_steps.specs.Cells.{blank, no_numbers}
-use Rattle.mdl_steps.specs.Layout.{enrol_word}
-use Rattle.mdl_steps.specs.Plays.{logged}
+use Rattle.mdl_steps.specs.SeatStates.{enrolled_seat}
 use Rattle.mdl_shared.specs.declared.manager.Manager.{Manager}
 use Rattle.mdl_shared.specs.declared.pass.Pass.{Pass}
+use Rattle.mdl_shared.specs.SessionViews.{SessionView, view_of}
 
 -- the table of a space
 abbrev pub table_of : Manager → TableId
 table_of manager = (arc_value manager.table).shared.table_id
 
--- the table at which the session of a pass has its seat
+-- the session of a pass, as it is once it is opened
+abbrev pub pass_view : Pass → SessionView
+pass_view pass = view_of pass.member
+
+-- the table at which it has its seat
 abbrev pub pass_table : Pass → TableId
-pass_table pass = (arc_value pass.member.table).shared.table_id
+pass_table pass = (pass_view pass).table
 
 -- the session's number
 abbrev pub pass_number : Pass → ℕ
-pass_number pass = pass.member.worker.number
+pass_number pass = (pass_view pass).me.0.number
 
--- a pass of a session of this number at this table, which knows no key, and has made no step but that by which its number was drawn
+-- a pass of a session of this number at this table, which knows and has nothing, and has made no step but that by which its number was drawn
 pub record IsPass (table : TableId) (number : ℕ) (pass : Pass) : Type 0 where
   pub theirs : pass_table pass ≡ table
   pub numbered : pass_number pass ≡ number
-  pub nothing_known : pass.member.known.items ≡ []
-  pub fresh : pass.member.worker.seat.me ≡ (logged Enrol [] (enrol_word table.slots) number [] (blank number no_numbers), [])
+  pub fresh : (pass_view pass).me ≡ (enrolled_seat table number).me
 
 -- the passes of the sessions from 1 on, in order
 abbrev pub ArePasses : TableId → List Pass → Type 0

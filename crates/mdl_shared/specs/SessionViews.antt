@@ -1,17 +1,19 @@
 -- What a session of a shared space is to those that stand on lock spaces, by what it keeps of its own between two calls.
-use Rattle.std.specs.Prelude.{ℕ, ◌-◌, ◌==◌, map, filter_map, Option, Some, None, if◌then◌else◌}
+use Rattle.std.specs.Prelude.{ℕ, ◌-◌, ◌==◌, List, map, filter_map, Option, Some, None, if◌then◌else◌}
 use Rattle.std.specs.Option.{option_map}
+use Rattle.atomic_table.specs.Seated.{TableId}
 use Rattle.mdl_calls.specs.declared.answers.Settled.{Settled}
 use Rattle.mdl_calls.specs.declared.answers.Settled.TheVariants.{Granted, Victim, Timeout, Killed}
 use Rattle.mdl_steps.specs.declared.view.Ask.{Ask}
 use Rattle.mdl_steps.specs.declared.view.Known.{Known}
 use Rattle.mdl_steps.specs.declared.view.Own.{Own}
 use Rattle.mdl_steps.specs.declared.view.Read.{Read}
+use Rattle.mdl_steps.specs.declared.view.View.{View}
+use Rattle.mdl_steps.specs.Plays.{Mine}
 use Rattle.mdl_steps.specs.declared.wait_word.Loss.TheVariants as loss
 use Rattle.mdl_steps.specs.WaitStates.{granted_state, lost_state}
 use Rattle.mdl_session_laws.specs.SessionSpaces.{Space, Note}
 use Rattle.mdl_shared.specs.declared.member.Member.{Member}
-use Rattle.mdl_shared.specs.declared.session.Session.{Session}
 use Rattle.mdl_shared.specs.OwnLists.{told_of}
 
 -- how a wait is settled whose word is in this state
@@ -30,18 +32,57 @@ settled_told (Some state) = settled_of state
 abbrev pub note_of : Own → Option Note
 note_of t = option_map (λ version. record { place = t.place; version = version }) t.noted
 
--- what a session has of the space, as plain data
-abbrev pub space_of_member : Member → Space
-space_of_member m = record {
-  number = m.worker.number;
-  own = record { held = map told_of m.tickets.items; wait = option_map (λ (a : Ask). record { number = m.waits; place = a.place; mode = a.mode }) m.asks };
-  numbers = record { last_ticket = m.next - 1; last_wait = m.waits };
-  known = map (λ (k : Known). record { key = k.key; place = k.place }) m.known.items;
-  settled = settled_told m.worker.seat.me.0.told;
-  notes = filter_map note_of m.tickets.items;
-  reads = map (λ (r : Read). record { place = r.place; standing = r.standing }) m.worker.seat.me.0.reads;
+-- ---- a session
+
+-- a session: the table at which it has its seat, how many sessions the space has, and what it knows and has there, with its steps
+pub record SessionView : Type 0 where
+  pub table : TableId
+  pub sessions : ℕ
+  pub me : Mine
+
+-- what a session, open or not, is at the table
+abbrev pub view_of : Member → SessionView
+view_of m = record { table = m.seat.table; sessions = m.sessions; me = m.seat.me }
+
+-- ---- its lists
+
+-- its tickets, the keys that it has looked up, the number of its next ticket, what it waits for, and the number of its last wait
+pub record Lists : Type 0 where
+  pub tickets : List Own
+  pub known : List Known
+  pub next : ℕ
+  pub asks : Option Ask
+  pub waits : ℕ
+
+-- by what it knows and has at the table
+abbrev pub lists_seen : View → Lists
+lists_seen me = record { tickets = me.slow; known = me.known; next = me.next; asks = me.asks; waits = me.waits }
+
+-- as it keeps them of its own
+abbrev pub lists_of : Member → Lists
+lists_of m = record { tickets = m.tickets.items; known = m.known.items; next = m.next; asks = m.asks; waits = m.waits }
+
+-- ---- as a lock space
+
+-- what a session of a number has of the space by its lists, by how it knows its wait to be settled, and by what it read
+abbrev pub space_by : ℕ → Lists → Option ℕ → List Read → Space
+space_by number lists told reads = record {
+  number = number;
+  own = record {
+    held = map told_of lists.tickets;
+    wait = option_map (λ (a : Ask). record { number = lists.waits; place = a.place; mode = a.mode }) lists.asks;
+  };
+  numbers = record { last_ticket = lists.next - 1; last_wait = lists.waits };
+  known = map (λ (k : Known). record { key = k.key; place = k.place }) lists.known;
+  settled = settled_told told;
+  notes = filter_map note_of lists.tickets;
+  reads = map (λ (r : Read). record { place = r.place; standing = r.standing }) reads;
 }
 
--- the same of a session, whatever its calls wait by
-abbrev pub space_of : {R : Type 0} → Session R → Space
-space_of s = space_of_member s.member
+-- what a session has of the space, as plain data
+abbrev pub space_of : SessionView → Space
+space_of s = space_by s.me.0.number (lists_seen s.me.0) s.me.0.told s.me.0.reads
+
+-- the same by the lists that it keeps of its own
+abbrev pub space_of_member : Member → Space
+space_of_member m = space_by m.seat.me.0.number (lists_of m) m.seat.me.0.told m.seat.me.0.reads

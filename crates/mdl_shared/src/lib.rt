@@ -37,30 +37,34 @@
 //! ```
 #![tactic(auto)]
 
-mod audits;
-mod beginnings;
-mod changes;
-mod clones;
-mod downgrades;
-mod endings;
+mod audit;
+mod begin_wait;
+mod change_definition;
+mod clone_ticket;
+mod downgrade;
+mod end_wait;
+mod held;
 mod holdings;
+mod key_of;
+mod kill;
 mod lock_space;
 mod manager;
 mod member;
-mod merges;
-mod own_lists;
+mod merge;
 mod pass;
-mod places;
-mod polls;
-mod reads;
-mod reschedules;
-mod searches;
+mod poll_wait;
+mod read_definition;
+mod release;
+mod reschedule;
+mod resolve;
+mod search;
 mod session;
-mod settlements;
-mod tables;
-mod tickets;
-mod upgrades;
-mod wishes;
+mod settle_timeout;
+mod tables_of;
+mod try_now;
+mod upgrade_now;
+mod wait_of;
+mod wait_words;
 
 pub use manager::Manager;
 pub use mdl_calls::NewError;

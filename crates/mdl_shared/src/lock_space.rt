@@ -38,7 +38,7 @@ impl<R: Wait> LockSpace for Session<R> {
     ghost owes = { λ s. Owes (space_of s) };
 
     // A call joins what the session has before it to what it has after it, and its steps show what they met and did.
-    ghost joins = { λ s call answer t. Joins (space_of s) call answer (space_of t) × Shows call answer s.member t.member };
+    ghost joins = { λ s call answer t. Joins (space_of s) call answer (space_of t) × Shows call answer s t };
 
     fn resolve(&mut self, _who: u16, key: &Key) -> Result<Place, SpaceError> {
         Session::resolve(self, key)

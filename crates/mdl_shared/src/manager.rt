@@ -50,7 +50,7 @@ impl Manager {
     {
         let (table, maker) = Maker::of_places(alloc, places, sessions)?;
         let table = Arc::new(alloc, table)?;
-        let passes = Manager::enrol_all(alloc, &table, maker, places + 1, sessions)?;
+        let passes = Manager::enrol_all(alloc, &table, maker, sessions)?;
         Ok((Manager { table }, passes))
     }
 
@@ -59,20 +59,18 @@ impl Manager {
         alloc: Global,
         table: &Arc<OwnedTable, Global>,
         mut maker: Maker,
-        slots: usize,
         sessions: usize,
     ) -> Result<Vec<Pass>, AllocError>
         requires seated { maker.seat.table_id ≡ (arc_value table.now).shared.table_id }
         requires sized { IsSized (arc_value table.now).shared.table_id }
-        requires slots { slots ≡ (arc_value table.now).shared.table_id.slots }
-        requires sessions { (sessions ≡ maker.most) × ((arc_value table.now).shared.table_id.words ≡ word_count slots sessions) }
-        requires narrow { (0 < slots) × (slots ≤ 65536) }
+        requires sessions { (sessions ≡ maker.most) × ((arc_value table.now).shared.table_id.words ≡ word_count (arc_value table.now).shared.table_id.slots sessions) }
+        requires narrow { (0 < (arc_value table.now).shared.table_id.slots) × ((arc_value table.now).shared.table_id.slots ≤ 65536) }
         requires first { maker.given ≡ 0 }
         ensures { IfOk result (λ passes. (length passes.items ≡ maker.most) × ArePasses (arc_value table.now).shared.table_id passes.items) }
     {
         let mut passes = Vec::new(alloc);
-        while let Some(worker) = maker.enrol(&table.shared, slots) {
-            let member = Member::new(alloc, Arc::try_clone(table)?, worker, sessions);
+        while let Some(seat) = maker.enrol(Arc::try_clone(table)?) {
+            let member = Member::new(alloc, seat, sessions);
             passes.push(Pass { member })?;
         }
         Ok(passes)

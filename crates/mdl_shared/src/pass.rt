@@ -18,6 +18,6 @@ impl Pass {
     pub fn number(&self) -> u16
         ensures { result ≡ pass_number self.now }
     {
-        self.member.worker.number()
+        self.member.seat.number()
     }
 }

@@ -1,6 +1,6 @@
 //! Sessions open and close, on one thread and on two.
 ghost use Rattle.std.specs.Prelude.{◌≡◌};
-ghost use Rattle.mdl_shared.specs.Passes.{table_of, pass_table};
+ghost use Rattle.mdl_shared.specs.Passes.{pass_table, pass_view, table_of};
 
 use mdl_shared::{HoldsTickets, Manager, Pass, Session};
 use std::process::Abort;
@@ -18,7 +18,7 @@ pub(crate) fn closed<R: Drop>(rt: &impl Abort, session: Session<R>) -> Pass {
 // Opens a pass's session, and closes it. It has no ticket yet.
 fn reopen(manager: &Manager, pass: Pass) -> Pass
     requires { pass_table pass ≡ table_of manager.now }
-    ensures { result.member ≡ pass.member }
+    ensures { pass_view result ≡ pass_view pass }
 {
     let session = Session::open((), manager, pass);
     match session.close() {

@@ -1,6 +1,7 @@
 //! A session takes a lock for itself and gives it up, over and over: for tests, and to time it.
-ghost use Rattle.std.specs.Prelude.{◌≡◌, None, length};
+ghost use Rattle.std.specs.Prelude.{◌≡◌, None, []};
 ghost use Rattle.mdl_shared.specs.Passes.{table_of, pass_table};
+ghost use Rattle.mdl_shared.specs.SessionViews.{space_of};
 
 use mdl_calls::{Attempt, Place};
 use mdl_key::{Key, Mode};
@@ -11,10 +12,8 @@ use std::thread::Threads;
 
 // Whether a session got the lock for itself. It has given it up again.
 fn takes<R: Wait>(session: &mut Session<R>, place: Place) -> bool
-    requires unheld { length session.old.member.tickets.items ≡ 0 }
-    requires unwaited { session.old.member.asks ≡ None }
-    ensures unheld { length session.new.member.tickets.items ≡ 0 }
-    ensures unwaited { session.new.member.asks ≡ None }
+    requires idle { (space_of session.old).own ≡ record { held = []; wait = None } }
+    ensures idle { (space_of session.new).own ≡ record { held = []; wait = None } }
 {
     match session.try_now(place, Mode::X) {
         Ok(Attempt::Granted(id)) => session.release(id).is_ok(),

@@ -16,7 +16,7 @@ use Rattle.mdl_book.specs.Books.{lock_kind}
 use Rattle.mdl_book.specs.FastTickets.{CoversFastTickets, is_of_class}
 use Rattle.mdl_steps.specs.declared.step_kind.StepKind.{StepKind}
 use Rattle.mdl_steps.specs.declared.step_kind.StepKind.TheVariants as step_kind
-use Rattle.mdl_steps.specs.declared.view.Held.{Held}
+use Rattle.mdl_steps.specs.declared.view.LatchRecord.{LatchRecord}
 use Rattle.mdl_steps.specs.declared.view.View.{View}
 use Rattle.mdl_steps.specs.Cells.{Part, holder_at, held_at, cell, all_fast}
 use Rattle.mdl_steps.specs.Layout.{lock_word}
@@ -53,7 +53,7 @@ flags_same false false false false e = (refl, refl)
 
 -- ---- what the holder owes after the step
 
-raised_under : (key : Option KeyName) (word version : ℕ) (parts : List Part) (h : Held) (slow obtrusive : Bool)
+raised_under : (key : Option KeyName) (word version : ℕ) (parts : List Part) (h : LatchRecord) (slow obtrusive : Bool)
     → Under key word version parts h → Under key (bit_or word (flags_alone slow obtrusive)) version parts (raised slow obtrusive h)
 raised_under key word version parts h slow obtrusive u = record {
   counted = raises u.counted slow obtrusive;
@@ -77,7 +77,7 @@ covers_all kind word fast slow obtrusive unobtrusive e = record { unobtrusive = 
     by_class (suc (suc zero)) below = omega (arith, bit_small slow, bit_small obtrusive)
     by_class (suc (suc (suc class))) below = absurd (omega arith)
 
-noted_under : (key : Option KeyName) (word version : ℕ) (parts : List Part) (h : Held)
+noted_under : (key : Option KeyName) (word version : ℕ) (parts : List Part) (h : LatchRecord)
     → Under key word version parts h → Under key word version parts (noting word h)
 noted_under key word version parts h u = record {
   counted = u.counted;
@@ -93,8 +93,8 @@ noted_under key word version parts h u = record {
 
 -- ---- the steps
 
-module _ (slots id place : ℕ) (me : Mine) (some_number : 0 < me.0.number) (first : 0 < place) (last : place < slots) (h : Held) (holds : held_at place me.0.latches ≡ Some h)
-    (kind : StepKind) (f : ℕ → ℕ) (g : ℕ → Held → Held) (stays : (n : ℕ) (x : Held) → (g n x).place ≡ x.place)
+module _ (slots id place : ℕ) (me : Mine) (some_number : 0 < me.0.number) (first : 0 < place) (last : place < slots) (h : LatchRecord) (holds : held_at place me.0.latches ≡ Some h)
+    (kind : StepKind) (f : ℕ → ℕ) (g : ℕ → LatchRecord → LatchRecord) (stays : (n : ℕ) (x : LatchRecord) → (g n x).place ≡ x.place)
     (owes : (key : Option KeyName) (word version : ℕ) (parts : List Part) → Under key word version parts h → Under key (f word) version parts (g word h)) where
   module _ (s : Table) (r : Rule s) (size : length s.homes ≡ slots) (seat : get_elem? s.views id ≡ some me.0) where
     found : ℕ
@@ -136,7 +136,7 @@ module _ (slots id place : ℕ) (me : Mine) (some_number : 0 < me.0.number) (fir
   unfolding found view
   steps_under then tells s r size seat fits = (view s r size seat, keeps, tt, stepped_rule s r size seat, tells (get_or s.words (lock_word place) 0))
 
-module _ (slots id place : ℕ) (me : Mine) (some_number : 0 < me.0.number) (first : 0 < place) (last : place < slots) (h : Held) (holds : held_at place me.0.latches ≡ Some h) where
+module _ (slots id place : ℕ) (me : Mine) (some_number : 0 < me.0.number) (first : 0 < place) (last : place < slots) (h : LatchRecord) (holds : held_at place me.0.latches ≡ Some h) where
   -- flags are raised
   pub raises_allowed : (slow obtrusive : Bool) (mask : ℕ) → mask ≡ flags_alone slow obtrusive
       → Allows Rule slots id me (lock_word place) (λ n. bit_or n mask) (raises_flags (step slots (lock_word place) mask 0 none) me)

@@ -8,12 +8,12 @@ use Rattle.std.specs.Prelude.{Option}
 use Rattle.mdl_book.specs.Books.{lock_kind}
 use Rattle.mdl_steps.specs.declared.slot.Slot.{Slot}
 use Rattle.mdl_steps.specs.declared.slot.Slot.TheVariants as slot
-use Rattle.mdl_steps.specs.declared.view.Held.{Held}
+use Rattle.mdl_steps.specs.declared.view.LatchRecord.{LatchRecord}
 use Rattle.mdl_steps.specs.Cells.{Part, Holder, Cell, all_fast}
 use Rattle.mdl_steps.specs.Rule.{PlaceOk, BookOk, Counted, Flagged, NotedCounts, TellsLists, HeldOk}
 
 -- what the rule says of a place whose latch is held, by the record of it
-pub record Under (key : Option KeyName) (word version : ℕ) (parts : List Part) (h : Held) : Type 0 where
+pub record Under (key : Option KeyName) (word version : ℕ) (parts : List Part) (h : LatchRecord) : Type 0 where
   pub counted : Counted (lock_kind h.book) word (all_fast parts) h.slow h.obtrusive
   pub flagged : Flagged h.book h.slow h.obtrusive
   pub noted : NotedCounts (lock_kind h.book) (all_fast parts) h.obtrusive h.noted
@@ -24,7 +24,7 @@ abbrev pub IsAlone : ℕ → Cell → Type 0
 IsAlone id c = (j : ℕ) (l : Holder) → get_elem? c.holders j ≡ some l → l.number ≡ c.latch → j ≡ id
 
 module _ (key : Option KeyName) (c : Cell) (ok : PlaceOk key c) (id : ℕ) (l : Holder) (at : get_elem? c.holders id ≡ some l) where
-  pub under : (h : Held) → l.held ≡ Some h → Under key c.word c.version c.parts h
+  pub under : (h : LatchRecord) → l.held ≡ Some h → Under key c.word c.version c.parts h
   under h e =
       let k = ok.held id l at h e in
       record {
@@ -36,7 +36,7 @@ module _ (key : Option KeyName) (c : Cell) (ok : PlaceOk key c) (id : ℕ) (l : 
 
   module _ (inside : id < length c.holders) (new : Holder) where
     -- the latch stays where it is
-    pub holder_cell : (h h′ : Held) → l.held ≡ Some h → IsAlone id c → new.number ≡ l.number → new.held ≡ Some h′
+    pub holder_cell : (h h′ : LatchRecord) → l.held ≡ Some h → IsAlone id c → new.number ≡ l.number → new.held ≡ Some h′
         → (key′ : Option KeyName) (word version : ℕ) (parts : List Part) → Under key′ word version parts h′
         → PlaceOk key′ (record { latch = c.latch; word = word; version = version; home = c.home; holders = set c.holders id new; parts = parts })
     holder_cell h h′ e alone number has key′ word version parts u =
@@ -50,7 +50,7 @@ module _ (key : Option KeyName) (c : Cell) (ok : PlaceOk key c) (id : ℕ) (l : 
           held = λ j x there g is. elim (at_set c.holders id j new x there) [
             | inl same ↦
                 let record_is : h′ ≡ g = (let a : x.held ≡ Some h′ = subst (λ (y : Holder). y.held ≡ Some h′) same.1 has in cc) in
-                subst (λ (y : Held). HeldOk c.latch parts h′.book h′.slow h′.obtrusive x.number y) record_is (record {
+                subst (λ (y : LatchRecord). HeldOk c.latch parts h′.book h′.slow h′.obtrusive x.number y) record_is (record {
                   mine = ap (λ (y : Holder). y.number) (sym same.1) ∙ number ∙ k.mine;
                   some_session = subst (λ (m : ℕ). 0 < m) (sym number ∙ ap (λ (y : Holder). y.number) same.1) k.some_session;
                   book_is = refl;
@@ -66,7 +66,7 @@ module _ (key : Option KeyName) (c : Cell) (ok : PlaceOk key c) (id : ℕ) (l : 
         }
 
     -- the latch is given back
-    pub put_cell : (h h′ : Held) → l.held ≡ Some h → IsAlone id c → new.held ≡ None
+    pub put_cell : (h h′ : LatchRecord) → l.held ≡ Some h → IsAlone id c → new.held ≡ None
         → (key′ : Option KeyName) (parts : List Part) → Under key′ c.word c.version parts h′ → TellsLists h′.book h′.slow h′.obtrusive
         → PlaceOk key′ (record { latch = 0; word = c.word; version = c.version; home = some (some (slot.Place h′.book)); holders = set c.holders id new; parts = parts })
     put_cell h h′ e alone gone key′ parts u exact =
@@ -87,7 +87,7 @@ module _ (key : Option KeyName) (c : Cell) (ok : PlaceOk key c) (id : ℕ) (l : 
 
     -- the latch is taken
     pub taken_cell : c.latch ≡ 0 → 0 < l.number → new.number ≡ l.number
-        → (h : Held) → h.book ≡ ok.book → h.slow ≡ ok.slow → h.obtrusive ≡ ok.obtrusive → h.noted ≡ None → new.held ≡ Some h
+        → (h : LatchRecord) → h.book ≡ ok.book → h.slow ≡ ok.slow → h.obtrusive ≡ ok.obtrusive → h.noted ≡ None → new.held ≡ Some h
         → (home : Maybe (Maybe Slot)) → PlaceOk key (record { latch = l.number; word = c.word; version = c.version; home = home; holders = set c.holders id new; parts = c.parts })
     taken_cell none numbered number h book slow obtrusive unnoted has home =
         record {
@@ -100,7 +100,7 @@ module _ (key : Option KeyName) (c : Cell) (ok : PlaceOk key c) (id : ℕ) (l : 
             | inl same ↦
                 let record_is : h ≡ g = (let a : x.held ≡ Some h = subst (λ (y : Holder). y.held ≡ Some h) same.1 has in cc) in
                 let number_is : x.number ≡ l.number = ap (λ (y : Holder). y.number) (sym same.1) ∙ number in
-                subst (λ (y : Held). HeldOk l.number c.parts ok.book ok.slow ok.obtrusive x.number y) record_is (record {
+                subst (λ (y : LatchRecord). HeldOk l.number c.parts ok.book ok.slow ok.obtrusive x.number y) record_is (record {
                   mine = number_is;
                   some_session = rw number_is numbered;
                   book_is = book;

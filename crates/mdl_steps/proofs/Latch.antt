@@ -21,7 +21,7 @@ use Rattle.mdl_book.proofs.GrantingLemmas.{lawful_part}
 use Rattle.mdl_steps.specs.declared.slot.Slot.{Slot}
 use Rattle.mdl_steps.specs.declared.slot.Slot.TheVariants as slot
 use Rattle.mdl_steps.specs.declared.view.Ask.{Ask}
-use Rattle.mdl_steps.specs.declared.view.Held.{Held}
+use Rattle.mdl_steps.specs.declared.view.LatchRecord.{LatchRecord}
 use Rattle.mdl_steps.specs.declared.view.Known.{Known}
 use Rattle.mdl_steps.specs.declared.view.Own.{Own}
 use Rattle.mdl_steps.specs.declared.view.View.{View}
@@ -118,7 +118,7 @@ module _ (slots id place : ℕ) (me : Mine) (some_number : 0 < me.0.number) (fir
     ok : PlaceOk (key_at r.keys place) (cell s place)
     ok = r.places place first within
 
-    fresh : Held
+    fresh : LatchRecord
     fresh = record { place = place; book = ok.book; slow = ok.slow; obtrusive = ok.obtrusive; noted = None }
 
     is_fresh : get_or s.words (latch_word place) 0 ≡ 0 → IsFresh place fresh me
@@ -233,7 +233,7 @@ module _ (slots id place : ℕ) (me : Mine) (some_number : 0 < me.0.number) (fir
           refl,
           λ q here.
               let same : place ≡ q = omega arith in
-              subst (λ (x : ℕ). (found ≡ 0 → (h : Held) × IsFresh x h me × (◌≡◌ {A = Mine} (latched place (fresh s r size seat) me) (latched x h me))) × (found ≢ 0 → ◌≡◌ {A = Mine} (latched place (fresh s r size seat) me) (missed_latch x found me))) same
+              subst (λ (x : ℕ). (found ≡ 0 → (h : LatchRecord) × IsFresh x h me × (◌≡◌ {A = Mine} (latched place (fresh s r size seat) me) (latched x h me))) × (found ≢ 0 → ◌≡◌ {A = Mine} (latched place (fresh s r size seat) me) (missed_latch x found me))) same
               ((λ _. (fresh s r size seat, is_fresh s r size seat free, refl)), λ taken. absurd (taken free)),
         ),
       ))
@@ -246,7 +246,7 @@ module _ (slots id place : ℕ) (me : Mine) (some_number : 0 < me.0.number) (fir
           refl,
           λ q here.
               let same : place ≡ q = omega arith in
-              subst (λ (x : ℕ). (found ≡ 0 → (h : Held) × IsFresh x h me × (◌≡◌ {A = Mine} (missed s r size seat, me.1) (latched x h me))) × (found ≢ 0 → ◌≡◌ {A = Mine} (missed s r size seat, me.1) (missed_latch x found me))) same
+              subst (λ (x : ℕ). (found ≡ 0 → (h : LatchRecord) × IsFresh x h me × (◌≡◌ {A = Mine} (missed s r size seat, me.1) (latched x h me))) × (found ≢ 0 → ◌≡◌ {A = Mine} (missed s r size seat, me.1) (missed_latch x found me))) same
               ((λ free. absurd (taken free)), λ _. refl),
         ),
       ))

@@ -17,7 +17,7 @@ use Rattle.mdl_book.specs.Books.{any_obtrusive, lock_kind}
 use Rattle.mdl_book.specs.FastTickets.{is_of_class}
 use Rattle.mdl_book.specs.Tickets.{is_ticket, ticket_of}
 use Rattle.mdl_book.proofs.GrantingLemmas.{lawful_part}
-use Rattle.mdl_steps.specs.declared.view.Held.{Held}
+use Rattle.mdl_steps.specs.declared.view.LatchRecord.{LatchRecord}
 use Rattle.mdl_steps.specs.declared.view.Known.{Known}
 use Rattle.mdl_steps.specs.declared.view.Own.{Own}
 use Rattle.mdl_steps.specs.declared.view.View.{View}
@@ -244,7 +244,7 @@ or_from true b false first e = (let no = first refl in absurd (cc))
 or_from false b true first e = refl
 or_from false b false first e = e
 
-module _ (slots id place : ℕ) (me : Mine) (some_number : 0 < me.0.number) (first : 0 < place) (last : place < slots) (slow : List Own) (weight : ℕ) (h : Held) (may : MayMaterialise place slow weight h me) where
+module _ (slots id place : ℕ) (me : Mine) (some_number : 0 < me.0.number) (first : 0 < place) (last : place < slots) (slow : List Own) (weight : ℕ) (h : LatchRecord) (may : MayMaterialise place slow weight h me) where
   module _ (s : Table) (r : Rule s) (size : length s.homes ≡ slots) (seat : get_elem? s.views id ≡ some me.0) where
     abbrev found : ℕ
     found = get_or s.words (lock_word place) 0
@@ -255,7 +255,7 @@ module _ (slots id place : ℕ) (me : Mine) (some_number : 0 < me.0.number) (fir
     abbrev key : Option KeyName
     key = key_at r.keys place
 
-    abbrev h′ : Held
+    abbrev h′ : LatchRecord
     h′ = with_granted (moved place me.0) h
 
     abbrev w : View

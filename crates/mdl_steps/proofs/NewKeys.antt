@@ -13,7 +13,7 @@ use Rattle.mdl_book.specs.declared.ticket.Ticket.{Ticket}
 use Rattle.mdl_book.specs.Books.{empty_book}
 use Rattle.mdl_book.specs.Tickets.{ticket_of}
 use Rattle.mdl_steps.specs.declared.slot.Slot.TheVariants as slot
-use Rattle.mdl_steps.specs.declared.view.Held.{Held}
+use Rattle.mdl_steps.specs.declared.view.LatchRecord.{LatchRecord}
 use Rattle.mdl_steps.specs.declared.view.Keys.{Keys}
 use Rattle.mdl_steps.specs.declared.view.Known.{Known}
 use Rattle.mdl_steps.specs.declared.view.View.{View}
@@ -97,7 +97,7 @@ exchanged_book version parts book key unused no_fast ok = record {
 -- ---- the step
 
 module _ (slots id place : ℕ) (me : Mine) (some_number : 0 < me.0.number) (first : 0 < place) (last : place < slots)
-    (key : KeyName) (k : Keys) (h : Held) (may : MayName place key k h me) where
+    (key : KeyName) (k : Keys) (h : LatchRecord) (may : MayName place key k h me) where
   abbrev put : View
   put = (named place key me).0
 

@@ -12,14 +12,14 @@ use Rattle.mdl_book.specs.Books.{lock_kind}
 use Rattle.mdl_steps.specs.declared.deed.Deed.{Deed}
 use Rattle.mdl_steps.specs.declared.slot.Slot.{Slot}
 use Rattle.mdl_steps.specs.declared.slot.Slot.TheVariants as slot
-use Rattle.mdl_steps.specs.declared.view.Held.{Held}
+use Rattle.mdl_steps.specs.declared.view.LatchRecord.{LatchRecord}
 use Rattle.mdl_steps.specs.declared.view.Known.{Known}
 use Rattle.mdl_steps.specs.declared.view.Own.{Own}
 use Rattle.mdl_steps.specs.declared.view.View.{View}
 use Rattle.mdl_steps.specs.Cells.{Part, Holder, part_at, holder_at, held_at, own_at, cell, waits, all_fast}
 use Rattle.mdl_steps.specs.Deeds.{MayDo, MayAct, all_booked, all_done, all_owned, owned}
 use Rattle.mdl_steps.specs.Layout.{latch_word, lock_word}
-use Rattle.mdl_steps.specs.Plays.{Mine, unlatched, settled, lowered, puts_latch, lowers_flags}
+use Rattle.mdl_steps.specs.Plays.{Mine, unlatched, flags_lowered, lowered, puts_latch, lowers_flags}
 use Rattle.mdl_steps.specs.Rule.{Rule, PlaceOk, BookOk, Counted, Numbered, TellsLists, Flagged, NotedCounts, key_at}
 use Rattle.mdl_steps.proofs.Views.{by_bool, each_at, held_at-changed, held_at-unchanged, held_at-dropped, held_at-undropped}
 use Rattle.mdl_steps.proofs.Lift.{Table, Homes, after, on_latch, on_word, alone, alone_parts, seat_there}
@@ -67,7 +67,7 @@ one_hand {a = a} {b = b} e = ap first_book e
 tells_flags : (book : BookView) (slow obtrusive : Bool) → TellsLists book slow obtrusive → Flagged book slow obtrusive
 tells_flags book slow obtrusive exact = ((λ e. exact.0 ∙ e), λ e. exact.1 ∙ e)
 
-module _ (slots id place : ℕ) (me : Mine) (some_number : 0 < me.0.number) (first : 0 < place) (last : place < slots) (h : Held) (holds : held_at place me.0.latches ≡ Some h)
+module _ (slots id place : ℕ) (me : Mine) (some_number : 0 < me.0.number) (first : 0 < place) (last : place < slots) (h : LatchRecord) (holds : held_at place me.0.latches ≡ Some h)
     (ds : List Deed) (act : MayAct me.0 place ds) (may : MayDo me.0 h.book h.noted ds) (hand : me.1 ≡ (place, slot.Place (all_booked me.0.number ds h.book)) ∷ rest me.1) where
   abbrev book : BookView
   book = all_booked me.0.number ds h.book
@@ -106,7 +106,7 @@ module _ (slots id place : ℕ) (me : Mine) (some_number : 0 < me.0.number) (fir
         (at_map (part_at (waits s) place) s.views id me.0 seat) (alone_parts s r place id me.0 seat some_number) known (r.views id me.0 seat).0 u.noted (may_all me.0 h.book h.noted place ds may) u.book_ok
 
     -- what is owed with some record of the latch that has the book as it is now
-    owed : (word : ℕ) (h′ : Held) → h′.book ≡ book → Counted (lock_kind h.book) word (all_fast (cell s place).parts) h′.slow h′.obtrusive
+    owed : (word : ℕ) (h′ : LatchRecord) → h′.book ≡ book → Counted (lock_kind h.book) word (all_fast (cell s place).parts) h′.slow h′.obtrusive
         → Flagged h′.book h′.slow h′.obtrusive → NotedCounts (lock_kind h.book) (all_fast (cell s place).parts) h′.obtrusive h′.noted
         → Under (key_at r.keys place) word (cell s place).version parts h′
     owed word h′ is counted flagged noted =
@@ -124,7 +124,7 @@ module _ (slots id place : ℕ) (me : Mine) (some_number : 0 < me.0.number) (fir
     -- ---- the latch is given back
 
     -- the record with which it is
-    abbrev last_record : Held
+    abbrev last_record : LatchRecord
     last_record = record h { book = book }
 
     put_rule : TellsLists book h.slow h.obtrusive → Rule (after s (latch_word place) 0 id (unlatched place ds me).0 (set s.homes place (some (slot.Place book))))
@@ -153,11 +153,11 @@ module _ (slots id place : ℕ) (me : Mine) (some_number : 0 < me.0.number) (fir
     -- ---- flags are lowered
 
     lowered_rule : (slow obtrusive : Bool) → Flagged book (slow && h.slow) (obtrusive && h.obtrusive)
-        → Rule (after s (lock_word place) (bit_and (cell s place).word (all_but_flags slow obtrusive)) id (settled place ds (cell s place).word book slow obtrusive me).0 s.homes)
+        → Rule (after s (lock_word place) (bit_and (cell s place).word (all_but_flags slow obtrusive)) id (flags_lowered place ds (cell s place).word book slow obtrusive me).0 s.homes)
     unfolding ok
     lowered_rule slow obtrusive flagged =
-        let w : View = (settled place ds (cell s place).word book slow obtrusive me).0 in
-        let h′ : Held = lowered book slow obtrusive h in
+        let w : View = (flags_lowered place ds (cell s place).word book slow obtrusive me).0 in
+        let h′ : LatchRecord = lowered book slow obtrusive h in
         let numbered = did.1 in
         let word : ℕ = bit_and (cell s place).word (all_but_flags slow obtrusive) in
         on_word s r place id me.0 w s.homes (record {
@@ -194,16 +194,16 @@ module _ (slots id place : ℕ) (me : Mine) (some_number : 0 < me.0.number) (fir
       → Allows Rule slots id me (lock_word place) (λ n. bit_and n mask) (lowers_flags ds (step slots (lock_word place) mask 0 none) me)
   lowers_allowed slow obtrusive mask is flagged s r size seat fits =
       let found : ℕ = get_or s.words (lock_word place) 0 in (
-        (settled place ds found book slow obtrusive me).0,
+        (flags_lowered place ds found book slow obtrusive me).0,
         keeps,
         tt,
-        subst (λ (m : ℕ). Rule (after s (lock_word place) (bit_and found m) id (settled place ds found book slow obtrusive me).0 s.homes)) (sym is) (lowered_rule s r size seat slow obtrusive flagged),
+        subst (λ (m : ℕ). Rule (after s (lock_word place) (bit_and found m) id (flags_lowered place ds found book slow obtrusive me).0 s.homes)) (sym is) (lowered_rule s r size seat slow obtrusive flagged),
         (
           refl,
           λ q a b handed here number carried.
               let same : place ≡ q = omega arith in
               let flags = kept_same slow obtrusive a b (sym is ∙ number) in
               let book_is : book ≡ handed = one_hand (sym hand ∙ carried) in
-              λ i. settled (same i) ds found (book_is i) (flags.0 i) (flags.1 i) me,
+              λ i. flags_lowered (same i) ds found (book_is i) (flags.0 i) (flags.1 i) me,
         ),
       )

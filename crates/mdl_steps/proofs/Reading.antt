@@ -5,7 +5,7 @@ use lib.ListN.{get_elem?}
 use Rattle.atomic_table.specs.Table.{Allows, step, gives, put_back}
 use Rattle.atomic_table.proofs.Lists.{at_map, set_else, set_here}
 use Rattle.mdl_steps.specs.declared.slot.Slot.TheVariants as slot
-use Rattle.mdl_steps.specs.declared.view.Held.{Held}
+use Rattle.mdl_steps.specs.declared.view.LatchRecord.{LatchRecord}
 use Rattle.mdl_steps.specs.declared.view.View.{View}
 use Rattle.mdl_steps.specs.Cells.{part_at, holder_at, cell, waits}
 use Rattle.mdl_steps.specs.Layout.{latch_word}
@@ -21,7 +21,7 @@ use Rattle.mdl_steps.proofs.Unmixed.{unmixed_notes}
 use Rattle.mdl_steps.proofs.Noting.{noted_part, noted_here, noted_away, noted_ok, fast_same}
 
 module _ (slots id place : ℕ) (me : Mine) (some_number : 0 < me.0.number) (first : 0 < place) (last : place < slots)
-    (h : Held) (has : Holds place h h.book me) (exact : TellsLists h.book h.slow h.obtrusive) where
+    (h : LatchRecord) (has : Holds place h h.book me) (exact : TellsLists h.book h.slow h.obtrusive) where
   abbrev put : View
   put = (read_and_put place h.book.standing me).0
 

@@ -14,7 +14,7 @@ use Rattle.mdl_defs.proofs.StandingLemmas.{changes-keep_standing}
 use Rattle.mdl_book.specs.declared.book_view.BookView.{BookView}
 use Rattle.mdl_book.specs.declared.ticket.Ticket.{Ticket}
 use Rattle.mdl_book.specs.Books.{lock_kind, redefining}
-use Rattle.mdl_steps.specs.declared.view.Held.{Held}
+use Rattle.mdl_steps.specs.declared.view.LatchRecord.{LatchRecord}
 use Rattle.mdl_steps.specs.declared.view.View.{View}
 use Rattle.mdl_steps.specs.Cells.{Part, part_at, holder_at, cell, waits}
 use Rattle.mdl_steps.specs.Layout.{version_word}
@@ -53,7 +53,7 @@ other_part key version parts book id number standing alone_there ok newer t ther
 -- ---- the step
 
 module _ (slots id place : ℕ) (me : Mine) (some_number : 0 < me.0.number) (first : 0 < place) (last : place < slots)
-    (h : Held) (change : Change) (has : HasRedefined place h change me) where
+    (h : LatchRecord) (change : Change) (has : HasRedefined place h change me) where
   abbrev standing : Standing
   standing = standing_after change h.book.standing
 

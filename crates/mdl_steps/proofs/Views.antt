@@ -7,7 +7,7 @@ use Rattle.std.proofs.lemmas.List.{map-set}
 use mathlib.Core.Option.{some, some-injective, some-ne-none}
 use lib.ListN.{get_elem?}
 use Rattle.atomic_table.proofs.Lists.{at_map, set_again}
-use Rattle.mdl_steps.specs.declared.view.Held.{Held}
+use Rattle.mdl_steps.specs.declared.view.LatchRecord.{LatchRecord}
 use Rattle.mdl_steps.specs.Cells.{held_at}
 use Rattle.mdl_steps.specs.Lists.{Each}
 
@@ -48,29 +48,29 @@ module _ {A B : Type 0} (f : A → B) where
 -- ---- records of latches
 
 -- the record that was taken last
-pub held_at-first : (place : ℕ) (h : Held) (latches : List Held) → h.place ≡ place → held_at place (h ∷ latches) ≡ Some h
+pub held_at-first : (place : ℕ) (h : LatchRecord) (latches : List LatchRecord) → h.place ≡ place → held_at place (h ∷ latches) ≡ Some h
 held_at-first place h latches here = rw (eq-eqb h.place place here) refl
 
 -- the records of other places are found behind it
-pub held_at-past : (place q : ℕ) (h : Held) (latches : List Held) → h.place ≡ place → q ≢ place → held_at q (h ∷ latches) ≡ held_at q latches
+pub held_at-past : (place q : ℕ) (h : LatchRecord) (latches : List LatchRecord) → h.place ≡ place → q ≢ place → held_at q (h ∷ latches) ≡ held_at q latches
 held_at-past place q h latches here else = rw (other h.place q (λ e. else (sym e ∙ here))) refl
 
 -- no record of a place is left where it was dropped
-pub held_at-dropped : (place : ℕ) (latches : List Held) → held_at place (filter (λ h. not (h.place == place)) latches) ≡ None
+pub held_at-dropped : (place : ℕ) (latches : List LatchRecord) → held_at place (filter (λ h. not (h.place == place)) latches) ≡ None
 held_at-dropped place [] = refl
 held_at-dropped place (h ∷ hs) = by_bool (h.place == place) (λ e. rw e (held_at-dropped place hs)) (λ e. rw (e, e) (held_at-dropped place hs))
 
 -- and those of other places stay
-pub held_at-undropped : (place q : ℕ) (latches : List Held) → q ≢ place → held_at q (filter (λ h. not (h.place == place)) latches) ≡ held_at q latches
+pub held_at-undropped : (place q : ℕ) (latches : List LatchRecord) → q ≢ place → held_at q (filter (λ h. not (h.place == place)) latches) ≡ held_at q latches
 held_at-undropped place q [] else = refl
 held_at-undropped place q (h ∷ hs) else =
     by_bool (h.place == place)
     (λ e. rw (e, other h.place q (λ d. else (sym d ∙ eqb-true h.place place e))) (held_at-undropped place q hs else))
     (λ e. rw e (ap (λ o. cond (h.place == q) (Some h) o) (held_at-undropped place q hs else)))
 
-module _ (place : ℕ) (f : Held → Held) (stays : (h : Held) → (f h).place ≡ h.place) where
+module _ (place : ℕ) (f : LatchRecord → LatchRecord) (stays : (h : LatchRecord) → (f h).place ≡ h.place) where
   -- the record of a place, changed
-  pub held_at-changed : (latches : List Held) (h : Held) → held_at place latches ≡ Some h → held_at place (map (λ x. cond (x.place == place) (f x) x) latches) ≡ Some (f h)
+  pub held_at-changed : (latches : List LatchRecord) (h : LatchRecord) → held_at place latches ≡ Some h → held_at place (map (λ x. cond (x.place == place) (f x) x) latches) ≡ Some (f h)
   held_at-changed [] h e = cc
   held_at-changed (x ∷ xs) h e =
       by_bool (x.place == place)
@@ -79,7 +79,7 @@ module _ (place : ℕ) (f : Held → Held) (stays : (h : Held) → (f h).place �
       (λ t. rw (t, t) (held_at-changed xs h (rw t at e)))
 
   -- and those of other places are the same
-  pub held_at-unchanged : (q : ℕ) (latches : List Held) → q ≢ place → held_at q (map (λ x. cond (x.place == place) (f x) x) latches) ≡ held_at q latches
+  pub held_at-unchanged : (q : ℕ) (latches : List LatchRecord) → q ≢ place → held_at q (map (λ x. cond (x.place == place) (f x) x) latches) ≡ held_at q latches
   held_at-unchanged q [] else = refl
   held_at-unchanged q (x ∷ xs) else =
       by_bool (x.place == place)

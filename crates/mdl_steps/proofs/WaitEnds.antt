@@ -11,7 +11,7 @@ use Rattle.mdl_book.specs.declared.ticket.Ticket.{Ticket}
 use Rattle.mdl_steps.specs.declared.deed.Deed.TheVariants.{Gain}
 use Rattle.mdl_steps.specs.declared.slot.Slot.{Slot}
 use Rattle.mdl_steps.specs.declared.view.Ask.{Ask}
-use Rattle.mdl_steps.specs.declared.view.Held.{Held}
+use Rattle.mdl_steps.specs.declared.view.LatchRecord.{LatchRecord}
 use Rattle.mdl_steps.specs.declared.view.Known.{Known}
 use Rattle.mdl_steps.specs.declared.view.Own.{Own}
 use Rattle.mdl_steps.specs.declared.view.View.{View}
@@ -87,7 +87,7 @@ module _ (s : Table) (r : Rule s) (id : ℕ) (me : Mine) (seat : get_elem? s.vie
     by_itself : (j : ℕ) (z : Part) → get_elem? (cell s place).parts j ≡ some z → z.number ≡ was.number → j ≡ id
     by_itself = alone_parts s r place id me.0 seat some_number
 
-    module _ (h : Held) (recorded : held_at place me.0.latches ≡ Some h) where
+    module _ (h : LatchRecord) (recorded : held_at place me.0.latches ≡ Some h) where
       mine : me.0.number ≡ (cell s place).latch
       unfolding ok
       mine = (ok.held id (holder_at place me.0) there h recorded).mine
@@ -97,7 +97,7 @@ module _ (s : Table) (r : Rule s) (id : ℕ) (me : Mine) (seat : get_elem? s.vie
       u = under (key_at r.keys place) (cell s place) ok id (holder_at place me.0) there h recorded
 
       -- the record is another, and so is the part
-      recorded_cell : (w : View) (f : Held → Held) → ((x : Held) → (f x).place ≡ x.place) → w.number ≡ me.0.number → w.latches ≡ map (λ x. cond (x.place == place) (f x) x) me.0.latches
+      recorded_cell : (w : View) (f : LatchRecord → LatchRecord) → ((x : LatchRecord) → (f x).place ≡ x.place) → w.number ≡ me.0.number → w.latches ≡ map (λ x. cond (x.place == place) (f x) x) me.0.latches
           → (part : Part) → Under (key_at r.keys place) (cell s place).word (cell s place).version (set (cell s place).parts id part) (f h)
           → PlaceOk (key_at r.keys place) (record (cell s place) { holders = set (cell s place).holders id (holder_at place w); parts = set (cell s place).parts id part })
       unfolding ok
@@ -109,7 +109,7 @@ module _ (s : Table) (r : Rule s) (id : ℕ) (me : Mine) (seat : get_elem? s.vie
 
   -- ---- a wait is opened
 
-  module _ (place : ℕ) (first : 0 < place) (last : place < length s.homes) (mode : Mode) (h : Held) (may : MayOpen place mode h me) where
+  module _ (place : ℕ) (first : 0 < place) (last : place < length s.homes) (mode : Mode) (h : LatchRecord) (may : MayOpen place mode h me) where
     abbrev w : View
     w = (opened (length s.homes) place mode me).0
 
@@ -256,7 +256,7 @@ module _ (s : Table) (r : Rule s) (id : ℕ) (me : Mine) (seat : get_elem? s.vie
           (taken_ok key (cell s a.place).version (cell s a.place).parts there_ok.book id (part_at (waits s) a.place me.0) there_part is_alone there_ok.book_ok (wished session a) own asked refl agrees)))
 
     -- lost: the ticket is gone
-    module _ (place : ℕ) (h : Held) (may : MayCancel place h me) (same_state : may.state ≡ state) where
+    module _ (place : ℕ) (h : LatchRecord) (may : MayCancel place h me) (same_state : may.state ≡ state) where
       abbrev pub cancelled_number : ℕ
       cancelled_number = may.ask.number
 
@@ -319,7 +319,7 @@ Stores id me s n then slots =
     × then slots (get_or s.words (wait_word slots me.0.number) 0) (w, Rattle.atomic_table.specs.Table.carried_after me.1 a)
 
 module _ (slots id : ℕ) (me : Mine) (some_number : 0 < me.0.number) where
-  pub opens_allowed : (place : ℕ) (mode : Mode) → 0 < place → place < slots → (h : Held) → MayOpen place mode h me → (n : ℕ) → n ≡ wait_in (me.0.waits + 1) 1
+  pub opens_allowed : (place : ℕ) (mode : Mode) → 0 < place → place < slots → (h : LatchRecord) → MayOpen place mode h me → (n : ℕ) → n ≡ wait_in (me.0.waits + 1) 1
       → Allows Rule slots id me (wait_word slots me.0.number) (λ _. n) (λ _. opens_wait place mode (step slots (wait_word slots me.0.number) n 0 none) me n)
   opens_allowed place mode first last h may n is s r size seat fits =
       subst (Stores id me s n (λ k found. opens_wait place mode (step k (wait_word k me.0.number) n 0 none) me n)) size (
@@ -348,7 +348,7 @@ module _ (slots id : ℕ) (me : Mine) (some_number : 0 < me.0.number) where
           subst (λ (o : Option Ask). Rule (after s (wait_word (length s.homes) me.0.number) (8 * me.0.waits) id (record (ended_granted (length s.homes) me).0 { slow = me.0.slow ++ taken_over o me.0.slow }) s.homes)) (sym e)
           (taken_rule s r id me seat some_number 2 told refl a e)
 
-  pub ends_lost_allowed : (place : ℕ) (h : Held) → MayCancel place h me → (n : ℕ) → n ≡ 8 * me.0.waits
+  pub ends_lost_allowed : (place : ℕ) (h : LatchRecord) → MayCancel place h me → (n : ℕ) → n ≡ 8 * me.0.waits
       → Allows Rule slots id me (wait_word slots me.0.number) (λ _. n) (λ _. ends_lost (step slots (wait_word slots me.0.number) n 0 none) me n)
   ends_lost_allowed place h may n is s r size seat fits =
       let w : View = (ended_lost (length s.homes) place may.ask.number may.state me).0 in

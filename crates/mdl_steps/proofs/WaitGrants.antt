@@ -13,7 +13,7 @@ use Rattle.mdl_book.specs.Tickets.{is_ticket, ticket_of}
 use Rattle.mdl_steps.specs.declared.slot.Slot.{Slot}
 use Rattle.mdl_steps.specs.declared.step_kind.StepKind.TheVariants as step_kind
 use Rattle.mdl_steps.specs.declared.view.Ask.{Ask}
-use Rattle.mdl_steps.specs.declared.view.Held.{Held}
+use Rattle.mdl_steps.specs.declared.view.LatchRecord.{LatchRecord}
 use Rattle.mdl_steps.specs.declared.view.Own.{Own}
 use Rattle.mdl_steps.specs.declared.view.View.{View}
 use Rattle.mdl_steps.specs.Cells.{Part, pending, asking_at, part_at, holder_at, own_at, ticket_by, waits, cell, all_fast}
@@ -53,7 +53,7 @@ apart_shown n m place (t ∷ ts) all = by_bool (t.place == place)
     (λ away. rw away (apart_shown n m place ts all.1))
 
 module _ (s : Table) (r : Rule s) (id session : ℕ) (me : Mine) (seat : get_elem? s.views id ≡ some me.0) (some_number : 0 < me.0.number) (some_session : 0 < session)
-    (place ticket number : ℕ) (first : 0 < place) (last : place < length s.homes) (h : Held) (may : MayGrant place session ticket h me) (found : waits s session ≡ wait_in number 1) where
+    (place ticket number : ℕ) (first : 0 < place) (last : place < length s.homes) (h : LatchRecord) (may : MayGrant place session ticket h me) (found : waits s session ≡ wait_in number 1) where
   abbrev w : View
   w = (settled_granted (length s.homes) place session ticket number me).0
 
@@ -168,7 +168,7 @@ module _ (s : Table) (r : Rule s) (id session : ℕ) (me : Mine) (seat : get_ele
   pub granted_rule : Rule now
   granted_rule = granted_there waiting.0 waiting.1
 
-pub settles_granted_allowed : (slots id session place ticket number : ℕ) (me : Mine) → 0 < me.0.number → 0 < session → 0 < place → place < slots → (h : Held) → MayGrant place session ticket h me
+pub settles_granted_allowed : (slots id session place ticket number : ℕ) (me : Mine) → 0 < me.0.number → 0 < session → 0 < place → place < slots → (h : LatchRecord) → MayGrant place session ticket h me
     → Allows Rule slots id me (wait_word slots session) (λ n. either (n == wait_in number 1) (wait_in number 2) n) (settles_granted place ticket (step slots (wait_word slots session) (wait_in number 1) (wait_in number 2) none) me)
 settles_granted_allowed slots id session place ticket number me some_number some_session first last h may s r size seat fits =
     subst (Steps id session me s (λ n. either (n == wait_in number 1) (wait_in number 2) n) (λ k found m. settles_granted place ticket (step k (wait_word k session) (wait_in number 1) (wait_in number 2) none) me found m)) size

@@ -3,19 +3,19 @@ use Rattle.std.proofs.Common.{◌≡◌, ℕ, ◌==◌, List, ◌∷◌, map, co
 use Rattle.std.specs.Prelude.{filter}
 use Rattle.mdl_book.specs.declared.book_view.BookView.{BookView}
 use Rattle.mdl_steps.specs.declared.step_kind.StepKind.TheVariants as step_kind
-use Rattle.mdl_steps.specs.declared.view.Held.{Held}
+use Rattle.mdl_steps.specs.declared.view.LatchRecord.{LatchRecord}
 use Rattle.mdl_steps.specs.Cells.{held_at}
 use Rattle.mdl_steps.specs.Plays.{Mine}
 use Rattle.mdl_steps.specs.Seats.{Holds, elsewhere}
 use Rattle.mdl_steps.proofs.Hands.{holds_stepped, elsewhere-stepped}
 
-module _ (place : ℕ) (f : Held → Held) (stays : (x : Held) → (f x).place ≡ x.place) (m m′ : Mine) (latches : m′.0.latches ≡ map (λ h. cond (h.place == place) (f h) h) m.0.latches) (hand : m′.1 ≡ m.1) where
+module _ (place : ℕ) (f : LatchRecord → LatchRecord) (stays : (x : LatchRecord) → (f x).place ≡ x.place) (m m′ : Mine) (latches : m′.0.latches ≡ map (λ h. cond (h.place == place) (f h) h) m.0.latches) (hand : m′.1 ≡ m.1) where
   -- the record of the place is changed
-  pub holds_changed : (h : Held) (book : BookView) → Holds place h book m → Holds place (f h) book m′
+  pub holds_changed : (h : LatchRecord) (book : BookView) → Holds place h book m → Holds place (f h) book m′
   holds_changed h book has =
       let now = holds_stepped step_kind.ReadWord place 0 f h book m stays has in
       record { recorded = ap (held_at place) latches ∙ now.recorded; carried = subst (λ xs. ◌≡◌ {A = List (ℕ × Rattle.mdl_steps.specs.declared.slot.Slot.Slot)} xs ((place, Rattle.mdl_steps.specs.declared.slot.Slot.TheVariants.Place book) ∷ Rattle.mdl_steps.specs.Seats.rest xs)) (sym hand) has.carried }
 
   -- and no other
   pub elsewhere_changed : elsewhere place m′ ≡ elsewhere place m
-  elsewhere_changed = ap (λ (hs : List Held). filter (λ h. not (h.place == place)) hs) latches ∙ elsewhere-stepped step_kind.ReadWord place 0 f m stays
+  elsewhere_changed = ap (λ (hs : List LatchRecord). filter (λ h. not (h.place == place)) hs) latches ∙ elsewhere-stepped step_kind.ReadWord place 0 f m stays

@@ -12,7 +12,7 @@ use Rattle.mdl_book.specs.FastTickets.{is_of_class}
 use Rattle.std.specs.List.{count_by}
 use Rattle.mdl_steps.specs.declared.slot.Slot.{Slot}
 use Rattle.mdl_steps.specs.declared.view.Ask.{Ask}
-use Rattle.mdl_steps.specs.declared.view.Held.{Held}
+use Rattle.mdl_steps.specs.declared.view.LatchRecord.{LatchRecord}
 use Rattle.mdl_steps.specs.declared.view.Keys.{Keys}
 use Rattle.mdl_steps.specs.declared.view.Own.{Own}
 use Rattle.mdl_steps.specs.declared.view.Read.{Read}
@@ -40,7 +40,7 @@ pub record Part : Type 0 where
 -- the record of the latch of a place, where the session holds it
 pub record Holder : Type 0 where
   pub number : ℕ
-  pub held : Option Held
+  pub held : Option LatchRecord
 
 -- the record of the directory's latch, where the session holds it
 pub record Desk : Type 0 where
@@ -57,7 +57,7 @@ note_at place tickets = option_and_then (λ (t : Own). t.noted) (find (λ (t : O
 abbrev pub reads_at : ℕ → List Read → List Read
 reads_at place reads = filter (λ r. r.place == place) reads
 
-abbrev pub held_at : ℕ → List Held → Option Held
+abbrev pub held_at : ℕ → List LatchRecord → Option LatchRecord
 held_at place latches = find (λ h. h.place == place) latches
 
 -- a session's ticket, as a book has it

@@ -19,7 +19,7 @@ use Rattle.mdl_steps.specs.declared.deed.Deed.TheVariants.{Gain, Lose}
 use Rattle.mdl_steps.specs.declared.slot.Slot.{Slot}
 use Rattle.mdl_steps.specs.declared.step_kind.StepKind.{StepKind}
 use Rattle.mdl_steps.specs.declared.step_kind.StepKind.TheVariants as step
-use Rattle.mdl_steps.specs.declared.view.Held.{Held}
+use Rattle.mdl_steps.specs.declared.view.LatchRecord.{LatchRecord}
 use Rattle.mdl_steps.specs.declared.view.Known.{Known}
 use Rattle.mdl_steps.specs.declared.view.Own.{Own}
 use Rattle.mdl_steps.specs.declared.view.View.{View}
@@ -73,7 +73,7 @@ abbrev pub granting_all : List Ticket → BookView → BookView
 granting_all tickets book = record book { granted = book.granted ++ tickets }
 
 -- the record of a latch with such a book
-abbrev pub with_granted : List Ticket → Held → Held
+abbrev pub with_granted : List Ticket → LatchRecord → LatchRecord
 with_granted tickets h = record h { book = granting_all tickets h.book }
 
 -- the tickets at other places
@@ -140,7 +140,7 @@ weight_of kind tickets = encode (counted kind 0 tickets) (counted kind 1 tickets
 
 -- a session may materialise at a place: it holds the latch there, the flag SLOW is up by its record, and it waits for nothing. No two of its
 -- fast tickets there have the same number, and `weight` is what they add to the word
-pub record MayMaterialise (place : ℕ) (slow : List Own) (weight : ℕ) (h : Held) (m : Mine) : Type 0 where
+pub record MayMaterialise (place : ℕ) (slow : List Own) (weight : ℕ) (h : LatchRecord) (m : Mine) : Type 0 where
   pub recorded : held_at place m.0.latches ≡ Some h
   pub raised : h.slow ≡ true
   pub idle : m.0.asks ≡ None

@@ -22,7 +22,7 @@ use Rattle.mdl_steps.specs.declared.slot.Slot.TheVariants as slot
 use Rattle.mdl_steps.specs.declared.step_kind.StepKind.{StepKind}
 use Rattle.mdl_steps.specs.declared.step_kind.StepKind.TheVariants as step
 use Rattle.mdl_steps.specs.declared.view.Ask.{Ask}
-use Rattle.mdl_steps.specs.declared.view.Held.{Held}
+use Rattle.mdl_steps.specs.declared.view.LatchRecord.{LatchRecord}
 use Rattle.mdl_steps.specs.declared.view.Keys.{Keys}
 use Rattle.mdl_steps.specs.declared.view.Known.{Known}
 use Rattle.mdl_steps.specs.declared.view.Own.{Own}
@@ -41,7 +41,7 @@ Mine = Me Slot View
 
 -- with one step more: of this kind, with these deeds, on this word, which was found so, under the latches with these records. The session has
 -- the directory's record that is in the view
-abbrev pub logged : StepKind → List Deed → ℕ → ℕ → List Held → View → View
+abbrev pub logged : StepKind → List Deed → ℕ → ℕ → List LatchRecord → View → View
 logged kind ds word found held v =
     record v { log = v.log ++ record { kind = kind; deeds = ds; word = word; found = found; held = held; directory = v.directory } ∷ [] }
 
@@ -53,7 +53,7 @@ logged kind ds word found held v =
 -- Each session waits at most once, for a mode of the kind, and so does the session itself where it met its wait lost. The definition fits
 -- the key and its version: no version that the session read is newer, what it read of this one is just that, and this is the version that it noted.
 -- Its fast tickets there are in unobtrusive modes and compatible with all granted tickets, and the version agrees with what is noted under them
-pub record IsFresh (place : ℕ) (h : Held) (m : Mine) : Type 0 where
+pub record IsFresh (place : ℕ) (h : LatchRecord) (m : Mine) : Type 0 where
   pub here : h.place ≡ place
   pub exact : TellsLists h.book h.slow h.obtrusive
   pub unnoted : h.noted ≡ None
@@ -78,20 +78,20 @@ pub record IsFresh (place : ℕ) (h : Held) (m : Mine) : Type 0 where
   pub fast_beside : Each (λ (t : Own). is_compatible (lock_kind h.book) h.book.granted m.0.number t.mode ≡ true) (own_at place m.0.fast)
 
 -- with a flag or both raised
-abbrev pub raised : Bool → Bool → Held → Held
+abbrev pub raised : Bool → Bool → LatchRecord → LatchRecord
 raised slow obtrusive h = record h { slow = slow || h.slow; obtrusive = obtrusive || h.obtrusive }
 
 -- with a word noted, where the flag OBTRUSIVE is up
-abbrev pub noting : ℕ → Held → Held
+abbrev pub noting : ℕ → LatchRecord → LatchRecord
 noting word h = record h { noted = if h.obtrusive then Some word else h.noted }
 
 -- with the book as it is after some deeds, and the flags that stay. What was noted is forgotten with the flag OBTRUSIVE
-abbrev pub lowered : BookView → Bool → Bool → Held → Held
+abbrev pub lowered : BookView → Bool → Bool → LatchRecord → LatchRecord
 lowered book slow obtrusive h =
     record h { book = book; slow = slow && h.slow; obtrusive = obtrusive && h.obtrusive; noted = if obtrusive && h.obtrusive then h.noted else None }
 
 -- with the definition that the lock's key has now
-abbrev pub restood : Standing → Held → Held
+abbrev pub restood : Standing → LatchRecord → LatchRecord
 restood standing h = record h { book = record h.book { standing = standing } }
 
 -- ---- the session's tickets
@@ -103,7 +103,7 @@ noting_version place version tickets = map (λ (t : Own). if t.place == place th
 -- ---- the view
 
 -- with another record of the latch of a place
-abbrev pub changed : ℕ → (Held → Held) → View → View
+abbrev pub changed : ℕ → (LatchRecord → LatchRecord) → View → View
 changed place f v = record v { latches = map (λ h. if h.place == place then f h else h) v.latches }
 
 -- without the record of the latch of a place
@@ -115,7 +115,7 @@ abbrev pub missed_latch : ℕ → ℕ → Mine → Mine
 missed_latch place found m = (logged step.MissLatch [] (latch_word place) found m.0.latches m.0, m.1)
 
 -- the latch of a place was taken, with this record of it
-abbrev pub latched : ℕ → Held → Mine → Mine
+abbrev pub latched : ℕ → LatchRecord → Mine → Mine
 latched place h m =
     (logged step.TakeLatch [] (latch_word place) 0 (h ∷ m.0.latches) (record m.0 { latches = h ∷ m.0.latches }), (place, slot.Place h.book) ∷ m.1)
 
@@ -124,14 +124,14 @@ abbrev pub unlatched : ℕ → List Deed → Mine → Mine
 unlatched place ds m = (logged step.PutLatch ds (latch_word place) m.0.number m.0.latches (dropped place (all_done place ds m.0)), rest m.1)
 
 -- the record of the latch of a place was changed by a step of this kind on its word
-abbrev pub stepped : StepKind → ℕ → ℕ → (Held → Held) → Mine → Mine
+abbrev pub stepped : StepKind → ℕ → ℕ → (LatchRecord → LatchRecord) → Mine → Mine
 stepped kind place found f m =
     let v = changed place f m.0 in
     (logged kind [] (lock_word place) found v.latches v, m.1)
 
 -- flags of a place were lowered after some deeds
-abbrev pub settled : ℕ → List Deed → ℕ → BookView → Bool → Bool → Mine → Mine
-settled place ds found book slow obtrusive m =
+abbrev pub flags_lowered : ℕ → List Deed → ℕ → BookView → Bool → Bool → Mine → Mine
+flags_lowered place ds found book slow obtrusive m =
     let v = changed place (lowered book slow obtrusive) (all_done place ds m.0) in
     (logged (step.LowerFlags slow obtrusive) ds (lock_word place) found m.0.latches v, m.1)
 
@@ -203,7 +203,7 @@ abbrev pub takes_latch : Step Slot → Mine → ℕ → Mine → Type 0
 takes_latch st m found m′ =
     (m′.0.number ≡ m.0.number)
     × ((place : ℕ) → st.word ≡ latch_word place →
-    (found ≡ 0 → (h : Held) × IsFresh place h m × (m′ ≡ latched place h m))
+    (found ≡ 0 → (h : LatchRecord) × IsFresh place h m × (m′ ≡ latched place h m))
     × (found ≢ 0 → m′ ≡ missed_latch place found m))
 
 -- the latch of a place is given back, after these deeds
@@ -244,7 +244,7 @@ abbrev pub lowers_flags : List Deed → Step Slot → Mine → ℕ → Mine → 
 lowers_flags ds st m found m′ =
     (m′.0.number ≡ m.0.number)
     × ((place : ℕ) (slow obtrusive : Bool) (book : BookView) → st.word ≡ lock_word place → st.first ≡ all_but_flags slow obtrusive →
-    m.1 ≡ (place, slot.Place book) ∷ rest m.1 → m′ ≡ settled place ds found book slow obtrusive m)
+    m.1 ≡ (place, slot.Place book) ∷ rest m.1 → m′ ≡ flags_lowered place ds found book slow obtrusive m)
 
 -- the version of a place is written: that of the book in hand, which the record has from then on
 abbrev pub writes_version : Step Slot → Mine → ℕ → Mine → Type 0

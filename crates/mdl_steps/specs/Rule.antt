@@ -27,7 +27,7 @@ use Rattle.mdl_book.specs.Tickets.{ticket_of}
 use Rattle.mdl_steps.specs.declared.slot.Slot.{Slot}
 use Rattle.mdl_steps.specs.declared.slot.Slot.TheVariants as slot
 use Rattle.mdl_steps.specs.declared.view.Ask.{Ask}
-use Rattle.mdl_steps.specs.declared.view.Held.{Held}
+use Rattle.mdl_steps.specs.declared.view.LatchRecord.{LatchRecord}
 use Rattle.mdl_steps.specs.declared.view.Keys.{Keys}
 use Rattle.mdl_steps.specs.declared.view.Known.{Known}
 use Rattle.mdl_steps.specs.declared.view.Own.{Own}
@@ -127,7 +127,7 @@ NotedCounts kind fast obtrusive noted =
     (word : ℕ) → noted ≡ Some word → (obtrusive ≡ true) × CoversFastTickets kind word fast
 
 -- the record of a latch has the book and the flags as they are, and its session holds the latch
-pub record HeldOk (latch : ℕ) (parts : List Part) (book : BookView) (slow obtrusive : Bool) (number : ℕ) (h : Held) : Type 0 where
+pub record HeldOk (latch : ℕ) (parts : List Part) (book : BookView) (slow obtrusive : Bool) (number : ℕ) (h : LatchRecord) : Type 0 where
   pub mine : number ≡ latch
   pub some_session : 0 < number
   pub book_is : h.book ≡ book
@@ -141,8 +141,8 @@ pub record PlaceOk (key : Option KeyName) (c : Cell) : Type 0 where
   pub slow : Bool
   pub obtrusive : Bool
   pub free : c.latch ≡ 0 → (c.home ≡ some (some (slot.Place book))) × TellsLists book slow obtrusive
-  pub taken : c.latch ≢ 0 → (j : ℕ) × (l : Holder) × (h : Held) × (get_elem? c.holders j ≡ some l) × (l.held ≡ Some h)
-  pub held : (j : ℕ) (l : Holder) → get_elem? c.holders j ≡ some l → (h : Held) → l.held ≡ Some h →
+  pub taken : c.latch ≢ 0 → (j : ℕ) × (l : Holder) × (h : LatchRecord) × (get_elem? c.holders j ≡ some l) × (l.held ≡ Some h)
+  pub held : (j : ℕ) (l : Holder) → get_elem? c.holders j ≡ some l → (h : LatchRecord) → l.held ≡ Some h →
       HeldOk c.latch c.parts book slow obtrusive l.number h
   pub counted : Counted (lock_kind book) c.word (all_fast c.parts) slow obtrusive
   pub flagged : Flagged book slow obtrusive

@@ -11,7 +11,7 @@ use Rattle.mdl_book.specs.Tickets.{ticket_of}
 use Rattle.mdl_steps.specs.declared.slot.Slot.{Slot}
 use Rattle.mdl_steps.specs.declared.slot.Slot.TheVariants as slot
 use Rattle.mdl_steps.specs.declared.view.Ask.{Ask}
-use Rattle.mdl_steps.specs.declared.view.Held.{Held}
+use Rattle.mdl_steps.specs.declared.view.LatchRecord.{LatchRecord}
 use Rattle.mdl_steps.specs.declared.view.Own.{Own}
 use Rattle.mdl_steps.specs.declared.view.Read.{Read}
 use Rattle.mdl_steps.specs.declared.view.View.{View}
@@ -43,7 +43,7 @@ FreeLocksAreAsTheirWordsTell =
 abbrev pub HeldLocksAreAsTheirRecordsTell : Type 0
 HeldLocksAreAsTheirRecordsTell =
     (s : State Slot View) → Rule s → (place : ℕ) → 0 < place → place < length s.homes →
-    (i : ℕ) (v : View) → get_elem? s.views i ≡ some v → (h : Held) → held_at place v.latches ≡ Some h →
+    (i : ℕ) (v : View) → get_elem? s.views i ≡ some v → (h : LatchRecord) → held_at place v.latches ≡ Some h →
     (slice_index s.words (latch_word place) ≡ v.number)
     × Counted (lock_kind h.book) (slice_index s.words (lock_word place)) (fast_at s place) h.slow h.obtrusive
     × Flagged h.book h.slow h.obtrusive × StandsTogether s place h.book
@@ -52,7 +52,7 @@ HeldLocksAreAsTheirRecordsTell =
 abbrev pub TakenLatchesAreHeld : Type 0
 TakenLatchesAreHeld =
     (s : State Slot View) → Rule s → (place : ℕ) → 0 < place → place < length s.homes → slice_index s.words (latch_word place) ≢ 0 →
-    (i : ℕ) × (v : View) × (h : Held) × (get_elem? s.views i ≡ some v) × (held_at place v.latches ≡ Some h) × (slice_index s.words (latch_word place) ≡ v.number)
+    (i : ℕ) × (v : View) × (h : LatchRecord) × (get_elem? s.views i ≡ some v) × (held_at place v.latches ≡ Some h) × (slice_index s.words (latch_word place) ≡ v.number)
 
 -- a version that a session noted under a ticket is the current one, as long as it has the ticket
 abbrev pub NotedVersionsStand : Type 0
@@ -69,7 +69,7 @@ ReadsAreOfWhatStands =
     (k : ℕ) (r : Read) → get_elem? v.reads k ≡ some r → 0 < r.place → r.place < length s.homes → slice_index s.words (version_word r.place) ≡ r.standing.version →
     ((j : ℕ) (q : Read) → get_elem? v.reads j ≡ some q → q.place ≡ r.place → q.standing.version ≡ r.standing.version → q.standing ≡ r.standing)
     × (slice_index s.words (latch_word r.place) ≡ 0 → (book : BookView) × (get_elem? s.homes r.place ≡ some (some (slot.Place book))) × (book.standing ≡ r.standing))
-    × ((j : ℕ) (w : View) (h : Held) → get_elem? s.views j ≡ some w → held_at r.place w.latches ≡ Some h → h.book.standing ≡ r.standing)
+    × ((j : ℕ) (w : View) (h : LatchRecord) → get_elem? s.views j ≡ some w → held_at r.place w.latches ≡ Some h → h.book.standing ≡ r.standing)
 
 -- a session's wait word has the number of its last wait, and its state: idle where the session waits for nothing. Where it waits, its ticket
 -- is in the granted list of the lock's book while the state is granted, and otherwise in the waiting list. While the latch is free the book is

@@ -12,7 +12,7 @@ use Rattle.mdl_book.specs.declared.ticket.Ticket.{Ticket}
 use Rattle.mdl_book.specs.Books.{empty_book, redefining}
 use Rattle.mdl_steps.specs.declared.deed.Deed.{Deed}
 use Rattle.mdl_steps.specs.declared.slot.Slot.TheVariants as slot
-use Rattle.mdl_steps.specs.declared.view.Held.{Held}
+use Rattle.mdl_steps.specs.declared.view.LatchRecord.{LatchRecord}
 use Rattle.mdl_steps.specs.declared.view.Keys.{Keys}
 use Rattle.mdl_steps.specs.declared.view.Known.{Known}
 use Rattle.mdl_steps.specs.Cells.{held_at}
@@ -30,47 +30,47 @@ abbrev pub IsPlace : TableId → ℕ → Type 0
 IsPlace id place = (0 < place) × (place < id.slots)
 
 -- the seat has this record of the latch of the place, and this book of it in hand
-pub record Holds (place : ℕ) (h : Held) (book : BookView) (m : Mine) : Type 0 where
+pub record Holds (place : ℕ) (h : LatchRecord) (book : BookView) (m : Mine) : Type 0 where
   pub recorded : held_at place m.0.latches ≡ Some h
   pub carried : m.1 ≡ (place, slot.Place book) ∷ rest m.1
 
 -- the seat holds the latch of the place, and has done in the book what these deeds say, which are one event of the system of locks or none
-pub record HasDone (place : ℕ) (ds : List Deed) (h : Held) (m : Mine) : Type 0 where
+pub record HasDone (place : ℕ) (ds : List Deed) (h : LatchRecord) (m : Mine) : Type 0 where
   pub holds : Holds place h (all_booked m.0.number ds h.book) m
   pub act : MayAct m.0 place ds
   pub may : MayDo m.0 h.book h.noted ds
 
 -- it may give the latch back: just the flags are up that the lists need
 abbrev pub MayPut : ℕ → List Deed → Mine → Type 0
-MayPut place ds m = (h : Held) × HasDone place ds h m × TellsLists (all_booked m.0.number ds h.book) h.slow h.obtrusive
+MayPut place ds m = (h : LatchRecord) × HasDone place ds h m × TellsLists (all_booked m.0.number ds h.book) h.slow h.obtrusive
 
 -- it may leave just these flags up: the lists need no others
 abbrev pub MayLower : ℕ → List Deed → Bool → Bool → Mine → Type 0
 MayLower place ds slow obtrusive m =
-    (h : Held) × HasDone place ds h m × Flagged (all_booked m.0.number ds h.book) (slow && h.slow) (obtrusive && h.obtrusive)
+    (h : LatchRecord) × HasDone place ds h m × Flagged (all_booked m.0.number ds h.book) (slow && h.slow) (obtrusive && h.obtrusive)
 
 -- the session holds an exclusive ticket: it is granted, and no wait for it is still to be ended
-abbrev pub HasExclusive : Held → Mine → Type 0
+abbrev pub HasExclusive : LatchRecord → Mine → Type 0
 HasExclusive h m =
     (t : Ticket) × Contains h.book.granted t × (t.session ≡ m.0.number) × (t.mode ≡ X) × NotWaited m.0 t.number
 
 -- the seat holds the latch of the place, and has made in the book this change of the definition, which can be made, and only by the holder of an
 -- exclusive ticket
-pub record HasRedefined (place : ℕ) (h : Held) (change : Change) (m : Mine) : Type 0 where
+pub record HasRedefined (place : ℕ) (h : LatchRecord) (change : Change) (m : Mine) : Type 0 where
   pub holds : Holds place h (redefining change h.book) m
   pub allowed : standing_fault h.book.key.namespace change h.book.standing ≡ None
   pub exclusive : HasExclusive h m
 
 -- it may write the version
 abbrev pub MayWriteVersion : ℕ → Mine → Type 0
-MayWriteVersion place m = (h : Held) × (change : Change) × HasRedefined place h change m
+MayWriteVersion place m = (h : LatchRecord) × (change : Change) × HasRedefined place h change m
 
 -- latches are taken in rising order: each that it holds is of a lower place
 abbrev pub IsRising : ℕ → Mine → Type 0
-IsRising place m = Each (λ (h : Held). h.place < place) m.0.latches
+IsRising place m = Each (λ (h : LatchRecord). h.place < place) m.0.latches
 
 -- the records of the latches that it holds at other places
-abbrev pub elsewhere : ℕ → Mine → List Held
+abbrev pub elsewhere : ℕ → Mine → List LatchRecord
 elsewhere place m = filter (λ h. not (h.place == place)) m.0.latches
 
 -- the seat has another book of the place in hand
@@ -93,7 +93,7 @@ pub record IsNewKey (key : KeyName) (k : Keys) (m : Mine) : Type 0 where
 
 -- it may give the latch of a place back and the place to a new key: the place comes after all that have one, and the empty book of the key is
 -- in hand, and just the flags are up that it needs
-pub record MayName (place : ℕ) (key : KeyName) (k : Keys) (h : Held) (m : Mine) : Type 0 where
+pub record MayName (place : ℕ) (key : KeyName) (k : Keys) (h : LatchRecord) (m : Mine) : Type 0 where
   pub key_is : IsNewKey key k m
   pub next : place ≡ length k.keys + 1
   pub holds : Holds place h (empty_book key) m

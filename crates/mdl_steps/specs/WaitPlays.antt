@@ -9,7 +9,7 @@ use Rattle.mdl_steps.specs.declared.slot.Slot.{Slot}
 use Rattle.mdl_steps.specs.declared.step_kind.StepKind.{StepKind}
 use Rattle.mdl_steps.specs.declared.step_kind.StepKind.TheVariants as step
 use Rattle.mdl_steps.specs.declared.view.Ask.{Ask}
-use Rattle.mdl_steps.specs.declared.view.Held.{Held}
+use Rattle.mdl_steps.specs.declared.view.LatchRecord.{LatchRecord}
 use Rattle.mdl_steps.specs.declared.view.Own.{Own}
 use Rattle.mdl_steps.specs.declared.view.View.{View}
 use Rattle.mdl_steps.specs.Cells.{note_at, waiter_of}
@@ -41,13 +41,13 @@ TellsOwn slots session found v = session ≡ v.number → WaitOk slots found (wa
 
 -- ---- the record of the latch
 
-abbrev pub with_waiting : Ticket → Held → Held
+abbrev pub with_waiting : Ticket → LatchRecord → LatchRecord
 with_waiting t h = record h { book = enqueueing t h.book }
 
-abbrev pub with_admitted : ℕ → ℕ → Held → Held
+abbrev pub with_admitted : ℕ → ℕ → LatchRecord → LatchRecord
 with_admitted session number h = record h { book = admitting session number h.book }
 
-abbrev pub with_cancelled : ℕ → ℕ → Held → Held
+abbrev pub with_cancelled : ℕ → ℕ → LatchRecord → LatchRecord
 with_cancelled session number h = record h { book = cancelling session number h.book }
 
 -- ---- the view

@@ -8,7 +8,7 @@ use Rattle.mdl_book.specs.Books.{enqueueing, lock_kind}
 use Rattle.mdl_book.specs.Granting.{goes_first}
 use Rattle.mdl_book.specs.Tickets.{ticket_of}
 use Rattle.mdl_steps.specs.declared.view.Ask.{Ask}
-use Rattle.mdl_steps.specs.declared.view.Held.{Held}
+use Rattle.mdl_steps.specs.declared.view.LatchRecord.{LatchRecord}
 use Rattle.mdl_steps.specs.Cells.{held_at}
 use Rattle.mdl_steps.specs.Deeds.{KnowsPlace, MayJoin}
 use Rattle.mdl_steps.specs.Layout.{wait_word}
@@ -22,7 +22,7 @@ abbrev pub IsSession : TableId → ℕ → Type 0
 IsSession id session = (0 < session) × (wait_word id.slots session < id.words)
 
 -- the seat holds the latch of the place and may open a wait there: it has none yet, nor any fast ticket, and the flags are up that its ticket needs
-pub record MayOpen (place : ℕ) (mode : Mode) (h : Held) (m : Mine) : Type 0 where
+pub record MayOpen (place : ℕ) (mode : Mode) (h : LatchRecord) (m : Mine) : Type 0 where
   pub recorded : held_at place m.0.latches ≡ Some h
   pub idle : m.0.asks ≡ None
   pub unfast : m.0.fast ≡ []
@@ -32,7 +32,7 @@ pub record MayOpen (place : ℕ) (mode : Mode) (h : Held) (m : Mine) : Type 0 wh
 
 -- the seat holds the latch of the place, and the waiting ticket of a session there is compatible with all that is granted, and waits behind no
 -- other waiting one
-pub record MayGrant (place session ticket : ℕ) (h : Held) (m : Mine) : Type 0 where
+pub record MayGrant (place session ticket : ℕ) (h : LatchRecord) (m : Mine) : Type 0 where
   pub recorded : held_at place m.0.latches ≡ Some h
   pub wish : Ticket
   pub waits : ticket_of session ticket h.book.waiting ≡ Some wish
@@ -40,7 +40,7 @@ pub record MayGrant (place session ticket : ℕ) (h : Held) (m : Mine) : Type 0 
   pub first : goes_first (lock_kind h.book) h.book.waiting session wish.mode ≡ true
 
 -- the seat met its own wait lost, and holds the latch of the place where its ticket waits
-pub record MayCancel (place : ℕ) (h : Held) (m : Mine) : Type 0 where
+pub record MayCancel (place : ℕ) (h : LatchRecord) (m : Mine) : Type 0 where
   pub recorded : held_at place m.0.latches ≡ Some h
   pub state : ℕ
   pub told : m.0.told ≡ Some state

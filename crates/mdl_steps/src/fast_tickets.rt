@@ -1,7 +1,7 @@
 //! Steps of a lock word's fast path. A fast ticket is in no list: the word counts it, and the session's view has it.
 ghost use Rattle.std.specs.Prelude.{◌≡◌, ◌≢◌, ℕ, ◌+◌, ◌*◌, ◌^◌, ◌<◌, false, List, Option};
 ghost use Rattle.mdl_book.specs.declared.book_view.BookView.{BookView};
-ghost use Rattle.mdl_steps.specs.declared.view.Held.{Held};
+ghost use Rattle.mdl_steps.specs.declared.view.LatchRecord.{LatchRecord};
 ghost use Rattle.mdl_steps.specs.declared.view.Own.{Own};
 ghost use Rattle.mdl_word.specs.Words.{obtrusive_flag};
 ghost use Rattle.mdl_steps.specs.FastPlays.{met_word, missed_fast, granted_fast, released_fast, materialised, moved, numbered_else, with_granted, MayGrantFast, MayReleaseFast, MayMaterialise};
@@ -107,9 +107,9 @@ impl TableSeat {
     /// the tickets at the place.
     pub fn materialise(&mut self, latch: &Latched, tickets: &[Own], left: &[u64], weight: u64)
         requires place { IsPlace self.old.table latch.now.place }
-        requires moved { (h : Held) × MayMaterialise latch.now.place (numbered_else left.now tickets.now) weight h self.old.me }
+        requires moved { (h : LatchRecord) × MayMaterialise latch.now.place (numbered_else left.now tickets.now) weight h self.old.me }
         ensures made { (found : ℕ) × (self.new ≡ record self.old { me = materialised latch.now.place (numbered_else left.now tickets.now) found self.old.me }) }
-        ensures keeps { (h : Held) (book : BookView) → Holds latch.now.place h book self.old.me
+        ensures keeps { (h : LatchRecord) (book : BookView) → Holds latch.now.place h book self.old.me
             → Holds latch.now.place (with_granted (moved latch.now.place self.old.me.0) h) book self.new.me }
         ensures apart { elsewhere latch.now.place self.new.me ≡ elsewhere latch.now.place self.old.me }
     {
@@ -124,10 +124,10 @@ impl TableSeat {
         weight: u64,
     )
         requires place { IsPlace self.old.table latch.now.place }
-        requires moved { (h : Held) × MayMaterialise latch.now.place (numbered_else _left.now _tickets.now) weight h self.old.me }
+        requires moved { (h : LatchRecord) × MayMaterialise latch.now.place (numbered_else _left.now _tickets.now) weight h self.old.me }
         requires picked { (numbered_else _left.now _tickets.now) ≡ J.slow }
         ensures made { (found : ℕ) × (self.new ≡ record self.old { me = materialised latch.now.place (numbered_else _left.now _tickets.now) found self.old.me }) }
-        ensures keeps { (h : Held) (book : BookView) → Holds latch.now.place h book self.old.me
+        ensures keeps { (h : LatchRecord) (book : BookView) → Holds latch.now.place h book self.old.me
             → Holds latch.now.place (with_granted (moved latch.now.place self.old.me.0) h) book self.new.me }
         ensures apart { elsewhere latch.now.place self.new.me ≡ elsewhere latch.now.place self.old.me }
     {

@@ -9,7 +9,7 @@ ghost use Rattle.mdl_book.specs.declared.book_view.BookView.{BookView};
 ghost use Rattle.mdl_book.specs.Books.{empty_book};
 ghost use Rattle.mdl_key.specs.Words.{KeyName, key_eq};
 ghost use Rattle.mdl_steps.specs.declared.slot.Slot.TheVariants as slot;
-ghost use Rattle.mdl_steps.specs.declared.view.Held.{Held};
+ghost use Rattle.mdl_steps.specs.declared.view.LatchRecord.{LatchRecord};
 ghost use Rattle.mdl_steps.specs.declared.view.Keys.{Keys};
 ghost use Rattle.mdl_steps.specs.Plays.{listing, named};
 ghost use Rattle.mdl_steps.specs.Seats.{IsPlace, HasDirectory, MayName, place_among, rest, written};
@@ -88,7 +88,7 @@ impl TableSeat {
     /// Gives the latch of a place back and the place to the key of the book in hand, which is last in the directory in hand.
     pub fn put_latch_naming(&mut self, latch: Latched, _directory: &LatchedDirectory)
         requires place { IsPlace self.old.table latch.place }
-        requires put { (key : KeyName) × (k : Keys) × (h : Held) × MayName latch.place key k h self.old.me }
+        requires put { (key : KeyName) × (k : Keys) × (h : LatchRecord) × MayName latch.place key k h self.old.me }
         ensures made { (book : BookView) → self.old.me.1 ≡ (latch.place, slot.Place book) ∷ rest self.old.me.1
             → self.new ≡ record self.old { me = named latch.place book.key self.old.me } }
     {

@@ -3,10 +3,10 @@ ghost use Rattle.std.specs.Prelude.{◌≡◌, ◌≢◌, ℕ, nat_lt, ◌&&◌,
 ghost use Rattle.mdl_book.specs.declared.book_view.BookView.{BookView};
 ghost use Rattle.mdl_steps.specs.declared.slot.Slot.TheVariants as slot;
 ghost use Rattle.mdl_steps.specs.declared.step_kind.StepKind.TheVariants as step;
-ghost use Rattle.mdl_steps.specs.declared.view.Held.{Held};
+ghost use Rattle.mdl_steps.specs.declared.view.LatchRecord.{LatchRecord};
 ghost use Rattle.mdl_steps.specs.Cells.{held_at};
 ghost use Rattle.mdl_steps.specs.Layout.{session_count, wait_word};
-ghost use Rattle.mdl_steps.specs.Plays.{IsFresh, latched, unlatched, missed_latch, stepped, settled, raised, noting, lowered, redefined, restood, read_and_put};
+ghost use Rattle.mdl_steps.specs.Plays.{IsFresh, latched, unlatched, missed_latch, stepped, flags_lowered, raised, noting, lowered, redefined, restood, read_and_put};
 ghost use Rattle.mdl_steps.specs.Seats.{IsPlace, IsRising, Holds, MayPut, MayLower, MayWriteVersion, rest, elsewhere};
 
 use crate::layout::{latch_word, lock_word, session_count, version_word, wait_word};
@@ -103,7 +103,7 @@ impl TableSeat {
         requires rising { IsRising place self.old.me }
         ensures taken { MatchOption result
             ((found : ℕ) × (found ≢ 0) × (self.new ≡ record self.old { me = missed_latch place found self.old.me }))
-            (λ held. (held.place ≡ place) × ((h : Held) × IsFresh place h self.old.me × Holds place h h.book self.new.me × (self.new ≡ record self.old { me = latched place h self.old.me }))) }
+            (λ held. (held.place ≡ place) × ((h : LatchRecord) × IsFresh place h self.old.me × Holds place h h.book self.new.me × (self.new ≡ record self.old { me = latched place h self.old.me }))) }
         ensures apart { elsewhere place self.new.me ≡ elsewhere place self.old.me }
     {
         let found = self
@@ -124,9 +124,9 @@ impl TableSeat {
     /// Raises flags of the place's word.
     pub fn raise_flags(&mut self, latch: &Latched, slow: bool, obtrusive: bool)
         requires place { IsPlace self.old.table latch.now.place }
-        requires held { (h : Held) × (held_at latch.now.place self.old.me.0.latches ≡ Some h) }
+        requires held { (h : LatchRecord) × (held_at latch.now.place self.old.me.0.latches ≡ Some h) }
         ensures made { (found : ℕ) × (self.new ≡ record self.old { me = stepped (step.RaiseFlags slow obtrusive) latch.now.place found (raised slow obtrusive) self.old.me }) }
-        ensures keeps { (h : Held) (book : BookView) → Holds latch.now.place h book self.old.me → Holds latch.now.place (raised slow obtrusive h) book self.new.me }
+        ensures keeps { (h : LatchRecord) (book : BookView) → Holds latch.now.place h book self.old.me → Holds latch.now.place (raised slow obtrusive h) book self.new.me }
         ensures apart { elsewhere latch.now.place self.new.me ≡ elsewhere latch.now.place self.old.me }
     {
         self.table.shared.fetch_or::<RaiseFlags>(
@@ -139,9 +139,9 @@ impl TableSeat {
     /// Reads the place's word, and notes it where the flag [`Word::OBTRUSIVE`] is up.
     pub fn read_word(&mut self, latch: &Latched) -> Word
         requires place { IsPlace self.old.table latch.now.place }
-        requires held { (h : Held) × (held_at latch.now.place self.old.me.0.latches ≡ Some h) }
+        requires held { (h : LatchRecord) × (held_at latch.now.place self.old.me.0.latches ≡ Some h) }
         ensures made { self.new ≡ record self.old { me = stepped step.ReadWord latch.now.place result.0 (noting result.0) self.old.me } }
-        ensures keeps { (h : Held) (book : BookView) → Holds latch.now.place h book self.old.me → Holds latch.now.place (noting result.0 h) book self.new.me }
+        ensures keeps { (h : LatchRecord) (book : BookView) → Holds latch.now.place h book self.old.me → Holds latch.now.place (noting result.0 h) book self.new.me }
         ensures apart { elsewhere latch.now.place self.new.me ≡ elsewhere latch.now.place self.old.me }
     {
         Word(
@@ -158,7 +158,7 @@ impl TableSeat {
         requires written { MayWriteVersion latch.now.place self.old.me }
         ensures made { (book : BookView) → self.old.me.1 ≡ (latch.now.place, slot.Place book) ∷ rest self.old.me.1
             → self.new ≡ record self.old { me = redefined latch.now.place book.standing self.old.me } }
-        ensures keeps { (h : Held) (book : BookView) → Holds latch.now.place h book self.old.me → Holds latch.now.place (restood book.standing h) book self.new.me }
+        ensures keeps { (h : LatchRecord) (book : BookView) → Holds latch.now.place h book self.old.me → Holds latch.now.place (restood book.standing h) book self.new.me }
         ensures apart { elsewhere latch.now.place self.new.me ≡ elsewhere latch.now.place self.old.me }
     {
         let version = self.version(latch);
@@ -172,8 +172,8 @@ impl TableSeat {
         requires place { IsPlace self.old.table latch.now.place }
         requires lowered { MayLower latch.now.place deeds.now slow obtrusive self.old.me }
         ensures made { (found : ℕ) × ((book : BookView) → self.old.me.1 ≡ (latch.now.place, slot.Place book) ∷ rest self.old.me.1
-            → self.new ≡ record self.old { me = settled latch.now.place deeds.now found book slow obtrusive self.old.me }) }
-        ensures keeps { (h : Held) (book : BookView) → Holds latch.now.place h book self.old.me → Holds latch.now.place (lowered book slow obtrusive h) book self.new.me }
+            → self.new ≡ record self.old { me = flags_lowered latch.now.place deeds.now found book slow obtrusive self.old.me }) }
+        ensures keeps { (h : LatchRecord) (book : BookView) → Holds latch.now.place h book self.old.me → Holds latch.now.place (lowered book slow obtrusive h) book self.new.me }
         ensures apart { elsewhere latch.now.place self.new.me ≡ elsewhere latch.now.place self.old.me }
     {
         self.lower_flags_after::<Brand>(latch, slow, obtrusive, deeds);
@@ -190,8 +190,8 @@ impl TableSeat {
         requires picked { _deeds.now ≡ J.deeds }
         requires lowered { MayLower latch.now.place _deeds.now slow obtrusive self.old.me }
         ensures made { (found : ℕ) × ((book : BookView) → self.old.me.1 ≡ (latch.now.place, slot.Place book) ∷ rest self.old.me.1
-            → self.new ≡ record self.old { me = settled latch.now.place _deeds.now found book slow obtrusive self.old.me }) }
-        ensures keeps { (h : Held) (book : BookView) → Holds latch.now.place h book self.old.me → Holds latch.now.place (lowered book slow obtrusive h) book self.new.me }
+            → self.new ≡ record self.old { me = flags_lowered latch.now.place _deeds.now found book slow obtrusive self.old.me }) }
+        ensures keeps { (h : LatchRecord) (book : BookView) → Holds latch.now.place h book self.old.me → Holds latch.now.place (lowered book slow obtrusive h) book self.new.me }
         ensures apart { elsewhere latch.now.place self.new.me ≡ elsewhere latch.now.place self.old.me }
     {
         self.table.shared.fetch_and::<LowerFlags<J>>(

@@ -30,7 +30,7 @@ pub struct Ask {
 
 /// The record of a latch that a session holds.
 #[derive(Drop)]
-pub struct Held {
+pub struct LatchRecord {
     /// The place whose latch it is.
     pub place: usize,
     /// The lock's book, which the session alone can change meanwhile.
@@ -93,7 +93,7 @@ pub struct Met {
     pub found: u64,
     /// The records of the latches that the session held at the step: those before it where the step gave one back or
     /// lowered flags, otherwise those after it.
-    pub held: [Held; 0],
+    pub held: [LatchRecord; 0],
     /// The record of the directory's latch, where the session held that at the step: the one before it where the step gave
     /// it back, otherwise the one after it.
     pub directory: Option<Keys>,
@@ -132,7 +132,7 @@ pub struct View {
     /// Its tickets that are in books.
     pub slow: [Own; 0],
     /// The records of the latches that it holds, the last one first.
-    pub latches: [Held; 0],
+    pub latches: [LatchRecord; 0],
     /// The record of the directory's latch, where it holds that.
     pub directory: Option<Keys>,
     /// The places of keys that it looked up.

@@ -2,7 +2,7 @@
 ghost use Rattle.std.specs.Prelude.{◌≡◌, ◌≢◌, ℕ, ◌+◌, ◌*◌, ◌^◌, ◌<◌, Some};
 ghost use Rattle.mdl_book.specs.declared.book_view.BookView.{BookView};
 ghost use Rattle.mdl_steps.specs.declared.view.Ask.{Ask};
-ghost use Rattle.mdl_steps.specs.declared.view.Held.{Held};
+ghost use Rattle.mdl_steps.specs.declared.view.LatchRecord.{LatchRecord};
 ghost use Rattle.mdl_steps.specs.Seats.{IsPlace, Holds, elsewhere};
 ghost use Rattle.mdl_steps.specs.WaitPlays.{met_wait, missed_wait, opened, settled_lost, settled_granted, ended_granted, ended_lost, asked_ticket, with_waiting, with_admitted, with_cancelled, TellsOwn};
 ghost use Rattle.mdl_steps.specs.WaitSeats.{IsSession, MayOpen, MayGrant, MayCancel};
@@ -22,10 +22,10 @@ impl TableSeat {
     /// number, one more than that of the session's last wait.
     pub fn open_wait(&mut self, latch: &Latched, mode: Mode, wait: u64)
         requires place { IsPlace self.old.table latch.now.place }
-        requires opened { (h : Held) × MayOpen latch.now.place mode h self.old.me }
+        requires opened { (h : LatchRecord) × MayOpen latch.now.place mode h self.old.me }
         requires wait { (wait ≡ self.old.me.0.waits + 1) × (wait < 2 ^ 60) }
         ensures made { self.new ≡ record self.old { me = opened self.old.table.slots latch.now.place mode self.old.me } }
-        ensures keeps { (h : Held) (book : BookView) → Holds latch.now.place h book self.old.me
+        ensures keeps { (h : LatchRecord) (book : BookView) → Holds latch.now.place h book self.old.me
             → Holds latch.now.place (with_waiting (asked_ticket mode self.old.me.0) h) book self.new.me }
         ensures apart { elsewhere latch.now.place self.new.me ≡ elsewhere latch.now.place self.old.me }
     {
@@ -34,11 +34,11 @@ impl TableSeat {
 
     fn open_wait_at<J: Wishing>(&mut self, latch: &Latched, mode: Mode, wait: u64)
         requires place { IsPlace self.old.table latch.now.place }
-        requires opened { (h : Held) × MayOpen latch.now.place mode h self.old.me }
+        requires opened { (h : LatchRecord) × MayOpen latch.now.place mode h self.old.me }
         requires wait { (wait ≡ self.old.me.0.waits + 1) × (wait < 2 ^ 60) }
         requires picked { (latch.now.place ≡ J.place) × (mode ≡ J.mode) }
         ensures made { self.new ≡ record self.old { me = opened self.old.table.slots latch.now.place mode self.old.me } }
-        ensures keeps { (h : Held) (book : BookView) → Holds latch.now.place h book self.old.me
+        ensures keeps { (h : LatchRecord) (book : BookView) → Holds latch.now.place h book self.old.me
             → Holds latch.now.place (with_waiting (asked_ticket mode self.old.me.0) h) book self.new.me }
         ensures apart { elsewhere latch.now.place self.new.me ≡ elsewhere latch.now.place self.old.me }
     {
@@ -85,10 +85,10 @@ impl TableSeat {
     pub fn grant_wait(&mut self, latch: &Latched, session: u16, ticket: u64, wait: u64) -> WaitWord
         requires place { IsPlace self.old.table latch.now.place }
         requires session { IsSession self.old.table session }
-        requires granted { (h : Held) × MayGrant latch.now.place session ticket h self.old.me }
+        requires granted { (h : LatchRecord) × MayGrant latch.now.place session ticket h self.old.me }
         requires wait { wait < 2 ^ 61 }
         ensures granted { result.0 ≡ wait_in wait unsettled_state → self.new ≡ record self.old { me = settled_granted self.old.table.slots latch.now.place session ticket wait self.old.me } }
-        ensures keeps { result.0 ≡ wait_in wait unsettled_state → (h : Held) (book : BookView) → Holds latch.now.place h book self.old.me
+        ensures keeps { result.0 ≡ wait_in wait unsettled_state → (h : LatchRecord) (book : BookView) → Holds latch.now.place h book self.old.me
             → Holds latch.now.place (with_admitted session ticket h) book self.new.me }
         ensures missed { result.0 ≢ wait_in wait unsettled_state → self.new ≡ record self.old { me = missed_wait self.old.table.slots session result.0 self.old.me } }
         ensures own { TellsOwn self.old.table.slots session result.0 self.old.me.0 }
@@ -106,11 +106,11 @@ impl TableSeat {
     ) -> WaitWord
         requires place { IsPlace self.old.table latch.now.place }
         requires session { IsSession self.old.table session }
-        requires granted { (h : Held) × MayGrant latch.now.place session ticket h self.old.me }
+        requires granted { (h : LatchRecord) × MayGrant latch.now.place session ticket h self.old.me }
         requires wait { wait < 2 ^ 61 }
         requires picked { (latch.now.place ≡ J.place) × (ticket ≡ J.ticket) }
         ensures granted { result.0 ≡ wait_in wait unsettled_state → self.new ≡ record self.old { me = settled_granted self.old.table.slots latch.now.place session ticket wait self.old.me } }
-        ensures keeps { result.0 ≡ wait_in wait unsettled_state → (h : Held) (book : BookView) → Holds latch.now.place h book self.old.me
+        ensures keeps { result.0 ≡ wait_in wait unsettled_state → (h : LatchRecord) (book : BookView) → Holds latch.now.place h book self.old.me
             → Holds latch.now.place (with_admitted session ticket h) book self.new.me }
         ensures missed { result.0 ≢ wait_in wait unsettled_state → self.new ≡ record self.old { me = missed_wait self.old.table.slots session result.0 self.old.me } }
         ensures own { TellsOwn self.old.table.slots session result.0 self.old.me.0 }
@@ -145,11 +145,11 @@ impl TableSeat {
     /// Ends the session's own wait, which it met lost: its ticket no longer waits at the place. `wait` is the wait's number.
     pub fn end_lost(&mut self, latch: &Latched, wait: u64)
         requires place { IsPlace self.old.table latch.now.place }
-        requires cancelled { (h : Held) × MayCancel latch.now.place h self.old.me }
+        requires cancelled { (h : LatchRecord) × MayCancel latch.now.place h self.old.me }
         requires wait { (wait ≡ self.old.me.0.waits) × (wait < 2 ^ 60) }
         ensures made { (a : Ask) (state : ℕ) → self.old.me.0.asks ≡ Some a → self.old.me.0.told ≡ Some state
             → self.new ≡ record self.old { me = ended_lost self.old.table.slots latch.now.place a.number state self.old.me } }
-        ensures keeps { (a : Ask) (h : Held) (book : BookView) → self.old.me.0.asks ≡ Some a → Holds latch.now.place h book self.old.me
+        ensures keeps { (a : Ask) (h : LatchRecord) (book : BookView) → self.old.me.0.asks ≡ Some a → Holds latch.now.place h book self.old.me
             → Holds latch.now.place (with_cancelled self.old.me.0.number a.number h) book self.new.me }
         ensures apart { elsewhere latch.now.place self.new.me ≡ elsewhere latch.now.place self.old.me }
     {

@@ -15,7 +15,7 @@ use Rattle.mdl_book.specs.Granting.{goes_first}
 use Rattle.mdl_steps.specs.declared.deed.Deed.{Deed}
 use Rattle.mdl_steps.specs.declared.deed.Deed.TheVariants.{Gain, Alter, Lose}
 use Rattle.mdl_steps.specs.declared.slot.Slot.{Slot}
-use Rattle.mdl_steps.specs.declared.view.Held.{Held as Record}
+use Rattle.mdl_steps.specs.declared.view.LatchRecord.{LatchRecord as Record}
 use Rattle.mdl_steps.specs.declared.view.View.{View}
 use Rattle.mdl_steps.specs.Cells.{held_at}
 use Rattle.mdl_steps.specs.Deeds.{MayJoin, all_booked}

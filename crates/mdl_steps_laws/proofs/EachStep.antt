@@ -20,7 +20,7 @@ use Rattle.mdl_steps.specs.declared.slot.Slot.TheVariants as slot
 use Rattle.mdl_steps.specs.declared.step_kind.StepKind.{StepKind}
 use Rattle.mdl_steps.specs.declared.step_kind.StepKind.TheVariants as step
 use Rattle.mdl_steps.specs.declared.view.Ask.{Ask}
-use Rattle.mdl_steps.specs.declared.view.Held.{Held}
+use Rattle.mdl_steps.specs.declared.view.LatchRecord.{LatchRecord}
 use Rattle.mdl_steps.specs.declared.view.Own.{Own}
 use Rattle.mdl_steps.specs.declared.view.View.{View}
 use Rattle.mdl_steps.specs.declared.wait_word.Loss.{Loss}
@@ -28,7 +28,7 @@ use Rattle.mdl_steps.specs.Cells.{ticket_by, waiter_of, waits}
 use Rattle.mdl_steps.specs.Deeds.{MayAct, all_booked, is_own}
 use Rattle.mdl_steps.specs.FastPlays.{MayGrantFast, MayMaterialise, MayReleaseFast, granted_fast, materialised, met_word_by, released_fast}
 use Rattle.mdl_steps.specs.Layout.{enrol_word, latch_word, lock_word, version_word, wait_word}
-use Rattle.mdl_steps.specs.Plays.{Mine, consulted, informed, latched, named, read_and_put, redefined, settled, takes_directory, takes_latch, unlatched}
+use Rattle.mdl_steps.specs.Plays.{Mine, consulted, informed, latched, named, read_and_put, redefined, flags_lowered, takes_directory, takes_latch, unlatched}
 use Rattle.mdl_steps.specs.Rule.{Rule}
 use Rattle.mdl_steps.specs.Seats.{MayLower, MayPut, MayWriteVersion}
 use Rattle.mdl_steps.specs.WaitPlays.{asked_ticket, ended_granted, ended_lost, met_wait_by, opened, settled_granted, settled_lost, wait_in}
@@ -160,11 +160,11 @@ module _ (s t : State Slot View) (r : Rule s) (r′ : Rule t) (id : ℕ) (m m′
       (putting_brings s r r.keys (ruled_keys s r) i key.0 key.1 id m seat h (d ∷ ds) may.1) r′)
 
   lowers : (q : ℕ) (deeds : List Deed) (slow obtrusive : Bool) → HasPlace s q → (may : MayLower q deeds slow obtrusive m) → st.word ≡ lock_word q
-      → m′ ≡ settled q deeds found (all_booked m.0.number deeds may.0.book) slow obtrusive m → act ≡ keeps → BringsDeedsAt m.0.number q deeds s t
+      → m′ ≡ flags_lowered q deeds found (all_booked m.0.number deeds may.0.book) slow obtrusive m → act ≡ keeps → BringsDeedsAt m.0.number q deeds s t
   lowers q [] slow obtrusive has may at is whole =
-      let w : Mine = settled q [] found may.0.book slow obtrusive m in
-      rests (after_step s (lock_word q) left id (settled q [] found may.0.book slow obtrusive m))
-      (becomes (lock_word q) left s.homes (settled q [] found may.0.book slow obtrusive m).0 at refl (stay whole) (ap (λ (x : Mine). x.0) is))
+      let w : Mine = flags_lowered q [] found may.0.book slow obtrusive m in
+      rests (after_step s (lock_word q) left id (flags_lowered q [] found may.0.book slow obtrusive m))
+      (becomes (lock_word q) left s.homes (flags_lowered q [] found may.0.book slow obtrusive m).0 at refl (stay whole) (ap (λ (x : Mine). x.0) is))
       (lowering_rests s r q has id m seat may.0 may.1.holds.recorded found left slow obtrusive)
   lowers zero (d ∷ ds) slow obtrusive has may at is whole = nowhere has
   lowers (suc i) (d ∷ ds) slow obtrusive has may at is whole =
@@ -172,7 +172,7 @@ module _ (s t : State Slot View) (r : Rule s) (r′ : Rule t) (id : ℕ) (m m′
       let book : BookView = all_booked m.0.number (d ∷ ds) h.book in
       let key = deeds_key i d ds may.1.act in
       let e : t ≡ after_lowering s (suc i) (d ∷ ds) found left book slow obtrusive id m =
-      becomes (lock_word (suc i)) left s.homes (settled (suc i) (d ∷ ds) found book slow obtrusive m).0 at refl (stay whole) (ap (λ (x : Mine). x.0) is) in
+      becomes (lock_word (suc i)) left s.homes (flags_lowered (suc i) (d ∷ ds) found book slow obtrusive m).0 at refl (stay whole) (ap (λ (x : Mine). x.0) is) in
       under i key.0 key.1 (λ k. BringsDeeds m.0.number k (d ∷ ds) s t)
       (subst (λ x. Rule x → BringsDeeds m.0.number key.0 (d ∷ ds) s x) (sym e)
       (lowering_brings s r r.keys (ruled_keys s r) i key.0 key.1 id m seat h (d ∷ ds) may.1 found left slow obtrusive) r′)
@@ -211,7 +211,7 @@ module _ (s t : State Slot View) (r : Rule s) (r′ : Rule t) (id : ℕ) (m m′
       subst (Rests s) (sym (waited session (waits s session) (met_wait_by kind (length s.homes) session (waits s session) m) at (same ∙ word) kept
       (is ∙ (λ j. met_wait_by kind (size j) session (word j) m)))) (meeting_rests s r id m seat session kind)
 
-  opens : (q : ℕ) (mode : Mode) → HasPlace s q → (h : Held) → MayOpen q mode h m → st.word ≡ wait_word st.slots m.0.number → m′ ≡ opened st.slots q mode m
+  opens : (q : ℕ) (mode : Mode) → HasPlace s q → (h : LatchRecord) → MayOpen q mode h m → st.word ≡ wait_word st.slots m.0.number → m′ ≡ opened st.slots q mode m
       → left ≡ wait_in (m.0.waits + 1) 1 → act ≡ keeps
       → Under s q (λ key. Brings (BeginWait key (record { ticket = asked_ticket mode m.0; wait = m.0.waits + 1; state = Unsettled })) s t)
   opens zero mode has h may at is word kept = nowhere has
@@ -240,7 +240,7 @@ module _ (s t : State Slot View) (r : Rule s) (r′ : Rule t) (id : ℕ) (m m′
   IsGranted session ticket number key =
       (x : Ticket) × IsOf session ticket x × Brings (GrantWaiter key (record { ticket = x; wait = number; state = Unsettled })) s t
 
-  grants : (q session ticket number : ℕ) → HasPlace s q → 0 < session → (h : Held) → MayGrant q session ticket h m → st.word ≡ wait_word st.slots session
+  grants : (q session ticket number : ℕ) → HasPlace s q → 0 < session → (h : LatchRecord) → MayGrant q session ticket h m → st.word ≡ wait_word st.slots session
       → found ≡ wait_in number 1 → m′ ≡ settled_granted st.slots q session ticket number m → left ≡ wait_in number 2 → act ≡ keeps → Under s q (IsGranted session ticket number)
   grants zero session ticket number has some_session h may at won is word kept = nowhere has
   grants (suc i) session ticket number has some_session h may at won is word kept =
@@ -268,7 +268,7 @@ module _ (s t : State Slot View) (r : Rule s) (r′ : Rule t) (id : ℕ) (m m′
     state = how;
   })) s t
 
-  ends_lost_wait : (q : ℕ) → HasPlace s q → (h : Held) (may : MayCancel q h m) → st.word ≡ wait_word st.slots m.0.number → m′ ≡ ended_lost st.slots q may.ask.number may.state m
+  ends_lost_wait : (q : ℕ) → HasPlace s q → (h : LatchRecord) (may : MayCancel q h m) → st.word ≡ wait_word st.slots m.0.number → m′ ≡ ended_lost st.slots q may.ask.number may.state m
       → left ≡ wait_in m.0.waits 0 → act ≡ keeps → Under s q (IsLeft may.state may.ask.number m.0.waits may.ask.mode)
   ends_lost_wait zero has h may at is word kept = nowhere has
   ends_lost_wait (suc i) has h may at is word kept =
@@ -340,7 +340,7 @@ module _ (s t : State Slot View) (r : Rule s) (r′ : Rule t) (id : ℕ) (m m′
             (releasing_fast_releases s r r.keys (ruled_keys s r) i key.0 key.1 id m seat some_number number one may),
       )
 
-  moves_all : (q : ℕ) (slow : List Own) (weight : ℕ) (h : Held) → HasPlace s q → MayMaterialise q slow weight h m → st.word ≡ lock_word q → m′ ≡ materialised q slow found m
+  moves_all : (q : ℕ) (slow : List Own) (weight : ℕ) (h : LatchRecord) → HasPlace s q → MayMaterialise q slow weight h m → st.word ≡ lock_word q → m′ ≡ materialised q slow found m
       → left ≡ (found + (2 ^ 64 - weight)) % 2 ^ 64 → act ≡ keeps → Rests s t
   moves_all zero slow weight h has may at is word kept = nowhere has
   moves_all (suc i) slow weight h has may at is word kept =

@@ -8,11 +8,11 @@ use Rattle.mdl_key.specs.Words.{KeyName}
 use Rattle.mdl_book.specs.declared.book_view.BookView.{BookView}
 use Rattle.mdl_steps.specs.declared.slot.Slot.{Slot}
 use Rattle.mdl_steps.specs.declared.slot.Slot.TheVariants as slot
-use Rattle.mdl_steps.specs.declared.view.Held.{Held}
+use Rattle.mdl_steps.specs.declared.view.LatchRecord.{LatchRecord}
 use Rattle.mdl_steps.specs.declared.view.View.{View}
 use Rattle.mdl_steps.specs.Cells.{held_at, own_at, ticket_by}
 use Rattle.mdl_steps.specs.Layout.{latch_word, lock_word}
-use Rattle.mdl_steps.specs.Plays.{Mine, latched, lowered, noting, raised, read_and_put, settled, unlatched}
+use Rattle.mdl_steps.specs.Plays.{Mine, latched, lowered, noting, raised, read_and_put, flags_lowered, unlatched}
 use Rattle.mdl_steps.specs.Rule.{Rule}
 use Rattle.mdl_steps.proofs.Views.{held_at-changed, held_at-dropped, held_at-first, held_at-past, held_at-unchanged, held_at-undropped}
 use Rattle.mdl_steps.proofs.WaitSteps.{set_found}
@@ -22,7 +22,7 @@ use Rattle.mdl_steps_laws.specs.RestLaws.{LoweringRests, MissingDirectoryRests, 
 use Rattle.mdl_steps_laws.proofs.RestSteps.{elsewhere_rests, one_book, place_rests}
 use Rattle.mdl_steps_laws.proofs.SeatSteps.{Leaves, noted_alike}
 
-one_record : (g h : Held) → Some g ≡ Some h → g ≡ h
+one_record : (g h : LatchRecord) → Some g ≡ Some h → g ≡ h
 one_record g h e = cc
 
 -- ---- the book of a place
@@ -30,7 +30,7 @@ one_record g h e = cc
 module _ (s : State Slot View) (place : ℕ) (has : HasPlace s place) (id : ℕ) (v w : View) (seat : get_elem? s.views id ≡ some v) where
   -- stays where its word, its slot, and what is recorded of the book do
   kept_here : (n m : ℕ) → get_or (set s.words n m) (latch_word place) 0 ≡ get_or s.words (latch_word place) 0
-      → ((g : Held) → held_at place w.latches ≡ Some g → (h : Held) × (held_at place v.latches ≡ Some h) × (g.book ≡ h.book))
+      → ((g : LatchRecord) → held_at place w.latches ≡ Some g → (h : LatchRecord) × (held_at place v.latches ≡ Some h) × (g.book ≡ h.book))
       → (book : BookView) → IsBookAt s place book → IsBookAt (record { words = set s.words n m; homes = s.homes; views = set s.views id w }) place book
   kept_here n m latch records book is = record {
     free = λ free. is.free (sym latch ∙ free);
@@ -43,7 +43,7 @@ module _ (s : State Slot View) (place : ℕ) (has : HasPlace s place) (id : ℕ)
   }
 
   -- where its latch is given back with it
-  given_here : (h : Held) → held_at place v.latches ≡ Some h → held_at place w.latches ≡ None
+  given_here : (h : LatchRecord) → held_at place v.latches ≡ Some h → held_at place w.latches ≡ None
       → (book : BookView) → IsBookAt s place book
       → IsBookAt (record { words = set s.words (latch_word place) 0; homes = set s.homes place (some (slot.Place h.book)); views = set s.views id w }) place book
   given_here h holds gone book is = record {
@@ -55,7 +55,7 @@ module _ (s : State Slot View) (place : ℕ) (has : HasPlace s place) (id : ℕ)
   }
 
   -- where it is taken with it
-  taken_here : (r : Rule s) (number : ℕ) → 0 < number → IsFree s place → (h : Held) → get_elem? s.homes place ≡ some (some (slot.Place h.book)) → held_at place w.latches ≡ Some h
+  taken_here : (r : Rule s) (number : ℕ) → 0 < number → IsFree s place → (h : LatchRecord) → get_elem? s.homes place ≡ some (some (slot.Place h.book)) → held_at place w.latches ≡ Some h
       → (book : BookView) → IsBookAt s place book
       → IsBookAt (record { words = set s.words (latch_word place) number; homes = set s.homes place none; views = set s.views id w }) place book
   taken_here r number some_number free h home now book is = record {
@@ -65,7 +65,7 @@ module _ (s : State Slot View) (place : ℕ) (has : HasPlace s place) (id : ℕ)
     taken = λ j u there g holds. elim (at_set s.views id j w u there) [
       | inl mine ↦
           let same : g ≡ h = one_record g h (sym holds ∙ ap (λ (x : View). held_at place x.latches) (sym mine.1) ∙ now) in
-          ap (λ (x : Held). x.book) same ∙ one_book h.book book (sym home ∙ is.free free)
+          ap (λ (x : LatchRecord). x.book) same ∙ one_book h.book book (sym home ∙ is.free free)
       | inr other ↦ is.taken j u other.1 g holds
     ];
   }
@@ -114,9 +114,9 @@ putting_reading_rests s r place has id me seat h holds r′ =
 -- ---- its word, under the latch
 
 module _ (s : State Slot View) (r : Rule s) (place : ℕ) (has : HasPlace s place) (id : ℕ) (me me′ : Mine) (seat : get_elem? s.views id ≡ some me.0)
-    (h : Held) (holds : held_at place me.0.latches ≡ Some h) where
+    (h : LatchRecord) (holds : held_at place me.0.latches ≡ Some h) where
   -- the record of the latch has the same book, but else it may change
-  record_rests : (f : Held → Held) → ((x : Held) → (f x).place ≡ x.place) → (f h).book ≡ h.book
+  record_rests : (f : LatchRecord → LatchRecord) → ((x : LatchRecord) → (f x).place ≡ x.place) → (f h).book ≡ h.book
       → me′.0.number ≡ me.0.number → me′.0.fast ≡ me.0.fast → me′.0.asks ≡ me.0.asks → me′.0.directory ≡ me.0.directory
       → me′.0.latches ≡ map (λ x. cond (x.place == place) (f x) x) me.0.latches → (left : ℕ) → IsRest s (after_step s (lock_word place) left id me′)
   record_rests f stays book number fast asks directory latches left r′ =
@@ -129,7 +129,7 @@ module _ (s : State Slot View) (r : Rule s) (place : ℕ) (has : HasPlace s plac
         r′,
         place_rests s r place id me.0 me′.0 seat leaves asks (lock_word place) left (omega arith, omega arith) s.homes refl (unmoved s place) has directory
             (kept_here s place has id me.0 me′.0 seat (lock_word place) left (get_or-set_other s.words (lock_word place) (latch_word place) left 0 (λ e. omega arith))
-            (λ g e. (h, holds, ap (λ (x : Held). x.book) (one_record g (f h) (sym e ∙ now)) ∙ book))) r′,
+            (λ g e. (h, holds, ap (λ (x : LatchRecord). x.book) (one_record g (f h) (sym e ∙ now)) ∙ book))) r′,
       )
 
 pub raising_rests : RaisingRests
@@ -146,7 +146,7 @@ reading_rests s r place has id me me′ seat h holds st found at play =
 
 pub lowering_rests : LoweringRests
 lowering_rests s r place has id me seat h holds found left slow obtrusive =
-    record_rests s r place has id me (settled place [] found h.book slow obtrusive me) seat h holds (lowered h.book slow obtrusive) (λ x. refl) refl refl refl refl refl refl left
+    record_rests s r place has id me (flags_lowered place [] found h.book slow obtrusive me) seat h holds (lowered h.book slow obtrusive) (λ x. refl) refl refl refl refl refl refl left
 
 -- ---- a step that changes the list of steps, and nothing else
 

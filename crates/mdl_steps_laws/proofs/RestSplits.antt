@@ -7,7 +7,7 @@ use Rattle.atomic_table.proofs.Lists.{at_longer, at_set, at_snoc}
 use Rattle.mdl_key.specs.Words.{KeyName}
 use Rattle.mdl_book.specs.declared.book_view.BookView.{BookView}
 use Rattle.mdl_steps.specs.declared.slot.Slot.{Slot}
-use Rattle.mdl_steps.specs.declared.view.Held.{Held}
+use Rattle.mdl_steps.specs.declared.view.LatchRecord.{LatchRecord}
 use Rattle.mdl_steps.specs.declared.view.Keys.{Keys}
 use Rattle.mdl_steps.specs.declared.view.View.{View}
 use Rattle.mdl_steps.specs.Cells.{all_fast, held_at, own_at, part_at, ticket_by, waits}
@@ -51,7 +51,7 @@ module _ (s : State Slot View) (v : View) (seat : get_elem? s.views 0 ≡ some v
   book_same : (q : ℕ) (book : BookView) → IsBookAt s q book → IsBookAt (after_split s v) q book
   book_same q book is = record {
     free = is.free;
-    taken = was (λ (u : View). (h : Held) → held_at q u.latches ≡ Some h → h.book ≡ book) (λ h has. is.taken 0 v seat h has) (λ h has. absurd (cc)) is.taken;
+    taken = was (λ (u : View). (h : LatchRecord) → held_at q u.latches ≡ Some h → h.book ≡ book) (λ h has. is.taken 0 v seat h has) (λ h has. absurd (cc)) is.taken;
   }
 
   granted_was : (x : GrantedWait) → IsGrantedWait (after_split s v) x → IsGrantedWait s x

@@ -13,13 +13,13 @@ use Rattle.mdl_book.specs.Books as books
 use Rattle.mdl_steps.specs.declared.deed.Deed.{Deed}
 use Rattle.mdl_steps.specs.declared.slot.Slot.{Slot}
 use Rattle.mdl_steps.specs.declared.slot.Slot.TheVariants as slot
-use Rattle.mdl_steps.specs.declared.view.Held.{Held}
+use Rattle.mdl_steps.specs.declared.view.LatchRecord.{LatchRecord}
 use Rattle.mdl_steps.specs.declared.view.Own.{Own}
 use Rattle.mdl_steps.specs.declared.view.View.{View}
 use Rattle.mdl_steps.specs.Cells.{Part, all_fast, held_at, holder_at, own_at, part_at, ticket_by, waits}
 use Rattle.mdl_steps.specs.Deeds.{all_booked}
 use Rattle.mdl_steps.specs.Layout.{latch_word, lock_word, version_word}
-use Rattle.mdl_steps.specs.Plays.{Mine, lowered, noting_version, redefined, restood, settled, unlatched}
+use Rattle.mdl_steps.specs.Plays.{Mine, lowered, noting_version, redefined, restood, flags_lowered, unlatched}
 use Rattle.mdl_steps.specs.Rule.{Rule}
 use Rattle.mdl_steps.specs.RuleLaws.{fast_at}
 use Rattle.mdl_steps.proofs.Books.{all_done_fast}
@@ -90,7 +90,7 @@ put_leaves place ds me = record {
   held_else = λ q else. held_at-undropped place q me.0.latches else;
 }
 
-lowering_leaves : (place : ℕ) (ds : List Deed) (found : ℕ) (book : BookView) (slow obtrusive : Bool) (me : Mine) → Leaves place me.0 (settled place ds found book slow obtrusive me).0
+lowering_leaves : (place : ℕ) (ds : List Deed) (found : ℕ) (book : BookView) (slow obtrusive : Bool) (me : Mine) → Leaves place me.0 (flags_lowered place ds found book slow obtrusive me).0
 lowering_leaves place ds found book slow obtrusive me = record {
   number = refl;
   fast = λ number q. ap (λ (ts : List Own). map (ticket_by number) (own_at q ts)) (all_done_fast place ds me.0);
@@ -128,7 +128,7 @@ putting_does s r old new are i key at id me seat h holds ds r′ done =
 -- a step of the holder of a latch, after which its record has the new book
 module _ (s : State Slot View) (r : Rule s) (old new : KeyName → Lock) (are : AreLocksOf s old) (i : ℕ) (key : KeyName) (at : get_elem? are.keys i ≡ some key)
     (id : ℕ) (v w : View) (seat : get_elem? s.views id ≡ some v) (leaves : Leaves (suc i) v w) (directory : w.directory ≡ v.directory) (n m : ℕ) (near : (8 * suc i ≤ n) × (n < 8 * suc i + 8)) where
-  recorded : Rule (record { words = set s.words n m; homes = s.homes; views = set s.views id w }) → (h : Held) → held_at (suc i) w.latches ≡ Some h
+  recorded : Rule (record { words = set s.words n m; homes = s.homes; views = set s.views id w }) → (h : LatchRecord) → held_at (suc i) w.latches ≡ Some h
       → h.book ≡ (new key).book → (new key).fast ≡ (old key).fast → SameElsewhere key old new
       → AreLocksOf (record { words = set s.words n m; homes = s.homes; views = set s.views id w }) new
   recorded r′ h has book fast elsewhere =
@@ -150,7 +150,7 @@ pub lowering_does : LoweringDoes
 lowering_does s r old new are i key at id me seat h holds ds found left slow obtrusive r′ done =
     let place : ℕ = suc i in
     let book : BookView = all_booked me.0.number ds h.book in
-    recorded s r old new are i key at id me.0 (settled place ds found book slow obtrusive me).0 seat (lowering_leaves place ds found book slow obtrusive me) refl
+    recorded s r old new are i key at id me.0 (flags_lowered place ds found book slow obtrusive me).0 seat (lowering_leaves place ds found book slow obtrusive me) refl
     (lock_word place) left (omega arith, omega arith) r′ (lowered book slow obtrusive h)
     (held_at-changed place (lowered book slow obtrusive) (λ x. refl) me.0.latches h holds)
     (ap (all_booked me.0.number ds) ((are.book_is i key at).taken id me.0 seat h holds) ∙ sym (ap (λ (l : Lock). l.book) done.0))

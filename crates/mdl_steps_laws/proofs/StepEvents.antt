@@ -19,7 +19,7 @@ use Rattle.mdl_book.specs.Tickets.{ticket_of}
 use Rattle.mdl_steps.specs.declared.deed.Deed.{Deed}
 use Rattle.mdl_steps.specs.declared.deed.Deed.TheVariants.{Gain, Alter, Lose}
 use Rattle.mdl_steps.specs.declared.slot.Slot.{Slot}
-use Rattle.mdl_steps.specs.declared.view.Held.{Held}
+use Rattle.mdl_steps.specs.declared.view.LatchRecord.{LatchRecord}
 use Rattle.mdl_steps.specs.declared.view.View.{View}
 use Rattle.mdl_steps.specs.Cells.{held_at, waits}
 use Rattle.mdl_steps.specs.Deeds.{HoldsTicket, MayBeGranted, MayClone, MayDo, MayDowngrade, MayJoin, MayMerge, MayUpgrade, NotWaited, all_booked}
@@ -49,7 +49,7 @@ use Rattle.mdl_steps_laws.proofs.WaitEvents.{same_definitions, same_members, in_
 -- ---- what the seat of a latch holder knows is so of the system
 
 module _ (s : State Slot View) (r : Rule s) (keys : List KeyName) (keys_are : AreKeysOf s keys) (i : ℕ) (key : KeyName) (at : get_elem? keys i ≡ some key)
-    (id : ℕ) (me : Mine) (seat : get_elem? s.views id ≡ some me.0) (h : Held) (holds : held_at (suc i) me.0.latches ≡ Some h)
+    (id : ℕ) (me : Mine) (seat : get_elem? s.views id ≡ some me.0) (h : LatchRecord) (holds : held_at (suc i) me.0.latches ≡ Some h)
     (a : System Definition) (told : IsTold s a) where
   numbered : 0 < me.0.number
   numbered = some_session s r keys keys_are i key at id me.0 seat h holds
@@ -102,7 +102,7 @@ module _ (s : State Slot View) (r : Rule s) (keys : List KeyName) (keys_are : Ar
 -- ---- from one table to another
 
 module _ (s : State Slot View) (r : Rule s) (keys : List KeyName) (keys_are : AreKeysOf s keys) (i : ℕ) (key : KeyName) (at : get_elem? keys i ≡ some key)
-    (id : ℕ) (me : Mine) (seat : get_elem? s.views id ≡ some me.0) (h : Held) (holds : held_at (suc i) me.0.latches ≡ Some h) (s′ : State Slot View) (r′ : Rule s′) where
+    (id : ℕ) (me : Mine) (seat : get_elem? s.views id ≡ some me.0) (h : LatchRecord) (holds : held_at (suc i) me.0.latches ≡ Some h) (s′ : State Slot View) (r′ : Rule s′) where
   -- these deeds are done from one to the other, whichever systems they tell
   abbrev AreDone : List Deed → Type 0
   AreDone ds = (a b : System Definition) (told : IsTold s a) (told′ : IsTold s′ b) → Does me.0.number ds key told.0 told′.0 a b

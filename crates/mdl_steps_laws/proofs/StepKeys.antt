@@ -9,7 +9,7 @@ use Rattle.mdl_key.specs.Words.{KeyName}
 use Rattle.mdl_book.specs.declared.ticket.Ticket.{Ticket}
 use Rattle.mdl_book.specs.Tickets.{ticket_of}
 use Rattle.mdl_steps.specs.declared.slot.Slot.{Slot}
-use Rattle.mdl_steps.specs.declared.view.Held.{Held}
+use Rattle.mdl_steps.specs.declared.view.LatchRecord.{LatchRecord}
 use Rattle.mdl_steps.specs.declared.view.Known.{Known}
 use Rattle.mdl_steps.specs.declared.view.View.{View}
 use Rattle.mdl_steps.specs.Cells.{held_at, holder_at}
@@ -34,7 +34,7 @@ module _ (s : State Slot View) (r : Rule s) (id : ℕ) (v : View) (seat : get_el
       let stands = each_at (λ (x : Known). (0 < x.place) × (key_at r.keys x.place ≡ Some x.key)) v.known (r.views id v seat).1 knows.0 knows.1 knows.2 in
       (knows.1.key, key_here r.keys i knows.1.key (ap (key_at r.keys) (sym knows.3) ∙ stands.1))
 
-  module _ (has : HasPlace s (suc i)) (h : Held) (holds : held_at (suc i) v.latches ≡ Some h) where
+  module _ (has : HasPlace s (suc i)) (h : LatchRecord) (holds : held_at (suc i) v.latches ≡ Some h) where
     pub recorded_book : h.book ≡ (r.places (suc i) has.0 has.1).book
     recorded_book = ((r.places (suc i) has.0 has.1).held id (holder_at (suc i) v) (at_map (holder_at (suc i)) s.views id v seat) h holds).book_is
 

@@ -8,7 +8,7 @@ use Rattle.mdl_defs.specs.declared.change.Change.{Change}
 use Rattle.mdl_defs.specs.Standings.{standing_after}
 use Rattle.mdl_steps.specs.declared.deed.Deed.{Deed}
 use Rattle.mdl_steps.specs.declared.slot.Slot.{Slot}
-use Rattle.mdl_steps.specs.declared.view.Held.{Held}
+use Rattle.mdl_steps.specs.declared.view.LatchRecord.{LatchRecord}
 use Rattle.mdl_steps.specs.declared.view.View.{View}
 use Rattle.mdl_steps.specs.Cells.{held_at}
 use Rattle.mdl_steps.specs.Deeds.{all_booked}
@@ -28,7 +28,7 @@ abbrev pub PuttingDoes : Type 0
 PuttingDoes =
     (s : State Slot View) → Rule s → (old new : KeyName → Lock) → (are : AreLocksOf s old) →
     (i : ℕ) (key : KeyName) → get_elem? are.keys i ≡ some key →
-    (id : ℕ) (me : Mine) → get_elem? s.views id ≡ some me.0 → (h : Held) → held_at (suc i) me.0.latches ≡ Some h →
+    (id : ℕ) (me : Mine) → get_elem? s.views id ≡ some me.0 → (h : LatchRecord) → held_at (suc i) me.0.latches ≡ Some h →
     (ds : List Deed) → Rule (after_put s (suc i) ds (all_booked me.0.number ds h.book) id me) →
     AreAfter me.0.number ds key old new →
     AreLocksOf (after_put s (suc i) ds (all_booked me.0.number ds h.book) id me) new
@@ -38,7 +38,7 @@ abbrev pub LoweringDoes : Type 0
 LoweringDoes =
     (s : State Slot View) → Rule s → (old new : KeyName → Lock) → (are : AreLocksOf s old) →
     (i : ℕ) (key : KeyName) → get_elem? are.keys i ≡ some key →
-    (id : ℕ) (me : Mine) → get_elem? s.views id ≡ some me.0 → (h : Held) → held_at (suc i) me.0.latches ≡ Some h →
+    (id : ℕ) (me : Mine) → get_elem? s.views id ≡ some me.0 → (h : LatchRecord) → held_at (suc i) me.0.latches ≡ Some h →
     (ds : List Deed) (found left : ℕ) (slow obtrusive : Bool) →
     Rule (after_lowering s (suc i) ds found left (all_booked me.0.number ds h.book) slow obtrusive id me) →
     AreAfter me.0.number ds key old new →
@@ -49,7 +49,7 @@ abbrev pub WritingRedefines : Type 0
 WritingRedefines =
     (s : State Slot View) → Rule s → (old new : KeyName → Lock) → (are : AreLocksOf s old) →
     (i : ℕ) (key : KeyName) → get_elem? are.keys i ≡ some key →
-    (id : ℕ) (me : Mine) → get_elem? s.views id ≡ some me.0 → (h : Held) → held_at (suc i) me.0.latches ≡ Some h →
+    (id : ℕ) (me : Mine) → get_elem? s.views id ≡ some me.0 → (h : LatchRecord) → held_at (suc i) me.0.latches ≡ Some h →
     (change : Change) → Rule (after_writing s (suc i) (standing_after change h.book.standing) id me) →
     new key ≡ lock_redefined change (old key) → SameElsewhere key old new →
     AreLocksOf (after_writing s (suc i) (standing_after change h.book.standing) id me) new

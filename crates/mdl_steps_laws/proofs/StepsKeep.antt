@@ -16,7 +16,7 @@ use Rattle.mdl_steps.specs.declared.deed.Deed.{Deed}
 use Rattle.mdl_steps.specs.declared.deed.Deed.TheVariants.{Lose}
 use Rattle.mdl_steps.specs.declared.slot.Slot.{Slot}
 use Rattle.mdl_steps.specs.declared.view.Ask.{Ask}
-use Rattle.mdl_steps.specs.declared.view.Held.{Held}
+use Rattle.mdl_steps.specs.declared.view.LatchRecord.{LatchRecord}
 use Rattle.mdl_steps.specs.declared.view.Own.{Own}
 use Rattle.mdl_steps.specs.declared.view.Read.{Read}
 use Rattle.mdl_steps.specs.declared.view.View.{View}
@@ -153,7 +153,7 @@ module _ (s : State Slot View) (r : Rule s) (place : ℕ) (has : HasPlace s plac
       ]
 
   -- what the session has recorded there has that version
-  recorded_version : (h : Held) → held_at place m.0.latches ≡ Some h → h.book.standing.version ≡ version
+  recorded_version : (h : LatchRecord) → held_at place m.0.latches ≡ Some h → h.book.standing.version ≡ version
   recorded_version h holds =
       let ok = r.places place has.0 has.1 in
       let held = ok.held seat (holder_at place m.0) (at_map (holder_at place) s.views seat m.0 there) h holds in
@@ -184,7 +184,7 @@ module _ (s : State Slot View) (r : Rule s) (place : ℕ) (has : HasPlace s plac
   same : (m′ n : Mine) → m′ ≡ n → n.0.slow ≡ m.0.slow → n.0.fast ≡ m.0.fast → n.0.reads ≡ m.0.reads → Keeps place number version m.0 m′.0
   same m′ n e slow fast reads = via m′ n e (leaves place number version m.0 n.0 slow fast reads)
 
-  by_deeds : (m′ n : Mine) → m′ ≡ n → (q : ℕ) (deeds : List Deed) (h : Held) → MayDo m.0 h.book h.noted deeds → ¬ ((q ≡ place) × Contains deeds (Lose number))
+  by_deeds : (m′ n : Mine) → m′ ≡ n → (q : ℕ) (deeds : List Deed) (h : LatchRecord) → MayDo m.0 h.book h.noted deeds → ¬ ((q ≡ place) × Contains deeds (Lose number))
       → n.0.slow ≡ all_owned q deeds m.0.slow → n.0.fast ≡ m.0.fast → n.0.reads ≡ m.0.reads → Keeps place number version m.0 m′.0
   by_deeds m′ n e q deeds h may stays slow fast reads = via m′ n e (record {
     tickets = subst (λ ts. Kept place number version (m.0.slow ++ m.0.fast) ts) (λ i. sym slow i ++ sym fast i)

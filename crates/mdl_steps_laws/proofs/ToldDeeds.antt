@@ -15,7 +15,7 @@ use Rattle.mdl_steps.specs.declared.view.View.{View}
 use Rattle.mdl_steps.specs.Cells.{waits}
 use Rattle.mdl_steps.specs.Deeds.{all_booked, booked}
 use Rattle.mdl_steps.specs.Layout.{latch_word, lock_word, version_word, wait_word}
-use Rattle.mdl_steps.specs.Plays.{redefined, settled, unlatched}
+use Rattle.mdl_steps.specs.Plays.{redefined, flags_lowered, unlatched}
 use Rattle.mdl_steps.specs.Rule.{Rule}
 use Rattle.mdl_system.specs.Events.{SameElsewhere}
 use Rattle.mdl_system.proofs.Deciding.{key_told}
@@ -115,7 +115,7 @@ lowering_is_done s r keys keys_are i key at id me seat h holds ds found left slo
       after = then_.2;
       here = turns.0;
       elsewhere = turns.1;
-      waits = waits_rest s id me.0 (settled (suc i) ds found (all_booked me.0.number ds h.book) slow obtrusive me).0 seat refl refl (set s.words (lock_word (suc i)) left) s.homes words a b told then_
+      waits = waits_rest s id me.0 (flags_lowered (suc i) ds found (all_booked me.0.number ds h.book) slow obtrusive me).0 seat refl refl (set s.words (lock_word (suc i)) left) s.homes words a b told then_
           (lists_stay key (lock_after me.0.number ds (told.0 key)) told.0 then_.0 turns (all_booked-waiting me.0.number ds (told.0 key).book));
     }
 

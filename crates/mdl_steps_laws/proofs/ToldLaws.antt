@@ -10,7 +10,7 @@ use Rattle.mdl_defs.specs.declared.definition.Definition.{Definition}
 use Rattle.mdl_defs.specs.Standings.{standing_after}
 use Rattle.mdl_steps.specs.declared.deed.Deed.{Deed}
 use Rattle.mdl_steps.specs.declared.slot.Slot.{Slot}
-use Rattle.mdl_steps.specs.declared.view.Held.{Held}
+use Rattle.mdl_steps.specs.declared.view.LatchRecord.{LatchRecord}
 use Rattle.mdl_steps.specs.declared.view.View.{View}
 use Rattle.mdl_steps.specs.Cells.{held_at}
 use Rattle.mdl_steps.specs.Deeds.{all_booked}
@@ -26,7 +26,7 @@ use Rattle.mdl_steps_laws.specs.WaitLaws.{IsTold}
 abbrev pub PuttingIsDone : Type 0
 PuttingIsDone =
     (s : State Slot View) → Rule s → (keys : List KeyName) → AreKeysOf s keys → (i : ℕ) (key : KeyName) → get_elem? keys i ≡ some key →
-    (id : ℕ) (me : Mine) → get_elem? s.views id ≡ some me.0 → (h : Held) → held_at (suc i) me.0.latches ≡ Some h →
+    (id : ℕ) (me : Mine) → get_elem? s.views id ≡ some me.0 → (h : LatchRecord) → held_at (suc i) me.0.latches ≡ Some h →
     (ds : List Deed) → Rule (after_put s (suc i) ds (all_booked me.0.number ds h.book) id me) →
     (a b : System Definition) → (told : IsTold s a) → (then_ : IsTold (after_put s (suc i) ds (all_booked me.0.number ds h.book) id me) b) →
     Does me.0.number ds key told.0 then_.0 a b
@@ -35,7 +35,7 @@ PuttingIsDone =
 abbrev pub LoweringIsDone : Type 0
 LoweringIsDone =
     (s : State Slot View) → Rule s → (keys : List KeyName) → AreKeysOf s keys → (i : ℕ) (key : KeyName) → get_elem? keys i ≡ some key →
-    (id : ℕ) (me : Mine) → get_elem? s.views id ≡ some me.0 → (h : Held) → held_at (suc i) me.0.latches ≡ Some h →
+    (id : ℕ) (me : Mine) → get_elem? s.views id ≡ some me.0 → (h : LatchRecord) → held_at (suc i) me.0.latches ≡ Some h →
     (ds : List Deed) (found left : ℕ) (slow obtrusive : Bool) →
     Rule (after_lowering s (suc i) ds found left (all_booked me.0.number ds h.book) slow obtrusive id me) →
     (a b : System Definition) → (told : IsTold s a) →
@@ -46,7 +46,7 @@ LoweringIsDone =
 abbrev pub WritingIsDone : Type 0
 WritingIsDone =
     (s : State Slot View) → Rule s → (keys : List KeyName) → AreKeysOf s keys → (i : ℕ) (key : KeyName) → get_elem? keys i ≡ some key →
-    (id : ℕ) (me : Mine) → get_elem? s.views id ≡ some me.0 → (h : Held) → held_at (suc i) me.0.latches ≡ Some h →
+    (id : ℕ) (me : Mine) → get_elem? s.views id ≡ some me.0 → (h : LatchRecord) → held_at (suc i) me.0.latches ≡ Some h →
     (change : Change) → Rule (after_writing s (suc i) (standing_after change h.book.standing) id me) →
     (a b : System Definition) → (told : IsTold s a) → (then_ : IsTold (after_writing s (suc i) (standing_after change h.book.standing) id me) b) →
     Redefines change key told.0 then_.0 a b

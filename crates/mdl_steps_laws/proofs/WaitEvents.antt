@@ -10,7 +10,7 @@ use Rattle.mdl_defs.specs.declared.definition.Definition.{Definition}
 use Rattle.mdl_book.specs.declared.book_view.BookView.{BookView}
 use Rattle.mdl_book.specs.declared.ticket.Ticket.{Ticket}
 use Rattle.mdl_steps.specs.declared.slot.Slot.{Slot}
-use Rattle.mdl_steps.specs.declared.view.Held.{Held}
+use Rattle.mdl_steps.specs.declared.view.LatchRecord.{LatchRecord}
 use Rattle.mdl_steps.specs.declared.view.View.{View}
 use Rattle.mdl_steps.specs.Cells.{held_at, holder_at, waits}
 use Rattle.mdl_steps.specs.Rule.{Rule}
@@ -80,7 +80,7 @@ module _ (s : State Slot View) (r : Rule s) (keys : List KeyName) (keys_are : Ar
   pub inside : suc i < length s.homes
   inside = last_place s r i key in_rule
 
-  module _ (id : ℕ) (v : View) (seat : get_elem? s.views id ≡ some v) (h : Held) (holds : held_at (suc i) v.latches ≡ Some h) where
+  module _ (id : ℕ) (v : View) (seat : get_elem? s.views id ≡ some v) (h : LatchRecord) (holds : held_at (suc i) v.latches ≡ Some h) where
     pub some_session : 0 < v.number
     some_session = ((r.places (suc i) (first_place s r i key in_rule) inside).held id (holder_at (suc i) v) (at_map (holder_at (suc i)) s.views id v seat) h holds).some_session
 

@@ -10,7 +10,7 @@ use Rattle.mdl_key.specs.Words.{KeyName}
 use Rattle.mdl_defs.specs.declared.definition.Definition.{Definition}
 use Rattle.mdl_book.specs.declared.book_view.BookView.{BookView}
 use Rattle.mdl_steps.specs.declared.slot.Slot.{Slot}
-use Rattle.mdl_steps.specs.declared.view.Held.{Held}
+use Rattle.mdl_steps.specs.declared.view.LatchRecord.{LatchRecord}
 use Rattle.mdl_steps.specs.declared.view.View.{View}
 use Rattle.mdl_steps.specs.Cells.{all_fast, held_at, own_at, part_at, ticket_by, waits}
 use Rattle.mdl_steps.specs.Layout.{latch_word, wait_word}
@@ -129,7 +129,7 @@ module _ (s : State Slot View) (r : Rule s) (session n id : ℕ) (v w : View) (s
     ]
 
     -- and one whose record the view has now
-    pub lock_here : (key : KeyName) (i : ℕ) → get_elem? are.keys i ≡ some key → (h : Held) → held_at (suc i) w.latches ≡ Some h → new key ≡ record { fast = (old key).fast; book = h.book }
+    pub lock_here : (key : KeyName) (i : ℕ) → get_elem? are.keys i ≡ some key → (h : LatchRecord) → held_at (suc i) w.latches ≡ Some h → new key ≡ record { fast = (old key).fast; book = h.book }
     lock_here key i at h has =
         let there = subst (λ (ks : List KeyName). get_elem? ks i ≡ some key) (sym keys_kept) at in
         let fast = fast_kept key i at in

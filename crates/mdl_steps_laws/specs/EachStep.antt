@@ -12,7 +12,7 @@ use Rattle.mdl_book.specs.declared.ticket.Ticket.{Ticket}
 use Rattle.mdl_steps.specs.declared.deed.Deed.{Deed}
 use Rattle.mdl_steps.specs.declared.slot.Slot.{Slot}
 use Rattle.mdl_steps.specs.declared.view.Ask.{Ask}
-use Rattle.mdl_steps.specs.declared.view.Held.{Held}
+use Rattle.mdl_steps.specs.declared.view.LatchRecord.{LatchRecord}
 use Rattle.mdl_steps.specs.declared.view.View.{View}
 use Rattle.mdl_steps.specs.declared.wait_word.Loss.{Loss}
 use Rattle.mdl_steps.specs.Cells.{held_at}
@@ -60,7 +60,7 @@ Swaps expected new found left act = (act ≡ keeps) × (found ≡ expected → l
 
 -- the session has a record of the place's latch
 abbrev pub HasLatch : ℕ → Mine → Type 0
-HasLatch place m = (h : Held) × (held_at place m.0.latches ≡ Some h)
+HasLatch place m = (h : LatchRecord) × (held_at place m.0.latches ≡ Some h)
 
 -- so it is of each kind of step
 abbrev pub IsWhole : State Slot View → ℕ → Act Slot → {st : Step Slot} {m : Mine} {found : ℕ} {m′ : Mine} → Makes st m found m′ → Type 0
@@ -76,15 +76,15 @@ IsWhole s left act (Makes.LowersFlags place _ _ _ _ _ _ _) = HasPlace s place ×
 IsWhole s left act {st} {m} {found} (Makes.ReadsWord place _ _) = HasPlace s place × HasLatch place m × Meets found left act
 IsWhole s left act (Makes.WritesVersion place may _ _) = HasPlace s place × Writes (standing_after may.1 may.0.book.standing).version left act
 IsWhole s left act {st} {m} (Makes.OpensWait place mode _ _ _) =
-    HasPlace s place × ((h : Held) × MayOpen place mode h m) × Writes (wait_in (m.0.waits + 1) unsettled_state) left act
+    HasPlace s place × ((h : LatchRecord) × MayOpen place mode h m) × Writes (wait_in (m.0.waits + 1) unsettled_state) left act
 IsWhole s left act {st} {m} {found} (Makes.ReadsWait _ _ _) = Meets found left act
 IsWhole s left act {st} {m} {found} (Makes.SettlesLost session number state _ _ _ _) =
     (0 < session) × ((how : Loss) × (state ≡ lost_state how)) × Swaps (wait_in number unsettled_state) (wait_in number state) found left act
 IsWhole s left act {st} {m} {found} (Makes.SettlesGranted place ticket session number _ _ _) =
-    HasPlace s place × (0 < session) × ((h : Held) × MayGrant place session ticket h m) × Swaps (wait_in number unsettled_state) (wait_in number granted_state) found left act
+    HasPlace s place × (0 < session) × ((h : LatchRecord) × MayGrant place session ticket h m) × Swaps (wait_in number unsettled_state) (wait_in number granted_state) found left act
 IsWhole s left act {st} {m} (Makes.EndsGranted _ _) = (0 < m.0.number) × (m.0.told ≡ Some granted_state) × Writes (wait_in m.0.waits idle_state) left act
 IsWhole s left act {st} {m} (Makes.EndsLost a state _ _ _ _) =
-    HasPlace s a.place × ((h : Held) × MayCancel a.place h m) × Writes (wait_in m.0.waits idle_state) left act
+    HasPlace s a.place × ((h : LatchRecord) × MayCancel a.place h m) × Writes (wait_in m.0.waits idle_state) left act
 IsWhole s left act {st} {m} {found} (Makes.ReadsWordUnlatched place _ _) = HasPlace s place × Meets found left act
 IsWhole s left act {st} {m} {found} (Makes.GrantsFast place mode noted _ _) =
     HasPlace s place × (0 < m.0.number) × (obtrusive_flag st.first ≡ false)

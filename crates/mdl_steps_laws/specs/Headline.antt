@@ -13,7 +13,7 @@ use Rattle.mdl_book.specs.declared.book_view.BookView.{BookView}
 use Rattle.mdl_book.specs.Books.{has_obtrusive, has_tickets, lock_kind}
 use Rattle.mdl_steps.specs.declared.slot.Slot.{Slot}
 use Rattle.mdl_steps.specs.declared.slot.Slot.TheVariants as slot
-use Rattle.mdl_steps.specs.declared.view.Held.{Held}
+use Rattle.mdl_steps.specs.declared.view.LatchRecord.{LatchRecord}
 use Rattle.mdl_steps.specs.declared.view.Own.{Own}
 use Rattle.mdl_steps.specs.declared.view.View.{View}
 use Rattle.mdl_steps.specs.Cells.{held_at}
@@ -54,7 +54,7 @@ FreeLocksAreInOrder = (s : State Slot View) → Rule s → (place : ℕ) → Has
 pub record Stands (s : State Slot View) (place : ℕ) (standing : Standing) : Type 0 where
   pub version : slice_index s.words (version_word place) ≡ standing.version
   pub at_home : IsFree s place → (book : BookView) × (get_elem? s.homes place ≡ some (some (slot.Place book))) × (book.standing ≡ standing)
-  pub in_record : (j : ℕ) (w : View) (h : Held) → get_elem? s.views j ≡ some w → held_at place w.latches ≡ Some h → h.book.standing ≡ standing
+  pub in_record : (j : ℕ) (w : View) (h : LatchRecord) → get_elem? s.views j ≡ some w → held_at place w.latches ≡ Some h → h.book.standing ≡ standing
 
 -- the session has a ticket of this number there, fast or slow
 abbrev pub Has : ℕ → ℕ → View → Own → Type 0

@@ -15,7 +15,7 @@ use Rattle.mdl_book.specs.declared.ticket.Ticket.{Ticket}
 use Rattle.mdl_book.specs.Books.{empty_book}
 use Rattle.mdl_steps.specs.declared.slot.Slot.{Slot}
 use Rattle.mdl_steps.specs.declared.slot.Slot.TheVariants as slot
-use Rattle.mdl_steps.specs.declared.view.Held.{Held}
+use Rattle.mdl_steps.specs.declared.view.LatchRecord.{LatchRecord}
 use Rattle.mdl_steps.specs.declared.view.Keys.{Keys}
 use Rattle.mdl_steps.specs.declared.view.View.{View}
 use Rattle.mdl_steps.specs.Cells.{held_at}
@@ -41,7 +41,7 @@ empty_lock key = record { fast = []; book = empty_book key }
 -- the book of a place: in its slot while the latch is free, and otherwise as the session that holds the latch has recorded it
 pub record IsBookAt (s : State Slot View) (place : ℕ) (book : BookView) : Type 0 where
   pub free : slice_index s.words (latch_word place) ≡ 0 → get_elem? s.homes place ≡ some (some (slot.Place book))
-  pub taken : (i : ℕ) (v : View) → get_elem? s.views i ≡ some v → (h : Held) → held_at place v.latches ≡ Some h → h.book ≡ book
+  pub taken : (i : ℕ) (v : View) → get_elem? s.views i ≡ some v → (h : LatchRecord) → held_at place v.latches ≡ Some h → h.book ≡ book
 
 -- the keys that have places, in order of these from 1 on: those of the directory, which is in slot 0 or with the session that holds its latch
 pub record AreKeysOf (s : State Slot View) (keys : List KeyName) : Type 0 where

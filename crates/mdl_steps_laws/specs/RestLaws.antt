@@ -8,13 +8,13 @@ use Rattle.mdl_word.specs.Words.{flags_alone}
 use Rattle.mdl_book.specs.Books.{empty_book}
 use Rattle.mdl_steps.specs.declared.slot.Slot.{Slot}
 use Rattle.mdl_steps.specs.declared.slot.Slot.TheVariants as slot
-use Rattle.mdl_steps.specs.declared.view.Held.{Held}
+use Rattle.mdl_steps.specs.declared.view.LatchRecord.{LatchRecord}
 use Rattle.mdl_steps.specs.declared.view.Keys.{Keys}
 use Rattle.mdl_steps.specs.declared.view.Known.{Known}
 use Rattle.mdl_steps.specs.declared.view.View.{View}
 use Rattle.mdl_steps.specs.Cells.{blank, held_at, no_numbers}
 use Rattle.mdl_steps.specs.Layout.{enrol_word, latch_word, lock_word}
-use Rattle.mdl_steps.specs.Plays.{IsFresh, Mine, consulted, enrols, informed, latched, named, raises_flags, read_and_put, reads_word, settled, takes_directory, takes_latch, unlatched}
+use Rattle.mdl_steps.specs.Plays.{IsFresh, Mine, consulted, enrols, informed, latched, named, raises_flags, read_and_put, reads_word, flags_lowered, takes_directory, takes_latch, unlatched}
 use Rattle.mdl_steps.specs.Rule.{Rule}
 use Rattle.mdl_steps.specs.Seats.{MayName}
 use Rattle.mdl_steps_laws.specs.Headline.{HasPlace, IsFree}
@@ -94,7 +94,7 @@ InformingRests =
 abbrev pub TakingRests : Type 0
 TakingRests =
     (s : State Slot View) → Rule s → (place : ℕ) → HasPlace s place → (id : ℕ) (me : Mine) → get_elem? s.views id ≡ some me.0 → 0 < me.0.number →
-    IsFree s place → (h : Held) → IsFresh place h me → get_elem? s.homes place ≡ some (some (slot.Place h.book)) →
+    IsFree s place → (h : LatchRecord) → IsFresh place h me → get_elem? s.homes place ≡ some (some (slot.Place h.book)) →
     IsRest s (after_taking s place id (latched place h me))
 
 -- or is found taken
@@ -108,19 +108,19 @@ MissingRests =
 abbrev pub PuttingRests : Type 0
 PuttingRests =
     (s : State Slot View) → Rule s → (place : ℕ) → HasPlace s place → (id : ℕ) (me : Mine) → get_elem? s.views id ≡ some me.0 →
-    (h : Held) → held_at place me.0.latches ≡ Some h → IsRest s (after_giving s place (slot.Place h.book) id (unlatched place [] me))
+    (h : LatchRecord) → held_at place me.0.latches ≡ Some h → IsRest s (after_giving s place (slot.Place h.book) id (unlatched place [] me))
 
 -- or with a reading
 abbrev pub PuttingReadingRests : Type 0
 PuttingReadingRests =
     (s : State Slot View) → Rule s → (place : ℕ) → HasPlace s place → (id : ℕ) (me : Mine) → get_elem? s.views id ≡ some me.0 →
-    (h : Held) → held_at place me.0.latches ≡ Some h → IsRest s (after_giving s place (slot.Place h.book) id (read_and_put place h.book.standing me))
+    (h : LatchRecord) → held_at place me.0.latches ≡ Some h → IsRest s (after_giving s place (slot.Place h.book) id (read_and_put place h.book.standing me))
 
 -- or with the empty book of a new key, which gets the place: its lock was empty before, too
 abbrev pub NamingRests : Type 0
 NamingRests =
     (s : State Slot View) → Rule s → (place : ℕ) → HasPlace s place → (id : ℕ) (me : Mine) → get_elem? s.views id ≡ some me.0 →
-    (key : KeyName) (k : Keys) (h : Held) → MayName place key k h me →
+    (key : KeyName) (k : Keys) (h : LatchRecord) → MayName place key k h me →
     IsRest s (after_giving s place (slot.Place (empty_book key)) id (named place key me))
 
 -- ---- its word, under the latch
@@ -129,7 +129,7 @@ NamingRests =
 abbrev pub RaisingRests : Type 0
 RaisingRests =
     (s : State Slot View) → Rule s → (place : ℕ) → HasPlace s place → (id : ℕ) (me me′ : Mine) → get_elem? s.views id ≡ some me.0 →
-    (h : Held) → held_at place me.0.latches ≡ Some h → (st : Step Slot) (found left : ℕ) (slow obtrusive : Bool) →
+    (h : LatchRecord) → held_at place me.0.latches ≡ Some h → (st : Step Slot) (found left : ℕ) (slow obtrusive : Bool) →
     st.word ≡ lock_word place → st.first ≡ flags_alone slow obtrusive → raises_flags st me found me′ →
     IsRest s (after_step s (lock_word place) left id me′)
 
@@ -137,12 +137,12 @@ RaisingRests =
 abbrev pub ReadingRests : Type 0
 ReadingRests =
     (s : State Slot View) → Rule s → (place : ℕ) → HasPlace s place → (id : ℕ) (me me′ : Mine) → get_elem? s.views id ≡ some me.0 →
-    (h : Held) → held_at place me.0.latches ≡ Some h → (st : Step Slot) (found : ℕ) →
+    (h : LatchRecord) → held_at place me.0.latches ≡ Some h → (st : Step Slot) (found : ℕ) →
     st.word ≡ lock_word place → reads_word st me found me′ → IsRest s (after_step s (lock_word place) found id me′)
 
 -- flags are lowered with nothing done
 abbrev pub LoweringRests : Type 0
 LoweringRests =
     (s : State Slot View) → Rule s → (place : ℕ) → HasPlace s place → (id : ℕ) (me : Mine) → get_elem? s.views id ≡ some me.0 →
-    (h : Held) → held_at place me.0.latches ≡ Some h → (found left : ℕ) (slow obtrusive : Bool) →
-    IsRest s (after_step s (lock_word place) left id (settled place [] found h.book slow obtrusive me))
+    (h : LatchRecord) → held_at place me.0.latches ≡ Some h → (found left : ℕ) (slow obtrusive : Bool) →
+    IsRest s (after_step s (lock_word place) left id (flags_lowered place [] found h.book slow obtrusive me))

@@ -10,7 +10,7 @@ use Rattle.mdl_steps.specs.declared.deed.Deed.{Deed}
 use Rattle.mdl_steps.specs.declared.deed.Deed.TheVariants.{Lose}
 use Rattle.mdl_steps.specs.declared.slot.Slot.{Slot}
 use Rattle.mdl_steps.specs.declared.view.Ask.{Ask}
-use Rattle.mdl_steps.specs.declared.view.Held.{Held}
+use Rattle.mdl_steps.specs.declared.view.LatchRecord.{LatchRecord}
 use Rattle.mdl_steps.specs.declared.view.Keys.{Keys}
 use Rattle.mdl_steps.specs.declared.view.Known.{Known}
 use Rattle.mdl_steps.specs.declared.view.Own.{Own}
@@ -32,7 +32,7 @@ pub data Makes (st : Step Slot) (m : Mine) (found : ℕ) (m′ : Mine) : Type 0 
   PutsLatch : (place : ℕ) (deeds : List Deed) → MayPut place deeds m →
       st.word ≡ latch_word place → puts_latch deeds st m found m′ → Makes st m found m′
   PutsReading : (place : ℕ) → MayPut place [] m → st.word ≡ latch_word place → puts_reading st m found m′ → Makes st m found m′
-  PutsKey : (place : ℕ) (key : KeyName) (k : Keys) (h : Held) → MayName place key k h m →
+  PutsKey : (place : ℕ) (key : KeyName) (k : Keys) (h : LatchRecord) → MayName place key k h m →
       st.word ≡ latch_word place → puts_key st m found m′ → Makes st m found m′
   RaisesFlags : (place : ℕ) (slow obtrusive : Bool) →
       st.word ≡ lock_word place → st.first ≡ flags_alone slow obtrusive → raises_flags st m found m′ → Makes st m found m′
@@ -54,7 +54,7 @@ pub data Makes (st : Step Slot) (m : Mine) (found : ℕ) (m′ : Mine) : Type 0 
   ReadsWordUnlatched : (place : ℕ) → st.word ≡ lock_word place → reads_word_unlatched st m found m′ → Makes st m found m′
   GrantsFast : (place : ℕ) (mode : Mode) (noted : Option ℕ) → st.word ≡ lock_word place → grants_fast mode noted st m found m′ → Makes st m found m′
   ReleasesFast : (place number : ℕ) → st.word ≡ lock_word place → releases_fast number st m found m′ → Makes st m found m′
-  Materialises : (place : ℕ) (slow : List Own) (weight : ℕ) (h : Held) → MayMaterialise place slow weight h m →
+  Materialises : (place : ℕ) (slow : List Own) (weight : ℕ) (h : LatchRecord) → MayMaterialise place slow weight h m →
       st.word ≡ lock_word place → materialises slow st m found m′ → Makes st m found m′
 
 -- what happens to the table: a seat makes a step, or the first seat gives a number that it drew to one more seat

@@ -14,11 +14,11 @@ use Rattle.mdl_steps.specs.declared.deed.Deed.{Deed}
 use Rattle.mdl_steps.specs.declared.deed.Deed.TheVariants.{Gain, Alter, Lose}
 use Rattle.mdl_steps.specs.declared.slot.Slot.{Slot}
 use Rattle.mdl_steps.specs.declared.slot.Slot.TheVariants as slot
-use Rattle.mdl_steps.specs.declared.view.Held.{Held}
+use Rattle.mdl_steps.specs.declared.view.LatchRecord.{LatchRecord}
 use Rattle.mdl_steps.specs.declared.view.View.{View}
 use Rattle.mdl_steps.specs.Deeds.{all_booked}
 use Rattle.mdl_steps.specs.Layout.{latch_word, lock_word, version_word}
-use Rattle.mdl_steps.specs.Plays.{Mine, redefined, settled, unlatched}
+use Rattle.mdl_steps.specs.Plays.{Mine, redefined, flags_lowered, unlatched}
 use Rattle.mdl_steps.specs.Rule.{Rule}
 use Rattle.mdl_steps.specs.Seats.{HasDone, HasRedefined}
 use Rattle.mdl_system.specs.BookLaws.{of_lock}
@@ -36,12 +36,12 @@ after_put s place ds book id me = record {
   views = slice_set s.views id (unlatched place ds me).0;
 }
 
--- a seat has lowered flags of a place, whose word was `found` and is `left` then, after deeds (the play `settled`)
+-- a seat has lowered flags of a place, whose word was `found` and is `left` then, after deeds (the play `flags_lowered`)
 abbrev pub after_lowering : State Slot View → ℕ → List Deed → ℕ → ℕ → BookView → Bool → Bool → ℕ → Mine → State Slot View
 after_lowering s place ds found left book slow obtrusive id me = record {
   words = slice_set s.words (lock_word place) left;
   homes = s.homes;
-  views = slice_set s.views id (settled place ds found book slow obtrusive me).0;
+  views = slice_set s.views id (flags_lowered place ds found book slow obtrusive me).0;
 }
 
 -- a seat has written the version of a place, with the definition that it has from then on (the play `redefined`)
@@ -76,7 +76,7 @@ BringsDeeds session key _ s s′ = ⊥
 abbrev pub PuttingBrings : Type 0
 PuttingBrings =
     (s : State Slot View) → Rule s → (keys : List KeyName) → AreKeysOf s keys → (i : ℕ) (key : KeyName) → get_elem? keys i ≡ some key →
-    (id : ℕ) (me : Mine) → get_elem? s.views id ≡ some me.0 → (h : Held) (ds : List Deed) → HasDone (suc i) ds h me →
+    (id : ℕ) (me : Mine) → get_elem? s.views id ≡ some me.0 → (h : LatchRecord) (ds : List Deed) → HasDone (suc i) ds h me →
     Rule (after_put s (suc i) ds (all_booked me.0.number ds h.book) id me) →
     BringsDeeds me.0.number key ds s (after_put s (suc i) ds (all_booked me.0.number ds h.book) id me)
 
@@ -84,7 +84,7 @@ PuttingBrings =
 abbrev pub LoweringBrings : Type 0
 LoweringBrings =
     (s : State Slot View) → Rule s → (keys : List KeyName) → AreKeysOf s keys → (i : ℕ) (key : KeyName) → get_elem? keys i ≡ some key →
-    (id : ℕ) (me : Mine) → get_elem? s.views id ≡ some me.0 → (h : Held) (ds : List Deed) → HasDone (suc i) ds h me →
+    (id : ℕ) (me : Mine) → get_elem? s.views id ≡ some me.0 → (h : LatchRecord) (ds : List Deed) → HasDone (suc i) ds h me →
     (found left : ℕ) (slow obtrusive : Bool) →
     Rule (after_lowering s (suc i) ds found left (all_booked me.0.number ds h.book) slow obtrusive id me) →
     BringsDeeds me.0.number key ds s (after_lowering s (suc i) ds found left (all_booked me.0.number ds h.book) slow obtrusive id me)
@@ -93,6 +93,6 @@ LoweringBrings =
 abbrev pub WritingBrings : Type 0
 WritingBrings =
     (s : State Slot View) → Rule s → (keys : List KeyName) → AreKeysOf s keys → (i : ℕ) (key : KeyName) → get_elem? keys i ≡ some key →
-    (id : ℕ) (me : Mine) → get_elem? s.views id ≡ some me.0 → (h : Held) (change : Change) → HasRedefined (suc i) h change me →
+    (id : ℕ) (me : Mine) → get_elem? s.views id ≡ some me.0 → (h : LatchRecord) (change : Change) → HasRedefined (suc i) h change me →
     Rule (after_writing s (suc i) (standing_after change h.book.standing) id me) →
     (t : Ticket) × (t.session ≡ me.0.number) × Brings (ChangeDefinition (of_lock key t) change) s (after_writing s (suc i) (standing_after change h.book.standing) id me)

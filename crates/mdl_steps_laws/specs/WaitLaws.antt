@@ -16,7 +16,7 @@ use Rattle.mdl_book.specs.Books as books
 use Rattle.mdl_steps.specs.declared.slot.Slot.{Slot}
 use Rattle.mdl_steps.specs.declared.step_kind.StepKind.{StepKind}
 use Rattle.mdl_steps.specs.declared.view.Ask.{Ask}
-use Rattle.mdl_steps.specs.declared.view.Held.{Held}
+use Rattle.mdl_steps.specs.declared.view.LatchRecord.{LatchRecord}
 use Rattle.mdl_steps.specs.declared.view.View.{View}
 use Rattle.mdl_steps.specs.declared.wait_word.Loss.{Loss}
 use Rattle.mdl_steps.specs.declared.wait_word.Loss.TheVariants as loss
@@ -67,7 +67,7 @@ lost_as loss.Killed = Killed
 abbrev pub OpeningBegins : Type 0
 OpeningBegins =
     (s : State Slot View) → Rule s → (keys : List KeyName) → AreKeysOf s keys → (i : ℕ) (key : KeyName) → get_elem? keys i ≡ some key →
-    (id : ℕ) (me : Mine) → get_elem? s.views id ≡ some me.0 → (mode : Mode) (h : Held) → MayOpen (suc i) mode h me →
+    (id : ℕ) (me : Mine) → get_elem? s.views id ≡ some me.0 → (mode : Mode) (h : LatchRecord) → MayOpen (suc i) mode h me →
     Brings (BeginWait key (record { ticket = asked_ticket mode me.0; wait = me.0.waits + 1; state = Unsettled }))
     s (after_wait s me.0.number (wait_in (me.0.waits + 1) unsettled_state) id (opened (length s.homes) (suc i) mode me))
 
@@ -85,7 +85,7 @@ abbrev pub GrantingGrantsWaiters : Type 0
 GrantingGrantsWaiters =
     (s : State Slot View) → Rule s → (keys : List KeyName) → AreKeysOf s keys → (i : ℕ) (key : KeyName) → get_elem? keys i ≡ some key →
     (id : ℕ) (me : Mine) → get_elem? s.views id ≡ some me.0 →
-    (session ticket number : ℕ) (h : Held) → (may : MayGrant (suc i) session ticket h me) → 0 < session → waits s session ≡ wait_in number unsettled_state →
+    (session ticket number : ℕ) (h : LatchRecord) → (may : MayGrant (suc i) session ticket h me) → 0 < session → waits s session ≡ wait_in number unsettled_state →
     Brings (GrantWaiter key (record { ticket = may.wish; wait = number; state = Unsettled }))
     s (after_wait s session (wait_in number granted_state) id (settled_granted (length s.homes) (suc i) session ticket number me))
 
@@ -93,7 +93,7 @@ GrantingGrantsWaiters =
 abbrev pub NextMayBeGranted : Type 0
 NextMayBeGranted =
     (s : State Slot View) → Rule s → (keys : List KeyName) → AreKeysOf s keys → (i : ℕ) (key : KeyName) → get_elem? keys i ≡ some key →
-    (id : ℕ) (me : Mine) → get_elem? s.views id ≡ some me.0 → (h : Held) → held_at (suc i) me.0.latches ≡ Some h →
+    (id : ℕ) (me : Mine) → get_elem? s.views id ≡ some me.0 → (h : LatchRecord) → held_at (suc i) me.0.latches ≡ Some h →
     (word : ℕ) → (h.obtrusive ≡ true → h.noted ≡ Some word) →
     (unsettled : set.FinSet nat_cmp) (t : Ticket) → books.next_grantable word unsettled h.book ≡ Some t →
     (may : MayGrant (suc i) t.session t.number h me) × (may.wish ≡ t)
@@ -110,7 +110,7 @@ EndingHolds =
 abbrev pub EndingLeaves : Type 0
 EndingLeaves =
     (s : State Slot View) → Rule s → (keys : List KeyName) → AreKeysOf s keys → (i : ℕ) (key : KeyName) → get_elem? keys i ≡ some key →
-    (id : ℕ) (me : Mine) → get_elem? s.views id ≡ some me.0 → (h : Held) → (may : MayCancel (suc i) h me) →
+    (id : ℕ) (me : Mine) → get_elem? s.views id ≡ some me.0 → (h : LatchRecord) → (may : MayCancel (suc i) h me) →
     (how : WaitState) × (code_of how ≡ may.state)
     × Brings (EndLostWait key (record {
       ticket = record { session = me.0.number; number = may.ask.number; mode = may.ask.mode };

@@ -1,5 +1,5 @@
 -- What is left of a statement at each of its stages, where copies are kept of what it names: the same as in the module Stages.
-use Rattle.std.specs.Prelude.{ℕ, List, drop, Option}
+use Rattle.std.specs.Prelude.{ℕ, drop, Option}
 use Rattle.std.specs.Option.{option_map}
 use Rattle.mdl_context.specs.Contexts.{ContextView}
 use Rattle.mdl_rows.specs.declared.reply.Reply.{Reply}

@@ -4,7 +4,7 @@ use Rattle.std.specs.Prelude.{filter, is_some}
 use Rattle.std.proofs.lemmas.List.{map-append}
 use Rattle.std.proofs.lemmas.List.Elements.{All-nil, All-push, All-weaker, filter-append}
 use Rattle.mdl_steps.specs.declared.step_kind.StepKind.TheVariants.{PutLatch}
-use Rattle.mdl_steps.specs.declared.view.Held.{Held}
+use Rattle.mdl_steps.specs.declared.view.LatchRecord.{LatchRecord}
 use Rattle.mdl_steps.specs.declared.view.Known.{Known}
 use Rattle.mdl_steps.specs.declared.view.Met.{Met}
 use Rattle.mdl_steps.specs.Cells.{held_at}
@@ -52,7 +52,7 @@ module _ (place : ℕ) (m m′ m″ : Mine) (inside : IsInside place m m′) (pu
   pub looked : MakesSteps m m″
   looked = let visit = visits_put place [] m m′ m″ inside put in (visit.made, visit.now, visit.did)
 
-  pub meets_definition : (h : Held) (who : ℕ) (defined : Bool) → m.0.number ≡ who → held_at place m′.0.latches ≡ Some h → defined ≡ is_some h.book.standing.definition
+  pub meets_definition : (h : LatchRecord) (who : ℕ) (defined : Bool) → m.0.number ≡ who → held_at place m′.0.latches ≡ Some h → defined ≡ is_some h.book.standing.definition
       → (e : Met) × IsStepOf m m″ e × MeetsDefinition place who defined e
   unfolding puts
   meets_definition h who defined mine recorded stands = (

@@ -17,7 +17,7 @@ use Rattle.mdl_book.specs.Tickets.{is_ticket, ticket_of}
 use Rattle.mdl_book.proofs.TicketLemmas.{find-contains}
 use Rattle.mdl_steps.specs.declared.slot.Slot.TheVariants as slot
 use Rattle.mdl_steps.specs.declared.step_kind.StepKind.TheVariants.{PutLatch, TakeLatch, WriteVersion}
-use Rattle.mdl_steps.specs.declared.view.Held.{Held}
+use Rattle.mdl_steps.specs.declared.view.LatchRecord.{LatchRecord}
 use Rattle.mdl_steps.specs.declared.view.Met.{Met}
 use Rattle.mdl_steps.specs.declared.view.Own.{Own}
 use Rattle.mdl_steps.specs.Cells.{held_at, own_at, ticket_by}
@@ -37,12 +37,12 @@ use Rattle.mdl_visits.proofs.Numbers.{has_number, not_waited}
 use Rattle.mdl_visits.proofs.Steps.{none_then}
 
 -- a seat has one record of a latch
-pub one_record : {place : ℕ} {h g : Held} {b c : BookView} {m : Mine} → Holds place h b m → Holds place g c m → h ≡ g
+pub one_record : {place : ℕ} {h g : LatchRecord} {b c : BookView} {m : Mine} → Holds place h b m → Holds place g c m → h ≡ g
 one_record has too = let a = has.recorded in let b = too.recorded in cc
 
 -- ---- in hand
 
-module _ (place : ℕ) (change : Change) (h : Held) (m m′ : Mine) (is : m′ ≡ written place (redefining change h.book) m) where
+module _ (place : ℕ) (change : Change) (h : LatchRecord) (m m′ : Mine) (is : m′ ≡ written place (redefining change h.book) m) where
   pub has_redefined : Holds place h h.book m → HasExclusive h m → standing_fault h.book.key.namespace change h.book.standing ≡ None → HasRedefined place h change m′
   has_redefined has exclusive allowed = subst (λ (x : Mine). HasRedefined place h change x) (sym is) (record {
     holds = holds_written place h h.book (redefining change h.book) m has;
@@ -75,7 +75,7 @@ held_so None place mode e = absurd (cc)
 held_so (Some t) place mode e = let both : ◌≡◌ {A = ℕ × Mode} (t.place, t.mode) (place, mode) = cc in (t, refl, ap (λ (p : ℕ × Mode). p.0) both, ap (λ (p : ℕ × Mode). p.1) both)
 
 -- a session that has an exclusive ticket at a place has it in the book there
-pub exclusive_there : (place : ℕ) (h : Held) (m : Mine) → IsFresh place h m → is_ask_apart m.0.next m.0.slow m.0.asks ≡ true → HasExclusiveAt place m.0.slow → HasExclusive h m
+pub exclusive_there : (place : ℕ) (h : LatchRecord) (m : Mine) → IsFresh place h m → is_ask_apart m.0.next m.0.slow m.0.asks ≡ true → HasExclusiveAt place m.0.slow → HasExclusive h m
 exclusive_there place h m fresh apart held =
     let number = held.0 in
     let t = held.1 in
@@ -89,7 +89,7 @@ exclusive_there place h m fresh apart held =
 
 module _ (place : ℕ) (standing : Standing) (m m′ m″ : Mine) (put : m″ ≡ redefined_and_put place standing m′) where
   -- the step that wrote the version came right after the one that took the latch
-  steps : (h : Held) (made : List Met) → m′ ≡ latched place h (and_made made m)
+  steps : (h : LatchRecord) (made : List Met) → m′ ≡ latched place h (and_made made m)
       → AreStepsOf m m″ (record { kind = TakeLatch; deeds = []; word = latch_word place; found = 0; held = h ∷ m.0.latches; directory = m.0.directory })
       (record { kind = WriteVersion; deeds = []; word = version_word place; found = standing.version - 1; held = (redefined place standing m′).0.latches; directory = m′.0.directory })
   steps h made took =
@@ -130,7 +130,7 @@ refusal change (Some fault) why told drop = inl (ap Some (sym (same told)))
     same : ◌≡◌ {A = Result ℕ ChangeError} (Err why) (Err fault) → why ≡ fault
     same e = cc
 
-module _ (place : ℕ) (change : Change) (h : Held) (m m′ m″ : Mine) (inside : IsInside place m m′) (has : Holds place h h.book m′) (after : Follows place h.book.standing m)
+module _ (place : ℕ) (change : Change) (h : LatchRecord) (m m′ m″ : Mine) (inside : IsInside place m m′) (has : Holds place h h.book m′) (after : Follows place h.book.standing m)
     (named : IsNamed place h.book.key m) where
   -- what became of it where it was made
   pub redefines : (made : List Met) (result : Result ℕ ChangeError) → h.place ≡ place → m′ ≡ latched place h (and_made made m)

@@ -20,7 +20,7 @@ use Rattle.mdl_book.specs.Tickets.{is_ticket, ticket_of, with_mode}
 use Rattle.mdl_book.proofs.FastLemmas.{may_stand-none}
 use Rattle.mdl_book.proofs.TicketLemmas.{find-contains}
 use Rattle.mdl_steps.specs.declared.deed.Deed.TheVariants.{Alter, Gain}
-use Rattle.mdl_steps.specs.declared.view.Held.{Held}
+use Rattle.mdl_steps.specs.declared.view.LatchRecord.{LatchRecord}
 use Rattle.mdl_steps.specs.declared.view.Own.{Own}
 use Rattle.mdl_steps.specs.Cells.{own_at, ticket_by}
 use Rattle.mdl_steps.specs.Deeds.{MayJoin, NotWaited, booked}
@@ -61,19 +61,19 @@ own_listed who number t (x ∷ xs) e =
     not_second false b e = refl
 
 -- so it stands in the book that is met under the latch
-pub own_there : (who number : ℕ) (t : Own) (h : Held) (m : Mine) → m.0.number ≡ who → IsFresh t.place h m → NotWaited m.0 number → numbered number m.0.slow ≡ Some t
+pub own_there : (who number : ℕ) (t : Own) (h : LatchRecord) (m : Mine) → m.0.number ≡ who → IsFresh t.place h m → NotWaited m.0 number → numbered number m.0.slow ≡ Some t
     → ticket_of who number h.book.granted ≡ Some (ticket_by who t)
 own_there who number t h m mine fresh unwaited found =
     subst (λ (w : ℕ). ticket_of w number h.book.granted ≡ Some (ticket_by w t)) mine
     (fresh.own number unwaited ∙ own_listed m.0.number number t m.0.slow found)
 
 -- a mode that fits the session's key is one of the lock's
-pub fits_lock : (place : ℕ) (mode : Mode) (h : Held) (m : Mine) → IsFresh place h m → FitsAt m.0 place mode → is_mode_of (lock_kind h.book) mode ≡ true
+pub fits_lock : (place : ℕ) (mode : Mode) (h : LatchRecord) (m : Mine) → IsFresh place h m → FitsAt m.0 place mode → is_mode_of (lock_kind h.book) mode ≡ true
 fits_lock place mode h m fresh fits =
     ap (λ (key : KeyName). is_mode_of (kind_of key.namespace) mode) (fresh.named fits.0 fits.1 fits.2 fits.3) ∙ fits.4
 
 -- and the ticket's own mode is one, too
-pub own_mode : (place who number : ℕ) (t : Own) (h : Held) (m : Mine) → IsFresh place h m → ticket_of who number h.book.granted ≡ Some (ticket_by who t) → is_mode_of (lock_kind h.book) t.mode ≡ true
+pub own_mode : (place who number : ℕ) (t : Own) (h : LatchRecord) (m : Mine) → IsFresh place h m → ticket_of who number h.book.granted ≡ Some (ticket_by who t) → is_mode_of (lock_kind h.book) t.mode ≡ true
 own_mode place who number t h m fresh found =
     let test : Ticket → Bool = λ x. is_mode_of (lock_kind h.book) x.mode in
     let there = find-contains (is_ticket who number) h.book.granted (ticket_by who t) found in
@@ -90,7 +90,7 @@ pub downgrade-covered : (held mode : Mode) → may_downgrade held mode ≡ true 
 downgrade-covered held mode may = implied _ _ (each_mode (lowers held) (each_mode (λ h. list_all (lowers h) all_modes) lowers_all held) mode) may
 
 -- by it a mode is covered
-pub covered_by : (place who number : ℕ) (t : Own) (mode : Mode) (h : Held) (m : Mine) → IsFresh place h m → ticket_of who number h.book.granted ≡ Some (ticket_by who t)
+pub covered_by : (place who number : ℕ) (t : Own) (mode : Mode) (h : LatchRecord) (m : Mine) → IsFresh place h m → ticket_of who number h.book.granted ≡ Some (ticket_by who t)
     → covers t.mode mode ≡ true → is_mode_of (lock_kind h.book) mode ≡ true → IsCovered who mode h
 covered_by place who number t mode h m fresh found strong is_mode = record {
   is_mode = is_mode;
@@ -103,7 +103,7 @@ covered_by place who number t mode h m fresh found strong is_mode = record {
 }
 
 -- and its own mode is
-pub covered_by_own : (place who number : ℕ) (t : Own) (h : Held) (m : Mine) → IsFresh place h m → ticket_of who number h.book.granted ≡ Some (ticket_by who t) → IsCovered who t.mode h
+pub covered_by_own : (place who number : ℕ) (t : Own) (h : LatchRecord) (m : Mine) → IsFresh place h m → ticket_of who number h.book.granted ≡ Some (ticket_by who t) → IsCovered who t.mode h
 covered_by_own place who number t h m fresh found = record {
   is_mode = own_mode place who number t h m fresh found;
   stronger = ticket_by who t;
@@ -147,7 +147,7 @@ any_there p ts t there passes =
         (λ yes. let first = rw yes at e in absurd (cc))
         (λ no. let later = rw no at e in rw no (none_pass xs later))
 
-module _ (who : ℕ) (mode : Mode) (h : Held) (covered : IsCovered who mode h) where
+module _ (who : ℕ) (mode : Mode) (h : LatchRecord) (covered : IsCovered who mode h) where
   abbrev kind : Kind
   kind = lock_kind h.book
 

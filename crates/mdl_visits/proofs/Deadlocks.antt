@@ -23,7 +23,7 @@ use Rattle.mdl_steps.specs.Copies.{Queues, no_queues, queues_of}
 use Rattle.mdl_visits.specs.declared.audited.Audited.{Audited}
 use Rattle.mdl_visits.specs.declared.waits_read.WaitRead.{WaitRead}
 use Rattle.mdl_visits.specs.Searches.{AreQueuesOf, books_of, if_waited, settled_by}
-use Rattle.mdl_visits.proofs.WayOut.{nobody_waits}
+use Rattle.mdl_visits.proofs.Rescheduling.{nobody_waits}
 
 -- ---- who is settled
 

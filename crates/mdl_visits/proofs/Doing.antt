@@ -5,7 +5,7 @@ use Rattle.mdl_key.specs.declared.mode.Mode.{Mode}
 use Rattle.mdl_defs.specs.declared.standing.Standing.{Standing}
 use Rattle.mdl_steps.specs.declared.deed.Deed.{Deed}
 use Rattle.mdl_steps.specs.Plays.{Mine}
-use Rattle.mdl_visits.specs.Grantings.{VisitsForWay}
+use Rattle.mdl_visits.specs.Grantings.{VisitsAndReschedules}
 use Rattle.mdl_visits.specs.Leavings.{Learns}
 use Rattle.mdl_visits.specs.Searches.{Listens}
 use Rattle.mdl_visits.specs.Visits.{Does, MakesSteps, Visits}
@@ -29,8 +29,8 @@ module _ (m m′ : Mine) where
   pub does_opens : (place : ℕ) (mode : Mode) → Opens place mode m m′ → Does [] m m′
   does_opens place mode opens = (opens.made, ap (λ (x : Mine). x.0.log) opens.now, opens.did)
 
-  pub does_way : (id : TableId) (place : ℕ) (ds : List Deed) → VisitsForWay id place ds m m′ → Does ds m m′
-  does_way id place ds visit = (visit.made, ap (λ (x : Mine). x.0.log) visit.now, visit.did)
+  pub does_reschedule : (id : TableId) (place : ℕ) (ds : List Deed) → VisitsAndReschedules id place ds m m′ → Does ds m m′
+  does_reschedule id place ds visit = (visit.made, ap (λ (x : Mine). x.0.log) visit.now, visit.did)
 
   pub does_ends : (id : TableId) (place : ℕ) → EndsLost id place m m′ → Does [] m m′
   does_ends id place ended = (ended.made, ap (λ (x : Mine). x.0.log) ended.now, ended.did)

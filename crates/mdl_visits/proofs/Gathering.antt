@@ -3,7 +3,7 @@ use Rattle.std.proofs.Common.{◌≡◌, ℕ, ◌+◌, ◌-◌, ◌<◌, ◌≤�
 use Rattle.std.specs.Prelude.{slice_get}
 use Rattle.mdl_key.specs.Words.{KeyName}
 use Rattle.mdl_steps.specs.declared.step_kind.StepKind.TheVariants.{PutLatch, TakeLatch}
-use Rattle.mdl_steps.specs.declared.view.Held.{Held}
+use Rattle.mdl_steps.specs.declared.view.LatchRecord.{LatchRecord}
 use Rattle.mdl_steps.specs.declared.view.Keys.{Keys}
 use Rattle.mdl_steps.specs.declared.view.Met.{Met}
 use Rattle.mdl_steps.specs.Cells.{held_at}
@@ -45,7 +45,7 @@ makes_same m m′ same = subst (MakesSteps m) (sym same) (makes_none m)
 
 -- ---- the latch of a place is taken, steps are made, and it is given back
 
-each_below : (latches : List Held) (p q : ℕ) → p ≤ q → Each (λ (h : Held). h.place < p) latches → Each (λ (h : Held). h.place < q) latches
+each_below : (latches : List LatchRecord) (p q : ℕ) → p ≤ q → Each (λ (h : LatchRecord). h.place < p) latches → Each (λ (h : LatchRecord). h.place < q) latches
 each_below [] p q up all = tt
 each_below (h ∷ hs) p q up all = let below = all.0 in (omega arith, each_below hs p q up all.1)
 
@@ -68,14 +68,14 @@ there_and_back place m m′ m″ m‴ inside steps put =
     let visit = visits_put place [] m m″ m‴ (inside_steps place m m′ m″ inside steps) put in
     (visit.made, visit.now, visit.did)
 
-pub may_put : (place : ℕ) (h : Held) (m m′ : Mine) → TellsLists h.book h.slow h.obtrusive → Holds place h h.book m → MakesSteps m m′ → MayPut place [] m′
+pub may_put : (place : ℕ) (h : LatchRecord) (m m′ : Mine) → TellsLists h.book h.slow h.obtrusive → Holds place h h.book m → MakesSteps m m′ → MayPut place [] m′
 may_put place h m m′ tells holds steps = subst (MayPut place []) (sym steps.1) (
   h,
   record { holds = record { recorded = holds.recorded; carried = holds.carried }; act = inr refl; may = tt },
   tells,
 )
 
-module _ (place : ℕ) (h : Held) (made : List Met) (m m′ : Mine) (here : h.place ≡ place) (taken : m′ ≡ latched place h (and_made made m)) where
+module _ (place : ℕ) (h : LatchRecord) (made : List Met) (m m′ : Mine) (here : h.place ≡ place) (taken : m′ ≡ latched place h (and_made made m)) where
   pub rising_next : IsRising place m → IsRising (place + 1) m′
   rising_next rising = subst (IsRising (place + 1)) (sym taken) (omega arith, each_below m.0.latches place (place + 1) (omega arith) rising)
 
@@ -86,7 +86,7 @@ module _ (place : ℕ) (h : Held) (made : List Met) (m m′ : Mine) (here : h.pl
   log_then = ap (λ (x : Mine). x.0.log) taken ∙ append_assoc m.0.log made (took ∷ [])
 
   -- records of lower places are found still
-  still : (q : ℕ) (g : Held) → q < place → held_at q m.0.latches ≡ Some g → held_at q m′.0.latches ≡ Some g
+  still : (q : ℕ) (g : LatchRecord) → q < place → held_at q m.0.latches ≡ Some g → held_at q m′.0.latches ≡ Some g
   still q g below e = ap (λ (x : Mine). held_at q x.0.latches) taken ∙ held_at-past place q h m.0.latches here (λ same. omega arith) ∙ e
 
   module _ (m″ m‴ : Mine) (steps : MakesSteps m′ m″) (put : m‴ ≡ unlatched place [] m″) where
@@ -106,7 +106,7 @@ module _ (place : ℕ) (h : Held) (made : List Met) (m m′ : Mine) (here : h.pl
       log_all ∙ ap (λ (x : Mine). x.0.log ++ (steps.0 ++ gave ∷ [])) taken ∙ append_assoc (m.0.log ++ made) (took ∷ []) (steps.0 ++ gave ∷ []),
     )
 
-    had_all : (latches : List Held) → HadLatches latches m′ m″ → HadLatches latches m m‴
+    had_all : (latches : List LatchRecord) → HadLatches latches m′ m″ → HadLatches latches m m‴
     had_all latches had = ⊎_elim
         (λ at_once. inr (took, took_then, sym (at_once ∙ ap (λ (x : Mine). x.0.latches) taken), refl))
         (λ later. inr (
@@ -177,7 +177,7 @@ keys_from before (key ∷ keys) (a ∷ more) place at same keyed =
 
 -- no other latch is held at first
 pub none_rising : (m : Mine) (k : Keys) (made : List Met) → IsIdle m → IsRising 1 (consulted k (and_made made m))
-none_rising m k made idle = subst (Each (λ (h : Held). h.place < 1)) (sym (no_latches m idle)) tt
+none_rising m k made idle = subst (Each (λ (h : LatchRecord). h.place < 1)) (sym (no_latches m idle)) tt
 
 module _ (slots : ℕ) (k : Keys) (made : List Met) (m m′ m″ : Mine) (taken : m′ ≡ consulted k (and_made made m)) (steps : MakesSteps m′ m″) where
   pub has_still : HasDirectory k m″
@@ -232,7 +232,7 @@ module _ (slots : ℕ) (k : Keys) (made : List Met) (m m′ m″ : Mine) (taken 
           ∙ append_assoc (m.0.log ++ made) (first ∷ []) (steps.0 ++ final ∷ []),
     )
 
-    pub moment_of : (latches : List Held) → HadLatches latches m′ m″ → (e : Met) × IsStepOf m m‴ e × (e.held ≡ latches) × (e.directory ≡ Some k)
+    pub moment_of : (latches : List LatchRecord) → HadLatches latches m′ m″ → (e : Met) × IsStepOf m m‴ e × (e.held ≡ latches) × (e.directory ≡ Some k)
     moment_of latches had = ⊎_elim
         (λ at_once. (first, first_then, sym (at_once ∙ ap (λ (x : Mine). x.0.latches) taken), refl))
         (λ later. (
@@ -255,6 +255,6 @@ module _ (slots : ℕ) (k : Keys) (made : List Met) (m m′ m″ : Mine) (taken 
           step = moment.1;
           directory = moment.3;
           recorded = subst (λ (xs : List Audited). AreRecorded 1 moment.0.held xs) (sym gathered.listed)
-              (subst (λ (held : List Held). AreRecorded 1 held gathered.books) (sym moment.2) gathered.recorded);
+              (subst (λ (held : List LatchRecord). AreRecorded 1 held gathered.books) (sym moment.2) gathered.recorded);
           stand = subst MayAllStand (sym gathered.listed) gathered.stand;
         }

@@ -4,7 +4,7 @@ use Rattle.std.specs.Prelude.{Option}
 use Rattle.std.proofs.lemmas.List.{append_cancel_left}
 use Rattle.atomic_table.specs.Seated.{TableId}
 use Rattle.mdl_calls.specs.declared.answers.Search.{Search}
-use Rattle.mdl_steps.specs.declared.view.Held.{Held}
+use Rattle.mdl_steps.specs.declared.view.LatchRecord.{LatchRecord}
 use Rattle.mdl_steps.specs.declared.view.Keys.{Keys}
 use Rattle.mdl_steps.specs.declared.view.Met.{Met}
 use Rattle.mdl_steps.specs.declared.view.Settlement.{Settlement}
@@ -62,14 +62,14 @@ behind_one place last one books m m′ g = record {
 
 -- ---- a place's latch
 
-pub may_put_heard : (place : ℕ) (h : Held) (m m′ : Mine) → TellsLists h.book h.slow h.obtrusive → Holds place h h.book m → Hears m m′ → MayPut place [] m′
+pub may_put_heard : (place : ℕ) (h : LatchRecord) (m m′ : Mine) → TellsLists h.book h.slow h.obtrusive → Holds place h h.book m → Hears m m′ → MayPut place [] m′
 may_put_heard place h m m′ tells holds hears = subst (MayPut place []) (sym hears.now) (
   h,
   record { holds = record { recorded = holds.recorded; carried = holds.carried }; act = inr refl; may = tt },
   tells,
 )
 
-pub back_heard : (place : ℕ) (h : Held) (made : List Met) (m m′ m″ m‴ : Mine) → IsInside place m m′ → AllQuiet m.0.directory made → m′ ≡ latched place h (and_made made m) → Hears m′ m″
+pub back_heard : (place : ℕ) (h : LatchRecord) (made : List Met) (m m′ m″ m‴ : Mine) → IsInside place m m′ → AllQuiet m.0.directory made → m′ ≡ latched place h (and_made made m) → Hears m′ m″
     → m‴ ≡ unlatched place [] m″ → Hears m m‴
 back_heard place h made m m′ m″ m‴ inside had taken hears put =
     let stepped : Mine = and_made hears.made m′ in
@@ -107,7 +107,7 @@ module _ (id : TableId) (who place last : ℕ) (found : Search) where
     judges = subst (λ (audited : List Audited). Judges id who m.0.latches audited found m m′) (sym (append-nil copied)) judges;
   }
 
-  module _ (h : Held) (made : List Met) (m m′ m″ m‴ : Mine) (here : h.place ≡ place) (taken : m′ ≡ latched place h (and_made made m)) (hears : Hears m′ m″) (put : m‴ ≡ unlatched place [] m″) where
+  module _ (h : LatchRecord) (made : List Met) (m m′ m″ m‴ : Mine) (here : h.place ≡ place) (taken : m′ ≡ latched place h (and_made made m)) (hears : Hears m′ m″) (put : m‴ ≡ unlatched place [] m″) where
     stepped : Mine
     stepped = and_made hears.made m′
 
@@ -144,7 +144,7 @@ module _ (id : TableId) (who place last : ℕ) (found : Search) where
         record {
           books = books;
           gathers = same_gathers place last [] books m (unlatched place [] stepped) m‴ log_put outer;
-          judges = subst (λ (latches : List Held). Judges id who latches (before ++ books) found m m‴) (sym same) all;
+          judges = subst (λ (latches : List LatchRecord). Judges id who latches (before ++ books) found m m‴) (sym same) all;
         }
 
 -- ---- the directory's latch
@@ -222,6 +222,6 @@ module _ (id : TableId) (k : Keys) (made : List Met) (m m′ m″ : Mine) (taken
           step = (moment.1.0, moment.1.1, same_log ∙ moment.1.2);
           directory = moment.3;
           recorded = subst (λ (xs : List Audited). AreRecorded 1 moment.0.held xs) (sym gathers.listed)
-              (subst (λ (held : List Held). AreRecorded 1 held gathers.books) (sym moment.2) gathers.recorded);
-          judges = subst (λ (latches : List Held). Judges id who latches audited found m m‴) (sym moment.2) judged;
+              (subst (λ (held : List LatchRecord). AreRecorded 1 held gathers.books) (sym moment.2) gathers.recorded);
+          judges = subst (λ (latches : List LatchRecord). Judges id who latches audited found m m‴) (sym moment.2) judged;
         }

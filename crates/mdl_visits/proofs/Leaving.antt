@@ -12,7 +12,7 @@ use Rattle.mdl_steps.specs.declared.view.Met.{Met}
 use Rattle.mdl_steps.specs.declared.view.Own.{Own}
 use Rattle.mdl_steps.specs.Cells.{own_at, ticket_by}
 use Rattle.mdl_steps.specs.Layout.{lock_word, latch_word}
-use Rattle.mdl_steps.specs.Plays.{Mine, settled, unlatched}
+use Rattle.mdl_steps.specs.Plays.{Mine, flags_lowered, unlatched}
 use Rattle.mdl_steps.specs.Deeds.{all_done}
 use Rattle.mdl_steps.specs.Seats.{elsewhere, rest}
 use Rattle.mdl_steps.proofs.Hands.{elsewhere-settled}
@@ -31,10 +31,10 @@ module _ (place : ℕ) (ds : List Deed) (found : ℕ) (book : BookView) (slow ob
   lowers = record { kind = LowerFlags slow obtrusive; deeds = ds; word = lock_word place; found = found; held = m.0.latches; directory = m.0.directory }
 
   puts : Met
-  puts = record { kind = PutLatch; deeds = []; word = latch_word place; found = m.0.number; held = (settled place ds found book slow obtrusive m).0.latches; directory = m.0.directory }
+  puts = record { kind = PutLatch; deeds = []; word = latch_word place; found = m.0.number; held = (flags_lowered place ds found book slow obtrusive m).0.latches; directory = m.0.directory }
 
   abbrev last : Mine
-  last = unlatched place [] (settled place ds found book slow obtrusive m)
+  last = unlatched place [] (flags_lowered place ds found book slow obtrusive m)
 
   both : (m.0.log ++ lowers ∷ []) ++ puts ∷ [] ≡ m.0.log ++ lowers ∷ puts ∷ []
   both = append_assoc m.0.log (lowers ∷ []) (puts ∷ [])

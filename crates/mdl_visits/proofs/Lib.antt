@@ -8,7 +8,7 @@ pub mod Doing
 pub mod Way
 pub mod Waiting
 pub mod Serving
-pub mod WayOut
+pub mod Rescheduling
 pub mod Losing
 pub mod Covered
 pub mod Weaker

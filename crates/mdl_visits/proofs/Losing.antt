@@ -10,7 +10,7 @@ use Rattle.mdl_book.specs.Books.{any_obtrusive, lock_kind, removing}
 use Rattle.mdl_book.specs.Tickets.{is_ticket, ticket_of, without}
 use Rattle.mdl_steps.specs.declared.deed.Deed.{Deed}
 use Rattle.mdl_steps.specs.declared.deed.Deed.TheVariants.{Lose}
-use Rattle.mdl_steps.specs.declared.view.Held.{Held}
+use Rattle.mdl_steps.specs.declared.view.LatchRecord.{LatchRecord}
 use Rattle.mdl_steps.specs.declared.view.Met.{Met}
 use Rattle.mdl_steps.specs.declared.view.View.{View}
 use Rattle.mdl_steps.specs.Cells.{held_at}
@@ -84,14 +84,14 @@ found_one (Some t) there = (t, refl)
 found_one None there = absurd (cc)
 
 -- and its session may give the latch back
-pub has_lost : (place who number : ℕ) (h : Held) (m m′ : Mine) → m.0.number ≡ who → Holds place h h.book m → TellsLists h.book h.slow h.obtrusive → KnowsPlace m.0 place → NotWaited m.0 number
+pub has_lost : (place who number : ℕ) (h : LatchRecord) (m m′ : Mine) → m.0.number ≡ who → Holds place h h.book m → TellsLists h.book h.slow h.obtrusive → KnowsPlace m.0 place → NotWaited m.0 number
     → is_some (ticket_of who number h.book.granted) ≡ true → m′ ≡ written place (booked who (Lose number) h.book) m
-    → (g : Held) × HasDone place (Lose number ∷ []) g m′ × Flagged (all_booked m′.0.number (Lose number ∷ []) g.book) g.slow g.obtrusive
+    → (g : LatchRecord) × HasDone place (Lose number ∷ []) g m′ × Flagged (all_booked m′.0.number (Lose number ∷ []) g.book) g.slow g.obtrusive
 has_lost place who number h m m′ number_is has exact known unwaited there is =
     let held = found_one (ticket_of who number h.book.granted) there in
     let held_by_me = subst (λ (w : ℕ). ticket_of w number h.book.granted ≡ Some held.0) (sym number_is) held.1 in
-    subst (λ (x : Mine). (g : Held) × HasDone place (Lose number ∷ []) g x × Flagged (all_booked x.0.number (Lose number ∷ []) g.book) g.slow g.obtrusive) (sym is)
-    (subst (λ (w : ℕ). (g : Held) × HasDone place (Lose number ∷ []) g (written place (booked w (Lose number) h.book) m) × Flagged (removing m.0.number number g.book) g.slow g.obtrusive) number_is (
+    subst (λ (x : Mine). (g : LatchRecord) × HasDone place (Lose number ∷ []) g x × Flagged (all_booked x.0.number (Lose number ∷ []) g.book) g.slow g.obtrusive) (sym is)
+    (subst (λ (w : ℕ). (g : LatchRecord) × HasDone place (Lose number ∷ []) g (written place (booked w (Lose number) h.book) m) × Flagged (removing m.0.number number g.book) g.slow g.obtrusive) number_is (
       h,
       record { holds = holds_written place h h.book (removing m.0.number number h.book) m has; act = inl known; may = (held.0, (held_by_me, unwaited)) },
       still_flagged m.0.number number h.book h.slow h.obtrusive ((λ e. exact.0 ∙ e), λ e. exact.1 ∙ e),
@@ -102,7 +102,7 @@ pub left_written : (place : ℕ) (ds : List Deed) (book : BookView) (m m′ n : 
 left_written place ds book m m′ n is left = subst (λ (x : Mine). Leaves place ds x n) is left
 
 -- and a step on the word after it was one that met the ticket
-pub met_own : (place who number : ℕ) (ds : List Deed) (h : Held) (book : BookView) (m m′ n : Mine) → held_at place m.0.latches ≡ Some h → is_some (ticket_of who number h.book.granted) ≡ true
+pub met_own : (place who number : ℕ) (ds : List Deed) (h : LatchRecord) (book : BookView) (m m′ n : Mine) → held_at place m.0.latches ≡ Some h → is_some (ticket_of who number h.book.granted) ≡ true
     → m′ ≡ written place book m → (e : Met) × IsStepOf m′ n e × (e.word ≡ lock_word place) × (e.held ≡ m′.0.latches) × (e.deeds ≡ ds)
     → (e : Met) × IsStepOf m n e × MeetsOwn place who number e × (e.deeds ≡ ds)
 met_own place who number ds h book m m′ n recorded there is step =

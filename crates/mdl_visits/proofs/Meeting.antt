@@ -7,7 +7,7 @@ use Rattle.mdl_book.specs.declared.book_view.BookView.{BookView}
 use Rattle.mdl_book.specs.Books.{ticket_count}
 use Rattle.mdl_book.specs.Tickets.{ticket_of}
 use Rattle.mdl_steps.specs.declared.deed.Deed.{Deed}
-use Rattle.mdl_steps.specs.declared.view.Held.{Held}
+use Rattle.mdl_steps.specs.declared.view.LatchRecord.{LatchRecord}
 use Rattle.mdl_steps.specs.declared.view.Met.{Met}
 use Rattle.mdl_steps.specs.Cells.{held_at}
 use Rattle.mdl_steps.specs.Layout.{lock_word}
@@ -24,7 +24,7 @@ StepUnder place ds m n = (e : Met) × IsStepOf m n e × (e.word ≡ lock_word pl
 pub step_written : (place : ℕ) (ds : List Deed) (book : BookView) (m m′ n : Mine) → m′ ≡ written place book m → StepUnder place ds m′ n → StepUnder place ds m n
 step_written place ds book m m′ n is step = subst (λ (x : Mine). StepUnder place ds x n) is step
 
-module _ (place : ℕ) (ds : List Deed) (h : Held) (m n : Mine) (recorded : held_at place m.0.latches ≡ Some h) (step : StepUnder place ds m n) where
+module _ (place : ℕ) (ds : List Deed) (h : LatchRecord) (m n : Mine) (recorded : held_at place m.0.latches ≡ Some h) (step : StepUnder place ds m n) where
   held : held_at place step.0.held ≡ Some h
   held = ap (held_at place) step.3 ∙ recorded
 

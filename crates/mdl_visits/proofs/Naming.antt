@@ -9,7 +9,7 @@ use Rattle.mdl_book.specs.Books.{empty_book, has_obtrusive, has_tickets}
 use Rattle.mdl_steps.specs.declared.slot.Slot.{Slot}
 use Rattle.mdl_steps.specs.declared.slot.Slot.TheVariants as slot
 use Rattle.mdl_steps.specs.declared.step_kind.StepKind.TheVariants.{PutLatch, TakeLatch}
-use Rattle.mdl_steps.specs.declared.view.Held.{Held}
+use Rattle.mdl_steps.specs.declared.view.LatchRecord.{LatchRecord}
 use Rattle.mdl_steps.specs.declared.view.Keys.{Keys}
 use Rattle.mdl_steps.specs.declared.view.Met.{Met}
 use Rattle.mdl_steps.specs.Layout.{latch_word}
@@ -31,7 +31,7 @@ pub same_record : (k other : Keys) (m : Mine) → m.0.directory ≡ Some k → m
 same_record k other m this that = cc
 
 -- the latch that was just taken may be given back with the empty book of the new key
-pub may_name : (place : ℕ) (key : KeyName) (k : Keys) (h : Held) (m : Mine) → IsFresh place h m → IsListed place key k m
+pub may_name : (place : ℕ) (key : KeyName) (k : Keys) (h : LatchRecord) (m : Mine) → IsFresh place h m → IsListed place key k m
     → MayName place key k h (written place (empty_book key) (latched place h m))
 may_name place key k h m fresh is =
     let next = is.next in
@@ -46,7 +46,7 @@ may_name place key k h m fresh is =
     }
 
 -- once it was given back, the key stands in the directory's record, too
-pub named_is : (place : ℕ) (key : KeyName) (k : Keys) (h : Held) (made : List Met) (old new : Mine) → h.place ≡ place → old.0.latches ≡ [] → IsListed place key k old
+pub named_is : (place : ℕ) (key : KeyName) (k : Keys) (h : LatchRecord) (made : List Met) (old new : Mine) → h.place ≡ place → old.0.latches ≡ [] → IsListed place key k old
     → AllQuiet old.0.directory made → deeds_of made ≡ [] → new ≡ named place key (written place (empty_book key) (latched place h (and_made made old)))
     → HasNamed key k old new
 named_is place key k h made old new here alone is lingered did e =
@@ -54,8 +54,8 @@ named_is place key k h made old new here alone is lingered did e =
     let gave : Met = record { kind = PutLatch; deeds = []; word = latch_word place; found = old.0.number; held = h ∷ old.0.latches; directory = option_map (listing key) old.0.directory } in
     let log : ((old.0.log ++ made) ++ took ∷ []) ++ gave ∷ [] ≡ old.0.log ++ ((made ++ took ∷ []) ++ gave ∷ []) =
     ap (λ (l : List Met). l ++ gave ∷ []) (append_assoc old.0.log made (took ∷ [])) ∙ append_assoc old.0.log (made ++ took ∷ []) (gave ∷ []) in
-    let left : List Held = filter (λ x. not (x.place == place)) (h ∷ old.0.latches) in
-    let none : filter (λ (x : Held). not (x.place == place)) old.0.latches ≡ old.0.latches = rw alone refl in
+    let left : List LatchRecord = filter (λ x. not (x.place == place)) (h ∷ old.0.latches) in
+    let none : filter (λ (x : LatchRecord). not (x.place == place)) old.0.latches ≡ old.0.latches = rw alone refl in
     let latches : left ≡ old.0.latches = elsewhere-taken place h (and_made made old) here ∙ none in
     let directory : option_map (listing key) old.0.directory ≡ Some (listing key k) = ap (option_map (listing key)) is.recorded in
     let all : List Met = (made ++ took ∷ []) ++ gave ∷ [] in
@@ -63,7 +63,7 @@ named_is place key k h made old new here alone is lingered did e =
       all,
       e
           ∙ ap (λ (l : List Met). (record old.0 { log = l; latches = left; directory = option_map (listing key) old.0.directory }, old.1)) log
-          ∙ ap (λ (hs : List Held). (record old.0 { log = old.0.log ++ all; latches = hs; directory = option_map (listing key) old.0.directory }, old.1)) latches
+          ∙ ap (λ (hs : List LatchRecord). (record old.0 { log = old.0.log ++ all; latches = hs; directory = option_map (listing key) old.0.directory }, old.1)) latches
           ∙ ap (λ (d : Option Keys). (record old.0 { log = old.0.log ++ all; directory = d }, old.1)) directory
           ∙ ap (λ (hand : List (ℕ × Slot)). (record old.0 { log = old.0.log ++ all; directory = Some (listing key k) }, hand)) is.carried,
       each_append either (made ++ took ∷ []) (gave ∷ [])
@@ -84,15 +84,15 @@ listed_at place asked listed key k old new has none next first second e =
     }))
 
 -- what a record tells of a seat doesn't hang on its list of steps
-fresh_then : (place : ℕ) (h : Held) (made : List Met) (m : Mine) → IsFresh place h m → IsFresh place h (and_made made m)
+fresh_then : (place : ℕ) (h : LatchRecord) (made : List Met) (m : Mine) → IsFresh place h m → IsFresh place h (and_made made m)
 fresh_then place h made m f = record { here = f.here; exact = f.exact; unnoted = f.unnoted; lawful = f.lawful; modes = f.modes; own = f.own; named = f.named; keyed = f.keyed; vacant = f.vacant; once = f.once; single = f.single; wished = f.wished; lost = f.lost; stands = f.stands; reads = f.reads; noted = f.noted; fast_noted = f.fast_noted; fast_few = f.fast_few; fast_plain = f.fast_plain; fast_beside = f.fast_beside }
 
 -- ---- the same along the calls, the held latch being that of the place
 
-pub holds_at : (place here : ℕ) (h : Held) (m new : Mine) → here ≡ place → h.place ≡ place → new ≡ latched place h m → Holds here h h.book new
+pub holds_at : (place here : ℕ) (h : LatchRecord) (m new : Mine) → here ≡ place → h.place ≡ place → new ≡ latched place h m → Holds here h h.book new
 holds_at place here h m new at is e = subst (λ (p : ℕ). Holds p h h.book new) (sym at) (subst (λ (x : Mine). Holds place h h.book x) (sym e) (holds_taken place h m is))
 
-module _ (place here : ℕ) (key : KeyName) (k : Keys) (h : Held) (made : List Met) (old mid next : Mine) (at : here ≡ place) (fresh : IsFresh place h old)
+module _ (place here : ℕ) (key : KeyName) (k : Keys) (h : LatchRecord) (made : List Met) (old mid next : Mine) (at : here ≡ place) (fresh : IsFresh place h old)
     (is : IsListed place key k old) (taken : mid ≡ latched place h (and_made made old)) (named_book : next ≡ written here (empty_book key) mid) where
   next_is : next ≡ written place (empty_book key) (latched place h (and_made made old))
   next_is = named_book ∙ ap (λ (x : Mine). written here (empty_book key) x) taken ∙ ap (λ (p : ℕ). written p (empty_book key) (latched place h (and_made made old))) at

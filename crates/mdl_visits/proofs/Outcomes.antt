@@ -11,7 +11,7 @@ use Rattle.mdl_calls.specs.declared.answers.Search.TheVariants.{NoCycle, Victim}
 use Rattle.mdl_graph.specs.Graphs.{deadlock_in, victim_in}
 use Rattle.mdl_graph.specs.Victims.{victim_of}
 use Rattle.mdl_steps.specs.declared.step_kind.StepKind.TheVariants.{MissWait, SettleWait}
-use Rattle.mdl_steps.specs.declared.view.Held.{Held}
+use Rattle.mdl_steps.specs.declared.view.LatchRecord.{LatchRecord}
 use Rattle.mdl_steps.specs.declared.view.Met.{Met}
 use Rattle.mdl_steps.specs.declared.view.Settlement.{Settlement}
 use Rattle.mdl_steps.specs.declared.view.View.{View}
@@ -23,7 +23,7 @@ use Rattle.mdl_visits.specs.declared.audited.Audited.{Audited}
 use Rattle.mdl_visits.specs.declared.waits_read.WaitRead.{WaitRead}
 use Rattle.mdl_visits.specs.Grantings.{StaysTold}
 use Rattle.mdl_visits.specs.Polls.{SettlesNothing}
-use Rattle.mdl_visits.specs.Searches.{AreOfAll, Fells, Hears, IsOutcome, Judges, KnowsFall, Misses, WasHeard, WasOther, books_of, heard_of, if_waited, settled_by}
+use Rattle.mdl_visits.specs.Searches.{AreOfAll, SettlesVictim, Hears, IsOutcome, Judges, KnowsVictim, Misses, WasHeard, WasOther, books_of, heard_of, if_waited, settled_by}
 use Rattle.mdl_visits.specs.Visits.{GoesOn}
 use Rattle.mdl_visits.proofs.Asking.{step_within}
 use Rattle.mdl_visits.proofs.Deadlocks.{same_if_waited}
@@ -56,8 +56,8 @@ module _ (slots session number : ℕ) (m m′ : Mine) (lost : m′ ≡ settled_l
     had = ((refl, refl), tt);
   }
 
-  pub fells_one : Fells slots session m.0.latches m m′
-  fells_one =
+  pub settles_victim : SettlesVictim slots session m.0.latches m m′
+  settles_victim =
       let e : Met = record { kind = SettleWait; deeds = []; word = wait_word slots session; found = wait_in number 1; held = m.0.latches; directory = m.0.directory } in
       record {
         wait = number;
@@ -76,7 +76,7 @@ knows_lost slots session number m m′ lost own =
     ap (λ (x : Mine). x.0.told) lost ∙ rw word (rw (eq-eqb session m.0.number own) refl)
 
 -- and it knows that as long as it is told so
-pub knows_on : (who : ℕ) (found : Search) (m m′ : Mine) → m′.0.told ≡ m.0.told → KnowsFall who found m → KnowsFall who found m′
+pub knows_on : (who : ℕ) (found : Search) (m m′ : Mine) → m′.0.told ≡ m.0.told → KnowsVictim who found m → KnowsVictim who found m′
 knows_on who NoCycle m m′ same knows = tt
 knows_on who (Victim victim) m m′ same knows = λ own. same ∙ knows own
 
@@ -124,17 +124,17 @@ other_after slots a b c None before none = tt
 other_after slots a b c (Some h) before (inl settled) = inl settled
 other_after slots a b c (Some h) before (inr met) = inr (met.0, step_after a b c before met.0 met.1, met.2)
 
-pub misses : (id : TableId) (who victim : ℕ) (latches : List Held) (audited : List Audited) (words : List WaitRead) (a b c : Mine) → AreOfAll id words → All (WasHeard id.slots latches a c) words
+pub misses : (id : TableId) (who victim : ℕ) (latches : List LatchRecord) (audited : List Audited) (words : List WaitRead) (a b c : Mine) → AreOfAll id words → All (WasHeard id.slots latches a c) words
     → victim_in (settled_by words) (books_of audited) who ≡ Some victim → GoesOn a b → IfSome (heard_of victim words) (WasOther id.slots b c) → Misses id who latches audited a c
 misses id who victim latches audited words a b c all heard found before met =
     record { words = words; all = all; heard = heard; victim = victim; found = found; other = other_after id.slots a b c (heard_of victim words) before met }
 
 -- ---- of a call that did something before and after
 
-module _ (slots who : ℕ) (latches : List Held) (audited : List Audited) (words : List WaitRead) (a b c d : Mine)
+module _ (slots who : ℕ) (latches : List LatchRecord) (audited : List Audited) (words : List WaitRead) (a b c d : Mine)
     (before : GoesOn a b) (same : b.0.settles ≡ a.0.settles) (after : GoesOn c d) (kept : d.0.settles ≡ c.0.settles) where
-  pub fells_within : (victim : ℕ) → Fells slots victim latches b c → Fells slots victim latches a d
-  fells_within victim fells = record {
+  pub victim_within : (victim : ℕ) → SettlesVictim slots victim latches b c → SettlesVictim slots victim latches a d
+  victim_within victim fells = record {
     wait = fells.wait;
     settles = kept ∙ fells.settles ∙ ap (λ (all : List Settlement). all ++ record { session = victim; wait = fells.wait; state = 3 } ∷ []) same;
     moment = fells.moment;
@@ -146,9 +146,9 @@ module _ (slots who : ℕ) (latches : List Held) (audited : List Audited) (words
 
   outcome_within : (found : Search) → IsOutcome slots who latches audited words b c found → IsOutcome slots who latches audited words a d found
   outcome_within NoCycle none = (none.0, kept ∙ none.1 ∙ same)
-  outcome_within (Victim victim) one = (one.0, fells_within victim one.1)
+  outcome_within (Victim victim) one = (one.0, victim_within victim one.1)
 
-pub judges_within : (id : TableId) (who : ℕ) (latches : List Held) (audited : List Audited) (found : Search) (a b c d : Mine) → GoesOn a b → b.0.settles ≡ a.0.settles
+pub judges_within : (id : TableId) (who : ℕ) (latches : List LatchRecord) (audited : List Audited) (found : Search) (a b c d : Mine) → GoesOn a b → b.0.settles ≡ a.0.settles
     → GoesOn c d → d.0.settles ≡ c.0.settles → Judges id who latches audited found b c → Judges id who latches audited found a d
 judges_within id who latches audited found a b c d before same after kept judges = record {
   words = judges.words;
@@ -160,7 +160,7 @@ judges_within id who latches audited found a b c d before same after kept judges
 -- ---- by fewer books
 
 -- what is judged without a book by which nobody waits is judged with it
-pub judges_if_waited : (id : TableId) (who : ℕ) (latches : List Held) (one : Audited) (before after : List Audited) (found : Search) (m m′ : Mine)
+pub judges_if_waited : (id : TableId) (who : ℕ) (latches : List LatchRecord) (one : Audited) (before after : List Audited) (found : Search) (m m′ : Mine)
     → Judges id who latches ((before ++ if_waited one) ++ after) found m m′ → Judges id who latches (before ++ one ∷ after) found m m′
 judges_if_waited id who latches one before after found m m′ judges = record {
   words = judges.words;

@@ -5,7 +5,7 @@ use Rattle.mdl_key.specs.Words.{KeyName}
 use Rattle.mdl_defs.specs.Standings.{MayStand}
 use Rattle.mdl_defs.specs.declared.standing.Standing.{Standing}
 use Rattle.mdl_steps.specs.declared.step_kind.StepKind.TheVariants.{PutLatch}
-use Rattle.mdl_steps.specs.declared.view.Held.{Held}
+use Rattle.mdl_steps.specs.declared.view.LatchRecord.{LatchRecord}
 use Rattle.mdl_steps.specs.declared.view.Met.{Met}
 use Rattle.mdl_steps.specs.Cells.{held_at}
 use Rattle.mdl_steps.specs.Layout.{latch_word}
@@ -22,7 +22,7 @@ ok_told (Ok a) follows told = follows a told
 ok_told (Err e) follows told = tt
 
 -- what the holder of a fresh latch is told of what it read and noted
-pub follows : {place : ℕ} {h : Held} {m : Mine} → IsFresh place h m → Follows place h.book.standing m
+pub follows : {place : ℕ} {h : LatchRecord} {m : Mine} → IsFresh place h m → Follows place h.book.standing m
 follows {place} {h} {m} fresh = record {
   reads = fresh.reads;
   fits = λ i k at here. subst (λ (key : KeyName). MayStand key.namespace h.book.standing) (fresh.named i k at here) fresh.stands;
@@ -45,7 +45,7 @@ module _ (place : ℕ) (standing : Standing) (m m′ m″ : Mine) (inside : IsIn
     none_then inside.made (puts ∷ []) [] inside.did refl,
   )
 
-  pub meets_standing : (h : Held) (who : ℕ) → m.0.number ≡ who → IsFresh place h m → held_at place m′.0.latches ≡ Some h → standing ≡ h.book.standing
+  pub meets_standing : (h : LatchRecord) (who : ℕ) → m.0.number ≡ who → IsFresh place h m → held_at place m′.0.latches ≡ Some h → standing ≡ h.book.standing
       → (e : Met) × IsStepOf m m″ e × MeetsStanding place who standing e × WereHeld place who m e
   unfolding puts
   meets_standing h who mine fresh recorded stands = let held : held_at place inside.latches ≡ Some h = ap (λ (x : Mine). held_at place x.0.latches) (sym inside.now) ∙ recorded in (

@@ -16,7 +16,7 @@ use Rattle.mdl_book.specs.SessionSets.{IsEverySession}
 use Rattle.mdl_book.specs.Tickets.{ticket_id, ticket_of}
 use Rattle.mdl_steps.specs.declared.step_kind.StepKind.{StepKind}
 use Rattle.mdl_steps.specs.declared.step_kind.StepKind.TheVariants.{ReadWait, ReadWord}
-use Rattle.mdl_steps.specs.declared.view.Held.{Held}
+use Rattle.mdl_steps.specs.declared.view.LatchRecord.{LatchRecord}
 use Rattle.mdl_steps.specs.declared.view.Met.{Met}
 use Rattle.mdl_steps.specs.Layout.{lock_word, wait_word}
 use Rattle.mdl_steps.specs.Plays.{Mine, changed, noting, stepped}
@@ -24,21 +24,21 @@ use Rattle.mdl_steps.specs.Seats.{Holds, written}
 use Rattle.mdl_steps.specs.WaitPlays.{met_wait_by, settled_granted, wait_in, with_admitted, TellsOwn}
 use Rattle.mdl_steps.proofs.Hands.{holds_written}
 use Rattle.mdl_steps.proofs.Views.{other}
-use Rattle.mdl_visits.specs.Grantings.{AreTried, ForgetsNobody, HasJustMet, IsGrantedFrom, IsLookedThrough, IsReady, IsServed, IsTried, MakesWayInTurn, MayServe, MeetsWaiter, OnlyMeets, ahead_of}
+use Rattle.mdl_visits.specs.Grantings.{AreTried, ForgetsNobody, HasJustMet, IsGrantedFrom, IsLookedThrough, IsReady, IsTriedOrGranted, IsTried, ReschedulesInTurn, MayReschedule, MeetsWaiter, OnlyMeets, ahead_of}
 use Rattle.mdl_visits.specs.Visits.{GoesOn, IsStepOf}
 use Rattle.mdl_visits.proofs.Losing.{taken_out}
 use Rattle.mdl_visits.proofs.Steps.{goes_by, step_after, step_before}
-use Rattle.mdl_visits.proofs.Waiting.{found_number, gone, nobody_next, none_ahead, not_ready, only_one, serves_on, waits_ahead, waits_still}
-use Rattle.mdl_visits.proofs.Way.{looked_within, settled_within, way_granted, way_met, way_then, way_written}
+use Rattle.mdl_visits.proofs.Waiting.{found_number, gone, nobody_next, none_ahead, not_ready, only_one, grants_on, waits_ahead, waits_still}
+use Rattle.mdl_visits.proofs.Way.{looked_within, settled_within, rescheduled_granted, rescheduled_met, rescheduled_then, rescheduled_written}
 
 -- a seat has one record of a place's latch
-pub one_record : (place : ℕ) (h g : Held) (m : Mine) → Holds place h h.book m → Holds place g g.book m → h ≡ g
+pub one_record : (place : ℕ) (h g : LatchRecord) (m : Mine) → Holds place h h.book m → Holds place g g.book m → h ≡ g
 one_record place h g m x y = same h g (sym x.recorded ∙ y.recorded)
   where
-    same : (h g : Held) → Some h ≡ Some g → h ≡ g
+    same : (h g : LatchRecord) → Some h ≡ Some g → h ≡ g
     same h g e = cc
 
-pub holds_met : (kind : StepKind) (slots place session found : ℕ) (h : Held) (m m′ : Mine) → m′ ≡ met_wait_by kind slots session found m → Holds place h h.book m → Holds place h h.book m′
+pub holds_met : (kind : StepKind) (slots place session found : ℕ) (h : LatchRecord) (m m′ : Mine) → m′ ≡ met_wait_by kind slots session found m → Holds place h h.book m → Holds place h h.book m′
 holds_met kind slots place session found h m m′ is has =
     subst (λ (x : Mine). Holds place h h.book x) (sym is) (record { recorded = has.recorded; carried = has.carried })
 
@@ -46,7 +46,7 @@ some_is : (o : Option Ticket) (t : Ticket) → o ≡ Some t → is_some o ≡ tr
 some_is o t e = ap is_some e
 
 -- a step that only met a wait's word, while its ticket waits there, and what was met
-pub waiter_met : (kind : StepKind) → OnlyMeets kind → (slots place session number found : ℕ) (h : Held) (m m′ : Mine) → m′ ≡ met_wait_by kind slots session found m → Holds place h h.book m → IsReady session number h
+pub waiter_met : (kind : StepKind) → OnlyMeets kind → (slots place session number found : ℕ) (h : LatchRecord) (m m′ : Mine) → m′ ≡ met_wait_by kind slots session found m → Holds place h h.book m → IsReady session number h
     → (e : Met) × IsStepOf m m′ e × MeetsWaiter slots place session number e × (e.found ≡ found)
 waiter_met kind only slots place session number found h m m′ is has ready =
     let e : Met = record { kind = kind; deeds = []; word = wait_word slots session; found = found; held = m.0.latches; directory = m.0.directory } in (
@@ -59,39 +59,39 @@ waiter_met kind only slots place session number found h m m′ is has ready =
 -- ---- the exchange
 
 -- a ticket that can be granted waits there, so the book in hand has it granted
-pub admitted_there : {P : Type 0} (session number : ℕ) (h : Held) (result : Result Ticket BookError) → IsReady session number h → result ≡ ok_or (ticket_of session number h.book.waiting) NotHere → OnOk result P → P
+pub admitted_there : {P : Type 0} (session number : ℕ) (h : LatchRecord) (result : Result Ticket BookError) → IsReady session number h → result ≡ ok_or (ticket_of session number h.book.waiting) NotHere → OnOk result P → P
 admitted_there session number h result ready refused done =
     taken_out (ticket_of session number h.book.waiting) NotHere result (some_is (ticket_of session number h.book.waiting) ready.wish ready.waits) refused done
 
-module _ (id : TableId) (place session number wait count : ℕ) (h : Held) (m a b : Mine) (has : Holds place h h.book m) (ready : IsReady session number h) (just : HasJustMet id.slots place session h m)
+module _ (id : TableId) (place session number wait count : ℕ) (h : LatchRecord) (m a b : Mine) (has : Holds place h h.book m) (ready : IsReady session number h) (just : HasJustMet id.slots place session h m)
     (made : a ≡ settled_granted id.slots place session number count m) (keeps : Holds place (with_admitted session number h) h.book a)
     (own : TellsOwn id.slots session (wait_in count 1) m.0) (admitted : b ≡ written place (admitting session number h.book) a) where
-  pub is_admitted : (g : Held) → Holds place g g.book m → IsGrantedFrom id.slots place session number wait g m b
+  pub is_admitted : (g : LatchRecord) → Holds place g g.book m → IsGrantedFrom id.slots place session number wait g m b
   is_admitted g mine =
-      subst (λ (x : Held). IsGrantedFrom id.slots place session number wait x m b) (one_record place h g m has mine)
+      subst (λ (x : LatchRecord). IsGrantedFrom id.slots place session number wait x m b) (one_record place h g m has mine)
       (inr (subst (λ (x : Mine). Holds place (with_admitted session number h) (admitting session number h.book) x) (sym admitted)
       (holds_written place (with_admitted session number h) h.book (admitting session number h.book) a keeps)))
 
-  pub way_admitted : MakesWayInTurn id place session number m b
-  way_admitted start g mine looked =
-      way_then id place start m a b
-      (way_granted id place start session number count h h.book m a has ready just
-      (subst (λ (x : Held). IsLookedThrough id place x (ahead_of session number x.book.waiting) start m) (one_record place g h m mine has) looked)
+  pub rescheduled_admitted : ReschedulesInTurn id place session number m b
+  rescheduled_admitted start g mine looked =
+      rescheduled_then id place start m a b
+      (rescheduled_granted id place start session number count h h.book m a has ready just
+      (subst (λ (x : LatchRecord). IsLookedThrough id place x (ahead_of session number x.book.waiting) start m) (one_record place g h m mine has) looked)
       made (found_number session number h.book.waiting ready.wish ready.waits) own)
-      (way_written id place start h.book (admitting session number h.book) a b keeps.carried admitted)
+      (rescheduled_written id place start h.book (admitting session number h.book) a b keeps.carried admitted)
 
-module _ (kind : StepKind) (only : OnlyMeets kind) (id : TableId) (place session number word : ℕ) (h : Held) (m a : Mine) (has : Holds place h h.book m) (ready : IsReady session number h)
+module _ (kind : StepKind) (only : OnlyMeets kind) (id : TableId) (place session number word : ℕ) (h : LatchRecord) (m a : Mine) (has : Holds place h h.book m) (ready : IsReady session number h)
     (is : a ≡ met_wait_by kind id.slots session word m) where
   -- it met another word
-  pub is_missed : (wait : ℕ) → word ≢ wait → (g : Held) → Holds place g g.book m → IsGrantedFrom id.slots place session number wait g m a
+  pub is_missed : (wait : ℕ) → word ≢ wait → (g : LatchRecord) → Holds place g g.book m → IsGrantedFrom id.slots place session number wait g m a
   is_missed wait other g mine =
       let step = waiter_met kind only id.slots place session number word h m a is has ready in
-      subst (λ (x : Held). IsGrantedFrom id.slots place session number wait x m a) (one_record place h g m has mine)
+      subst (λ (x : LatchRecord). IsGrantedFrom id.slots place session number wait x m a) (one_record place h g m has mine)
       (inl ((step.0, step.1, step.2, λ same. other (sym step.3 ∙ same)), holds_met kind id.slots place session word h m a is has))
 
   -- a step that met the word makes way
-  pub way_missed : TellsOwn id.slots session word m.0 → MakesWayInTurn id place session number m a
-  way_missed own start g mine looked = way_met id place start kind only session word g.book m a mine.carried own is
+  pub rescheduling_missed : TellsOwn id.slots session word m.0 → ReschedulesInTurn id place session number m a
+  rescheduling_missed own start g mine looked = rescheduled_met id place start kind only session word g.book m a mine.carried own is
 
   -- ---- the read before it
 
@@ -103,10 +103,10 @@ module _ (kind : StepKind) (only : OnlyMeets kind) (id : TableId) (place session
       (m.0.log, record { kind = kind; deeds = []; word = wait_word id.slots session; found = word; held = m.0.latches; directory = m.0.directory }, ap (λ (x : Mine). x.0.log) is, read, refl, has.recorded)
 
   -- it met the wait settled
-  pub is_settled : word % 8 ≢ 1 → (g : Held) → Holds place g g.book m → IsServed id place session number g m a
+  pub is_settled : word % 8 ≢ 1 → (g : LatchRecord) → Holds place g g.book m → IsTriedOrGranted id place session number g m a
   is_settled state g mine =
       let step = waiter_met kind only id.slots place session number word h m a is has ready in
-      subst (λ (x : Held). IsServed id place session number x m a) (one_record place h g m has mine)
+      subst (λ (x : LatchRecord). IsTriedOrGranted id place session number x m a) (one_record place h g m has mine)
       (inl (
         inr (record {
           read = step.0;
@@ -121,7 +121,7 @@ module _ (kind : StepKind) (only : OnlyMeets kind) (id : TableId) (place session
       ))
 
   -- it met the wait unsettled, and the exchange was tried
-  pub is_tried : (b : Mine) → word % 8 ≡ 1 → ((g : Held) → Holds place g g.book a → IsGrantedFrom id.slots place session number word g a b) → (g : Held) → Holds place g g.book m → IsServed id place session number g m b
+  pub is_tried : (b : Mine) → word % 8 ≡ 1 → ((g : LatchRecord) → Holds place g g.book a → IsGrantedFrom id.slots place session number word g a b) → (g : LatchRecord) → Holds place g g.book m → IsTriedOrGranted id place session number g m b
   is_tried b state tried g mine = elim (tried g (holds_met kind id.slots place session word g m a is mine)) [
     | inl missed ↦
         let step = waiter_met kind only id.slots place session number word h m a is has ready in
@@ -141,15 +141,15 @@ module _ (kind : StepKind) (only : OnlyMeets kind) (id : TableId) (place session
     | inr granted ↦ inr granted
   ]
 
-  pub way_tried : (b : Mine) → TellsOwn id.slots session word m.0 → MakesWayInTurn id place session number a b → MakesWayInTurn id place session number m b
-  way_tried b own way start g mine looked =
-      way_then id place start m a b (way_missed own start g mine looked)
+  pub rescheduled_tried : (b : Mine) → TellsOwn id.slots session word m.0 → ReschedulesInTurn id place session number a b → ReschedulesInTurn id place session number m b
+  rescheduled_tried b own way start g mine looked =
+      rescheduled_then id place start m a b (rescheduling_missed own start g mine looked)
       (way start g (holds_met kind id.slots place session word g m a is mine) (looked_within start m start a (step_before start m a goes) id place g (ahead_of session number g.book.waiting) looked))
 
 -- ---- turn by turn
 
 -- at first nobody was tried
-pub tried_first : (id : TableId) (place : ℕ) (untried : set.FinSet nat_cmp) (h : Held) (m a : Mine) → IsEverySession untried → AreTried id place untried h m a
+pub tried_first : (id : TableId) (place : ℕ) (untried : set.FinSet nat_cmp) (h : LatchRecord) (m a : Mine) → IsEverySession untried → AreTried id place untried h m a
 tried_first id place untried h m a every t among is out = absurd (let there = every t.session in cc)
 
 -- who was taken out of the set is the last one or was before
@@ -165,8 +165,8 @@ fewer_untried untried session there =
     let some : set.len untried ≢ 0 = λ none. (let empty = ap (λ s. set.contains s session) (set.empty_of_len untried none) ∙ set.contains-empty nat_cmp session in absurd (cc)) in
     omega arith
 
-module _ (id : TableId) (place session number word : ℕ) (h : Held) (m a b : Mine) (untried : set.FinSet nat_cmp) (before : GoesOn m a) (more : GoesOn a b) (has : Holds place h h.book a) (may : MayServe word h)
-    (ready : IsReady session number h) (served : IsServed id place session number h a b) (tried : AreTried id place untried h m a) where
+module _ (id : TableId) (place session number word : ℕ) (h : LatchRecord) (m a b : Mine) (untried : set.FinSet nat_cmp) (before : GoesOn m a) (more : GoesOn a b) (has : Holds place h h.book a) (may : MayReschedule word h)
+    (ready : IsReady session number h) (served : IsTriedOrGranted id place session number h a b) (tried : AreTried id place untried h m a) where
   -- who was tried before was tried
   still : (who its : ℕ) → IsTried id place who its m a → IsTried id place who its m b
   still who its (inl none) = inl none
@@ -176,7 +176,7 @@ module _ (id : TableId) (place session number word : ℕ) (h : Held) (m a b : Mi
   it (inl none) = inl none
   it (inr settled) = inr (settled_within a b m b (step_after m a b before) id.slots place session number settled)
 
-  pub turn_done : (h′ : Held) × Holds place h′ h′.book b × MayServe word h′ × AreTried id place (set.remove untried session) h′ m b
+  pub turn_done : (h′ : LatchRecord) × Holds place h′ h′.book b × MayReschedule word h′ × AreTried id place (set.remove untried session) h′ m b
   turn_done = elim served [
     | inl left ↦ (
       h,
@@ -192,7 +192,7 @@ module _ (id : TableId) (place session number word : ℕ) (h : Held) (m a b : Mi
     | inr granted ↦ (
       with_admitted session number h,
       granted,
-      serves_on word session number h ready.wish ready.waits may,
+      grants_on word session number h ready.wish ready.waits may,
       λ t among is out. elim (cases_eq t.session session) [
         | inl same ↦ absurd (gone word session number h ready.wish t ready.waits may among same)
         | inr differs ↦ still t.session t.number (tried t (waits_still session number h t among) is (out_before untried session t.session differs out))
@@ -214,7 +214,7 @@ read_first place word m m′ is =
 pub read_before : (place word : ℕ) (a b c : Mine) → GoesOn b c → WasRead place word a b → WasRead place word a c
 read_before place word a b c more read = (read.0, step_before a b c more read.0 read.1, read.2, read.3, read.4)
 
-module _ (id : TableId) (place word : ℕ) (untried : set.FinSet nat_cmp) (h : Held) (m a : Mine) (may : MayServe word h) (read : WasRead place word m a) (tried : AreTried id place untried h m a) where
+module _ (id : TableId) (place word : ℕ) (untried : set.FinSet nat_cmp) (h : LatchRecord) (m a : Mine) (may : MayReschedule word h) (read : WasRead place word m a) (tried : AreTried id place untried h m a) where
   -- those of whom none is next
   looks : (tickets : List Ticket) → ((t : Ticket) → Contains tickets t → Contains h.book.waiting t) → find (is_ready word untried h.book) tickets ≡ None → IsLookedThrough id place h tickets m a
   looks tickets waits none = record {

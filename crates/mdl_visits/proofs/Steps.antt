@@ -3,7 +3,7 @@ use Rattle.std.proofs.Common.{◌≡◌, ℕ, List, [], ◌∷◌, ◌++◌, ref
 use Rattle.std.specs.Prelude.{Option}
 use Rattle.mdl_steps.specs.declared.deed.Deed.{Deed}
 use Rattle.mdl_steps.specs.declared.step_kind.StepKind.TheVariants.{PutLatch, TakeLatch}
-use Rattle.mdl_steps.specs.declared.view.Held.{Held}
+use Rattle.mdl_steps.specs.declared.view.LatchRecord.{LatchRecord}
 use Rattle.mdl_steps.specs.declared.view.Keys.{Keys}
 use Rattle.mdl_steps.specs.declared.view.Met.{Met}
 use Rattle.mdl_steps.specs.Layout.{latch_word}
@@ -100,7 +100,7 @@ pub quiet_one : (e : Met) (m m′ : Mine) → m′.0.log ≡ m.0.log ++ e ∷ []
 quiet_one e m m′ log quiet = (e ∷ [], log, (quiet, tt))
 
 -- the latch of a place is taken
-pub quiet_taken : (place : ℕ) (h : Held) (made : List Met) (a b : Mine) → AllQuiet a.0.directory made → b ≡ latched place h (and_made made a) → StaysQuiet a b
+pub quiet_taken : (place : ℕ) (h : LatchRecord) (made : List Met) (a b : Mine) → AllQuiet a.0.directory made → b ≡ latched place h (and_made made a) → StaysQuiet a b
 quiet_taken place h made a b had taken =
     let took : Met = record { kind = TakeLatch; deeds = []; word = latch_word place; found = 0; held = h ∷ a.0.latches; directory = a.0.directory } in (
       made ++ took ∷ [],
@@ -109,7 +109,7 @@ quiet_taken place h made a b had taken =
     )
 
 -- it is taken, something is done, and it is given back
-pub quiet_there : (place : ℕ) (h : Held) (made : List Met) (a b c d : Mine) → AllQuiet a.0.directory made → b ≡ latched place h (and_made made a) → StaysQuiet b c
+pub quiet_there : (place : ℕ) (h : LatchRecord) (made : List Met) (a b c d : Mine) → AllQuiet a.0.directory made → b ≡ latched place h (and_made made a) → StaysQuiet b c
     → c.0.directory ≡ b.0.directory → d ≡ unlatched place [] c → StaysQuiet a d
 quiet_there place h made a b c d had taken inside same put =
     let gave : Met = record { kind = PutLatch; deeds = []; word = latch_word place; found = c.0.number; held = c.0.latches; directory = c.0.directory } in

@@ -18,7 +18,7 @@ use Rattle.mdl_book.specs.Tickets.{ticket_of}
 use Rattle.mdl_steps.specs.declared.deed.Deed.{Deed}
 use Rattle.mdl_steps.specs.declared.deed.Deed.TheVariants.{Gain, Alter}
 use Rattle.mdl_steps.specs.declared.step_kind.StepKind.TheVariants.{PutLatch, ReadWord}
-use Rattle.mdl_steps.specs.declared.view.Held.{Held}
+use Rattle.mdl_steps.specs.declared.view.LatchRecord.{LatchRecord}
 use Rattle.mdl_steps.specs.declared.view.Met.{Met}
 use Rattle.mdl_steps.specs.Deeds.{MayBeGranted, MayDo, MayJoin, MayUpgrade, booked}
 use Rattle.mdl_steps.specs.Layout.{latch_word, lock_word}
@@ -79,7 +79,7 @@ refusal T ticket word book cause stands refuses =
 module _ (place word session number : ℕ) (mode : Mode) (kind : Kind) (asks : Bool) (m m′ : Mine) (entered : Enters place asks word m m′)
     (knows : KnowsKind m.0 place kind) (is_mode : is_mode_of kind mode ≡ true) (is : asks ≡ is_obtrusive kind mode) where
   -- the record of the latch, as the wish is tested
-  abbrev latch : Held
+  abbrev latch : LatchRecord
   latch = noting word (raised true asks entered.found)
 
   abbrev book : BookView

@@ -6,7 +6,7 @@ use Rattle.mdl_steps.specs.declared.deed.Deed.{Deed}
 use Rattle.mdl_steps.specs.declared.slot.Slot.TheVariants as slot
 use Rattle.mdl_steps.specs.declared.step_kind.StepKind.{StepKind}
 use Rattle.mdl_steps.specs.declared.step_kind.StepKind.TheVariants.{MissLatch, PutLatch, RaiseFlags, ReadWord, TakeLatch}
-use Rattle.mdl_steps.specs.declared.view.Held.{Held}
+use Rattle.mdl_steps.specs.declared.view.LatchRecord.{LatchRecord}
 use Rattle.mdl_steps.specs.declared.view.Met.{Met}
 use Rattle.mdl_steps.specs.Deeds.{all_done}
 use Rattle.mdl_steps.specs.Layout.{latch_word, lock_word}
@@ -43,16 +43,16 @@ lingers_one place found m m′ m″ steps met =
 -- ---- inside
 
 -- a book of a place in hand, other records of latches and other steps
-abbrev pub inside_at : ℕ → List Held → BookView → Mine → List Met → Mine
+abbrev pub inside_at : ℕ → List LatchRecord → BookView → Mine → List Met → Mine
 inside_at place latches book m log = (record m.0 { latches = latches; log = log }, (place, slot.Place book) ∷ m.1)
 
 -- what a latch's record tells as it is taken doesn't hang on the steps before
-pub fresh_before : (place : ℕ) (h : Held) (m m′ : Mine) → MakesSteps m m′ → IsFresh place h m′ → IsFresh place h m
+pub fresh_before : (place : ℕ) (h : LatchRecord) (m m′ : Mine) → MakesSteps m m′ → IsFresh place h m′ → IsFresh place h m
 fresh_before place h m m′ steps fresh =
     let f : IsFresh place h (and_made steps.0 m) = subst (IsFresh place h) steps.1 fresh in
     record { here = f.here; exact = f.exact; unnoted = f.unnoted; lawful = f.lawful; modes = f.modes; own = f.own; named = f.named; keyed = f.keyed; vacant = f.vacant; once = f.once; single = f.single; wished = f.wished; lost = f.lost; stands = f.stands; reads = f.reads; noted = f.noted; fast_noted = f.fast_noted; fast_few = f.fast_few; fast_plain = f.fast_plain; fast_beside = f.fast_beside }
 
-pub inside_taken : (place : ℕ) (h : Held) (m m′ : Mine) (made : List Met) → IsRising place m → h.place ≡ place → m′ ≡ latched place h (and_made made m) → deeds_of made ≡ [] → IsInside place m m′
+pub inside_taken : (place : ℕ) (h : LatchRecord) (m m′ : Mine) (made : List Met) → IsRising place m → h.place ≡ place → m′ ≡ latched place h (and_made made m) → deeds_of made ≡ [] → IsInside place m m′
 inside_taken place h m m′ made rising here taken did =
     let e : Met = record { kind = TakeLatch; deeds = []; word = latch_word place; found = 0; held = h ∷ m.0.latches; directory = m.0.directory } in
     record {
@@ -65,14 +65,14 @@ inside_taken place h m m′ made rising here taken did =
     }
 
 -- at none of these steps a latch was given back or a flag raised
-pub stays_taken : (place : ℕ) (h : Held) (m m′ : Mine) (made : List Met) → m′ ≡ latched place h (and_made made m) → Each StaysThere made → StaysOn m m′
+pub stays_taken : (place : ℕ) (h : LatchRecord) (m m′ : Mine) (made : List Met) → m′ ≡ latched place h (and_made made m) → Each StaysThere made → StaysOn m m′
 stays_taken place h m m′ made taken stayed =
     let e : Met = record { kind = TakeLatch; deeds = []; word = latch_word place; found = 0; held = h ∷ m.0.latches; directory = m.0.directory } in
     (made ++ e ∷ [], ap (λ (x : Mine). x.0.log) taken ∙ append_assoc m.0.log made (e ∷ []), each_append StaysThere made (e ∷ []) stayed ((refl, refl), tt))
 
-pub inside_stepped : (kind : StepKind) (place found : ℕ) (f : Held → Held) (m m′ m″ : Mine) → ((h : Held) → (f h).place ≡ h.place) → IsInside place m m′ → m″ ≡ stepped kind place found f m′ → IsInside place m m″
+pub inside_stepped : (kind : StepKind) (place found : ℕ) (f : LatchRecord → LatchRecord) (m m′ m″ : Mine) → ((h : LatchRecord) → (f h).place ≡ h.place) → IsInside place m m′ → m″ ≡ stepped kind place found f m′ → IsInside place m m″
 inside_stepped kind place found f m m′ m″ stays inside made =
-    let latches = map (λ (h : Held). cond (h.place == place) (f h) h) inside.latches in
+    let latches = map (λ (h : LatchRecord). cond (h.place == place) (f h) h) inside.latches in
     let e : Met = record { kind = kind; deeds = []; word = lock_word place; found = found; held = latches; directory = m.0.directory } in
     let log = m.0.log ++ inside.made in
     record {
@@ -109,7 +109,7 @@ visits_put place ds m m′ m″ inside put =
 
 -- ---- as it was entered
 
-pub enters : (place found word : ℕ) (obtrusive : Bool) (h : Held) (m a b c : Mine) → IsFresh place h m → IsInside place m a → b ≡ stepped (RaiseFlags true obtrusive) place found (raised true obtrusive) a
+pub enters : (place found word : ℕ) (obtrusive : Bool) (h : LatchRecord) (m a b c : Mine) → IsFresh place h m → IsInside place m a → b ≡ stepped (RaiseFlags true obtrusive) place found (raised true obtrusive) a
     → c ≡ stepped ReadWord place word (noting word) b → Holds place (noting word (raised true obtrusive h)) h.book c → Enters place obtrusive word m c
 enters place found word obtrusive h m a b c fresh inside raise read holds =
     let up = inside_stepped (RaiseFlags true obtrusive) place found (raised true obtrusive) m a b (λ x. refl) inside raise in

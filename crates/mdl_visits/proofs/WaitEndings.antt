@@ -12,7 +12,7 @@ use Rattle.mdl_book.specs.Tickets.{is_ticket, ticket_of, without}
 use Rattle.mdl_steps.specs.declared.slot.Slot.TheVariants as slot
 use Rattle.mdl_steps.specs.declared.step_kind.StepKind.TheVariants.{EndWait}
 use Rattle.mdl_steps.specs.declared.view.Ask.{Ask}
-use Rattle.mdl_steps.specs.declared.view.Held.{Held}
+use Rattle.mdl_steps.specs.declared.view.LatchRecord.{LatchRecord}
 use Rattle.mdl_steps.specs.declared.view.Met.{Met}
 use Rattle.mdl_steps.specs.Deeds.{all_booked}
 use Rattle.mdl_steps.specs.Layout.{wait_word}
@@ -25,11 +25,11 @@ use Rattle.mdl_steps.proofs.Hands.{holds_written}
 use Rattle.mdl_steps.proofs.Tickets.{once-without, without-miss}
 use Rattle.mdl_steps.proofs.Views.{by_bool}
 use Rattle.mdl_visits.specs.WaitEndings.{EndsLost, EndsThere, MayEnd, idle, without_wait}
-use Rattle.mdl_visits.specs.Grantings.{LeavesWay, StandsOnce, WaitsOnce}
+use Rattle.mdl_visits.specs.Grantings.{ReschedulesAndLeaves, StandsOnce, WaitsOnce}
 use Rattle.mdl_visits.specs.Visits.{IsInside, StaysOn}
 use Rattle.mdl_visits.proofs.Losing.{any_before, no_longer}
 use Rattle.mdl_visits.proofs.Waiting.{found_before}
-use Rattle.mdl_visits.proofs.WayOut.{visits_for_way, waits_once, way_after}
+use Rattle.mdl_visits.proofs.Rescheduling.{visits_and_reschedules, waits_once, rescheduled_after}
 
 -- ---- the book
 
@@ -81,7 +81,7 @@ stands_less session number ts stands = record {
 
 -- ---- the steps
 
-module _ (place : ℕ) (h : Held) (m m₁ m₂ : Mine) (may : MayEnd place h m) (wrote : m₁ ≡ written place (cancelling m.0.number may.may.ask.number h.book) m) where
+module _ (place : ℕ) (h : LatchRecord) (m m₁ m₂ : Mine) (may : MayEnd place h m) (wrote : m₁ ≡ written place (cancelling m.0.number may.may.ask.number h.book) m) where
   pub holds_less : Holds place h (cancelling m.0.number may.may.ask.number h.book) m₁
   holds_less =
       subst (Holds place h (cancelling m.0.number may.may.ask.number h.book)) (sym wrote)
@@ -94,7 +94,7 @@ module _ (place : ℕ) (h : Held) (m m₁ m₂ : Mine) (may : MayEnd place h m) 
 
   -- the latch may be given back
   pub may_settle : Holds place (with_cancelled m₁.0.number may.may.ask.number h) (cancelling m.0.number may.may.ask.number h.book) m₂
-      → (g : Held) × HasDone place [] g m₂ × Flagged (all_booked m₂.0.number [] g.book) g.slow g.obtrusive
+      → (g : LatchRecord) × HasDone place [] g m₂ × Flagged (all_booked m₂.0.number [] g.book) g.slow g.obtrusive
   may_settle holds =
       let same : m₁.0.number ≡ m.0.number = ap (λ (x : Mine). x.0.number) wrote in (
         with_cancelled m.0.number may.may.ask.number h,
@@ -111,7 +111,7 @@ module _ (place : ℕ) (h : Held) (m m₁ m₂ : Mine) (may : MayEnd place h m) 
   waits_less holds once =
       waits_once place (with_cancelled m₁.0.number may.may.ask.number h) m₂ holds.recorded (stands_less m₁.0.number may.may.ask.number h.book.waiting once)
 
-  pub ends_there : (id : TableId) (slots state : ℕ) (m₃ : Mine) → m₂ ≡ ended_lost slots place may.may.ask.number state m₁ → elsewhere place m₂ ≡ elsewhere place m₁ → LeavesWay id place [] m₂ m₃
+  pub ends_there : (id : TableId) (slots state : ℕ) (m₃ : Mine) → m₂ ≡ ended_lost slots place may.may.ask.number state m₁ → elsewhere place m₂ ≡ elsewhere place m₁ → ReschedulesAndLeaves id place [] m₂ m₃
       → EndsThere id place m m₃
   ends_there id slots state m₃ ended apart left =
       let e : Met = record { kind = EndWait; deeds = []; word = wait_word slots m.0.number; found = wait_in m.0.waits state; held = m.0.latches; directory = m.0.directory } in
@@ -126,14 +126,14 @@ module _ (place : ℕ) (h : Held) (m m₁ m₂ : Mine) (may : MayEnd place h m) 
             ∙ ap (λ (x : Mine). (record x.0 { latches = elsewhere place m₂; told = left.told; settles = left.settles; log = x.0.log ++ left.made }, rest x.1)) same
             ∙ (λ i. (record (idle m.0) { latches = others i; told = left.told; settles = left.settles; log = append_assoc m.0.log (e ∷ []) left.made i }, rest m.1));
         did = left.did;
-        way = way_after id place (without_wait m) m₂ m₃ (e ∷ [], ap (λ (x : Mine). x.0.log) same, ((refl, refl), tt)) (ap (λ (x : Mine). x.0.settles) same) (ap (λ (x : Mine). x.0.told) same)
+        way = rescheduled_after id place (without_wait m) m₂ m₃ (e ∷ [], ap (λ (x : Mine). x.0.log) same, ((refl, refl), tt)) (ap (λ (x : Mine). x.0.settles) same) (ap (λ (x : Mine). x.0.told) same)
             (ap (λ (x : Mine). x.0.number) same) (ap (λ (x : Mine). x.0.asks) same) left.way;
       }
 
 -- ---- the visit
 
 module _ (place : ℕ) (m m′ : Mine) (inside : IsInside place m m′) where
-  pub may_end : (h : Held) (a : Ask) (state : ℕ) → IsFresh place h m → Holds place h h.book m′ → m.0.asks ≡ Some a → a.place ≡ place → m.0.told ≡ Some state → 2 < state
+  pub may_end : (h : LatchRecord) (a : Ask) (state : ℕ) → IsFresh place h m → Holds place h h.book m′ → m.0.asks ≡ Some a → a.place ≡ place → m.0.told ≡ Some state → 2 < state
       → (may : MayEnd place h m′) × (a.number ≡ may.may.ask.number)
   may_end h a state fresh holds asks here told lost = (
     record {
@@ -154,6 +154,6 @@ module _ (place : ℕ) (m m′ : Mine) (inside : IsInside place m m′) where
 
   pub ends : (id : TableId) (m″ : Mine) → StaysOn m m′ → EndsThere id place m′ m″ → EndsLost id place m m″
   ends id m″ stays ended =
-      visits_for_way id place [] (without_wait m) (without_wait m′) m″
+      visits_and_reschedules id place [] (without_wait m) (without_wait m′) m″
       (record { latches = inside.latches; made = inside.made; book = inside.book; now = ap without_wait inside.now; others = inside.others; did = inside.did })
       stays ended

@@ -14,7 +14,7 @@ use Rattle.mdl_book.specs.Books.{any_obtrusive, enqueueing, lock_kind, ticket_co
 use Rattle.mdl_book.specs.FastTickets.{can_be_granted}
 use Rattle.mdl_steps.specs.declared.slot.Slot.TheVariants as slot
 use Rattle.mdl_steps.specs.declared.step_kind.StepKind.TheVariants.{OpenWait, PutLatch, ReadWord}
-use Rattle.mdl_steps.specs.declared.view.Held.{Held}
+use Rattle.mdl_steps.specs.declared.view.LatchRecord.{LatchRecord}
 use Rattle.mdl_steps.specs.declared.view.Met.{Met}
 use Rattle.mdl_steps.specs.Cells.{held_at}
 use Rattle.mdl_steps.specs.Layout.{latch_word, lock_word, wait_word}
@@ -59,7 +59,7 @@ waits_exactly t book slow obtrusive asks exact is = (
 module _ (place word : ℕ) (mode : Mode) (kind : Kind) (asks : Bool) (m m′ : Mine) (entered : Enters place asks word m m′)
     (knows : KnowsKind m.0 place kind) (is_mode : is_mode_of kind mode ≡ true) (is : asks ≡ is_obtrusive kind mode) where
   -- the record of the latch
-  abbrev latch : Held
+  abbrev latch : LatchRecord
   latch = noting word (raised true asks entered.found)
 
   abbrev book : BookView
@@ -96,7 +96,7 @@ module _ (place word : ℕ) (mode : Mode) (kind : Kind) (asks : Bool) (m m′ : 
 
 -- ---- the steps
 
-module _ (place : ℕ) (mode : Mode) (h : Held) (m m₁ : Mine) (may : MayQueue place mode h m) (wrote : m₁ ≡ written place (enqueueing (asked_ticket mode m.0) h.book) m) where
+module _ (place : ℕ) (mode : Mode) (h : LatchRecord) (m m₁ : Mine) (may : MayQueue place mode h m) (wrote : m₁ ≡ written place (enqueueing (asked_ticket mode m.0) h.book) m) where
   pub holds_wish : Holds place h (enqueueing (asked_ticket mode m.0) h.book) m₁
   holds_wish = subst (Holds place h (enqueueing (asked_ticket mode m.0) h.book)) (sym wrote) (holds_written place h h.book (enqueueing (asked_ticket mode m.0) h.book) m may.holds)
 
@@ -127,8 +127,8 @@ module _ (slots place : ℕ) (mode : Mode) (m m′ m″ : Mine) (inside : IsInsi
   came : Mine
   came = (record m.0 { latches = inside.latches; log = m.0.log ++ inside.made }, (place, slot.Place inside.book) ∷ m.1)
 
-  held : List Held
-  held = map (λ (h : Held). cond (h.place == place) (with_waiting (asked_ticket mode m.0) h) h) inside.latches
+  held : List LatchRecord
+  held = map (λ (h : LatchRecord). cond (h.place == place) (with_waiting (asked_ticket mode m.0) h) h) inside.latches
 
   opens_step : Met
   opens_step = record { kind = OpenWait; deeds = []; word = wait_word slots m.0.number; found = wait_in m.0.waits idle_state; held = held; directory = m.0.directory }
@@ -164,7 +164,7 @@ module _ (slots place : ℕ) (mode : Mode) (m m′ m″ : Mine) (inside : IsInsi
   goes_on = (opens_there ∷ puts_there ∷ [], log_there)
 
   -- the first opens the wait
-  opening : (h : Held) → held_at place m′.0.latches ≡ Some h → MeetsOpening slots place m.0.number m.0.waits m.0.next mode opens_there
+  opening : (h : LatchRecord) → held_at place m′.0.latches ≡ Some h → MeetsOpening slots place m.0.number m.0.waits m.0.next mode opens_there
   opening h recorded = record {
     kind = refl;
     word = ap (λ (x : Mine). wait_word slots x.0.number) inside.now;

@@ -18,7 +18,7 @@ use Rattle.mdl_book.specs.Granting.{goes_first, is_compatible}
 use Rattle.mdl_book.specs.Tickets.{is_ticket, ticket_id, ticket_of, without}
 use Rattle.mdl_book.proofs.MemberLemmas.{none-found}
 use Rattle.mdl_book.proofs.TicketLemmas.{find-passes, parted}
-use Rattle.mdl_steps.specs.declared.view.Held.{Held}
+use Rattle.mdl_steps.specs.declared.view.LatchRecord.{LatchRecord}
 use Rattle.mdl_steps.specs.Deeds.{MayJoin}
 use Rattle.mdl_steps.specs.Lists.{Once}
 use Rattle.mdl_steps.specs.Plays.{noting}
@@ -26,7 +26,7 @@ use Rattle.mdl_steps.specs.Rule.{TellsLists}
 use Rattle.mdl_steps.specs.WaitPlays.{with_admitted}
 use Rattle.mdl_steps.proofs.Tickets.{is_itself, is_passed, without-hit, without-miss, of-without_other, of-without_own, once-without}
 use Rattle.mdl_steps.proofs.Views.{by_bool}
-use Rattle.mdl_visits.specs.Grantings.{IsOrderly, IsReady, MayServe, ahead_of}
+use Rattle.mdl_visits.specs.Grantings.{IsOrderly, IsReady, MayReschedule, ahead_of}
 
 -- ---- one of the list is taken out
 
@@ -87,8 +87,8 @@ tells_admitted session number book t slow obtrusive found exact =
           ∙ ap (λ b. b || any_obtrusive (lock_kind book) (without session number book.waiting)) (sym (list_any-append test book.granted (t ∷ []))),
     )
 
-pub serves_on : (word session number : ℕ) (h : Held) (t : Ticket) → ticket_of session number h.book.waiting ≡ Some t → MayServe word h → MayServe word (with_admitted session number h)
-serves_on word session number h t found may = (
+pub grants_on : (word session number : ℕ) (h : LatchRecord) (t : Ticket) → ticket_of session number h.book.waiting ≡ Some t → MayReschedule word h → MayReschedule word (with_admitted session number h)
+grants_on word session number h t found may = (
   (
     record {
       once = once-without session number h.book.waiting may.0.0.once;
@@ -101,11 +101,11 @@ serves_on word session number h t found may = (
 )
 
 -- once the word was read, waits may be granted by it
-pub serves_read : (word : ℕ) (h : Held) → IsOrderly h → MayServe word (noting word h)
-serves_read word h orderly = (orderly, λ up. rw up refl)
+pub grants_read : (word : ℕ) (h : LatchRecord) → IsOrderly h → MayReschedule word (noting word h)
+grants_read word h orderly = (orderly, λ up. rw up refl)
 
 -- nobody else of its session waits
-none_of_session : (word session number : ℕ) (h : Held) (t : Ticket) → ticket_of session number h.book.waiting ≡ Some t → MayServe word h
+none_of_session : (word session number : ℕ) (h : LatchRecord) (t : Ticket) → ticket_of session number h.book.waiting ≡ Some t → MayReschedule word h
     → (m : ℕ) → ticket_of session m (with_admitted session number h).book.waiting ≡ None
 none_of_session word session number h t found may m =
     elim (ticket_of session m (without session number h.book.waiting)) as (λ o. ticket_of session m (without session number h.book.waiting) ≡ o → o ≡ None) [
@@ -117,7 +117,7 @@ none_of_session word session number h t found may m =
     ] refl
 
 -- who waits then waited before
-pub waits_still : (session number : ℕ) (h : Held) (t : Ticket) → Contains (with_admitted session number h).book.waiting t → Contains h.book.waiting t
+pub waits_still : (session number : ℕ) (h : LatchRecord) (t : Ticket) → Contains (with_admitted session number h).book.waiting t → Contains h.book.waiting t
 waits_still session number h t among =
     let p = is_ticket session number in
     let ts = h.book.waiting in
@@ -141,13 +141,13 @@ found_there ts t among =
     ] refl
 
 -- of a session that waits by this number there is no other
-pub only_one : (word session number : ℕ) (h : Held) (t u : Ticket) → ticket_of session number h.book.waiting ≡ Some t → MayServe word h → Contains h.book.waiting u → u.session ≡ session → u.number ≡ number
+pub only_one : (word session number : ℕ) (h : LatchRecord) (t u : Ticket) → ticket_of session number h.book.waiting ≡ Some t → MayReschedule word h → Contains h.book.waiting u → u.session ≡ session → u.number ≡ number
 only_one word session number h t u found may among same =
     let there = found_there h.book.waiting u among in
     may.0.0.single session u.number number there.0 t (subst (λ (who : ℕ). ticket_of who u.number h.book.waiting ≡ Some there.0) same there.1) found
 
 -- and none once it is granted
-pub gone : (word session number : ℕ) (h : Held) (t u : Ticket) → ticket_of session number h.book.waiting ≡ Some t → MayServe word h → Contains (with_admitted session number h).book.waiting u → u.session ≡ session → ⊥
+pub gone : (word session number : ℕ) (h : LatchRecord) (t u : Ticket) → ticket_of session number h.book.waiting ≡ Some t → MayReschedule word h → Contains (with_admitted session number h).book.waiting u → u.session ≡ session → ⊥
 gone word session number h t u found may among same =
     let there = found_there (with_admitted session number h).book.waiting u among in
     let none = none_of_session word session number h t found may u.number in
@@ -173,7 +173,7 @@ found_by_id p (x ∷ xs) t once found = by_bool (p x)
     (λ other. rw other there))
 
 -- it may join
-may_join : (word : ℕ) (h : Held) (t : Ticket) → MayServe word h → ticket_of t.session t.number h.book.waiting ≡ Some t → may_stand (lock_kind h.book) h.book.granted word t.session t.mode ≡ true
+may_join : (word : ℕ) (h : LatchRecord) (t : Ticket) → MayReschedule word h → ticket_of t.session t.number h.book.waiting ≡ Some t → may_stand (lock_kind h.book) h.book.granted word t.session t.mode ≡ true
     → MayJoin t.session h.book h.noted t.mode
 may_join word h t may there stands = by_bool (is_obtrusive (lock_kind h.book) t.mode)
     (λ obtrusive.
@@ -188,7 +188,7 @@ may_join word h t may there stands = by_bool (is_obtrusive (lock_kind h.book) t.
     or_true true = refl
     or_true false = refl
 
-pub is_next : (word session number : ℕ) (untried : set.FinSet nat_cmp) (h : Held) → MayServe word h → Some (session, number) ≡ option_map ticket_id (next_grantable word untried h.book)
+pub is_next : (word session number : ℕ) (untried : set.FinSet nat_cmp) (h : LatchRecord) → MayReschedule word h → Some (session, number) ≡ option_map ticket_id (next_grantable word untried h.book)
     → IsReady session number h × (set.contains untried session ≡ true)
 is_next word session number untried h may told =
     elim (next_grantable word untried h.book) as (λ o. next_grantable word untried h.book ≡ o → Some (session, number) ≡ option_map ticket_id o → IsReady session number h × (set.contains untried session ≡ true)) [
@@ -204,7 +204,7 @@ is_next word session number untried h may told =
     ] refl told
 
 -- where none of these is next, each was taken out or can't be granted
-pub not_ready : (word : ℕ) (untried : set.FinSet nat_cmp) (h : Held) (tickets : List Ticket) → find (is_ready word untried h.book) tickets ≡ None
+pub not_ready : (word : ℕ) (untried : set.FinSet nat_cmp) (h : LatchRecord) (tickets : List Ticket) → find (is_ready word untried h.book) tickets ≡ None
     → (t : Ticket) → Contains tickets t
     → (set.contains untried t.session ≡ false) ⊎ (can_be_granted (lock_kind h.book) h.book.granted h.book.waiting word t.session t.mode ≡ false)
 not_ready word untried h tickets none t among =
@@ -216,7 +216,7 @@ not_ready word untried h tickets none t among =
     (λ tried. inl tried)
 
 -- none is
-pub nobody_next : (word : ℕ) (untried : set.FinSet nat_cmp) (h : Held) → None ≡ option_map ticket_id (next_grantable word untried h.book) → find (is_ready word untried h.book) h.book.waiting ≡ None
+pub nobody_next : (word : ℕ) (untried : set.FinSet nat_cmp) (h : LatchRecord) → None ≡ option_map ticket_id (next_grantable word untried h.book) → find (is_ready word untried h.book) h.book.waiting ≡ None
 nobody_next word untried h told = nothing (next_grantable word untried h.book) told
   where
     nothing : (o : Option Ticket) → None ≡ option_map ticket_id o → o ≡ None
@@ -247,7 +247,7 @@ none_before p q (x ∷ xs) t found here =
     first-miss q x xs e = rw e (λ i. take (on (position_or_len q xs) i) (x ∷ xs))
 
 -- nor before the next one
-pub none_ahead : (word session number : ℕ) (untried : set.FinSet nat_cmp) (h : Held) → Some (session, number) ≡ option_map ticket_id (next_grantable word untried h.book)
+pub none_ahead : (word session number : ℕ) (untried : set.FinSet nat_cmp) (h : LatchRecord) → Some (session, number) ≡ option_map ticket_id (next_grantable word untried h.book)
     → find (is_ready word untried h.book) (ahead_of session number h.book.waiting) ≡ None
 none_ahead word session number untried h told =
     elim (next_grantable word untried h.book) as (λ o. next_grantable word untried h.book ≡ o → Some (session, number) ≡ option_map ticket_id o → find (is_ready word untried h.book) (ahead_of session number h.book.waiting) ≡ None) [

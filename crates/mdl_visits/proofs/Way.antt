@@ -7,7 +7,7 @@ use Rattle.mdl_book.specs.declared.ticket.Ticket.{Ticket}
 use Rattle.mdl_steps.specs.declared.slot.Slot.TheVariants as slot
 use Rattle.mdl_steps.specs.declared.step_kind.StepKind.{StepKind}
 use Rattle.mdl_steps.specs.declared.step_kind.StepKind.TheVariants.{GrantWait, ReadWord}
-use Rattle.mdl_steps.specs.declared.view.Held.{Held}
+use Rattle.mdl_steps.specs.declared.view.LatchRecord.{LatchRecord}
 use Rattle.mdl_steps.specs.declared.view.Met.{Met}
 use Rattle.mdl_steps.specs.declared.view.Settlement.{Settlement}
 use Rattle.mdl_steps.specs.declared.view.View.{View}
@@ -18,7 +18,7 @@ use Rattle.mdl_steps.specs.Seats.{Holds, elsewhere, rest, written}
 use Rattle.mdl_steps.specs.WaitPlays.{wait_in, met_wait_by, meeting, settled_granted, with_admitted, TellsOwn}
 use Rattle.mdl_steps.proofs.Hands.{elsewhere-stepped}
 use Rattle.mdl_steps.proofs.Views.{by_bool, held_at-changed}
-use Rattle.mdl_visits.specs.Grantings.{AreGranted, ArePassedOver, HasJustMet, IsLookedThrough, IsReady, MakesWay, MeetsGranted, OnlyMeets, StaysTold, WasSettled, ahead_of}
+use Rattle.mdl_visits.specs.Grantings.{AreGranted, ArePassedOver, HasJustMet, IsLookedThrough, IsReady, Reschedules, MeetsGranted, OnlyMeets, StaysTold, WasSettled, ahead_of}
 use Rattle.mdl_visits.specs.Visits.{GoesOn, IsStepAfter, IsStepOf, StaysOn, StaysThere, gives_back, raises_flags}
 use Rattle.mdl_visits.proofs.Steps.{each_append, each_map, goes_on, none_then, step_after}
 
@@ -79,7 +79,7 @@ module _ (a b c d : Mine) (wider : (e : Met) → IsStepOf a b e → IsStepOf c d
     settled = was.settled;
   }
 
-  module _ (id : TableId) (place : ℕ) (h : Held) (tickets : List Ticket) where
+  module _ (id : TableId) (place : ℕ) (h : LatchRecord) (tickets : List Ticket) where
     passed_within : (word : ℕ) → ArePassedOver id place word h tickets a b → ArePassedOver id place word h tickets c d
     passed_within word passed t among known is = elim (passed t among known is) [
       | inl settled ↦ inl (settled_within id.slots place t.session t.number settled)
@@ -149,8 +149,8 @@ only_stays kind (inr missed) = rw missed (refl, refl)
 module _ (id : TableId) (place : ℕ) (start : Mine) where
   -- ---- nothing yet
 
-  pub way_none : (book : BookView) (m : Mine) → m.1 ≡ (place, slot.Place book) ∷ rest m.1 → MakesWay id place start m m
-  way_none book m carried = record {
+  pub rescheduled_none : (book : BookView) (m : Mine) → m.1 ≡ (place, slot.Place book) ∷ rest m.1 → Reschedules id place start m m
+  rescheduled_none book m carried = record {
     latches = m.0.latches;
     told = m.0.told;
     grants = [];
@@ -167,9 +167,9 @@ module _ (id : TableId) (place : ℕ) (start : Mine) where
 
   -- ---- one step
 
-  pub way_met : (kind : StepKind) → OnlyMeets kind → (session found : ℕ) (book : BookView) (m m′ : Mine) → m.1 ≡ (place, slot.Place book) ∷ rest m.1 → TellsOwn id.slots session found m.0
-      → m′ ≡ met_wait_by kind id.slots session found m → MakesWay id place start m m′
-  way_met kind only session found book m m′ carried own is = record {
+  pub rescheduled_met : (kind : StepKind) → OnlyMeets kind → (session found : ℕ) (book : BookView) (m m′ : Mine) → m.1 ≡ (place, slot.Place book) ∷ rest m.1 → TellsOwn id.slots session found m.0
+      → m′ ≡ met_wait_by kind id.slots session found m → Reschedules id place start m m′
+  rescheduled_met kind only session found book m m′ carried own is = record {
     latches = m.0.latches;
     told = (meeting session found m.0).told;
     grants = [];
@@ -185,8 +185,8 @@ module _ (id : TableId) (place : ℕ) (start : Mine) where
   }
 
   -- the lock's word was read
-  pub way_read : (word : ℕ) (book : BookView) (m m′ : Mine) → m.1 ≡ (place, slot.Place book) ∷ rest m.1 → m′ ≡ stepped ReadWord place word (noting word) m → MakesWay id place start m m′
-  way_read word book m m′ carried is = record {
+  pub rescheduled_read : (word : ℕ) (book : BookView) (m m′ : Mine) → m.1 ≡ (place, slot.Place book) ∷ rest m.1 → m′ ≡ stepped ReadWord place word (noting word) m → Reschedules id place start m m′
+  rescheduled_read word book m m′ carried is = record {
     latches = (changed place (noting word) m.0).latches;
     told = m.0.told;
     grants = [];
@@ -201,9 +201,9 @@ module _ (id : TableId) (place : ℕ) (start : Mine) where
     kept = ((refl, refl), tt);
   }
 
-  module _ (session ticket number : ℕ) (h : Held) (book : BookView) (m m′ : Mine) (has : Holds place h book m) (ready : IsReady session ticket h) (just : HasJustMet id.slots place session h m)
+  module _ (session ticket number : ℕ) (h : LatchRecord) (book : BookView) (m m′ : Mine) (has : Holds place h book m) (ready : IsReady session ticket h) (just : HasJustMet id.slots place session h m)
       (looked : IsLookedThrough id place h (ahead_of session ticket h.book.waiting) start m) (is : m′ ≡ settled_granted id.slots place session ticket number m) where
-    latches_then : List Held
+    latches_then : List LatchRecord
     latches_then = (changed place (with_admitted session ticket) m.0).latches
 
     grants_it : Met
@@ -227,9 +227,9 @@ module _ (id : TableId) (place : ℕ) (start : Mine) where
       earliest = subst (λ (n : ℕ). IsLookedThrough id place h (ahead_of session n h.book.waiting) start m) (sym wish_number) looked;
     }
 
-    pub way_granted : ready.wish.number ≡ ticket → TellsOwn id.slots session (wait_in number 1) m.0 → MakesWay id place start m m′
+    pub rescheduled_granted : ready.wish.number ≡ ticket → TellsOwn id.slots session (wait_in number 1) m.0 → Reschedules id place start m m′
     unfolding grants_it latches_then
-    way_granted wish_number own = record {
+    rescheduled_granted wish_number own = record {
       latches = latches_then;
       told = (meeting session (wait_in number 2) m.0).told;
       grants = record { session = session; wait = number; state = 2 } ∷ [];
@@ -248,8 +248,8 @@ module _ (id : TableId) (place : ℕ) (start : Mine) where
     }
 
   -- the book in hand was written
-  pub way_written : (book next : BookView) (m m′ : Mine) → m.1 ≡ (place, slot.Place book) ∷ rest m.1 → m′ ≡ written place next m → MakesWay id place start m m′
-  way_written book next m m′ carried is = record {
+  pub rescheduled_written : (book next : BookView) (m m′ : Mine) → m.1 ≡ (place, slot.Place book) ∷ rest m.1 → m′ ≡ written place next m → Reschedules id place start m m′
+  rescheduled_written book next m m′ carried is = record {
     latches = m.0.latches;
     told = m.0.told;
     grants = [];
@@ -266,14 +266,14 @@ module _ (id : TableId) (place : ℕ) (start : Mine) where
 
   -- ---- one after another
 
-  pub steps_of : (m m′ : Mine) → MakesWay id place start m m′ → GoesOn m m′
+  pub steps_of : (m m′ : Mine) → Reschedules id place start m m′ → GoesOn m m′
   steps_of m m′ way = (way.made, ap (λ (x : Mine). x.0.log) way.now)
 
-  pub stays_of : (m m′ : Mine) → MakesWay id place start m m′ → StaysOn m m′
+  pub stays_of : (m m′ : Mine) → Reschedules id place start m m′ → StaysOn m m′
   stays_of m m′ way = (way.made, ap (λ (x : Mine). x.0.log) way.now, way.kept)
 
-  pub way_then : (a b c : Mine) → MakesWay id place start a b → MakesWay id place start b c → MakesWay id place start a c
-  way_then a b c x y = record {
+  pub rescheduled_then : (a b c : Mine) → Reschedules id place start a b → Reschedules id place start b c → Reschedules id place start a c
+  rescheduled_then a b c x y = record {
     latches = y.latches;
     told = y.told;
     grants = x.grants ++ y.grants;

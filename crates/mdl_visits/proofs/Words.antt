@@ -7,7 +7,7 @@ use Rattle.atomic_table.specs.Seated.{TableId}
 use Rattle.mdl_book.specs.SessionSets.{is_session}
 use Rattle.mdl_steps.specs.declared.step_kind.StepKind.{StepKind}
 use Rattle.mdl_steps.specs.declared.step_kind.StepKind.TheVariants.{MissWait, ReadWait}
-use Rattle.mdl_steps.specs.declared.view.Held.{Held}
+use Rattle.mdl_steps.specs.declared.view.LatchRecord.{LatchRecord}
 use Rattle.mdl_steps.specs.declared.view.Keys.{Keys}
 use Rattle.mdl_steps.specs.declared.view.Met.{Met}
 use Rattle.mdl_steps.specs.Layout.{wait_word}
@@ -86,10 +86,10 @@ hears_missed = hears_word MissWait refl
 -- ---- one word more
 
 -- what was heard stays so of a call that did something before and after
-pub heard_within : (slots : ℕ) (latches : List Held) (a b c d : Mine) (h : WaitRead) → GoesOn a b → WasHeard slots latches b c h → GoesOn c d → WasHeard slots latches a d h
+pub heard_within : (slots : ℕ) (latches : List LatchRecord) (a b c d : Mine) (h : WaitRead) → GoesOn a b → WasHeard slots latches b c h → GoesOn c d → WasHeard slots latches a d h
 heard_within slots latches a b c d h before was after = (was.0, step_within a b c d was.0 before was.1 after, was.2, was.3, was.4)
 
-pub all_within : (slots : ℕ) (latches : List Held) (a b c d : Mine) (words : List WaitRead) → GoesOn a b → GoesOn c d → All (WasHeard slots latches b c) words → All (WasHeard slots latches a d) words
+pub all_within : (slots : ℕ) (latches : List LatchRecord) (a b c d : Mine) (words : List WaitRead) → GoesOn a b → GoesOn c d → All (WasHeard slots latches b c) words → All (WasHeard slots latches a d) words
 all_within slots latches a b c d words before after all =
     All-weaker (WasHeard slots latches b c) (WasHeard slots latches a d) (λ h was. heard_within slots latches a b c d h before was after) words all
 
@@ -104,7 +104,7 @@ was_heard slots session h m m′ same met =
     )
 
 -- the words of the sessions up to so many
-pub record AreUpTo (id : TableId) (last : ℕ) (latches : List Held) (words : List WaitRead) (m m′ : Mine) : Type 0 where
+pub record AreUpTo (id : TableId) (last : ℕ) (latches : List LatchRecord) (words : List WaitRead) (m m′ : Mine) : Type 0 where
   pub sessions : map (λ (h : WaitRead). h.session) words ≡ sessions_to last
   pub each : All (λ (h : WaitRead). IsSession id h.session × (is_session h.session ≡ true)) words
   pub heard : All (WasHeard id.slots latches m m′) words
@@ -128,7 +128,7 @@ module _ (id : TableId) (last : ℕ) (words more : List WaitRead) (h : WaitRead)
   one_heard are before after next known one pushed was =
       let here : WasHeard id.slots m.0.latches m m″ h =
       heard_within id.slots m.0.latches m m′ m″ m″ h (goes_hearing m m′ before)
-      (subst (λ (latches : List Held). WasHeard id.slots latches m′ m″ h) (same_latches m m′ before) was) (goes_nowhere m″) in
+      (subst (λ (latches : List LatchRecord). WasHeard id.slots latches m′ m″ h) (same_latches m m′ before) was) (goes_nowhere m″) in
       let all = subst (λ (xs : List WaitRead). AreUpTo id (last + 1) m.0.latches xs m m″) (sym pushed) (record {
         sessions = map-append (λ (x : WaitRead). x.session) words (h ∷ []) ∙ ap (λ (xs : List ℕ). xs ++ h.session ∷ []) are.sessions
             ∙ ap (λ (n : ℕ). sessions_to last ++ n ∷ []) next ∙ sym (sessions_more last);

@@ -2,7 +2,7 @@
 use Rattle.std.specs.Prelude.{◌≡◌, ◌⊎◌, ℕ, ◌+◌, ◌<◌, List, [], ◌∷◌, ◌++◌, length, map, Some}
 use Rattle.mdl_key.specs.Words.{KeyName}
 use Rattle.mdl_defs.specs.Standings.{MayStand}
-use Rattle.mdl_steps.specs.declared.view.Held.{Held}
+use Rattle.mdl_steps.specs.declared.view.LatchRecord.{LatchRecord}
 use Rattle.mdl_steps.specs.declared.view.Keys.{Keys}
 use Rattle.mdl_steps.specs.declared.view.Met.{Met}
 use Rattle.mdl_steps.specs.Cells.{held_at}
@@ -13,16 +13,16 @@ use Rattle.mdl_visits.specs.declared.audited.Audited.{Audited}
 use Rattle.mdl_visits.specs.Visits.{IsStepOf}
 
 -- among these latches is that of the place, and this is the place's book by its record
-abbrev pub IsRecorded : ℕ → List Held → Audited → Type 0
-IsRecorded place latches a = (a.place ≡ place) × ((h : Held) × (held_at place latches ≡ Some h) × (a.book ≡ h.book))
+abbrev pub IsRecorded : ℕ → List LatchRecord → Audited → Type 0
+IsRecorded place latches a = (a.place ≡ place) × ((h : LatchRecord) × (held_at place latches ≡ Some h) × (a.book ≡ h.book))
 
 -- these are the books of as many places, from a place on, in order
-abbrev pub AreRecorded : ℕ → List Held → List Audited → Type 0
+abbrev pub AreRecorded : ℕ → List LatchRecord → List Audited → Type 0
 AreRecorded place latches [] = Unit {0}
 AreRecorded place latches (a ∷ more) = IsRecorded place latches a × AreRecorded (place + 1) latches more
 
 -- the session had just these latches when it began, or at a step that it made between the two, at which it had of the directory what it had before
-abbrev pub HadLatches : List Held → Mine → Mine → Type 0
+abbrev pub HadLatches : List LatchRecord → Mine → Mine → Type 0
 HadLatches latches m m′ = (latches ≡ m.0.latches) ⊎ ((e : Met) × IsStepOf m m′ e × (e.held ≡ latches) × (e.directory ≡ m.0.directory))
 
 -- the books of the places from one on are those of the keys that the directory has for them
@@ -37,9 +37,9 @@ MayAllStand books = Each (λ (a : Audited). MayStand a.book.key.namespace a.book
 -- the session had the latches of the places from one to another, beside those that it had of lower ones, and added the books of these places to a
 -- list, in order, as they were then
 pub record Gathers (place last : ℕ) (before after : List Audited) (m m′ : Mine) : Type 0 where
-  pub latches : List Held
+  pub latches : List LatchRecord
   pub had : HadLatches latches m m′
-  pub kept : (q : ℕ) (h : Held) → q < place → held_at q m.0.latches ≡ Some h → held_at q latches ≡ Some h
+  pub kept : (q : ℕ) (h : LatchRecord) → q < place → held_at q m.0.latches ≡ Some h → held_at q latches ≡ Some h
   pub books : List Audited
   pub listed : after ≡ before ++ books
   pub all : place + length books ≡ last + 1

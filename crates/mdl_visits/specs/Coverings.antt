@@ -7,7 +7,7 @@ use Rattle.mdl_key.specs.Words.{IsAtLeast, is_mode_of, kind_of}
 use Rattle.mdl_book.specs.declared.ticket.Ticket.{Ticket}
 use Rattle.mdl_book.specs.Books.{lock_kind}
 use Rattle.mdl_book.specs.Granting.{is_lawful}
-use Rattle.mdl_steps.specs.declared.view.Held.{Held}
+use Rattle.mdl_steps.specs.declared.view.LatchRecord.{LatchRecord}
 use Rattle.mdl_steps.specs.declared.view.Known.{Known}
 use Rattle.mdl_steps.specs.declared.view.View.{View}
 use Rattle.mdl_steps.specs.Rule.{TellsLists}
@@ -18,7 +18,7 @@ FitsAt v place mode = (i : ℕ) × (k : Known) × (get_elem? v.known i ≡ some 
 
 -- by the record of a latch that was just taken: the mode is one of the lock's kind, and the session has a granted ticket that is at least as
 -- strong
-pub record IsCovered (session : ℕ) (mode : Mode) (h : Held) : Type 0 where
+pub record IsCovered (session : ℕ) (mode : Mode) (h : LatchRecord) : Type 0 where
   pub is_mode : is_mode_of (lock_kind h.book) mode ≡ true
   pub stronger : Ticket
   pub there : Contains h.book.granted stronger

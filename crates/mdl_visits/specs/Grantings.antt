@@ -15,14 +15,14 @@ use Rattle.mdl_steps.specs.declared.deed.Deed.{Deed}
 use Rattle.mdl_steps.specs.declared.slot.Slot.TheVariants as slot
 use Rattle.mdl_steps.specs.declared.step_kind.StepKind.{StepKind}
 use Rattle.mdl_steps.specs.declared.step_kind.StepKind.TheVariants.{GrantWait, MissWait, PutLatch, ReadWait, ReadWord}
-use Rattle.mdl_steps.specs.declared.view.Held.{Held}
+use Rattle.mdl_steps.specs.declared.view.LatchRecord.{LatchRecord}
 use Rattle.mdl_steps.specs.declared.view.Met.{Met}
 use Rattle.mdl_steps.specs.declared.view.Settlement.{Settlement}
 use Rattle.mdl_steps.specs.Cells.{held_at}
 use Rattle.mdl_steps.specs.Deeds.{MayJoin, all_done}
 use Rattle.mdl_steps.specs.Layout.{latch_word, lock_word, wait_word}
 use Rattle.mdl_steps.specs.Lists.{Each, Once}
-use Rattle.mdl_steps.specs.Plays.{Mine, settled}
+use Rattle.mdl_steps.specs.Plays.{Mine, flags_lowered}
 use Rattle.mdl_steps.specs.Rule.{Lawful, NotedCounts, TellsLists}
 use Rattle.mdl_steps.specs.Seats.{Holds, elsewhere, rest}
 use Rattle.mdl_steps.specs.WaitPlays.{wait_in, with_admitted}
@@ -41,7 +41,7 @@ OnlyMeets kind = (kind ≡ ReadWait) ⊎ (kind ≡ MissWait)
 pub record MeetsWaiter (slots place session number : ℕ) (e : Met) : Type 0 where
   pub kind : OnlyMeets e.kind
   pub word : e.word ≡ wait_word slots session
-  pub latch : Held
+  pub latch : LatchRecord
   pub held : held_at place e.held ≡ Some latch
   pub waits : is_some (ticket_of session number latch.book.waiting) ≡ true
 
@@ -58,14 +58,14 @@ pub record WasSettled (slots place session number : ℕ) (m m′ : Mine) : Type 
 
 -- these tickets, which wait by the record of a latch, are passed over: each one of a session of the table can't be granted with this word of the
 -- lock, or a step met its wait settled
-abbrev pub ArePassedOver : TableId → ℕ → ℕ → Held → List Ticket → Mine → Mine → Type 0
+abbrev pub ArePassedOver : TableId → ℕ → ℕ → LatchRecord → List Ticket → Mine → Mine → Type 0
 ArePassedOver id place word h tickets m m′ =
     (t : Ticket) → Contains tickets t → IsSession id t.session → is_session t.session ≡ true →
     WasSettled id.slots place t.session t.number m m′
     ⊎ (can_be_granted (lock_kind h.book) h.book.granted h.book.waiting word t.session t.mode ≡ false)
 
 -- a step read the lock's word, which was noted while the flag OBTRUSIVE was up, and with it these tickets are passed over
-pub record IsLookedThrough (id : TableId) (place : ℕ) (latch : Held) (tickets : List Ticket) (m m′ : Mine) : Type 0 where
+pub record IsLookedThrough (id : TableId) (place : ℕ) (latch : LatchRecord) (tickets : List Ticket) (m m′ : Mine) : Type 0 where
   pub read : Met
   pub read_then : IsStepOf m m′ read
   pub kind : read.kind ≡ ReadWord
@@ -74,7 +74,7 @@ pub record IsLookedThrough (id : TableId) (place : ℕ) (latch : Held) (tickets 
   pub passed : ArePassedOver id place read.found latch tickets m m′
 
 -- nobody is forgotten by the record of a latch: all that wait by it are passed over
-abbrev pub ForgetsNobody : TableId → ℕ → Held → Mine → Mine → Type 0
+abbrev pub ForgetsNobody : TableId → ℕ → LatchRecord → Mine → Mine → Type 0
 ForgetsNobody id place latch m m′ = IsLookedThrough id place latch latch.book.waiting m m′
 
 -- the tickets that arrived before one, in a list in order of arrival
@@ -82,7 +82,7 @@ abbrev pub ahead_of : ℕ → ℕ → List Ticket → List Ticket
 ahead_of session number tickets = before_first (is_ticket session number) tickets
 
 -- the last of a session's steps read the word of a wait, with this record of the latch of a place
-abbrev pub HasJustMet : ℕ → ℕ → ℕ → Held → Mine → Type 0
+abbrev pub HasJustMet : ℕ → ℕ → ℕ → LatchRecord → Mine → Type 0
 HasJustMet slots place session h m =
     (log : List Met) × (e : Met) × (m.0.log ≡ log ++ e ∷ []) × (e.kind ≡ ReadWait) × (e.word ≡ wait_word slots session) × (held_at place e.held ≡ Some h)
 
@@ -94,7 +94,7 @@ pub record MeetsGranted (id : TableId) (place : ℕ) (m m′ : Mine) (g : Settle
   pub kind : e.kind ≡ GrantWait
   pub word : e.word ≡ wait_word id.slots g.session
   pub unsettled : e.found ≡ wait_in g.wait unsettled_state
-  pub before : Held
+  pub before : LatchRecord
   pub just : HasJustMet id.slots place g.session before m′
   pub wish : Ticket
   pub held : held_at place e.held ≡ Some (with_admitted g.session wish.number before)
@@ -112,18 +112,18 @@ pub record StandsOnce (waiting : List Ticket) : Type 0 where
 
 -- it does so by the record of the latch of a place
 abbrev pub WaitsOnce : ℕ → Mine → Type 0
-WaitsOnce place m = (h : Held) → held_at place m.0.latches ≡ Some h → StandsOnce h.book.waiting
+WaitsOnce place m = (h : LatchRecord) → held_at place m.0.latches ≡ Some h → StandsOnce h.book.waiting
 
 -- or by a record whose flags tell the lists
-abbrev pub IsOrderly : Held → Type 0
+abbrev pub IsOrderly : LatchRecord → Type 0
 IsOrderly h = StandsOnce h.book.waiting × TellsLists h.book h.slow h.obtrusive
 
 -- and this word of the lock is noted while the flag OBTRUSIVE is up
-abbrev pub MayServe : ℕ → Held → Type 0
-MayServe word h = IsOrderly h × (h.obtrusive ≡ true → h.noted ≡ Some word)
+abbrev pub MayReschedule : ℕ → LatchRecord → Type 0
+MayReschedule word h = IsOrderly h × (h.obtrusive ≡ true → h.noted ≡ Some word)
 
 -- a session's ticket of this number waits there, and can be granted
-pub record IsReady (session number : ℕ) (h : Held) : Type 0 where
+pub record IsReady (session number : ℕ) (h : LatchRecord) : Type 0 where
   pub wish : Ticket
   pub waits : ticket_of session number h.book.waiting ≡ Some wish
   pub beside : MayJoin session h.book h.noted wish.mode
@@ -134,19 +134,19 @@ abbrev pub IsTried : TableId → ℕ → ℕ → ℕ → Mine → Mine → Type 
 IsTried id place session number m m′ = (IsSession id session → ⊥) ⊎ WasSettled id.slots place session number m m′
 
 -- each ticket that waits by the record was tried, if its session is left out of the set
-abbrev pub AreTried : TableId → ℕ → set.FinSet nat_cmp → Held → Mine → Mine → Type 0
+abbrev pub AreTried : TableId → ℕ → set.FinSet nat_cmp → LatchRecord → Mine → Mine → Type 0
 AreTried id place untried h m m′ =
     (t : Ticket) → Contains h.book.waiting t → is_session t.session ≡ true → set.contains untried t.session ≡ false →
     IsTried id place t.session t.number m m′
 
 -- what came of a try to grant a ticket: it was tried and all stands as it was, or it is granted
-abbrev pub IsServed : TableId → ℕ → ℕ → ℕ → Held → Mine → Mine → Type 0
-IsServed id place session number h m m′ =
+abbrev pub IsTriedOrGranted : TableId → ℕ → ℕ → ℕ → LatchRecord → Mine → Mine → Type 0
+IsTriedOrGranted id place session number h m m′ =
     (IsTried id place session number m m′ × Holds place h h.book m′)
     ⊎ Holds place (with_admitted session number h) (with_admitted session number h).book m′
 
 -- what came of the exchange that grants a wait: it met another word than this and all stands as it was, or the ticket is granted
-abbrev pub IsGrantedFrom : ℕ → ℕ → ℕ → ℕ → ℕ → Held → Mine → Mine → Type 0
+abbrev pub IsGrantedFrom : ℕ → ℕ → ℕ → ℕ → ℕ → LatchRecord → Mine → Mine → Type 0
 IsGrantedFrom slots place session number word h m m′ =
     (((e : Met) × IsStepOf m m′ e × MeetsWaiter slots place session number e × (e.found ≢ word)) × Holds place h h.book m′)
     ⊎ Holds place (with_admitted session number h) (with_admitted session number h).book m′
@@ -165,8 +165,8 @@ AreGranted id place grants start m m′ =
 -- waits were granted under the latch of a place, which the session holds: nothing else changed but the record of the latch, the book in hand,
 -- what was told of its own wait and its steps, which are without deeds, and at which the session stayed. Those that were passed over were met so
 -- from a start on
-pub record MakesWay (id : TableId) (place : ℕ) (start m m′ : Mine) : Type 0 where
-  pub latches : List Held
+pub record Reschedules (id : TableId) (place : ℕ) (start m m′ : Mine) : Type 0 where
+  pub latches : List LatchRecord
   pub told : Option ℕ
   pub grants : List Settlement
   pub made : List Met
@@ -180,57 +180,57 @@ pub record MakesWay (id : TableId) (place : ℕ) (start m m′ : Mine) : Type 0 
   pub kept : Each StaysThere made
 
 -- way is made for a ticket in its turn: from each start, if those that arrived before it were passed over since
-abbrev pub MakesWayInTurn : TableId → ℕ → ℕ → ℕ → Mine → Mine → Type 0
-MakesWayInTurn id place session number m m′ =
-    (start : Mine) (h : Held) → Holds place h h.book m → IsLookedThrough id place h (ahead_of session number h.book.waiting) start m →
-    MakesWay id place start m m′
+abbrev pub ReschedulesInTurn : TableId → ℕ → ℕ → ℕ → Mine → Mine → Type 0
+ReschedulesInTurn id place session number m m′ =
+    (start : Mine) (h : LatchRecord) → Holds place h h.book m → IsLookedThrough id place h (ahead_of session number h.book.waiting) start m →
+    Reschedules id place start m m′
 
 -- ---- and the latch is given back
 
 -- a step without deeds that gave the latch of a place back, by whose record nobody waits there, or nobody is forgotten
-pub record MeetsServed (id : TableId) (place who : ℕ) (m m′ : Mine) (e : Met) : Type 0 where
+pub record MeetsRescheduled (id : TableId) (place who : ℕ) (m m′ : Mine) (e : Met) : Type 0 where
   pub kind : e.kind ≡ PutLatch
   pub did : e.deeds ≡ []
   pub word : e.word ≡ latch_word place
   pub freed : e.found ≡ who
-  pub latch : Held
+  pub latch : LatchRecord
   pub held : held_at place e.held ≡ Some latch
   pub served : (latch.book.waiting ≡ []) ⊎ ForgetsNobody id place latch m m′
 
 -- way was made at a place between the two: waits were granted by steps between them, nobody was forgotten at the last of them, as the latch was
 -- given back, and what was told of the session's own wait stays so. No step before gave a latch back, so all was done under that latch. A session
 -- without a wait is told of none
-pub record MadeWay (id : TableId) (place : ℕ) (m m′ : Mine) : Type 0 where
+pub record HasRescheduled (id : TableId) (place : ℕ) (m m′ : Mine) : Type 0 where
   pub grants : List Settlement
   pub settles : m′.0.settles ≡ m.0.settles ++ grants
   pub granted : AreGranted id place grants m m m′
-  pub served : (e : Met) × LeavesBy m m′ e × MeetsServed id place m.0.number m m′ e
+  pub served : (e : Met) × LeavesBy m m′ e × MeetsRescheduled id place m.0.number m m′ e
   pub stays : StaysTold m.0.told m′.0.told
   pub unasked : m.0.asks ≡ None → m′.0.told ≡ m.0.told
 
 -- the latch of a place, which the session held, and the slot that it took last were given back after these deeds and after way was made there,
 -- and nothing else changed. The steps tell just these deeds
-pub record LeavesWay (id : TableId) (place : ℕ) (ds : List Deed) (m m′ : Mine) : Type 0 where
+pub record ReschedulesAndLeaves (id : TableId) (place : ℕ) (ds : List Deed) (m m′ : Mine) : Type 0 where
   pub told : Option ℕ
   pub settles : List Settlement
   pub made : List Met
   pub now : m′ ≡ (record (all_done place ds m.0) { latches = elsewhere place m; told = told; settles = settles; log = m.0.log ++ made }, rest m.1)
   pub did : deeds_of made ≡ ds
-  pub way : MadeWay id place m m′
+  pub way : HasRescheduled id place m m′
 
 -- the session came to a place, did these deeds there, made way and went: it has the latches and the slots that it had, and nothing else changed.
 -- Its steps tell just these deeds
-pub record VisitsForWay (id : TableId) (place : ℕ) (ds : List Deed) (m m′ : Mine) : Type 0 where
+pub record VisitsAndReschedules (id : TableId) (place : ℕ) (ds : List Deed) (m m′ : Mine) : Type 0 where
   pub told : Option ℕ
   pub settles : List Settlement
   pub made : List Met
   pub now : m′ ≡ (record (all_done place ds m.0) { told = told; settles = settles; log = m.0.log ++ made }, m.1)
   pub did : deeds_of made ≡ ds
-  pub way : MadeWay id place m m′
+  pub way : HasRescheduled id place m m′
 
 -- flags of a place were lowered after these deeds, and nothing else changed
 abbrev pub IsLowered : ℕ → List Deed → Mine → Mine → Type 0
-IsLowered place ds m m′ = (found : ℕ) × (book : BookView) × (slow : Bool) × (obtrusive : Bool) × (m′ ≡ settled place ds found book slow obtrusive m)
+IsLowered place ds m m′ = (found : ℕ) × (book : BookView) × (slow : Bool) × (obtrusive : Bool) × (m′ ≡ flags_lowered place ds found book slow obtrusive m)
 
 -- ---- the laws of both
 
@@ -239,7 +239,7 @@ IsLowered place ds m m′ = (found : ℕ) × (book : BookView) × (slow : Bool) 
 abbrev pub GrantedWaitsWereGrantable : Type 0
 GrantedWaitsWereGrantable =
     (id : TableId) (place : ℕ) (m m′ : Mine) (g : Settlement) (e : Met) → MeetsGranted id place m m′ g e →
-    (before : Held) × (wish : Ticket) × (held_at place e.held ≡ Some (with_admitted g.session wish.number before))
+    (before : LatchRecord) × (wish : Ticket) × (held_at place e.held ≡ Some (with_admitted g.session wish.number before))
     × (ticket_of g.session wish.number before.book.waiting ≡ Some wish)
     × ((fast : List Ticket) → Lawful (lock_kind before.book) fast before.book.granted → NotedCounts (lock_kind before.book) fast before.obtrusive before.noted
     → is_grantable (lock_kind before.book) (fast ++ before.book.granted) before.book.waiting g.session wish.mode ≡ true)
@@ -248,7 +248,7 @@ GrantedWaitsWereGrantable =
 -- other sessions the word counted, it clashed with a granted ticket or had to wait behind a waiting one
 abbrev pub WaitsLeftWerentGrantable : Type 0
 WaitsLeftWerentGrantable =
-    (id : TableId) (place word : ℕ) (h : Held) (tickets : List Ticket) (m m′ : Mine) → ArePassedOver id place word h tickets m m′ →
+    (id : TableId) (place word : ℕ) (h : LatchRecord) (tickets : List Ticket) (m m′ : Mine) → ArePassedOver id place word h tickets m m′ →
     (t : Ticket) → Contains tickets t → IsSession id t.session → is_session t.session ≡ true →
     WasSettled id.slots place t.session t.number m m′
     ⊎ ((fast : List Ticket) → CountsFastTickets (lock_kind h.book) word fast → AreOfOthers t.session fast

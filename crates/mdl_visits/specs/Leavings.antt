@@ -6,7 +6,7 @@ use Rattle.mdl_defs.specs.declared.standing.Standing.{Standing}
 use Rattle.mdl_book.specs.Tickets.{ticket_of}
 use Rattle.mdl_steps.specs.declared.deed.Deed.{Deed}
 use Rattle.mdl_steps.specs.declared.step_kind.StepKind.TheVariants.{PutLatch}
-use Rattle.mdl_steps.specs.declared.view.Held.{Held}
+use Rattle.mdl_steps.specs.declared.view.LatchRecord.{LatchRecord}
 use Rattle.mdl_steps.specs.declared.view.Met.{Met}
 use Rattle.mdl_steps.specs.declared.view.Own.{Own}
 use Rattle.mdl_steps.specs.declared.view.View.{View}
@@ -33,7 +33,7 @@ knowing place standing v = record v {
 -- a step on the word of a place, made while the session's ticket of this number stood in the granted list, by the record of the latch
 pub record MeetsOwn (place session number : ℕ) (e : Met) : Type 0 where
   pub word : e.word ≡ lock_word place
-  pub latch : Held
+  pub latch : LatchRecord
   pub held : held_at place e.held ≡ Some latch
   pub there : is_some (ticket_of session number latch.book.granted) ≡ true
 
@@ -51,6 +51,6 @@ pub record MeetsStanding (place session : ℕ) (standing : Standing) (e : Met) :
   pub kind : e.kind ≡ PutLatch
   pub word : e.word ≡ latch_word place
   pub freed : e.found ≡ session
-  pub latch : Held
+  pub latch : LatchRecord
   pub held : held_at place e.held ≡ Some latch
   pub stands : latch.book.standing ≡ standing

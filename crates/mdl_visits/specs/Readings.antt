@@ -6,7 +6,7 @@ use mathlib.Core.Option.{some}
 use Rattle.mdl_defs.specs.declared.standing.Standing.{Standing}
 use Rattle.mdl_defs.specs.Standings.{MayStand}
 use Rattle.mdl_book.specs.Tickets.{ticket_of}
-use Rattle.mdl_steps.specs.declared.view.Held.{Held}
+use Rattle.mdl_steps.specs.declared.view.LatchRecord.{LatchRecord}
 use Rattle.mdl_steps.specs.declared.view.Known.{Known}
 use Rattle.mdl_steps.specs.declared.view.Met.{Met}
 use Rattle.mdl_steps.specs.declared.view.Own.{Own}
@@ -28,7 +28,7 @@ ReadsThere place standing m m′ = m′.0.reads ≡ m.0.reads ++ record { place 
 -- by the record of the latch of a place at a step, a session's ticket of this number was granted there
 abbrev pub WasHeld : ℕ → ℕ → ℕ → Met → Type 0
 WasHeld place session number e =
-    (latch : Held) × (held_at place e.held ≡ Some latch) × (is_some (ticket_of session number latch.book.granted) ≡ true)
+    (latch : LatchRecord) × (held_at place e.held ≡ Some latch) × (is_some (ticket_of session number latch.book.granted) ≡ true)
 
 -- each slow ticket that the session has at a place was, but for one that it waits for. A fast ticket is in no book
 abbrev pub WereHeld : ℕ → ℕ → Mine → Met → Type 0

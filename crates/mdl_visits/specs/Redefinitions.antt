@@ -15,7 +15,7 @@ use Rattle.mdl_calls.specs.declared.space_error.SpaceError.{SpaceError}
 use Rattle.mdl_calls.specs.declared.space_error.SpaceError.TheVariants.{NotHeld, NotExclusive}
 use Rattle.mdl_calls.specs.Reads.{cause_of}
 use Rattle.mdl_steps.specs.declared.step_kind.StepKind.TheVariants.{PutLatch, TakeLatch, WriteVersion}
-use Rattle.mdl_steps.specs.declared.view.Held.{Held}
+use Rattle.mdl_steps.specs.declared.view.LatchRecord.{LatchRecord}
 use Rattle.mdl_steps.specs.declared.view.Known.{Known}
 use Rattle.mdl_steps.specs.declared.view.Met.{Met}
 use Rattle.mdl_steps.specs.declared.view.Own.{Own}
@@ -46,7 +46,7 @@ pub record MeetsChange (place : ℕ) (change : Change) (version : ℕ) (take wri
   pub writes : write.kind ≡ WriteVersion
   pub latched : take.word ≡ latch_word place
   pub free : take.found ≡ 0
-  pub latch : Held
+  pub latch : LatchRecord
   pub held : held_at place take.held ≡ Some latch
   pub allowed : standing_fault latch.book.key.namespace change latch.book.standing ≡ None
   pub newer : version ≡ latch.book.standing.version + 1
@@ -74,7 +74,7 @@ pub record MeetsFault (place session : ℕ) (change : Change) (why : ChangeError
   pub kind : e.kind ≡ PutLatch
   pub word : e.word ≡ latch_word place
   pub freed : e.found ≡ session
-  pub latch : Held
+  pub latch : LatchRecord
   pub held : held_at place e.held ≡ Some latch
   pub fault : standing_fault latch.book.key.namespace change latch.book.standing ≡ Some why
 

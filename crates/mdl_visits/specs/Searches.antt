@@ -9,7 +9,7 @@ use Rattle.mdl_calls.specs.declared.answers.Search.TheVariants.{NoCycle, Victim}
 use Rattle.mdl_graph.specs.Graphs.{deadlock_in, victim_in}
 use Rattle.mdl_graph.specs.WaitsFor.{SessionTest}
 use Rattle.mdl_steps.specs.declared.step_kind.StepKind.TheVariants.{SettleWait}
-use Rattle.mdl_steps.specs.declared.view.Held.{Held}
+use Rattle.mdl_steps.specs.declared.view.LatchRecord.{LatchRecord}
 use Rattle.mdl_steps.specs.declared.view.Keys.{Keys}
 use Rattle.mdl_steps.specs.declared.view.Met.{Met}
 use Rattle.mdl_steps.specs.declared.view.Settlement.{Settlement}
@@ -45,7 +45,7 @@ pub record AreOfAll (id : TableId) (words : List WaitRead) : Type 0 where
   pub every : (session : ℕ) → IsSession id session → is_session session ≡ true → session ≤ last
 
 -- one of the steps between the two met this word, while the session had just these latches
-abbrev pub WasHeard : ℕ → List Held → Mine → Mine → WaitRead → Type 0
+abbrev pub WasHeard : ℕ → List LatchRecord → Mine → Mine → WaitRead → Type 0
 WasHeard slots latches m m′ h = (e : Met) × IsStepOf m m′ e × (e.word ≡ wait_word slots h.session) × (e.found ≡ h.word.0) × (e.held ≡ latches)
 
 -- the word that was heard of a session's wait, if any
@@ -68,7 +68,7 @@ AreQueuesOf audited lists = map (λ (a : Audited). queues_of a.book) audited ≡
 
 -- one of the steps between the two met the unsettled wait of a session and settled it, as the victim's, while the session that searches had just
 -- these latches, and no other wait was settled
-pub record Fells (slots victim : ℕ) (latches : List Held) (m m′ : Mine) : Type 0 where
+pub record SettlesVictim (slots victim : ℕ) (latches : List LatchRecord) (m m′ : Mine) : Type 0 where
   pub wait : ℕ
   pub settles : Settles victim wait 3 m m′
   pub moment : Met
@@ -79,26 +79,26 @@ pub record Fells (slots victim : ℕ) (latches : List Held) (m m′ : Mine) : Ty
 
 -- by these words and books the session waits in no cycle, and nothing was settled; or this is the victim of the cycle that is chosen, and its wait was
 -- settled
-abbrev pub IsOutcome : ℕ → ℕ → List Held → List Audited → List WaitRead → Mine → Mine → Search → Type 0
+abbrev pub IsOutcome : ℕ → ℕ → List LatchRecord → List Audited → List WaitRead → Mine → Mine → Search → Type 0
 IsOutcome slots who latches audited words m m′ NoCycle =
     (deadlock_in (settled_by words) (books_of audited) who ≡ None) × SettlesNothing m m′
 IsOutcome slots who latches audited words m m′ (Victim victim) =
-    (victim_in (settled_by words) (books_of audited) who ≡ Some victim) × Fells slots victim latches m m′
+    (victim_in (settled_by words) (books_of audited) who ≡ Some victim) × SettlesVictim slots victim latches m m′
 
 -- a session whose own wait was settled as the victim's knows that
-abbrev pub KnowsFall : ℕ → Search → Mine → Type 0
-KnowsFall who NoCycle m = Unit {0}
-KnowsFall who (Victim victim) m = victim ≡ who → m.0.told ≡ Some (lost_state loss.Victim)
+abbrev pub KnowsVictim : ℕ → Search → Mine → Type 0
+KnowsVictim who NoCycle m = Unit {0}
+KnowsVictim who (Victim victim) m = victim ≡ who → m.0.told ≡ Some (lost_state loss.Victim)
 
 -- that came of the words of all sessions, as steps between the two met them, while the session had just these latches, and of these books
-pub record Judges (id : TableId) (who : ℕ) (latches : List Held) (audited : List Audited) (found : Search) (m m′ : Mine) : Type 0 where
+pub record Judges (id : TableId) (who : ℕ) (latches : List LatchRecord) (audited : List Audited) (found : Search) (m m′ : Mine) : Type 0 where
   pub words : List WaitRead
   pub all : AreOfAll id words
   pub heard : All (WasHeard id.slots latches m m′) words
   pub outcome : IsOutcome id.slots who latches audited words m m′ found
 
 -- of the words of all sessions, as steps between the two met them, and of these books a victim came, whose word was another one by then
-pub record Misses (id : TableId) (who : ℕ) (latches : List Held) (audited : List Audited) (m m′ : Mine) : Type 0 where
+pub record Misses (id : TableId) (who : ℕ) (latches : List LatchRecord) (audited : List Audited) (m m′ : Mine) : Type 0 where
   pub words : List WaitRead
   pub all : AreOfAll id words
   pub heard : All (WasHeard id.slots latches m m′) words

@@ -5,7 +5,7 @@ use Rattle.std.specs.Ordering.{is_lt}
 use Rattle.std.specs.declared.cmp.Ordering.TheVariants.{Less}
 use Rattle.mdl_key.specs.Keys.{key_cmp}
 use Rattle.mdl_steps.specs.declared.step_kind.StepKind.TheVariants.{PutLatch}
-use Rattle.mdl_steps.specs.declared.view.Held.{Held}
+use Rattle.mdl_steps.specs.declared.view.LatchRecord.{LatchRecord}
 use Rattle.mdl_steps.specs.declared.view.Keys.{Keys}
 use Rattle.mdl_steps.specs.declared.view.Known.{Known}
 use Rattle.mdl_steps.specs.declared.view.Met.{Met}
@@ -52,7 +52,7 @@ pub record MeetsDefinition (place session : ℕ) (defined : Bool) (e : Met) : Ty
   pub kind : e.kind ≡ PutLatch
   pub word : e.word ≡ latch_word place
   pub freed : e.found ≡ session
-  pub latch : Held
+  pub latch : LatchRecord
   pub held : held_at place e.held ≡ Some latch
   pub stands : is_some latch.book.standing.definition ≡ defined
 

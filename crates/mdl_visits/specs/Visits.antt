@@ -15,7 +15,7 @@ use Rattle.mdl_steps.specs.declared.deed.Deed.{Deed}
 use Rattle.mdl_steps.specs.declared.slot.Slot.TheVariants as slot
 use Rattle.mdl_steps.specs.declared.step_kind.StepKind.{StepKind}
 use Rattle.mdl_steps.specs.declared.step_kind.StepKind.TheVariants.{PutLatch, RaiseFlags, ReadWord}
-use Rattle.mdl_steps.specs.declared.view.Held.{Held}
+use Rattle.mdl_steps.specs.declared.view.LatchRecord.{LatchRecord}
 use Rattle.mdl_steps.specs.declared.view.Keys.{Keys}
 use Rattle.mdl_steps.specs.declared.view.Known.{Known}
 use Rattle.mdl_steps.specs.declared.view.Met.{Met}
@@ -104,7 +104,7 @@ AreStepsOf m m′ first second = (before : List Met) × (after : List Met) × (m
 
 -- the session came to a place: it took the latch there and made steps without deeds, a book of the place is in its hand, and nothing else changed
 pub record IsInside (place : ℕ) (m m′ : Mine) : Type 0 where
-  pub latches : List Held
+  pub latches : List LatchRecord
   pub made : List Met
   pub book : BookView
   pub now : m′ ≡ (record m.0 { latches = latches; log = m.0.log ++ made }, (place, slot.Place book) ∷ m.1)
@@ -120,7 +120,7 @@ pub record Visits (place : ℕ) (ds : List Deed) (m m′ : Mine) : Type 0 where
 
 -- it came in, raised the flag SLOW, and OBTRUSIVE where its wish is obtrusive, and then read this word of the lock
 pub record Enters (place : ℕ) (obtrusive : Bool) (word : ℕ) (m m′ : Mine) : Type 0 where
-  pub found : Held
+  pub found : LatchRecord
   pub fresh : IsFresh place found m
   pub holds : Holds place (noting word (raised true obtrusive found)) found.book m′
   pub inside : IsInside place m m′
@@ -128,7 +128,7 @@ pub record Enters (place : ℕ) (obtrusive : Bool) (word : ℕ) (m m′ : Mine) 
 
 -- it may go: the book is as it was, and the flags tell of each ticket in it
 abbrev pub MayLeave : ℕ → Mine → Type 0
-MayLeave place m = (h : Held) × Holds place h h.book m × Flagged h.book h.slow h.obtrusive
+MayLeave place m = (h : LatchRecord) × Holds place h h.book m × Flagged h.book h.slow h.obtrusive
 
 -- ---- what a step met
 
@@ -136,7 +136,7 @@ MayLeave place m = (h : Held) × Holds place h h.book m × Flagged h.book h.slow
 pub record MeetsBlocked (place who : ℕ) (mode : Mode) (e : Met) : Type 0 where
   pub kind : e.kind ≡ ReadWord
   pub word : e.word ≡ lock_word place
-  pub latch : Held
+  pub latch : LatchRecord
   pub held : held_at place e.held ≡ Some latch
   pub blocked : can_be_granted (lock_kind latch.book) latch.book.granted latch.book.waiting e.found who mode ≡ false
 
@@ -147,7 +147,7 @@ pub record MeetsGrantable (place who : ℕ) (mode : Mode) (deed : Deed) (e : Met
   pub did : e.deeds ≡ deed ∷ []
   pub word : e.word ≡ latch_word place
   pub freed : e.found ≡ who
-  pub latch : Held
+  pub latch : LatchRecord
   pub held : held_at place e.held ≡ Some latch
   pub beside : MayJoin who latch.book latch.noted mode
   pub first : goes_first (lock_kind latch.book) latch.book.waiting who mode ≡ true
@@ -155,7 +155,7 @@ pub record MeetsGrantable (place who : ℕ) (mode : Mode) (deed : Deed) (e : Met
 -- a step on the lock's word under the latch, whose record shows that the book has no room for one ticket more
 pub record MeetsFull (place : ℕ) (e : Met) : Type 0 where
   pub word : e.word ≡ lock_word place
-  pub latch : Held
+  pub latch : LatchRecord
   pub held : held_at place e.held ≡ Some latch
   pub full : 65535 ≤ ticket_count latch.book
 
@@ -163,7 +163,7 @@ pub record MeetsFull (place : ℕ) (e : Met) : Type 0 where
 -- granted ticket or had to wait behind a waiting one
 abbrev pub WasNotGrantable : ℕ → ℕ → Mode → Met → Type 0
 WasNotGrantable place who mode e =
-    (latch : Held) × (e.word ≡ lock_word place) × (held_at place e.held ≡ Some latch)
+    (latch : LatchRecord) × (e.word ≡ lock_word place) × (held_at place e.held ≡ Some latch)
     × ((fast : List Ticket) → CountsFastTickets (lock_kind latch.book) e.found fast → AreOfOthers who fast
     → is_grantable (lock_kind latch.book) (fast ++ latch.book.granted) latch.book.waiting who mode ≡ false)
 
@@ -171,7 +171,7 @@ WasNotGrantable place who mode e =
 -- of the table, no granted ticket of another session clashed with it, and it waited behind no waiting one
 abbrev pub WasGrantable : ℕ → ℕ → Mode → Deed → Met → Type 0
 WasGrantable place who mode deed e =
-    (latch : Held) × (e.deeds ≡ deed ∷ []) × (e.word ≡ latch_word place) × (e.found ≡ who) × (held_at place e.held ≡ Some latch)
+    (latch : LatchRecord) × (e.deeds ≡ deed ∷ []) × (e.word ≡ latch_word place) × (e.found ≡ who) × (held_at place e.held ≡ Some latch)
     × ((fast : List Ticket) → Lawful (lock_kind latch.book) fast latch.book.granted → NotedCounts (lock_kind latch.book) fast latch.obtrusive latch.noted
     → is_grantable (lock_kind latch.book) (fast ++ latch.book.granted) latch.book.waiting who mode ≡ true)
 

@@ -4,7 +4,7 @@ use Rattle.mdl_key.specs.declared.mode.Mode.{Mode}
 use Rattle.mdl_book.specs.declared.ticket.Ticket.{Ticket}
 use Rattle.mdl_book.specs.Books.{enqueueing}
 use Rattle.mdl_steps.specs.declared.step_kind.StepKind.TheVariants.{OpenWait}
-use Rattle.mdl_steps.specs.declared.view.Held.{Held}
+use Rattle.mdl_steps.specs.declared.view.LatchRecord.{LatchRecord}
 use Rattle.mdl_steps.specs.declared.view.Met.{Met}
 use Rattle.mdl_steps.specs.declared.view.View.{View}
 use Rattle.mdl_steps.specs.Cells.{held_at}
@@ -33,14 +33,14 @@ pub record MeetsOpening (slots place session waits number : ℕ) (mode : Mode) (
   pub kind : e.kind ≡ OpenWait
   pub word : e.word ≡ wait_word slots session
   pub idle : e.found ≡ wait_in waits idle_state
-  pub latch : Held
+  pub latch : LatchRecord
   pub held : held_at place e.held ≡ Some latch
   pub before : List Ticket
   pub last : latch.book.waiting ≡ before ++ record { session = session; number = number; mode = mode } ∷ []
 
 -- under a latch with its book in hand, the session may open a wait for a mode, and the flags tell the lists exactly once it has. Until then
 -- they tell of each ticket
-pub record MayQueue (place : ℕ) (mode : Mode) (h : Held) (m : Mine) : Type 0 where
+pub record MayQueue (place : ℕ) (mode : Mode) (h : LatchRecord) (m : Mine) : Type 0 where
   pub holds : Holds place h h.book m
   pub may : MayOpen place mode h m
   pub exact : TellsLists (enqueueing (asked_ticket mode m.0) h.book) h.slow h.obtrusive

@@ -1,6 +1,7 @@
-//! A session comes to a place for a wish, and goes; whoever goes lowers the flags of the lock's word that the lists don't ask for.
+//! A session takes the latch of a place for a wish, and gives it back. Before it does, it lowers the flags of the lock's word that the lists
+//! don't need.
 ghost use Rattle.std.specs.Prelude.{◌≡◌, []};
-ghost use Rattle.mdl_steps.specs.declared.view.Held.{Held};
+ghost use Rattle.mdl_steps.specs.declared.view.LatchRecord.{LatchRecord};
 ghost use Rattle.mdl_steps.specs.declared.view.Met.{Met};
 ghost use Rattle.mdl_steps.specs.Deeds.{all_booked};
 ghost use Rattle.mdl_steps.specs.Layout.{lock_word};
@@ -16,7 +17,7 @@ use mdl_steps::{Deed, Latched, TableSeat};
 use mdl_word::Word;
 use std::sync::Wait;
 
-/// Comes to a place for a wish: takes the latch, raises the flags that keep others from passing by, and reads the lock's word.
+/// Takes the latch of a place for a wish, raises the flags that close the fast path, and reads the lock's word.
 pub(crate) fn enter<R: Wait>(
     rt: &R,
     seat: &mut TableSeat,
@@ -34,7 +35,7 @@ pub(crate) fn enter<R: Wait>(
     (latch, word)
 }
 
-/// Goes from a place with nothing done: lowers the flags that the lists don't ask for, and gives the latch back.
+/// Gives the latch back with nothing done, and with just those flags up that the book in hand needs.
 pub(crate) fn leave(seat: &mut TableSeat, latch: Latched)
     requires place { IsPlace seat.old.table latch.place }
     requires left { MayLeave latch.place seat.old.me }
@@ -44,10 +45,10 @@ pub(crate) fn leave(seat: &mut TableSeat, latch: Latched)
     lower_flags_and_put(seat, latch, &[]);
 }
 
-/// Gives the latch back after some deeds, with just those flags up that the book in hand asks for.
+/// Gives the latch back after some deeds, with just those flags up that the book in hand needs.
 pub(crate) fn lower_flags_and_put(seat: &mut TableSeat, latch: Latched, deeds: &[Deed])
     requires place { IsPlace seat.old.table latch.place }
-    requires done { (h : Held) × HasDone latch.place deeds.now h seat.old.me
+    requires done { (h : LatchRecord) × HasDone latch.place deeds.now h seat.old.me
         × Flagged (all_booked seat.old.me.0.number deeds.now h.book) h.slow h.obtrusive }
     ensures left { AtItsTable seat.old seat.new (Leaves latch.place deeds.now) }
     ensures step { (e : Met) × IsStepOf seat.old.me seat.new.me e × (e.word ≡ lock_word latch.place)

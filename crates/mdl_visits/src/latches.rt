@@ -1,6 +1,6 @@
-//! Latches are waited for: that of a place, and the directory's.
+//! A session waits for a latch: that of a place, or the directory's.
 ghost use Rattle.std.specs.Prelude.{◌≡◌, ◌<◌, List, [], length};
-ghost use Rattle.mdl_steps.specs.declared.view.Held.{Held};
+ghost use Rattle.mdl_steps.specs.declared.view.LatchRecord.{LatchRecord};
 ghost use Rattle.mdl_steps.specs.declared.view.Keys.{Keys};
 ghost use Rattle.mdl_steps.specs.declared.view.Met.{Met};
 ghost use Rattle.mdl_steps.specs.Plays.{IsDirectory, IsFresh, consulted, latched};
@@ -17,7 +17,7 @@ pub(crate) fn await_latch<R: Wait>(rt: &R, seat: &mut TableSeat, place: usize) -
     requires place { IsPlace seat.old.table place }
     requires rising { IsRising place seat.old.me }
     ensures place { result.place ≡ place }
-    ensures taken { (h : Held) × IsFresh place h seat.old.me × Holds place h h.book seat.new.me
+    ensures taken { (h : LatchRecord) × IsFresh place h seat.old.me × Holds place h h.book seat.new.me
         × ((made : List Met) × (seat.new.me ≡ latched place h (and_made made seat.old.me)) × AllQuiet seat.old.me.0.directory made
         × (deeds_of made ≡ [])) }
     ensures inside { AtItsTable seat.old seat.new (IsInside place) }
@@ -32,7 +32,7 @@ pub(crate) fn await_latch<R: Wait>(rt: &R, seat: &mut TableSeat, place: usize) -
     unreachable!()
 }
 
-/// Takes the directory's latch, and waits as long as another session holds it.
+/// Takes the directory's latch, and waits for it as long as another session holds it.
 pub(crate) fn await_directory<R: Wait>(rt: &R, seat: &mut TableSeat) -> LatchedDirectory
     requires first { length seat.old.me.0.latches ≡ 0 }
     ensures taken { (made : List Met) × (k : Keys) × IsDirectory seat.old.table.slots k (and_made made seat.old.me)

@@ -1,4 +1,5 @@
-//! What the steps of a try tell, and those that grant waits. Each law is proved as the contract of a function that does nothing.
+//! What follows from the steps of a wish, and from those that grant waits. Each law is proved as the contract of a function that does
+//! nothing.
 ghost use Rattle.mdl_visits.specs.Grantings.{GrantedWaitsWereGrantable, WaitsLeftWerentGrantable};
 ghost use Rattle.mdl_visits.specs.Visits.{BlockedWishesWerentGrantable, GrantedWishesWereGrantable};
 
@@ -17,7 +18,7 @@ pub fn granted_waits_were_grantable()
     ensures { GrantedWaitsWereGrantable }
 {}
 
-/// A wait that was passed over as way was made couldn't be granted, whichever fast tickets the lock's word counted, or was settled before.
+/// A wait that was passed over as others were granted couldn't be granted, whichever fast tickets the lock's word counted, or was settled before.
 pub fn waits_left_werent_grantable()
     ensures { WaitsLeftWerentGrantable }
 {}

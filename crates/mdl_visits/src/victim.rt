@@ -13,7 +13,7 @@ use mdl_graph::{WaitGraph, victim};
 use mdl_steps::{ListCopies, WaitWord};
 use std::alloc::{AllocError, Global};
 
-// The sessions whose waits aren't open by their words.
+// The sessions that have no open wait by these words.
 fn settled_of(words: &[WaitRead]) -> Sessions
     requires { All (λ (h : WaitRead). is_session h.session ≡ true) words.now }
     ensures { (session : ℕ) → set.contains result session ≡ settled_by words.now session }

@@ -1,4 +1,4 @@
-//! The words of all sessions' waits are read.
+//! A session reads the words of all sessions' waits.
 ghost use Rattle.std.specs.Prelude.{◌≡◌, ◌+◌, ◌<◌, ◌++◌, ◌∷◌, [], All, OnOk};
 ghost use Rattle.mdl_steps.specs.SeatStates.{AtItsTable};
 ghost use Rattle.mdl_steps.specs.WaitSeats.{IsSession};
@@ -8,7 +8,7 @@ ghost use Rattle.mdl_visits.specs.Searches.{AreOfAll, Hears, WasHeard};
 use mdl_steps::{TableSeat, WaitWord};
 use std::alloc::AllocError;
 
-// The most sessions that a graph of waits tells apart.
+// The most sessions that a graph of waits has room for.
 const MOST_SESSIONS: u16 = 1024;
 
 /// The word of a session's wait, as a step met it.

@@ -1,4 +1,4 @@
-//! A round of all places that have a key: their latches are taken one after the other, and given back once all are taken.
+//! An audit of all places that have a key: their latches are taken one after the other, and given back once all are taken.
 ghost use Rattle.std.specs.Prelude.{◌≡◌, ◌+◌, ◌<◌, ◌≤◌, [], ◌∷◌, ◌++◌, OnOk};
 ghost use Rattle.mdl_book.specs.declared.book_view.BookView.{BookView};
 ghost use Rattle.mdl_steps.specs.declared.slot.Slot.TheVariants as slot;

@@ -4,7 +4,7 @@ ghost use Rattle.mdl_key.specs.Words.{is_mode_of, is_obtrusive};
 ghost use Rattle.mdl_book.specs.Books.{ticket_count};
 ghost use Rattle.mdl_book.specs.declared.book_error.BookError.TheVariants as fault;
 ghost use Rattle.mdl_steps.specs.declared.deed.Deed.TheVariants.{Gain};
-ghost use Rattle.mdl_steps.specs.declared.view.Held.{Held};
+ghost use Rattle.mdl_steps.specs.declared.view.LatchRecord.{LatchRecord};
 ghost use Rattle.mdl_steps.specs.declared.view.Met.{Met};
 ghost use Rattle.mdl_steps.specs.Plays.{Mine, unlatched};
 ghost use Rattle.mdl_steps.specs.SeatStates.{AtItsTable};
@@ -29,7 +29,7 @@ pub enum Queued {
     Waiting,
 }
 
-// Opens a wait at the latched place, and gives the latch back. Where that isn't done all stays as it was.
+// Opens a wait at the latched place, and gives the latch back. If it is refused, all stays as it was.
 fn enqueue(
     seat: &mut TableSeat,
     latch: Latched,
@@ -38,12 +38,12 @@ fn enqueue(
     wait: u64,
 ) -> Result<Queued, BookError>
     requires place { IsPlace seat.old.table latch.place }
-    requires queue { (h : Held) × MayQueue latch.place mode h seat.old.me }
+    requires queue { (h : LatchRecord) × MayQueue latch.place mode h seat.old.me }
     requires number { number ≡ seat.old.me.0.next }
     requires wait { (wait ≡ seat.old.me.0.waits + 1) × (wait < 2 ^ 60) }
     ensures opened { IfOk result (λ queued. (queued ≡ Waiting) × (seat.new ≡ record seat.old { me = unlatched latch.place [] (opened seat.old.table.slots latch.place mode seat.old.me) })) }
     ensures unchanged { OnErr result (((m : Mine) → IsInside latch.place m seat.old.me → Visits latch.place [] m seat.new.me) × AtItsTable seat.old seat.new GoesOn) }
-    ensures refused { (h : Held) → MayQueue latch.place mode h seat.old.me → IfErr result (λ cause. (cause ≡ fault.OutOfMemory)
+    ensures refused { (h : LatchRecord) → MayQueue latch.place mode h seat.old.me → IfErr result (λ cause. (cause ≡ fault.OutOfMemory)
         ⊎ ((cause ≡ fault.Full) × (65535 ≤ ticket_count h.book))) }
 {
     if let Err(cause) = seat.write_wish(&latch, number, mode) {
@@ -56,7 +56,8 @@ fn enqueue(
 }
 
 /// Grants the session a ticket of this number in this mode, where that can be done now, beside all that others hold and before none that
-/// waits. Otherwise the ticket waits there, behind all others, and the session's wait has this number.
+/// waits. Otherwise the ticket waits there, behind all others, and the session's wait has this number. After `MDL_context::acquire_lock`,
+/// which waits itself.
 pub fn begin_wait<R: Wait>(
     rt: &R,
     seat: &mut TableSeat,

@@ -1,9 +1,9 @@
-//! What stands under a key is changed under the latch of its place.
+//! The definition of a key is changed under the latch of its place.
 ghost use Rattle.std.specs.Prelude.{◌≡◌, ◌+◌, [], true, IfOk, IfErr, OnErr};
 ghost use Rattle.mdl_key.specs.Refusals.{Refuses, RefusesJust};
 ghost use Rattle.mdl_defs.specs.declared.standing.Standing.{Standing};
 ghost use Rattle.mdl_defs.specs.Standings.{standing_fault, standing_after};
-ghost use Rattle.mdl_steps.specs.declared.view.Held.{Held};
+ghost use Rattle.mdl_steps.specs.declared.view.LatchRecord.{LatchRecord};
 ghost use Rattle.mdl_steps.specs.Plays.{unlatched};
 ghost use Rattle.mdl_steps.specs.Rule.{TellsLists};
 ghost use Rattle.mdl_steps.specs.SeatStates.{AtItsTable};
@@ -18,7 +18,7 @@ use mdl_defs::{Change, ChangeError};
 use mdl_steps::{Latched, TableSeat};
 use std::sync::Wait;
 
-/// Changes what stands at a place, where the session has an exclusive ticket, and answers the new version. The session notes it under
+/// Changes the definition at a place, where the session has an exclusive ticket, and returns the new version. The session notes it under
 /// each ticket that it has there. `Drop` takes no memory.
 pub fn change_definition<R: Wait>(
     rt: &R,
@@ -42,13 +42,13 @@ pub fn change_definition<R: Wait>(
 // The same at the latched place, and the latch is given back.
 fn change_latched(seat: &mut TableSeat, latch: Latched, change: &Change) -> Result<u64, ChangeError>
     requires place { IsPlace seat.old.table latch.place }
-    requires held { (h : Held) × Holds latch.place h h.book seat.old.me × TellsLists h.book h.slow h.obtrusive × HasExclusive h seat.old.me }
-    ensures changed { (h : Held) → Holds latch.place h h.book seat.old.me → IfOk result (λ version. (version ≡ h.book.standing.version + 1)
+    requires held { (h : LatchRecord) × Holds latch.place h h.book seat.old.me × TellsLists h.book h.slow h.obtrusive × HasExclusive h seat.old.me }
+    ensures changed { (h : LatchRecord) → Holds latch.place h h.book seat.old.me → IfOk result (λ version. (version ≡ h.book.standing.version + 1)
         × (seat.new ≡ record seat.old { me = redefined_and_put latch.place (standing_after change.now h.book.standing) seat.old.me })) }
     ensures unchanged { OnErr result (seat.new ≡ record seat.old { me = unlatched latch.place [] seat.old.me }) }
-    ensures refused { (h : Held) → Holds latch.place h h.book seat.old.me
+    ensures refused { (h : LatchRecord) → Holds latch.place h h.book seat.old.me
         → Refuses (standing_fault h.book.key.namespace change.now h.book.standing) ChangeError.OutOfMemory result }
-    ensures drop { (h : Held) → Holds latch.place h h.book seat.old.me → change.now ≡ Change.Drop
+    ensures drop { (h : LatchRecord) → Holds latch.place h h.book seat.old.me → change.now ≡ Change.Drop
         → RefusesJust (standing_fault h.book.key.namespace change.now h.book.standing) result }
 {
     match seat.write_change(&latch, change) {
@@ -63,11 +63,11 @@ fn change_latched(seat: &mut TableSeat, latch: Latched, change: &Change) -> Resu
     }
 }
 
-// Writes the version of the change that was made in hand, and gives the latch back.
+// Writes the version of the definition that was changed in hand, and gives the latch back.
 fn publish_version(seat: &mut TableSeat, latch: Latched)
     requires place { IsPlace seat.old.table latch.place }
-    requires changed { (h : Held) × (change : Change) × HasRedefined latch.place h change seat.old.me × TellsLists h.book h.slow h.obtrusive }
-    ensures published { (h : Held) (change : Change) → HasRedefined latch.place h change seat.old.me
+    requires changed { (h : LatchRecord) × (change : Change) × HasRedefined latch.place h change seat.old.me × TellsLists h.book h.slow h.obtrusive }
+    ensures published { (h : LatchRecord) (change : Change) → HasRedefined latch.place h change seat.old.me
         → seat.new ≡ record seat.old { me = redefined_and_put latch.place (standing_after change h.book.standing) seat.old.me } }
 {
     seat.write_version(&latch);

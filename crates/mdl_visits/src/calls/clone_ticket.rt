@@ -2,7 +2,7 @@
 ghost use Rattle.std.specs.Prelude.{◌≡◌, ◌⊎◌, ◌∷◌, [], Some, None, OnOk, OnErr, IfErr, true};
 ghost use Rattle.mdl_book.specs.declared.book_error.BookError.TheVariants as fault;
 ghost use Rattle.mdl_steps.specs.declared.deed.Deed.TheVariants.{Gain};
-ghost use Rattle.mdl_steps.specs.declared.view.Held.{Held};
+ghost use Rattle.mdl_steps.specs.declared.view.LatchRecord.{LatchRecord};
 ghost use Rattle.mdl_steps.specs.declared.view.Met.{Met};
 ghost use Rattle.mdl_steps.specs.Deeds.{KnowsPlace};
 ghost use Rattle.mdl_steps.specs.Layout.{lock_word};
@@ -49,7 +49,7 @@ pub fn clone_ticket<R: Wait>(
     clone_latched(seat, latch, number, mode)
 }
 
-// Gains the ticket at the latched place, and the latch is given back.
+// The same at the latched place, and the latch is given back.
 fn clone_latched(
     seat: &mut TableSeat,
     latch: Latched,
@@ -57,7 +57,7 @@ fn clone_latched(
     mode: Mode,
 ) -> Result<(), BookError>
     requires place { IsPlace seat.old.table latch.place }
-    requires covered { (h : Held) × Holds latch.place h h.book seat.old.me × IsCovered seat.old.me.0.number mode h }
+    requires covered { (h : LatchRecord) × Holds latch.place h h.book seat.old.me × IsCovered seat.old.me.0.number mode h }
     requires idle { seat.old.me.0.asks ≡ None }
     requires known { KnowsPlace seat.old.me.0 latch.place }
     requires number { number ≡ seat.old.me.0.next }

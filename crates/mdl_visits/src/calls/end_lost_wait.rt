@@ -1,6 +1,6 @@
 //! A lost wait ends, under the latch of its place.
 ghost use Rattle.std.specs.Prelude.{◌≡◌, ℕ, ◌^◌, ◌<◌, Some};
-ghost use Rattle.mdl_steps.specs.declared.view.Held.{Held};
+ghost use Rattle.mdl_steps.specs.declared.view.LatchRecord.{LatchRecord};
 ghost use Rattle.mdl_steps.specs.SeatStates.{AtItsTable};
 ghost use Rattle.mdl_steps.specs.Seats.{IsPlace, IsRising};
 ghost use Rattle.mdl_steps.specs.WaitStates.{IsLost};
@@ -29,7 +29,7 @@ pub fn end_lost_wait<R: Wait>(rt: &R, seat: &mut TableSeat, ask: Ask, wait: u64)
 // The same at the latched place, and the latch is given back.
 fn end_latched(seat: &mut TableSeat, latch: Latched, number: u64, wait: u64)
     requires place { IsPlace seat.old.table latch.place }
-    requires end { (h : Held) × (may : MayEnd latch.place h seat.old.me) × (number ≡ may.may.ask.number) }
+    requires end { (h : LatchRecord) × (may : MayEnd latch.place h seat.old.me) × (number ≡ may.may.ask.number) }
     requires once { WaitsOnce latch.place seat.old.me }
     requires wait { (wait ≡ seat.old.me.0.waits) × (wait < 2 ^ 60) }
     ensures ended { AtItsTable seat.old seat.new (EndsThere seat.old.table latch.place) }

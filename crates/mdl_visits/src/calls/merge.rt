@@ -5,7 +5,7 @@ ghost use Rattle.mdl_book.specs.declared.ticket.Ticket.{Ticket};
 ghost use Rattle.mdl_book.specs.Books.{lock_kind};
 ghost use Rattle.mdl_book.specs.Tickets.{ticket_of};
 ghost use Rattle.mdl_steps.specs.declared.deed.Deed.TheVariants.{Alter, Lose};
-ghost use Rattle.mdl_steps.specs.declared.view.Held.{Held};
+ghost use Rattle.mdl_steps.specs.declared.view.LatchRecord.{LatchRecord};
 ghost use Rattle.mdl_steps.specs.declared.view.Met.{Met};
 ghost use Rattle.mdl_steps.specs.Deeds.{KnowsPlace};
 ghost use Rattle.mdl_steps.specs.SeatStates.{AtItsTable};
@@ -22,8 +22,8 @@ use crate::no_fast_tickets::NO_FAST_TICKETS;
 use mdl_steps::{Deed, Latched, Own, TableSeat};
 use std::sync::Wait;
 
-/// Lets a ticket of the session, which waits for nothing, have the mode of another one of its place, which covers its own and goes. It takes
-/// no memory.
+/// Gives a ticket of the session, which waits for nothing, the mode of another one of its place, which covers its own, and gives that other
+/// one up. It takes no memory.
 pub fn merge<R: Wait>(rt: &R, seat: &mut TableSeat, kept: Own, gone: Own)
     requires place { IsPlace seat.old.table kept.place }
     requires rising { IsRising kept.place seat.old.me }
@@ -45,7 +45,7 @@ pub fn merge<R: Wait>(rt: &R, seat: &mut TableSeat, kept: Own, gone: Own)
 // The same at the latched place, and the latch is given back.
 fn merge_latched(seat: &mut TableSeat, latch: Latched, kept: u64, gone: Own)
     requires place { IsPlace seat.old.table latch.place }
-    requires covered { (h : Held) × Holds latch.place h h.book seat.old.me × IsCovered seat.old.me.0.number gone.mode h
+    requires covered { (h : LatchRecord) × Holds latch.place h h.book seat.old.me × IsCovered seat.old.me.0.number gone.mode h
         × ((t : Ticket) × (ticket_of seat.old.me.0.number kept h.book.granted ≡ Some t) × IsAtLeast (lock_kind h.book) gone.mode t.mode)
         × ((t : Ticket) × (ticket_of seat.old.me.0.number gone.number h.book.granted ≡ Some t) × (t.mode ≡ gone.mode)) }
     requires known { KnowsPlace seat.old.me.0 latch.place }

@@ -1,6 +1,6 @@
-//! What stands under a key is read under the latch of its place.
+//! The definition of a key is read under the latch of its place.
 ghost use Rattle.std.specs.Prelude.{◌≡◌, [], IfOk, OnErr};
-ghost use Rattle.mdl_steps.specs.declared.view.Held.{Held};
+ghost use Rattle.mdl_steps.specs.declared.view.LatchRecord.{LatchRecord};
 ghost use Rattle.mdl_steps.specs.declared.view.Met.{Met};
 ghost use Rattle.mdl_steps.specs.Plays.{read_and_put};
 ghost use Rattle.mdl_steps.specs.Rule.{TellsLists};
@@ -16,7 +16,7 @@ use mdl_steps::{Latched, TableSeat};
 use std::alloc::AllocError;
 use std::sync::Wait;
 
-/// Reads what stands at a place. The session notes the version under each ticket that it has there.
+/// Reads the definition at a place. The session notes the version under each ticket that it has there.
 pub fn read_definition<R: Wait>(
     rt: &R,
     seat: &mut TableSeat,
@@ -38,8 +38,8 @@ pub fn read_definition<R: Wait>(
 // The same at the latched place, and the latch is given back.
 fn read_latched(seat: &mut TableSeat, latch: Latched) -> Result<Standing, AllocError>
     requires place { IsPlace seat.old.table latch.place }
-    requires held { (h : Held) × Holds latch.place h h.book seat.old.me × TellsLists h.book h.slow h.obtrusive }
-    ensures told { (h : Held) → Holds latch.place h h.book seat.old.me → IfOk result (λ standing. (standing ≡ h.book.standing)
+    requires held { (h : LatchRecord) × Holds latch.place h h.book seat.old.me × TellsLists h.book h.slow h.obtrusive }
+    ensures told { (h : LatchRecord) → Holds latch.place h h.book seat.old.me → IfOk result (λ standing. (standing ≡ h.book.standing)
         × (seat.new.me ≡ read_and_put latch.place standing seat.old.me)) }
     ensures unchanged { OnErr result (Leaves latch.place [] seat.old.me seat.new.me) }
     ensures quiet { AtItsTable seat.old seat.new StaysQuiet }

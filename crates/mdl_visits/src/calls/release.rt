@@ -2,13 +2,13 @@
 ghost use Rattle.std.specs.Prelude.{◌≡◌, ◌∷◌, [], is_some, true};
 ghost use Rattle.mdl_book.specs.Tickets.{ticket_of};
 ghost use Rattle.mdl_steps.specs.declared.deed.Deed.TheVariants.{Lose};
-ghost use Rattle.mdl_steps.specs.declared.view.Held.{Held};
+ghost use Rattle.mdl_steps.specs.declared.view.LatchRecord.{LatchRecord};
 ghost use Rattle.mdl_steps.specs.declared.view.Met.{Met};
 ghost use Rattle.mdl_steps.specs.Deeds.{KnowsPlace, NotWaited};
 ghost use Rattle.mdl_steps.specs.Rule.{TellsLists};
 ghost use Rattle.mdl_steps.specs.SeatStates.{AtItsTable};
 ghost use Rattle.mdl_steps.specs.Seats.{IsPlace, IsRising, Holds};
-ghost use Rattle.mdl_visits.specs.Grantings.{LeavesWay, VisitsForWay, WaitsOnce};
+ghost use Rattle.mdl_visits.specs.Grantings.{ReschedulesAndLeaves, VisitsAndReschedules, WaitsOnce};
 ghost use Rattle.mdl_visits.specs.Leavings.{HasTicket, MeetsOwn};
 ghost use Rattle.mdl_visits.specs.Visits.{IsStepOf};
 
@@ -25,7 +25,7 @@ pub fn release<R: Wait>(rt: &R, seat: &mut TableSeat, place: usize, number: u64)
     requires known { KnowsPlace seat.old.me.0 place }
     requires unwaited { NotWaited seat.old.me.0 number }
     requires held { HasTicket place number seat.old.me.0.slow }
-    ensures released { AtItsTable seat.old seat.new (VisitsForWay seat.old.table place (Lose number ∷ [])) }
+    ensures released { AtItsTable seat.old seat.new (VisitsAndReschedules seat.old.table place (Lose number ∷ [])) }
     ensures step { (e : Met) × IsStepOf seat.old.me seat.new.me e × MeetsOwn place seat.old.me.0.number number e
         × (e.deeds ≡ Lose number ∷ []) }
 {
@@ -36,12 +36,12 @@ pub fn release<R: Wait>(rt: &R, seat: &mut TableSeat, place: usize, number: u64)
 // The same at the latched place, and the latch is given back.
 fn release_latched(seat: &mut TableSeat, latch: Latched, number: u64)
     requires place { IsPlace seat.old.table latch.place }
-    requires held { (h : Held) × Holds latch.place h h.book seat.old.me × TellsLists h.book h.slow h.obtrusive
+    requires held { (h : LatchRecord) × Holds latch.place h h.book seat.old.me × TellsLists h.book h.slow h.obtrusive
         × (is_some (ticket_of seat.old.me.0.number number h.book.granted) ≡ true) }
     requires once { WaitsOnce latch.place seat.old.me }
     requires known { KnowsPlace seat.old.me.0 latch.place }
     requires unwaited { NotWaited seat.old.me.0 number }
-    ensures left { AtItsTable seat.old seat.new (LeavesWay seat.old.table latch.place (Lose number ∷ [])) }
+    ensures left { AtItsTable seat.old seat.new (ReschedulesAndLeaves seat.old.table latch.place (Lose number ∷ [])) }
     ensures step { (e : Met) × IsStepOf seat.old.me seat.new.me e × MeetsOwn latch.place seat.old.me.0.number number e
         × (e.deeds ≡ Lose number ∷ []) }
 {

@@ -1,5 +1,5 @@
-//! A search for a deadlock: the latches of all places that have a key are taken one after the other, and by their books it is looked for, once all
-//! are taken. Only where somebody waits a lock's lists are copied for that: by the others nobody waits for anybody.
+//! A search for a deadlock: the latches of all places that have a key are taken one after the other, and the deadlock is looked for in their
+//! books once all are taken. Only the lists of locks where somebody waits are copied: by the others nobody waits for anybody.
 ghost use Rattle.std.specs.Prelude.{◌≡◌, ◌+◌, ◌<◌, ◌≤◌, List, ◌∷◌, ◌++◌, IfOk, OnErr, OnOk};
 ghost use Rattle.mdl_book.specs.declared.book_view.BookView.{BookView};
 ghost use Rattle.mdl_steps.specs.declared.slot.Slot.TheVariants as slot;
@@ -10,7 +10,7 @@ ghost use Rattle.mdl_visits.specs.declared.audited.Audited.{Audited};
 ghost use Rattle.mdl_visits.specs.Idle.{IsIdle};
 ghost use Rattle.mdl_visits.specs.Lookups.{TookDirectory};
 ghost use Rattle.mdl_visits.specs.Polls.{SettlesNothing};
-ghost use Rattle.mdl_visits.specs.Searches.{AreQueuesOf, Hears, KnowsFall, Listens, Searched, Searches, if_waited};
+ghost use Rattle.mdl_visits.specs.Searches.{AreQueuesOf, Hears, KnowsVictim, Listens, Searched, Searches, if_waited};
 
 use crate::latches::{await_directory, await_latch};
 use crate::settle_victim::settle_victim;
@@ -20,7 +20,7 @@ use std::alloc::{AllocError, Global};
 use std::sync::Wait;
 
 /// Looks for a deadlock that the session waits in, and settles the wait of its victim. No key gets a place meanwhile, since the session holds
-/// the directory's latch, and no book changes once the session has all latches.
+/// the directory's latch, and no book changes once the session has all latches. After `MDL_context::find_deadlock`.
 pub fn search_deadlock<R: Wait>(
     rt: &R,
     seat: &mut TableSeat,
@@ -31,7 +31,7 @@ pub fn search_deadlock<R: Wait>(
     ensures hears { AtItsTable seat.old seat.new Listens }
     ensures searched { (k : Keys) × TookDirectory seat.old.table.slots k k seat.old.me seat.new.me
         × IfOk result (λ found. Searched seat.old.table seat.old.me.0.number k found seat.old.me seat.new.me) }
-    ensures own { IfOk result (λ found. KnowsFall seat.old.me.0.number found seat.new.me) }
+    ensures own { IfOk result (λ found. KnowsVictim seat.old.me.0.number found seat.new.me) }
     ensures nothing { OnErr result (SettlesNothing seat.old.me seat.new.me) }
 {
     let directory = await_directory(rt, seat);
@@ -42,7 +42,8 @@ pub fn search_deadlock<R: Wait>(
     outcome
 }
 
-// Puts the lists of the places from one to the last behind others, where somebody waits, and searches by all of them while their latches are held.
+// Appends the lists of the places from one to the last, where somebody waits, to others, and searches by all of them while their latches are
+// held.
 fn search_from<R: Wait>(
     rt: &R,
     seat: &mut TableSeat,
@@ -56,7 +57,7 @@ fn search_from<R: Wait>(
     ensures hears { AtItsTable seat.old seat.new Hears }
     ensures searched { IfOk result (λ found. (copied : List Audited) → AreQueuesOf copied lists.old
         → Searches seat.old.table seat.old.me.0.number place last copied found seat.old.me seat.new.me) }
-    ensures own { IfOk result (λ found. KnowsFall seat.old.me.0.number found seat.new.me) }
+    ensures own { IfOk result (λ found. KnowsVictim seat.old.me.0.number found seat.new.me) }
     ensures nothing { OnErr result (SettlesNothing seat.old.me seat.new.me) }
 {
     if place > last {
@@ -72,7 +73,7 @@ fn search_from<R: Wait>(
     outcome
 }
 
-// Puts the lists of the book in hand behind others, if somebody waits by it.
+// Appends the lists of the book in hand to others, if somebody waits by it.
 fn add_if_waited(
     seat: &mut TableSeat,
     latch: &Latched,

@@ -1,8 +1,8 @@
-//! The tables of a schema that have a definition: the directory tells the tables, and at the place of each it is asked for a definition.
+//! The tables of a schema that have a definition: the directory has the tables, and the place of each has its definition.
 ghost use Rattle.std.specs.Prelude.{◌≡◌, ◌+◌, ◌<◌, ◌≤◌, ◌++◌, ◌∷◌, [], Bool, is_some, length, if◌then◌else◌, IfOk, OnErr};
 ghost use Rattle.std.specs.List.Sorted.{IsPermutation};
 ghost use Rattle.std.specs.Vec.{vec_capacity, vec_len};
-ghost use Rattle.mdl_steps.specs.declared.view.Held.{Held};
+ghost use Rattle.mdl_steps.specs.declared.view.LatchRecord.{LatchRecord};
 ghost use Rattle.mdl_steps.specs.declared.view.Keys.{Keys};
 ghost use Rattle.mdl_steps.specs.declared.view.Met.{Met};
 ghost use Rattle.mdl_steps.specs.Plays.{unlatched};
@@ -51,7 +51,7 @@ pub fn find_tables<R: Wait>(
     }
 }
 
-// The tables by the directory in hand, and room for what will be known and told of them.
+// The tables by the directory in hand, and room for them and for their places.
 fn list_tables(
     seat: &mut TableSeat,
     directory: &LatchedDirectory,
@@ -80,7 +80,7 @@ fn sort_by_key(tables: &mut Vec<Known>)
     tables.sort_unstable_by(|one, other| one.key.cmp(&other.key));
 }
 
-/// Whether a definition stands at a place. It takes no memory.
+/// Whether a place has a definition. It takes no memory.
 fn is_defined<R: Wait>(rt: &R, seat: &mut TableSeat, place: usize) -> bool
     requires place { IsPlace seat.old.table place }
     requires rising { IsRising place seat.old.me }
@@ -95,16 +95,16 @@ fn is_defined<R: Wait>(rt: &R, seat: &mut TableSeat, place: usize) -> bool
 // The same at the latched place, and the latch is given back.
 fn is_defined_latched(seat: &mut TableSeat, latch: Latched) -> bool
     requires place { IsPlace seat.old.table latch.place }
-    requires held { (h : Held) × Holds latch.place h h.book seat.old.me × TellsLists h.book h.slow h.obtrusive }
+    requires held { (h : LatchRecord) × Holds latch.place h h.book seat.old.me × TellsLists h.book h.slow h.obtrusive }
     ensures put { seat.new ≡ record seat.old { me = unlatched latch.place [] seat.old.me } }
-    ensures told { (h : Held) → Holds latch.place h h.book seat.old.me → result ≡ is_some h.book.standing.definition }
+    ensures told { (h : LatchRecord) → Holds latch.place h h.book seat.old.me → result ≡ is_some h.book.standing.definition }
 {
     let defined = seat.has_definition(&latch);
     seat.put_latch(latch, &[]);
     defined
 }
 
-// Asks for one table, and lists its place where it has a definition.
+// Looks at the place of one table, and lists it if it has a definition.
 fn add_if_defined<R: Wait>(rt: &R, seat: &mut TableSeat, table: &Known, places: &mut Vec<Place>)
     requires place { IsPlace seat.old.table table.now.place × (seat.old.table.slots ≤ 65536) }
     requires idle { IsIdle seat.old.me }
@@ -121,7 +121,7 @@ fn add_if_defined<R: Wait>(rt: &R, seat: &mut TableSeat, table: &Known, places: 
     }
 }
 
-/// Asks for each of these tables whether it has a definition, and lists the places of those that have one. There is room for all.
+/// Looks at the place of each of these tables, and lists those that have a definition. There is room for all.
 pub fn tables_defined<R: Wait>(
     rt: &R,
     seat: &mut TableSeat,

@@ -16,7 +16,7 @@ use mdl_key::Mode;
 use mdl_steps::{Deed, TableSeat};
 use std::sync::Wait;
 
-/// Lets the ticket of this number at a place have an obtrusive mode, where that can be granted now, beside all that others hold and
+/// Gives the ticket of this number at a place an obtrusive mode, where that can be granted now, beside all that others hold and
 /// before none that waits. Otherwise all stays as it was. The session waits for nothing, and a fast ticket of its own
 /// there counts as another session's. It takes no memory. After `MDL_context::upgrade_shared_lock`.
 pub fn upgrade_now<R: Wait>(

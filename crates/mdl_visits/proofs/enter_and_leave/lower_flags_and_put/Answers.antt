@@ -4,7 +4,7 @@ use Rattle.mdl_steps.specs.declared.slot.Slot.TheVariants as slot
 use Rattle.mdl_steps.specs.declared.view.Met.{Met}
 use Rattle.mdl_steps.specs.Deeds.{all_booked}
 use Rattle.mdl_steps.specs.Layout.{lock_word}
-use Rattle.mdl_steps.specs.Plays.{Mine, lowered, settled, unlatched}
+use Rattle.mdl_steps.specs.Plays.{Mine, lowered, flags_lowered, unlatched}
 use Rattle.mdl_steps.specs.Seats.{Holds, rest}
 use Rattle.mdl_visits.specs.Leavings.{Leaves}
 use Rattle.mdl_visits.specs.Visits.{IsStepOf}
@@ -53,7 +53,7 @@ returns-clause-left c =
     let made = c.lower_flags.ensures.made in
     let low = made.1 book (subst (λ (m′ : Mine). m′.1 ≡ (place, slot.Place book) ∷ rest m′.1) (sym same) done.1.holds.carried) in (
       table_of c.put_latch.ensures.made ∙ table_of low ∙ table_of c.needs-needs.ensures.same,
-      subst (λ (m′ : Mine). Leaves place ds m m′) (sym (mine c.put_latch.ensures.made ∙ ap (unlatched place []) (mine low ∙ ap (λ (x : Mine). settled place ds made.0 book needs.slow needs.obtrusive x) same)))
+      subst (λ (m′ : Mine). Leaves place ds m m′) (sym (mine c.put_latch.ensures.made ∙ ap (unlatched place []) (mine low ∙ ap (λ (x : Mine). flags_lowered place ds made.0 book needs.slow needs.obtrusive x) same)))
           (leaves place ds made.0 book needs.slow needs.obtrusive m),
     )
 
@@ -68,6 +68,6 @@ returns-clause-step c =
     let same = mine c.needs-needs.ensures.same in
     let made = c.lower_flags.ensures.made in
     let low = made.1 book (subst (λ (m′ : Mine). m′.1 ≡ (place, slot.Place book) ∷ rest m′.1) (sym same) done.1.holds.carried) in
-    let whole = mine c.put_latch.ensures.made ∙ ap (unlatched place []) (mine low ∙ ap (λ (x : Mine). settled place ds made.0 book needs.slow needs.obtrusive x) same) in
+    let whole = mine c.put_latch.ensures.made ∙ ap (unlatched place []) (mine low ∙ ap (λ (x : Mine). flags_lowered place ds made.0 book needs.slow needs.obtrusive x) same) in
     subst (λ (m′ : Mine). (e : Met) × IsStepOf m m′ e × (e.word ≡ lock_word place) × (e.held ≡ m.0.latches) × (e.deeds ≡ ds)) (sym whole)
     (first_step place ds made.0 book needs.slow needs.obtrusive m)

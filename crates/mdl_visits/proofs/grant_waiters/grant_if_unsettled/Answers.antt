@@ -2,12 +2,12 @@
 use Rattle.std.proofs.Common.{inl, refl, sym, ◌∙◌, subst}
 use Rattle.atomic_table.specs.Seated.{TableId}
 use Rattle.mdl_steps.specs.declared.step_kind.StepKind.TheVariants.{ReadWait}
-use Rattle.mdl_steps.specs.declared.view.Held.{Held}
+use Rattle.mdl_steps.specs.declared.view.LatchRecord.{LatchRecord}
 use Rattle.mdl_steps.specs.Plays.{Mine}
 use Rattle.mdl_steps.specs.Seats.{Holds}
-use Rattle.mdl_visits.specs.Grantings.{HasJustMet, IsGrantedFrom, MakesWayInTurn}
+use Rattle.mdl_visits.specs.Grantings.{HasJustMet, IsGrantedFrom, ReschedulesInTurn}
 use Rattle.mdl_visits.proofs.Seats.{mine, table_of}
-use Rattle.mdl_visits.proofs.Serving.{holds_met, is_settled, is_tried, just_met, way_missed, way_tried}
+use Rattle.mdl_visits.proofs.Serving.{holds_met, is_settled, is_tried, just_met, rescheduling_missed, rescheduled_tried}
 use Rattle.mdl_visits.proofs.grant_waiters.grant_if_unsettled.Goals as goal
 
 pub grant_unsettled-requires-clause-ready : goal.grant_unsettled-requires-clause-ready
@@ -37,7 +37,7 @@ returns-then-state-eq-UNSETTLED-clause-served c =
     let b : Mine = c.grant_unsettled.new.seat.me in
     let word = c.read_wait-wait.result.0 in
     let ready = c.requires.ready in
-    let tried = subst (λ (t : TableId). (g : Held) → Holds place g g.book a → IsGrantedFrom t.slots place session number word g a b) (table_of c.read_wait-wait.ensures.made) c.grant_unsettled.ensures.granted in
+    let tried = subst (λ (t : TableId). (g : LatchRecord) → Holds place g g.book a → IsGrantedFrom t.slots place session number word g a b) (table_of c.read_wait-wait.ensures.made) c.grant_unsettled.ensures.granted in
     is_tried ReadWait (inl refl) id place session number word ready.0 c.args.seat.now.me a ready.1 ready.2 (mine c.read_wait-wait.ensures.made) b (sym c.state.ensures ∙ c.if-state-eq-UNSETTLED.true) tried
 
 pub returns-then-state-eq-UNSETTLED-clause-way : goal.returns-then-state-eq-UNSETTLED-clause-way
@@ -50,9 +50,9 @@ returns-then-state-eq-UNSETTLED-clause-way c =
     let b : Mine = c.grant_unsettled.new.seat.me in
     let ready = c.requires.ready in
     let made = c.read_wait-wait.ensures.made in
-    let way = subst (λ (t : TableId). MakesWayInTurn t place session number a b) (table_of made) c.grant_unsettled.ensures.way.1 in (
+    let way = subst (λ (t : TableId). ReschedulesInTurn t place session number a b) (table_of made) c.grant_unsettled.ensures.way.1 in (
       c.grant_unsettled.ensures.way.0 ∙ table_of made,
-      way_tried ReadWait (inl refl) id place session number c.read_wait-wait.result.0 ready.0 c.args.seat.now.me a ready.1 ready.2 (mine made) b c.read_wait-wait.ensures.own way,
+      rescheduled_tried ReadWait (inl refl) id place session number c.read_wait-wait.result.0 ready.0 c.args.seat.now.me a ready.1 ready.2 (mine made) b c.read_wait-wait.ensures.own way,
     )
 
 pub returns-else-state-eq-UNSETTLED-clause-served : goal.returns-else-state-eq-UNSETTLED-clause-served
@@ -66,5 +66,5 @@ returns-else-state-eq-UNSETTLED-clause-way c =
     let ready = c.requires.ready in
     let made = c.read_wait-wait.ensures.made in (
       table_of made,
-      way_missed ReadWait (inl refl) c.args.seat.now.table c.args.latch.now.place c.args.session c.args.number c.read_wait-wait.result.0 ready.0 c.args.seat.now.me c.read_wait-wait.new.self.me ready.1 ready.2 (mine made) c.read_wait-wait.ensures.own,
+      rescheduling_missed ReadWait (inl refl) c.args.seat.now.table c.args.latch.now.place c.args.session c.args.number c.read_wait-wait.result.0 ready.0 c.args.seat.now.me c.read_wait-wait.new.self.me ready.1 ready.2 (mine made) c.read_wait-wait.ensures.own,
     )

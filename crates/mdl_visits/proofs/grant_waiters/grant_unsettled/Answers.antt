@@ -5,7 +5,7 @@ use Rattle.mdl_steps.specs.declared.step_kind.StepKind.TheVariants.{MissWait}
 use Rattle.mdl_steps.specs.Plays.{Mine}
 use Rattle.mdl_steps.specs.WaitPlays.{TellsOwn}
 use Rattle.mdl_visits.proofs.Seats.{mine, table_of}
-use Rattle.mdl_visits.proofs.Serving.{admitted_there, is_admitted, is_missed, way_admitted, way_missed}
+use Rattle.mdl_visits.proofs.Serving.{admitted_there, is_admitted, is_missed, rescheduled_admitted, rescheduling_missed}
 use Rattle.mdl_visits.proofs.grant_waiters.grant_unsettled.Goals as goal
 
 pub returns-then-eq-clause-granted : goal.returns-then-eq-clause-granted
@@ -43,7 +43,7 @@ returns-then-eq-clause-way c =
     let granted = c.grant_wait-met.ensures.granted found in
     let wrote = admitted_there session c.args.number h c.write_admission-granted.result ready.2 (c.write_admission-granted.ensures.refused h.book keeps.carried) (c.write_admission-granted.ensures.written h.book keeps.carried) in (
       table_of wrote ∙ table_of granted,
-      way_admitted id c.args.latch.now.place session c.args.number c.args.wait.0 c.number.result h m a c.write_admission-granted.new.self.me ready.1 ready.2 ready.3
+      rescheduled_admitted id c.args.latch.now.place session c.args.number c.args.wait.0 c.number.result h m a c.write_admission-granted.new.self.me ready.1 ready.2 ready.3
           (mine granted) keeps own (mine wrote),
     )
 
@@ -69,5 +69,5 @@ returns-else-eq-clause-way c =
     let other : word ≢ 8 * c.number.result + 1 = λ same. differs (omega arith) in
     let missed = c.grant_wait-met.ensures.missed other in (
       table_of missed,
-      way_missed MissWait (inr refl) id c.args.latch.now.place c.args.session c.args.number word ready.0 c.args.seat.now.me c.grant_wait-met.new.self.me ready.1 ready.2 (mine missed) c.grant_wait-met.ensures.own,
+      rescheduling_missed MissWait (inr refl) id c.args.latch.now.place c.args.session c.args.number word ready.0 c.args.seat.now.me c.grant_wait-met.new.self.me ready.1 ready.2 (mine missed) c.grant_wait-met.ensures.own,
     )

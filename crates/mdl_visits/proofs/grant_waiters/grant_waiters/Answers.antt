@@ -3,14 +3,14 @@ use Rattle.std.proofs.Common.{◌≡◌, ◌<◌, sym, ◌∙◌, subst}
 use Rattle.std.specs.FinSet as set
 use Rattle.std.specs.Ordering.{nat_cmp}
 use Rattle.atomic_table.specs.Seated.{TableId}
-use Rattle.mdl_steps.specs.declared.view.Held.{Held}
+use Rattle.mdl_steps.specs.declared.view.LatchRecord.{LatchRecord}
 use Rattle.mdl_steps.specs.Plays.{Mine, noting}
 use Rattle.mdl_steps.specs.Seats.{Holds}
-use Rattle.mdl_visits.specs.Grantings.{AreTried, ForgetsNobody, IsOrderly, IsServed, MakesWay, MakesWayInTurn}
+use Rattle.mdl_visits.specs.Grantings.{AreTried, ForgetsNobody, IsOrderly, IsTriedOrGranted, Reschedules, ReschedulesInTurn}
 use Rattle.mdl_visits.proofs.Seats.{mine, place_there, table_of}
 use Rattle.mdl_visits.proofs.Serving.{WasRead, fewer_untried, forgets_nobody, looks_ahead, read_before, read_first, tried_first, turn_done}
-use Rattle.mdl_visits.proofs.Waiting.{is_next, serves_read}
-use Rattle.mdl_visits.proofs.Way.{steps_of, way_read, way_then}
+use Rattle.mdl_visits.proofs.Waiting.{is_next, grants_read}
+use Rattle.mdl_visits.proofs.Way.{steps_of, rescheduled_read, rescheduled_then}
 use Rattle.mdl_visits.proofs.grant_waiters.grant_waiters.Goals as goal
 
 pub loop-session-init : goal.loop-session-init
@@ -25,9 +25,9 @@ loop-session-init c =
     let made = mine c.read_word-word.ensures.made in
     record {
       table = table_of c.read_word-word.ensures.made;
-      held = (noting word h, c.read_word-word.ensures.keeps h h.book held.1, serves_read word h held.2, tried_first id place c.all-untried.result (noting word h) m a c.all-untried.ensures);
+      held = (noting word h, c.read_word-word.ensures.keeps h h.book held.1, grants_read word h held.2, tried_first id place c.all-untried.result (noting word h) m a c.all-untried.ensures);
       read = read_first place word m a made;
-      way = way_read id place m word h.book m a held.1.carried made;
+      way = rescheduled_read id place m word h.book m a held.1.carried made;
     }
 
 pub next_grantable-requires : goal.next_grantable-requires
@@ -68,21 +68,21 @@ loop-session-preserved c =
     let held = c.loop-session.invariant.held in
     let h = held.0 in
     let has = subst (λ (x : Mine). Holds place h h.book x) (sym same) held.1 in
-    let way : MakesWay id place m m a = subst (MakesWay id place m m) (sym same) c.loop-session.invariant.way in
+    let way : Reschedules id place m m a = subst (Reschedules id place m m) (sym same) c.loop-session.invariant.way in
     let read : WasRead place word m a = subst (WasRead place word m) (sym same) c.loop-session.invariant.read in
     let tried = subst (λ (x : Mine). AreTried id place untried h m x) (sym same) held.3 in
     let told = c.in-Some.ensures.told h.book held.1.carried in
     let ready = (is_next word session number untried h held.2 told).0 in
-    let in_turn : MakesWayInTurn id place session number a b = subst (λ (t : TableId). MakesWayInTurn t place session number a b) table c.grant_waiter.ensures.way.1 in
+    let in_turn : ReschedulesInTurn id place session number a b = subst (λ (t : TableId). ReschedulesInTurn t place session number a b) table c.grant_waiter.ensures.way.1 in
     let more = in_turn m h has (looks_ahead id place word untried h m a held.2 read tried session number told) in
     let goes = steps_of id place m a b more in
-    let served : IsServed id place session number h a b = subst (λ (t : TableId). IsServed t place session number h a b) table (c.grant_waiter.ensures.served h has) in
+    let served : IsTriedOrGranted id place session number h a b = subst (λ (t : TableId). IsTriedOrGranted t place session number h a b) table (c.grant_waiter.ensures.served h has) in
     let done = turn_done id place session number word h m a b untried (steps_of id place m m a way) goes has held.2 ready served tried in
     record {
       table = c.grant_waiter.ensures.way.0 ∙ table;
       held = (done.0, done.1, done.2, subst (λ (s : set.FinSet nat_cmp). AreTried id place s done.0 m b) (sym c.remove.ensures) done.3);
       read = read_before place word m a b goes read;
-      way = way_then id place m m a b way more;
+      way = rescheduled_then id place m m a b way more;
     }
 
 pub returns-clause-served : goal.returns-clause-served
@@ -94,7 +94,7 @@ returns-clause-served c =
     let held = c.loop-session.invariant.held in
     let h = held.0 in
     let none = c.in_default.ensures.told h.book held.1.carried in
-    subst (λ (x : Mine). (g : Held) × Holds place g g.book x × IsOrderly g × ForgetsNobody id place g m x) (sym {A = Mine} (mine c.next_grantable.ensures.same))
+    subst (λ (x : Mine). (g : LatchRecord) × Holds place g g.book x × IsOrderly g × ForgetsNobody id place g m x) (sym {A = Mine} (mine c.next_grantable.ensures.same))
     (h, held.1, held.2.0, forgets_nobody id place word c.loop-session.untried h m c.loop-session.seat.me held.2 c.loop-session.invariant.read held.3 none)
 
 pub returns-clause-way : goal.returns-clause-way
@@ -102,5 +102,5 @@ returns-clause-way c =
     let m : Mine = c.args.seat.now.me in
     let same = c.next_grantable.ensures.same in (
       table_of same ∙ c.loop-session.invariant.table,
-      subst (MakesWay c.args.seat.now.table c.args.latch.now.place m m) (sym {A = Mine} (mine same)) c.loop-session.invariant.way,
+      subst (Reschedules c.args.seat.now.table c.args.latch.now.place m m) (sym {A = Mine} (mine same)) c.loop-session.invariant.way,
     )

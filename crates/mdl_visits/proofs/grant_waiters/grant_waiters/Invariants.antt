@@ -1,19 +1,19 @@
 -- The word was read, each session that is left out was tried, and way was made so far.
 use Rattle.std.proofs.Common.{◌≡◌}
 use Rattle.std.specs.FinSet as set
-use Rattle.mdl_steps.specs.declared.view.Held.{Held}
+use Rattle.mdl_steps.specs.declared.view.LatchRecord.{LatchRecord}
 use Rattle.mdl_steps.specs.Seats.{Holds}
-use Rattle.mdl_visits.specs.Grantings.{AreTried, MakesWay, MayServe}
+use Rattle.mdl_visits.specs.Grantings.{AreTried, Reschedules, MayReschedule}
 use Rattle.mdl_visits.proofs.Serving.{WasRead}
 use Rattle.mdl_visits.proofs.grant_waiters.grant_waiters.Given as goal
 
 abbrev pub invariant-loop-session : goal.invariant-loop-session
 invariant-loop-session l = record {
   table : l.seat.table ≡ l.fn.seat.table;
-  held : (h : Held) × Holds l.latch.place h h.book l.seat.me × MayServe l.word.0 h
+  held : (h : LatchRecord) × Holds l.latch.place h h.book l.seat.me × MayReschedule l.word.0 h
       × AreTried l.fn.seat.table l.latch.place l.untried h l.fn.seat.me l.seat.me;
   read : WasRead l.latch.place l.word.0 l.fn.seat.me l.seat.me;
-  way : MakesWay l.fn.seat.table l.latch.place l.fn.seat.me l.fn.seat.me l.seat.me;
+  way : Reschedules l.fn.seat.table l.latch.place l.fn.seat.me l.fn.seat.me l.seat.me;
 }
 
 abbrev pub decreases-loop-session : goal.decreases-loop-session

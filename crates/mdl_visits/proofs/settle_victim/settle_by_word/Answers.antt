@@ -4,7 +4,7 @@ use Rattle.std.specs.Prelude.{◌%◌, ◌/◌}
 use Rattle.std.proofs.lemmas.Bool.{eq-eqb, eqb-true, false≢true}
 use Rattle.std.proofs.lemmas.Bool.Decides.{nat_tests}
 use Rattle.mdl_steps.specs.Plays.{Mine}
-use Rattle.mdl_visits.proofs.Outcomes.{fells_one, knows_lost, other_met}
+use Rattle.mdl_visits.proofs.Outcomes.{settles_victim, knows_lost, other_met}
 use Rattle.mdl_visits.proofs.Seats.{mine}
 use Rattle.mdl_visits.proofs.Words.{hears_none}
 use Rattle.mdl_visits.proofs.settle_victim.settle_by_word.Goals as goal
@@ -23,7 +23,7 @@ returns-clause-settled c = λ hit.
     let unsettled : word % 8 ≡ 1 = grind (arith, nat_tests) in
     let whole : number ≡ word / 8 = c.number.ensures in
     let at : found ≡ 8 * number + 1 = omega arith in
-    fells_one c.args.seat.now.table.slots session number m c.settle_wait.new.self.me
+    settles_victim c.args.seat.now.table.slots session number m c.settle_wait.new.self.me
     (mine (c.settle_wait.ensures.settled at))
 
 pub returns-clause-own : goal.returns-clause-own

@@ -3,11 +3,11 @@ use Rattle.std.proofs.Common.{ℕ, List, Option, refl, ◌∙◌, subst}
 use Rattle.std.specs.Prelude.{IfSome, MatchOption}
 use Rattle.atomic_table.specs.Seated.{TableId}
 use Rattle.mdl_calls.specs.declared.answers.Search.{Search}
-use Rattle.mdl_steps.specs.declared.view.Held.{Held}
+use Rattle.mdl_steps.specs.declared.view.LatchRecord.{LatchRecord}
 use Rattle.mdl_steps.specs.Plays.{Mine}
 use Rattle.mdl_visits.specs.declared.audited.Audited.{Audited}
 use Rattle.mdl_visits.specs.Polls.{SettlesNothing}
-use Rattle.mdl_visits.specs.Searches.{AreQueuesOf, Judges, KnowsFall}
+use Rattle.mdl_visits.specs.Searches.{AreQueuesOf, Judges, KnowsVictim}
 use Rattle.mdl_visits.proofs.Asking.{goes_nowhere}
 use Rattle.mdl_visits.proofs.Outcomes.{judges_within}
 use Rattle.mdl_visits.proofs.Words.{goes_hearing, hears_none, hears_on, same_latches, same_number}
@@ -31,16 +31,16 @@ returns-in-Some-2-clause-judged g c = λ audited are.
     (λ f. (some : List Audited) → AreQueuesOf some c.args.lists.now → Judges there who m′.0.latches some f m′ m″)) c.in-Some-2.is c.in_ok-found.ensures.judged in
     let here = subst (λ (table : TableId). Judges table who m′.0.latches audited found m′ m″) inv.hears.0 (each audited are) in
     let own = subst (λ (n : ℕ). Judges id n m′.0.latches audited found m′ m″) (same_number m m′ inv.hears.1) here in
-    let latched = subst (λ (latches : List Held). Judges id m.0.number latches audited found m′ m″) (same_latches m m′ inv.hears.1) own in
+    let latched = subst (λ (latches : List LatchRecord). Judges id m.0.number latches audited found m′ m″) (same_latches m m′ inv.hears.1) own in
     judges_within id m.0.number m.0.latches audited found m m′ m″ m″ (goes_hearing m m′ inv.hears.1) inv.settles (goes_nowhere m″) refl latched
 
 pub returns-in-Some-2-clause-own : goal.returns-in-Some-2-clause-own
 returns-in-Some-2-clause-own g c =
     let found = c.in-Some-2.found in
     let m″ : Mine = c.settle_victim_once.new.seat.me in
-    let here : KnowsFall c.loop.seat.me.0.number found m″ =
-    subst (λ (o : Option Search). IfSome o (λ f. KnowsFall c.loop.seat.me.0.number f m″)) c.in-Some-2.is c.in_ok-found.ensures.own in
-    subst (λ (n : ℕ). KnowsFall n found m″) (same_number c.args.seat.now.me c.loop.seat.me c.loop.invariant.hears.1) here
+    let here : KnowsVictim c.loop.seat.me.0.number found m″ =
+    subst (λ (o : Option Search). IfSome o (λ f. KnowsVictim c.loop.seat.me.0.number f m″)) c.in-Some-2.is c.in_ok-found.ensures.own in
+    subst (λ (n : ℕ). KnowsVictim n found m″) (same_number c.args.seat.now.me c.loop.seat.me c.loop.invariant.hears.1) here
 
 pub returns-in_err-found-clause-hears : goal.returns-in_err-found-clause-hears
 returns-in_err-found-clause-hears g c =

@@ -2,13 +2,13 @@
 use Rattle.std.proofs.Common.{◌≡◌, ℕ, List, Some, refl, sym, ap, ◌∙◌, subst}
 use Rattle.std.specs.Prelude.{IfSome}
 use Rattle.atomic_table.specs.Seated.{TableId}
-use Rattle.mdl_steps.specs.declared.view.Held.{Held}
+use Rattle.mdl_steps.specs.declared.view.LatchRecord.{LatchRecord}
 use Rattle.mdl_steps.specs.Plays.{Mine}
 use Rattle.mdl_graph.specs.Graphs.{victim_in}
 use Rattle.mdl_visits.specs.declared.waits_read.WaitRead.{WaitRead}
-use Rattle.mdl_visits.specs.Searches.{Fells, WasOther, books_of, heard_of, settled_by}
+use Rattle.mdl_visits.specs.Searches.{SettlesVictim, WasOther, books_of, heard_of, settled_by}
 use Rattle.mdl_visits.proofs.Asking.{goes_nowhere}
-use Rattle.mdl_visits.proofs.Outcomes.{fells_within, misses}
+use Rattle.mdl_visits.proofs.Outcomes.{victim_within, misses}
 use Rattle.mdl_visits.proofs.Words.{all_within, goes_hearing, hears_on, same_latches, same_number}
 use Rattle.mdl_visits.proofs.settle_victim.settle_victim_once.Goals as goal
 
@@ -32,15 +32,15 @@ returns-in-Some-clause-judged c = λ audited are.
     ∙ sym (c.in_ok-find_victim.ensures audited are)
     ∙ c.in-Some.is in
     let there : c.read_waits.new.seat.table ≡ c.args.seat.now.table = heard.hears.0 in
-    let fell = subst (λ (table : TableId). Fells table.slots victim m′.0.latches m′ m″) there (c.settle_wait_of.ensures.settled c.if-settle_wait_of.true) in
-    let fells = subst (λ (latches : List Held). Fells slots victim latches m′ m″) (same_latches m m′ heard.hears.1) fell in
+    let fell = subst (λ (table : TableId). SettlesVictim table.slots victim m′.0.latches m′ m″) there (c.settle_wait_of.ensures.settled c.if-settle_wait_of.true) in
+    let fells = subst (λ (latches : List LatchRecord). SettlesVictim slots victim latches m′ m″) (same_latches m m′ heard.hears.1) fell in
     record {
       words = words;
       all = heard.all;
       heard = all_within slots m.0.latches m m m′ m″ words (goes_nowhere m) (goes_hearing m′ m″ c.settle_wait_of.ensures.hears.1) heard.heard;
       outcome = (
         found,
-        fells_within slots who m.0.latches audited words m m′ m″ m″ (goes_hearing m m′ heard.hears.1) heard.settles (goes_nowhere m″) refl victim fells,
+        victim_within slots who m.0.latches audited words m m′ m″ m″ (goes_hearing m m′ heard.hears.1) heard.settles (goes_nowhere m″) refl victim fells,
       );
     }
 

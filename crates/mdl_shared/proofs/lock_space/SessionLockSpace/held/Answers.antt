@@ -1,11 +1,8 @@
--- A list of what is held joins the session to itself.
-use Rattle.mdl_shared.proofs.ShowingCalls.{held-shows}
-use Rattle.mdl_shared.proofs.TellingCalls.{held-joins}
-use Rattle.std.proofs.Common.{[], append-nil, refl, sym}
+-- A list of what is held of the session that speaks for its own number is one for that number.
+use Rattle.mdl_calls.specs.Words.{List_held, listed}
+use Rattle.mdl_shared.proofs.SessionValues.{for-caller}
 use Rattle.mdl_shared.proofs.lock_space.SessionLockSpace.held.Goals as goal
 
 pub returns : goal.returns
-returns g c = (
-  held-joins c.args.self.now.member c.args._who c.held.result c.requires c.held.ensures.held c.held.ensures.refused,
-  held-shows c.args.self.now.member c.args.self.now.member refl _ c.args._who c.held.result ([], sym (append-nil _), refl) refl refl,
-)
+returns g c =
+    for-caller c.args.self.now c.args.self.now (λ w. List_held w) (listed c.held.result) c.args._who c.requires c.held.ensures.joined c.held.ensures.shown

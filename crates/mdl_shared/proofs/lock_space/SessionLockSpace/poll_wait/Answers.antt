@@ -1,15 +1,8 @@
--- A poll joins the session before it to the session after it.
-use Rattle.mdl_shared.proofs.PollCalls.{poll-joins}
-use Rattle.mdl_shared.proofs.ShowingCalls.{poll-shows}
+-- A poll of the session that speaks for its own number is one for that number.
+use Rattle.mdl_calls.specs.Words.{Poll_wait, polled}
+use Rattle.mdl_shared.proofs.SessionValues.{for-caller}
 use Rattle.mdl_shared.proofs.lock_space.SessionLockSpace.poll_wait.Goals as goal
 
 pub returns : goal.returns
 returns g c =
-    let did = c.poll_wait.ensures in
-    let same = did.session in (
-      poll-joins c.args.self.now.member c.poll_wait.new.self.member c.args._who
-          (record { number = same.1; tickets = same.4; next = same.2; known = same.3; wait = did.wait; reads = did.reads }) c.requires c.poll_wait.result
-          (λ how is. (did.settled how is).0) did.stays did.refused,
-      poll-shows c.args.self.now.member c.poll_wait.new.self.member same.0 c.args._who c.poll_wait.result did.settles did.did
-          did.pending (λ how is. (did.settled how is).1),
-    )
+    for-caller c.args.self.now c.poll_wait.new.self (λ w. Poll_wait w) (polled c.poll_wait.result) c.args._who c.requires c.poll_wait.ensures.joined c.poll_wait.ensures.shown

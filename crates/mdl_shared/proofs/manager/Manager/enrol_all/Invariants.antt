@@ -4,13 +4,13 @@ use Rattle.std.specs.Arc.{arc_value}
 use Rattle.mdl_shared.specs.Passes.{ArePasses}
 use Rattle.mdl_shared.proofs.manager.Manager.enrol_all.Given as goal
 
-abbrev pub invariant-loop-worker : goal.invariant-loop-worker
-invariant-loop-worker l = record {
+abbrev pub invariant-loop-passes : goal.invariant-loop-passes
+invariant-loop-passes l = record {
   seated : l.maker.seat.table_id ≡ (arc_value l.table).shared.table_id;
   most : l.maker.most ≡ l.fn.maker.most;
   given : length l.passes.items ≡ l.maker.given;
   passes : ArePasses (arc_value l.table).shared.table_id l.passes.items;
 }
 
-abbrev pub decreases-loop-worker : goal.decreases-loop-worker
-decreases-loop-worker l = l.maker.most - l.maker.given
+abbrev pub decreases-loop-passes : goal.decreases-loop-passes
+decreases-loop-passes l = l.maker.most - l.maker.given

@@ -1,16 +1,13 @@
 -- One step met the word.
-use Rattle.std.specs.Arc.{arc_value}
-use Rattle.std.proofs.Common.{ℕ, ◌∙◌, ap}
+use Rattle.std.proofs.Common.{ap}
 use Rattle.mdl_steps.specs.declared.step_kind.StepKind.TheVariants.{ReadWait}
 use Rattle.mdl_steps.specs.Plays.{Mine}
-use Rattle.mdl_steps.specs.WaitPlays.{met_wait}
+use Rattle.mdl_steps.specs.SeatStates.{SeatState}
 use Rattle.mdl_shared.proofs.Polling.{met_word}
 use Rattle.mdl_shared.proofs.member.Member.read_wait.Goals as goal
 
 pub returns-clause-met : goal.returns-clause-met
 returns-clause-met c =
     let self = c.args.self.now in
-    let m : Mine = self.worker.seat.me in
-    let slots = c.slot_count-slots.ensures ∙ ap (λ table. table.shared.table_id.slots) c.deref.ensures in
-    met_word ReadWait (arc_value self.table).shared.table_id.slots c.args.session c.read_wait.result.0 m c.read_wait.new.self.seat.me
-    (c.read_wait.ensures.made ∙ ap (λ (n : ℕ). met_wait n c.args.session c.read_wait.result.0 m) slots)
+    let m : Mine = self.seat.me in
+    met_word ReadWait self.seat.table.slots c.args.session c.read_wait.result.0 m c.read_wait.new.self.me (ap (λ (s : SeatState). s.me) c.read_wait.ensures.made)

@@ -3,7 +3,7 @@ use Rattle.std.proofs.Common.{◌≡◌, ℕ, ◌+◌, ◌*◌, ◌<◌, Some, r
 use mathlib.Core.Option.{none}
 use Rattle.atomic_table.specs.Table.{Allows, step}
 use Rattle.mdl_steps.specs.declared.view.Ask.{Ask}
-use Rattle.mdl_steps.specs.declared.view.Held.{Held}
+use Rattle.mdl_steps.specs.declared.view.LatchRecord.{LatchRecord}
 use Rattle.mdl_steps.specs.Plays.{Mine}
 use Rattle.mdl_steps.specs.Rule.{Rule}
 use Rattle.mdl_steps.specs.Seats.{Holds, elsewhere}
@@ -20,7 +20,7 @@ store-requires c =
     let table = c.deref.result.now.shared.table_id in
     let slots = table.slots in
     let at = sits c.self.view_is c.self.invariant (ap (λ t. t.shared.table_id) c.deref.ensures) in
-    let may = at.mine (λ (m : Mine). (h : Held) × MayCancel c.args.latch.now.place h m) c.requires.cancelled in
+    let may = at.mine (λ (m : Mine). (h : LatchRecord) × MayCancel c.args.latch.now.place h m) c.requires.cancelled in
     let wait = at.mine (λ (m : Mine). c.args.wait ≡ m.0.waits) c.requires.wait.0 in
     let is : c.word_in-word.result ≡ 8 * seat.me.0.waits = (let made = c.word_in-word.ensures in omega arith) in
     let count : c.slot_count.result ≡ slots = c.slot_count.ensures ∙ ap (λ t. t.shared.table_id.slots) (c.deref-2.ensures ∙ sym c.deref.ensures) in
@@ -37,7 +37,7 @@ returns-clause-keeps c =
     let at = sits c.self.view_is c.self.invariant (ap (λ t. t.shared.table_id) c.deref.ensures) in
     let place = c.args.latch.now.place in
     let me = c.self.inside.seat.me in
-    let may = (at.mine (λ (m : Mine). (h : Held) × MayCancel place h m) c.requires.cancelled).1 in
+    let may = (at.mine (λ (m : Mine). (h : LatchRecord) × MayCancel place h m) c.requires.cancelled).1 in
     let count : c.slot_count.result ≡ slots = c.slot_count.ensures ∙ ap (λ t. t.shared.table_id.slots) (c.deref-2.ensures ∙ sym c.deref.ensures) in
     let word : c.wait_word.result ≡ 8 * slots + 8 + 8 * me.0.number = (let numbered = c.self.invariant.numbered in let made = c.wait_word.ensures in omega arith) in
     rw (← c.self.view_is) (λ a h book asks has.
@@ -54,7 +54,7 @@ returns-clause-apart c =
     let at = sits c.self.view_is c.self.invariant (ap (λ t. t.shared.table_id) c.deref.ensures) in
     let place = c.args.latch.now.place in
     let me = c.self.inside.seat.me in
-    let may = (at.mine (λ (m : Mine). (h : Held) × MayCancel place h m) c.requires.cancelled).1 in
+    let may = (at.mine (λ (m : Mine). (h : LatchRecord) × MayCancel place h m) c.requires.cancelled).1 in
     let count : c.slot_count.result ≡ slots = c.slot_count.ensures ∙ ap (λ t. t.shared.table_id.slots) (c.deref-2.ensures ∙ sym c.deref.ensures) in
     let word : c.wait_word.result ≡ 8 * slots + 8 + 8 * me.0.number = (let numbered = c.self.invariant.numbered in let made = c.wait_word.ensures in omega arith) in
     let made = c.store.ensures.2.1 may.ask may.state word may.asks may.told in

@@ -4,7 +4,7 @@ use mathlib.Core.Option.{none}
 use prog.Atomic.{either}
 use Rattle.atomic_table.specs.Seated.{TableId}
 use Rattle.atomic_table.specs.Table.{Allows, step}
-use Rattle.mdl_steps.specs.declared.view.Held.{Held}
+use Rattle.mdl_steps.specs.declared.view.LatchRecord.{LatchRecord}
 use Rattle.mdl_steps.specs.Layout.{wait_word}
 use Rattle.mdl_steps.specs.Plays.{Mine}
 use Rattle.mdl_steps.specs.Rule.{Rule}
@@ -24,7 +24,7 @@ compare_exchange-requires g c =
     let at = sits c.self.view_is c.self.invariant (ap (λ t. t.shared.table_id) c.deref.ensures) in
     let here = at.here (λ (t : TableId). IsSession t c.args.session) c.requires.session in
     let place = at.here (λ (t : TableId). IsPlace t c.args.latch.now.place) c.requires.place in
-    let may = at.mine (λ (m : Mine). (h : Held) × MayGrant c.args.latch.now.place c.args.session c.args.ticket h m) c.requires.granted in
+    let may = at.mine (λ (m : Mine). (h : LatchRecord) × MayGrant c.args.latch.now.place c.args.session c.args.ticket h m) c.requires.granted in
     let picked = c.requires.picked in
     let open_is : c.word_in-open.result ≡ 8 * c.args.wait + 1 = c.word_in-open.ensures in
     let granted_is : c.word_in-granted.result ≡ 8 * c.args.wait + 2 = c.word_in-granted.ensures in

@@ -4,7 +4,7 @@ use mathlib.Core.Option.{none}
 use Rattle.std.specs.Arc.{arc_value}
 use Rattle.atomic_table.specs.Seated.{TableId}
 use Rattle.atomic_table.specs.Table.{Allows, step}
-use Rattle.mdl_steps.specs.declared.view.Held.{Held}
+use Rattle.mdl_steps.specs.declared.view.LatchRecord.{LatchRecord}
 use Rattle.mdl_steps.specs.declared.view.Own.{Own}
 use Rattle.mdl_steps.specs.FastPlays.{materialised, materialises, moved, numbered_else, with_granted, MayMaterialise}
 use Rattle.mdl_steps.specs.Plays.{Mine}
@@ -25,7 +25,7 @@ fetch_sub-requires g c =
     let slow = numbered_else c.args._left.now c.args._tickets.now in
     let at = sits c.self.view_is c.self.invariant (ap (λ t. t.shared.table_id) c.deref.ensures) in
     let here = at.here (λ (t : TableId). IsPlace t place) c.requires.place in
-    let made_slow = at.mine (λ (m : Mine). (h : Held) × MayMaterialise place slow weight h m) c.requires.moved in
+    let made_slow = at.mine (λ (m : Mine). (h : LatchRecord) × MayMaterialise place slow weight h m) c.requires.moved in
     let sized = at.sized in
     let index = c.lock_word.ensures in
     let inside : c.lock_word.result < table.words = omega arith in (

@@ -4,7 +4,7 @@ use mathlib.Core.Option.{none}
 use Rattle.atomic_table.specs.Seated.{TableId}
 use Rattle.atomic_table.specs.Table.{Allows, step}
 use Rattle.mdl_key.specs.declared.mode.Mode.{Mode}
-use Rattle.mdl_steps.specs.declared.view.Held.{Held}
+use Rattle.mdl_steps.specs.declared.view.LatchRecord.{LatchRecord}
 use Rattle.mdl_steps.specs.Plays.{Mine}
 use Rattle.mdl_steps.specs.Rule.{Rule}
 use Rattle.mdl_steps.specs.Seats.{Holds, IsPlace, elsewhere}
@@ -22,7 +22,7 @@ store-requires g c =
     let slots = table.slots in
     let at = sits c.self.view_is c.self.invariant (ap (λ t. t.shared.table_id) c.deref.ensures) in
     let place = at.here (λ (t : TableId). IsPlace t c.args.latch.now.place) c.requires.place in
-    let may = at.mine (λ (m : Mine). (h : Held) × MayOpen c.args.latch.now.place c.args.mode h m) c.requires.opened in
+    let may = at.mine (λ (m : Mine). (h : LatchRecord) × MayOpen c.args.latch.now.place c.args.mode h m) c.requires.opened in
     let wait = at.mine (λ (m : Mine). c.args.wait ≡ m.0.waits + 1) c.requires.wait.0 in
     let picked = c.requires.picked in
     let is : c.word_in-word.result ≡ 8 * (seat.me.0.waits + 1) + 1 = (let made = c.word_in-word.ensures in omega arith) in

@@ -6,7 +6,7 @@ use Rattle.atomic_table.specs.Table.{Allows, step}
 use Rattle.mdl_steps.specs.Plays.{puts_key, Mine}
 use Rattle.mdl_steps.specs.Rule.{Rule}
 use Rattle.mdl_steps.specs.Seats.{IsPlace, MayName}
-use Rattle.mdl_steps.specs.declared.view.Held.{Held}
+use Rattle.mdl_steps.specs.declared.view.LatchRecord.{LatchRecord}
 use Rattle.mdl_steps.specs.declared.view.Keys.{Keys}
 use Rattle.mdl_key.specs.Words.{KeyName}
 use Rattle.mdl_steps.proofs.NewKeys.{puts_key_allowed}
@@ -24,7 +24,7 @@ store-requires c =
     let here = at.here (λ (t : TableId). IsPlace t c.args.latch.place) c.requires.place in
     let some = at.positive in
     let inside : c.latch_word.result < c.deref.result.now.shared.table_id.words = omega arith in
-    let put = at.mine (λ (m : Mine). (key : KeyName) × (k : Keys) × (h : Held) × MayName place key k h m) c.requires.put in (
+    let put = at.mine (λ (m : Mine). (key : KeyName) × (k : Keys) × (h : LatchRecord) × MayName place key k h m) c.requires.put in (
       at.same,
       inside,
       subst (λ (i : ℕ). Allows Rule slots seat.id seat.me i (λ _. 0) (λ _. puts_key (step slots i 0 0 none) seat.me 0)) (sym word_at)

@@ -7,7 +7,7 @@ use Rattle.mdl_steps.specs.declared.step_kind.StepKind.TheVariants as step_kind
 use Rattle.mdl_steps.specs.Plays.{Mine, raises_flags, raised}
 use Rattle.mdl_steps.specs.Rule.{Rule}
 use Rattle.mdl_steps.specs.Seats.{Holds, elsewhere, IsPlace}
-use Rattle.mdl_steps.specs.declared.view.Held.{Held}
+use Rattle.mdl_steps.specs.declared.view.LatchRecord.{LatchRecord}
 use Rattle.mdl_steps.specs.Cells.{held_at}
 use Rattle.mdl_steps.proofs.Flags.{raises_allowed}
 use Rattle.mdl_steps.proofs.Hands.{holds_stepped, elsewhere-stepped}
@@ -23,7 +23,7 @@ fetch_or-requires c =
     let sized = at.sized in
     let here = at.here (λ (t : TableId). IsPlace t c.args.latch.now.place) c.requires.place in
     let some = at.positive in
-    let held = at.mine (λ (m : Mine). (h : Held) × (held_at c.args.latch.now.place m.0.latches ≡ Some h)) c.requires.held in
+    let held = at.mine (λ (m : Mine). (h : LatchRecord) × (held_at c.args.latch.now.place m.0.latches ≡ Some h)) c.requires.held in
     let inside : c.lock_word.result < c.deref.result.now.shared.table_id.words = omega arith in (
       at.same,
       inside,

@@ -4,7 +4,7 @@ use mathlib.Core.Option.{none}
 use Rattle.atomic_table.specs.Seated.{TableId}
 use Rattle.atomic_table.specs.Table.{Allows, step}
 use Rattle.mdl_steps.specs.declared.step_kind.StepKind.TheVariants as step_kind
-use Rattle.mdl_steps.specs.declared.view.Held.{Held}
+use Rattle.mdl_steps.specs.declared.view.LatchRecord.{LatchRecord}
 use Rattle.mdl_steps.specs.Cells.{held_at}
 use Rattle.mdl_steps.specs.Plays.{Mine, reads_word, noting}
 use Rattle.mdl_steps.specs.Rule.{Rule}
@@ -21,7 +21,7 @@ load-requires c =
     let place = c.args.latch.now.place in
     let at = sits c.self.view_is c.self.invariant (ap (λ t. t.shared.table_id) c.deref.ensures) in
     let here = at.here (λ (t : TableId). IsPlace t place) c.requires.place in
-    let held = at.mine (λ (m : Mine). (h : Held) × (held_at place m.0.latches ≡ Some h)) c.requires.held in
+    let held = at.mine (λ (m : Mine). (h : LatchRecord) × (held_at place m.0.latches ≡ Some h)) c.requires.held in
     let sized = at.sized in
     let inside : c.lock_word.result < table.words = omega arith in (
       at.same,

@@ -1,7 +1,7 @@
 -- What was changed in hand is one version newer, and the session has an exclusive ticket.
 use Rattle.std.proofs.Common.{◌≡◌, ap, ◌∙◌, subst}
 use Rattle.mdl_defs.specs.Standings.{standing_after, standing_fault}
-use Rattle.mdl_steps.specs.declared.view.Held.{Held}
+use Rattle.mdl_steps.specs.declared.view.LatchRecord.{LatchRecord}
 use Rattle.mdl_steps.specs.SeatStates.{SeatState}
 use Rattle.mdl_steps.specs.Seats.{HasExclusive}
 use Rattle.mdl_visits.specs.Redefinitions.{redefined_and_put}
@@ -34,7 +34,7 @@ returns-in-Ok-clause-changed c = λ h has.
     let held = c.requires.held in
     let done = c.in-Ok.ensures.written h.book has.carried in
     let same : held.0 ≡ h = one_record held.1 has in
-    let exclusive = subst (λ (g : Held). HasExclusive g m) same held.3 in
+    let exclusive = subst (λ (g : LatchRecord). HasExclusive g m) same held.3 in
     let allowed = no_fault (standing_fault h.book.key.namespace change h.book.standing) c.in-Ok.version (c.in-Ok.ensures.refused h.book has.carried) in
     let standing = standing_after change h.book.standing in (
       done.1,

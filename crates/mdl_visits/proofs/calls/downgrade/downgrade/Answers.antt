@@ -6,11 +6,11 @@ use Rattle.mdl_steps.specs.Cells.{ticket_by}
 use Rattle.mdl_steps.specs.Deeds.{KnowsPlace, NotWaited}
 use Rattle.mdl_steps.specs.Plays.{Mine}
 use Rattle.mdl_steps.specs.Seats.{Holds, IsPlace}
-use Rattle.mdl_visits.specs.Grantings.{LeavesWay, WaitsOnce}
+use Rattle.mdl_visits.specs.Grantings.{ReschedulesAndLeaves, WaitsOnce}
 use Rattle.mdl_visits.specs.Leavings.{MeetsOwn}
 use Rattle.mdl_visits.proofs.Covered.{covered_by, downgrade-covered, fits_lock, own_there}
 use Rattle.mdl_visits.proofs.Leaving.{step_later}
-use Rattle.mdl_visits.proofs.WayOut.{visits_for_way, waits_once}
+use Rattle.mdl_visits.proofs.Rescheduling.{visits_and_reschedules, waits_once}
 use Rattle.mdl_visits.proofs.Seats.{place_there}
 use Rattle.mdl_visits.proofs.calls.downgrade.downgrade.Goals as goal
 
@@ -38,10 +38,10 @@ returns-clause-downgraded g c =
     let came : Mine = c.await_latch-latch.new.seat.me in
     let went : Mine = c.downgrade_latched.new.seat.me in
     let id = c.args.seat.now.table in
-    let out = subst (λ (t : TableId). LeavesWay t c.await_latch-latch.result.place (Alter c.args.held.number c.args.mode ∷ []) came went) c.await_latch-latch.ensures.inside.0 c.downgrade_latched.ensures.left.1 in
-    let left = subst (λ (q : ℕ). LeavesWay id q (Alter c.args.held.number c.args.mode ∷ []) came went) c.await_latch-latch.ensures.place out in (
+    let out = subst (λ (t : TableId). ReschedulesAndLeaves t c.await_latch-latch.result.place (Alter c.args.held.number c.args.mode ∷ []) came went) c.await_latch-latch.ensures.inside.0 c.downgrade_latched.ensures.left.1 in
+    let left = subst (λ (q : ℕ). ReschedulesAndLeaves id q (Alter c.args.held.number c.args.mode ∷ []) came went) c.await_latch-latch.ensures.place out in (
       c.downgrade_latched.ensures.left.0 ∙ c.await_latch-latch.ensures.inside.0,
-      visits_for_way id c.args.held.place (Alter c.args.held.number c.args.mode ∷ []) c.args.seat.now.me came went c.await_latch-latch.ensures.inside.1 c.await_latch-latch.ensures.stays left,
+      visits_and_reschedules id c.args.held.place (Alter c.args.held.number c.args.mode ∷ []) c.args.seat.now.me came went c.await_latch-latch.ensures.inside.1 c.await_latch-latch.ensures.stays left,
     )
 
 pub returns-clause-step : goal.returns-clause-step

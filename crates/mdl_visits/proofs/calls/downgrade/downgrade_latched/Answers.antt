@@ -4,10 +4,10 @@ use Rattle.std.specs.Prelude.{is_some}
 use Rattle.atomic_table.specs.Seated.{TableId}
 use Rattle.mdl_steps.specs.declared.deed.Deed.TheVariants.{Alter}
 use Rattle.mdl_steps.specs.Deeds.{booked}
-use Rattle.mdl_visits.specs.Grantings.{LeavesWay}
+use Rattle.mdl_visits.specs.Grantings.{ReschedulesAndLeaves}
 use Rattle.mdl_visits.proofs.Covered.{altered}
 use Rattle.mdl_visits.proofs.Losing.{met_own}
-use Rattle.mdl_visits.proofs.WayOut.{waits_written, way_before_write}
+use Rattle.mdl_visits.proofs.Rescheduling.{waits_written, rescheduled_before_write}
 use Rattle.mdl_visits.proofs.Weaker.{has_altered}
 use Rattle.mdl_visits.proofs.Seats.{mine, place_there, table_of}
 use Rattle.mdl_visits.proofs.calls.downgrade.downgrade_latched.Goals as goal
@@ -40,7 +40,7 @@ returns-clause-left c =
     (c.write_mode-altered.ensures.written h.book has.1.carried) in
     let out = mine wrote in (
       c.lower_flags_and_reschedule.ensures.left.0 ∙ table_of wrote,
-      way_before_write c.args.seat.now.table c.args.latch.place (Alter c.args.number c.args.mode ∷ []) (booked seat.me.0.number (Alter c.args.number c.args.mode) h.book) seat.me c.write_mode-altered.new.self.me c.lower_flags_and_reschedule.new.seat.me out (subst (λ (t : TableId). LeavesWay t c.args.latch.place (Alter c.args.number c.args.mode ∷ []) c.write_mode-altered.new.self.me c.lower_flags_and_reschedule.new.seat.me) (table_of wrote) c.lower_flags_and_reschedule.ensures.left.1),
+      rescheduled_before_write c.args.seat.now.table c.args.latch.place (Alter c.args.number c.args.mode ∷ []) (booked seat.me.0.number (Alter c.args.number c.args.mode) h.book) seat.me c.write_mode-altered.new.self.me c.lower_flags_and_reschedule.new.seat.me out (subst (λ (t : TableId). ReschedulesAndLeaves t c.args.latch.place (Alter c.args.number c.args.mode ∷ []) c.write_mode-altered.new.self.me c.lower_flags_and_reschedule.new.seat.me) (table_of wrote) c.lower_flags_and_reschedule.ensures.left.1),
     )
 
 pub returns-clause-step : goal.returns-clause-step

@@ -5,7 +5,7 @@ use Rattle.mdl_book.specs.declared.book_error.BookError.TheVariants.{NotHere}
 use Rattle.mdl_book.specs.Books.{cancelling}
 use Rattle.mdl_steps.specs.Plays.{Mine}
 use Rattle.mdl_steps.specs.Seats.{written}
-use Rattle.mdl_visits.specs.Grantings.{LeavesWay}
+use Rattle.mdl_visits.specs.Grantings.{ReschedulesAndLeaves}
 use Rattle.mdl_visits.proofs.Seats.{mine, mine_err, mine_ok, place_there, table_kept, table_of}
 use Rattle.mdl_visits.proofs.WaitEndings.{cancelled, ends_there, holds_less, may_cancel, may_settle, waits_less}
 use Rattle.mdl_visits.proofs.calls.end_lost_wait.end_latched.Goals as goal
@@ -103,6 +103,6 @@ returns c =
     record {
       ended = (
         left.0 ∙ table,
-        ends_there place h m m₁ m₂ may wrote c.args.seat.now.table out.new.self.table.slots may.may.state m₃ (mine ended) c.end_lost.ensures.apart (subst (λ (t : TableId). LeavesWay t place [] m₂ m₃) table left.1),
+        ends_there place h m m₁ m₂ may wrote c.args.seat.now.table out.new.self.table.slots may.may.state m₃ (mine ended) c.end_lost.ensures.apart (subst (λ (t : TableId). ReschedulesAndLeaves t place [] m₂ m₃) table left.1),
       );
     }

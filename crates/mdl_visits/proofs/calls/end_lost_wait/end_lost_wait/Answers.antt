@@ -1,14 +1,14 @@
 -- The flags told the lists as the latch was taken.
 use Rattle.std.proofs.Common.{◌≡◌, ℕ, refl, sym, ◌∙◌, subst}
 use Rattle.atomic_table.specs.Seated.{TableId}
-use Rattle.mdl_steps.specs.declared.view.Held.{Held}
+use Rattle.mdl_steps.specs.declared.view.LatchRecord.{LatchRecord}
 use Rattle.mdl_steps.specs.Plays.{Mine}
 use Rattle.mdl_steps.specs.Seats.{IsPlace}
 use Rattle.mdl_visits.specs.WaitEndings.{EndsThere, MayEnd}
 use Rattle.mdl_visits.specs.Grantings.{WaitsOnce}
 use Rattle.mdl_visits.proofs.Seats.{place_there}
 use Rattle.mdl_visits.proofs.WaitEndings.{ends, may_end}
-use Rattle.mdl_visits.proofs.WayOut.{waits_once}
+use Rattle.mdl_visits.proofs.Rescheduling.{waits_once}
 use Rattle.mdl_visits.proofs.calls.end_lost_wait.end_lost_wait.Goals as goal
 
 pub end_latched-requires-clause-place : goal.end_latched-requires-clause-place
@@ -26,7 +26,7 @@ end_latched-requires-clause-end g c =
     let h = taken.0 in
     let lost = c.requires.lost in
     let may = may_end ask.place m came latch.ensures.inside.1 h ask lost.0 taken.1 taken.2 c.requires.asks refl lost.1 lost.2 in
-    subst (λ (p : ℕ). (h : Held) × (may : MayEnd p h came) × (ask.number ≡ may.may.ask.number)) (sym latch.ensures.place) (h, may.0, may.1)
+    subst (λ (p : ℕ). (h : LatchRecord) × (may : MayEnd p h came) × (ask.number ≡ may.may.ask.number)) (sym latch.ensures.place) (h, may.0, may.1)
 
 pub end_latched-requires-clause-once : goal.end_latched-requires-clause-once
 end_latched-requires-clause-once g c =

@@ -7,11 +7,11 @@ use Rattle.mdl_steps.specs.declared.deed.Deed.TheVariants.{Lose}
 use Rattle.mdl_steps.specs.Deeds.{KnowsPlace, NotWaited}
 use Rattle.mdl_steps.specs.Plays.{Mine}
 use Rattle.mdl_steps.specs.Seats.{Holds, IsPlace}
-use Rattle.mdl_visits.specs.Grantings.{LeavesWay, WaitsOnce}
+use Rattle.mdl_visits.specs.Grantings.{ReschedulesAndLeaves, WaitsOnce}
 use Rattle.mdl_visits.specs.Leavings.{MeetsOwn}
 use Rattle.mdl_visits.proofs.Leaving.{own_found, step_later}
 use Rattle.mdl_visits.proofs.Seats.{place_there}
-use Rattle.mdl_visits.proofs.WayOut.{visits_for_way, waits_once}
+use Rattle.mdl_visits.proofs.Rescheduling.{visits_and_reschedules, waits_once}
 use Rattle.mdl_visits.proofs.calls.release.release.Goals as goal
 
 pub release_latched-requires-clause-held : goal.release_latched-requires-clause-held
@@ -37,10 +37,10 @@ returns-clause-released g c =
     let came : Mine = c.await_latch-latch.new.seat.me in
     let went : Mine = c.release_latched.new.seat.me in
     let id = c.args.seat.now.table in
-    let out = subst (λ (t : TableId). LeavesWay t c.await_latch-latch.result.place (Lose c.args.number ∷ []) came went) c.await_latch-latch.ensures.inside.0 c.release_latched.ensures.left.1 in
-    let left = subst (λ (q : ℕ). LeavesWay id q (Lose c.args.number ∷ []) came went) c.await_latch-latch.ensures.place out in (
+    let out = subst (λ (t : TableId). ReschedulesAndLeaves t c.await_latch-latch.result.place (Lose c.args.number ∷ []) came went) c.await_latch-latch.ensures.inside.0 c.release_latched.ensures.left.1 in
+    let left = subst (λ (q : ℕ). ReschedulesAndLeaves id q (Lose c.args.number ∷ []) came went) c.await_latch-latch.ensures.place out in (
       c.release_latched.ensures.left.0 ∙ c.await_latch-latch.ensures.inside.0,
-      visits_for_way id c.args.place (Lose c.args.number ∷ []) c.args.seat.now.me came went c.await_latch-latch.ensures.inside.1 c.await_latch-latch.ensures.stays left,
+      visits_and_reschedules id c.args.place (Lose c.args.number ∷ []) c.args.seat.now.me came went c.await_latch-latch.ensures.inside.1 c.await_latch-latch.ensures.stays left,
     )
 
 pub returns-clause-step : goal.returns-clause-step

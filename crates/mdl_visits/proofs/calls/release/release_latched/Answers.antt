@@ -6,10 +6,10 @@ use Rattle.mdl_book.specs.declared.book_error.BookError.TheVariants.{NotHere}
 use Rattle.mdl_steps.specs.declared.deed.Deed.TheVariants.{Lose}
 use Rattle.mdl_steps.specs.Deeds.{booked}
 use Rattle.mdl_steps.specs.Plays.{Mine}
-use Rattle.mdl_visits.specs.Grantings.{LeavesWay}
+use Rattle.mdl_visits.specs.Grantings.{ReschedulesAndLeaves}
 use Rattle.mdl_visits.proofs.Losing.{taken_out, has_lost, met_own}
 use Rattle.mdl_visits.proofs.Seats.{mine, place_there, table_kept, table_of}
-use Rattle.mdl_visits.proofs.WayOut.{waits_written, way_before_write}
+use Rattle.mdl_visits.proofs.Rescheduling.{waits_written, rescheduled_before_write}
 use Rattle.mdl_visits.proofs.calls.release.release_latched.Goals as goal
 
 pub lower_flags_and_reschedule-requires-clause-done : goal.lower_flags_and_reschedule-requires-clause-done
@@ -39,7 +39,7 @@ returns-clause-left c =
     let out = taken_out (ticket_of m.0.number c.args.number h.book.granted) NotHere c.write_loss-gone.result held.3 (c.write_loss-gone.ensures.refused h.book held.1.carried)
     (c.write_loss-gone.ensures.written h.book held.1.carried) in (
       left.0 ∙ table_of out,
-      way_before_write c.args.seat.now.table place ds (booked m.0.number (Lose c.args.number) h.book) m a b (mine out) (subst (λ (t : TableId). LeavesWay t place ds a b) (table_of out) left.1),
+      rescheduled_before_write c.args.seat.now.table place ds (booked m.0.number (Lose c.args.number) h.book) m a b (mine out) (subst (λ (t : TableId). ReschedulesAndLeaves t place ds a b) (table_of out) left.1),
     )
 
 pub returns-clause-step : goal.returns-clause-step

@@ -3,12 +3,12 @@ use Rattle.std.proofs.Common.{◌≡◌, ◌∷◌, List, sym, ap, ◌∙◌, su
 use Rattle.mdl_book.specs.declared.ticket.Ticket.{Ticket}
 use Rattle.mdl_steps.specs.declared.slot.Slot.TheVariants as slot
 use Rattle.mdl_steps.specs.Deeds.{all_booked}
-use Rattle.mdl_steps.specs.Plays.{Mine, lowered, settled}
+use Rattle.mdl_steps.specs.Plays.{Mine, lowered, flags_lowered}
 use Rattle.mdl_steps.specs.Seats.{Holds, rest}
 use Rattle.mdl_visits.specs.Grantings.{StandsOnce}
 use Rattle.mdl_visits.proofs.Leaving.{needed}
 use Rattle.mdl_visits.proofs.Seats.{mine, table_of}
-use Rattle.mdl_visits.proofs.WayOut.{waiting_same}
+use Rattle.mdl_visits.proofs.Rescheduling.{waiting_same}
 use Rattle.mdl_visits.proofs.calls.reschedule.lower_flags.Goals as goal
 
 pub returns-clause-lowered : goal.returns-clause-lowered
@@ -23,7 +23,7 @@ returns-clause-lowered c =
     let made = c.lower_flags.ensures.made in
     let low = made.1 book (subst (λ (x : Mine). x.1 ≡ (place, slot.Place book) ∷ rest x.1) (sym {A = Mine} (mine same)) done.1.holds.carried) in (
       table_of low ∙ table_of same,
-      (made.0, book, needs.slow, needs.obtrusive, mine low ∙ ap (λ (x : Mine). settled place ds made.0 book needs.slow needs.obtrusive x) (mine same)),
+      (made.0, book, needs.slow, needs.obtrusive, mine low ∙ ap (λ (x : Mine). flags_lowered place ds made.0 book needs.slow needs.obtrusive x) (mine same)),
     )
 
 pub returns-clause-orderly : goal.returns-clause-orderly

@@ -2,8 +2,8 @@
 use Rattle.std.proofs.Common.{ℕ, [], ◌∙◌, subst}
 use Rattle.atomic_table.specs.Seated.{TableId}
 use Rattle.mdl_steps.specs.Plays.{Mine}
-use Rattle.mdl_visits.specs.Grantings.{LeavesWay}
-use Rattle.mdl_visits.proofs.WayOut.{visits_for_way}
+use Rattle.mdl_visits.specs.Grantings.{ReschedulesAndLeaves}
+use Rattle.mdl_visits.proofs.Rescheduling.{visits_and_reschedules}
 use Rattle.mdl_visits.proofs.calls.reschedule.reschedule.Goals as goal
 
 pub returns : goal.returns
@@ -13,10 +13,10 @@ returns g c =
     let went : Mine = c.reschedule_and_put.new.seat.me in
     let id = c.args.seat.now.table in
     let left = c.reschedule_and_put.ensures.left in
-    let out = subst (λ (t : TableId). LeavesWay t latch.result.place [] came went) latch.ensures.inside.0 left.1 in
+    let out = subst (λ (t : TableId). ReschedulesAndLeaves t latch.result.place [] came went) latch.ensures.inside.0 left.1 in
     record {
       rescheduled = (
         left.0 ∙ latch.ensures.inside.0,
-        visits_for_way id c.args.place [] c.args.seat.now.me came went latch.ensures.inside.1 latch.ensures.stays (subst (λ (q : ℕ). LeavesWay id q [] came went) latch.ensures.place out),
+        visits_and_reschedules id c.args.place [] c.args.seat.now.me came went latch.ensures.inside.1 latch.ensures.stays (subst (λ (q : ℕ). ReschedulesAndLeaves id q [] came went) latch.ensures.place out),
       );
     }

@@ -3,9 +3,9 @@ use Rattle.std.proofs.Common.{[], sym, ap, ◌∙◌, subst}
 use Rattle.mdl_steps.specs.Plays.{Mine, unlatched}
 use Rattle.mdl_steps.specs.SeatStates.{SeatState}
 use Rattle.mdl_steps.specs.Seats.{Holds}
-use Rattle.mdl_visits.specs.Grantings.{ForgetsNobody, MakesWay}
+use Rattle.mdl_visits.specs.Grantings.{ForgetsNobody, Reschedules}
 use Rattle.mdl_visits.proofs.Seats.{mine, table_of}
-use Rattle.mdl_visits.proofs.WayOut.{leaves_none, leaves_served, nobody_waits}
+use Rattle.mdl_visits.proofs.Rescheduling.{leaves_none, leaves_rescheduled, nobody_waits}
 use Rattle.mdl_visits.proofs.calls.reschedule.reschedule_and_put.Goals as goal
 use Rattle.mdl_visits.proofs.calls.reschedule.reschedule_and_put.Goals.{then-has_waiters, else-has_waiters}
 
@@ -33,7 +33,7 @@ returns c =
             let way = w.grant_waiters.ensures.way in
             let none = subst (λ (x : SeatState). ForgetsNobody x.table place served.0 x.me b) same served.3 in (
               table_of put ∙ table_of w.seat-is ∙ way.0 ∙ table_of same,
-              leaves_served id place served.0 m b out (subst (λ (x : SeatState). MakesWay x.table place x.me x.me b) same way.1) served.1 none
+              leaves_rescheduled id place served.0 m b out (subst (λ (x : SeatState). Reschedules x.table place x.me x.me b) same way.1) served.1 none
                   (mine put ∙ ap (λ (x : SeatState). unlatched place [] x.me) w.seat-is),
             )
         | else-has_waiters w ↦ (

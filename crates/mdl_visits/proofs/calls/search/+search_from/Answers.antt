@@ -7,7 +7,7 @@ use Rattle.mdl_steps.specs.Cells.{held_at}
 use Rattle.mdl_steps.specs.Plays.{Mine}
 use Rattle.mdl_steps.specs.Seats.{Holds, MayPut}
 use Rattle.mdl_visits.specs.declared.audited.Audited.{Audited}
-use Rattle.mdl_visits.specs.Searches.{AreQueuesOf, KnowsFall, Searches, if_waited}
+use Rattle.mdl_visits.specs.Searches.{AreQueuesOf, KnowsVictim, Searches, if_waited}
 use Rattle.mdl_visits.specs.Visits.{IsInside}
 use Rattle.mdl_visits.proofs.Seats.{mine, table_of}
 use Rattle.mdl_visits.proofs.Gathering.{makes_same, may_put, rising_next, unlatched_at}
@@ -112,6 +112,6 @@ returns-clause-own g t c =
     let searched : Mine = c.search_from-outcome.new.seat.me in
     let went : Mine = c.put_latch-2.new.self.me in
     let numbered = ap (λ (x : Mine). x.0.number) (mine c.add_if_waited.ensures.same ∙ latch.ensures.inside.1.now) in
-    let told = subst (λ (n : ℕ). IfOk c.search_from-outcome.result (λ found. KnowsFall n found searched)) numbered c.search_from-outcome.ensures.own in
+    let told = subst (λ (n : ℕ). IfOk c.search_from-outcome.result (λ found. KnowsVictim n found searched)) numbered c.search_from-outcome.ensures.own in
     IfOk-weaker c.search_from-outcome.result _ _
     (λ found knows. knows_on c.args.seat.now.me.0.number found searched went (ap (λ (m : Mine). m.0.told) (mine c.put_latch-2.ensures.made)) knows) told

@@ -6,7 +6,7 @@ use Rattle.atomic_table.specs.Seated.{TableId}
 use Rattle.mdl_steps.specs.Plays.{Mine}
 use Rattle.mdl_steps.specs.Seats.{HasDirectory}
 use Rattle.mdl_visits.specs.declared.audited.Audited.{Audited}
-use Rattle.mdl_visits.specs.Searches.{AreQueuesOf, KnowsFall, Searches}
+use Rattle.mdl_visits.specs.Searches.{AreQueuesOf, KnowsVictim, Searches}
 use Rattle.mdl_visits.specs.Visits.{and_made}
 use Rattle.mdl_visits.proofs.Seats.{mine, table_of}
 use Rattle.mdl_visits.proofs.Holding.{hears_all, searched, took_heard}
@@ -46,7 +46,7 @@ returns-clause-own g c =
     let looked : Mine = c.search_from-outcome.new.seat.me in
     let went : Mine = c.put_directory.new.self.me in
     let then = mine c.key_count-last.ensures.same ∙ mine c.await_directory-directory.ensures.taken.3 in
-    let told = subst (λ (n : ℕ). IfOk c.search_from-outcome.result (λ found. KnowsFall n found looked)) (ap (λ (x : Mine). x.0.number) then) c.search_from-outcome.ensures.own in
+    let told = subst (λ (n : ℕ). IfOk c.search_from-outcome.result (λ found. KnowsVictim n found looked)) (ap (λ (x : Mine). x.0.number) then) c.search_from-outcome.ensures.own in
     IfOk-weaker c.search_from-outcome.result _ _
     (λ found knows. knows_on c.args.seat.now.me.0.number found looked went (ap (λ (m : Mine). m.0.told) (mine c.put_directory.ensures.made)) knows) told
 

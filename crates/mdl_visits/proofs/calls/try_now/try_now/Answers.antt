@@ -4,7 +4,7 @@ use Rattle.mdl_book.specs.declared.book_view.BookView.{BookView}
 use Rattle.mdl_book.specs.Books.{lock_kind}
 use Rattle.mdl_book.specs.FastTickets.{can_be_granted}
 use Rattle.mdl_steps.specs.declared.deed.Deed.TheVariants.{Gain}
-use Rattle.mdl_steps.specs.declared.view.Held.{Held}
+use Rattle.mdl_steps.specs.declared.view.LatchRecord.{LatchRecord}
 use Rattle.mdl_steps.specs.Deeds.{booked}
 use Rattle.mdl_steps.specs.Plays.{Mine, noting, raised, unlatched}
 use Rattle.mdl_steps.specs.Seats.{Holds, IsPlace, MayPut, written}
@@ -34,7 +34,7 @@ returns-in-Err-clause-refused g c =
     let came = c.enter.new.seat.me in
     let entered = c.enter.ensures.entered.1 in
     let book : BookView = entered.found.book in
-    let h : Held = noting word (raised true asks entered.found) in
+    let h : LatchRecord = noting word (raised true asks entered.found) in
     let has = subst (λ (p : ℕ). Holds p h book came) (sym c.enter.ensures.place) entered.holds in
     let has_still = subst (λ (m : Mine). Holds c.enter.result.0.place h book m) (sym {A = Mine} (mine c.can_grant.ensures.same)) has in
     let told = c.can_grant.ensures.told book has.carried in
@@ -48,7 +48,7 @@ put_latch-requires-clause-place g c =
     let here = c.enter.result.0.place in
     let entered = c.enter.ensures.entered in
     let book : BookView = entered.1.found.book in
-    let h : Held = noting c.enter.result.1.0 (raised true c.is_obtrusive.result entered.1.found) in
+    let h : LatchRecord = noting c.enter.result.1.0 (raised true c.is_obtrusive.result entered.1.found) in
     let has = subst (λ (p : ℕ). Holds p h book c.enter.new.seat.me) (sym c.enter.ensures.place) entered.1.holds in
     let has_still = subst (λ (m : Mine). Holds here h book m) (sym {A = Mine} (mine c.can_grant.ensures.same)) has in
     let table = table_of (c.in_default.ensures.written book has_still.carried) ∙ table_of c.can_grant.ensures.same ∙ entered.0 in
@@ -67,7 +67,7 @@ put_latch-requires-clause-put g c =
     let session = c.args.seat.now.me.0.number in
     let entered = c.enter.ensures.entered.1 in
     let book : BookView = entered.found.book in
-    let h : Held = noting word (raised true asks entered.found) in
+    let h : LatchRecord = noting word (raised true asks entered.found) in
     let has = subst (λ (p : ℕ). Holds p h book came) (sym at) entered.holds in
     let has_still = subst (λ (m : Mine). Holds c.enter.result.0.place h book m) (sym {A = Mine} (mine c.can_grant.ensures.same)) has in
     let told = c.can_grant.ensures.told book has.carried in
@@ -95,7 +95,7 @@ returns-clause-granted g c =
     let session = c.args.seat.now.me.0.number in
     let entered = c.enter.ensures.entered.1 in
     let book : BookView = entered.found.book in
-    let h : Held = noting word (raised true asks entered.found) in
+    let h : LatchRecord = noting word (raised true asks entered.found) in
     let has = subst (λ (p : ℕ). Holds p h book came) (sym at) entered.holds in
     let has_still = subst (λ (m : Mine). Holds c.enter.result.0.place h book m) (sym {A = Mine} (mine c.can_grant.ensures.same)) has in
     let told = c.can_grant.ensures.told book has.carried in

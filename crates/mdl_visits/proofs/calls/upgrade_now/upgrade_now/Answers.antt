@@ -6,7 +6,7 @@ use Rattle.mdl_book.specs.declared.book_view.BookView.{BookView}
 use Rattle.mdl_book.specs.Books.{change_fault, lock_kind}
 use Rattle.mdl_book.specs.FastTickets.{can_be_granted}
 use Rattle.mdl_steps.specs.declared.deed.Deed.TheVariants.{Alter}
-use Rattle.mdl_steps.specs.declared.view.Held.{Held}
+use Rattle.mdl_steps.specs.declared.view.LatchRecord.{LatchRecord}
 use Rattle.mdl_steps.specs.Deeds.{booked}
 use Rattle.mdl_steps.specs.Plays.{Mine, noting, raised, unlatched}
 use Rattle.mdl_steps.specs.Seats.{Holds, IsPlace, MayPut, written}
@@ -40,7 +40,7 @@ put_latch-requires-clause-place g c =
     let kind = c.requires.mode in
     let entered = c.enter.ensures.entered.1 in
     let book : BookView = entered.found.book in
-    let h : Held = noting word (raised true true entered.found) in
+    let h : LatchRecord = noting word (raised true true entered.found) in
     let has = subst (λ (p : ℕ). Holds p h book came) (sym at) entered.holds in
     let has_still = subst (λ (x : Mine). Holds here h book x) (sym {A = Mine} (mine c.can_grant.ensures.same)) has in
     let told = c.can_grant.ensures.told book has.carried in
@@ -69,7 +69,7 @@ put_latch-requires-clause-put g c =
     let kind = c.requires.mode in
     let entered = c.enter.ensures.entered.1 in
     let book : BookView = entered.found.book in
-    let h : Held = noting word (raised true true entered.found) in
+    let h : LatchRecord = noting word (raised true true entered.found) in
     let has = subst (λ (p : ℕ). Holds p h book came) (sym at) entered.holds in
     let has_still = subst (λ (x : Mine). Holds here h book x) (sym {A = Mine} (mine c.can_grant.ensures.same)) has in
     let told = c.can_grant.ensures.told book has.carried in
@@ -104,7 +104,7 @@ returns-clause-granted g c =
     let kind = c.requires.mode in
     let entered = c.enter.ensures.entered.1 in
     let book : BookView = entered.found.book in
-    let h : Held = noting word (raised true true entered.found) in
+    let h : LatchRecord = noting word (raised true true entered.found) in
     let has = subst (λ (p : ℕ). Holds p h book came) (sym at) entered.holds in
     let has_still = subst (λ (x : Mine). Holds here h book x) (sym {A = Mine} (mine c.can_grant.ensures.same)) has in
     let told = c.can_grant.ensures.told book has.carried in

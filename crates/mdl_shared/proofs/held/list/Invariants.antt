@@ -1,0 +1,8 @@
+-- The tickets so far are told.
+use Rattle.std.proofs.Common.{◌≡◌, take}
+use Rattle.std.specs.Prelude.{map}
+use Rattle.mdl_shared.specs.OwnLists.{told_of}
+use Rattle.mdl_shared.proofs.held.list.Given as goal
+
+abbrev pub invariant-loop-ticket : goal.invariant-loop-ticket
+invariant-loop-ticket l = l.held.items ≡ map told_of (take l.ticket-index l.tickets)
