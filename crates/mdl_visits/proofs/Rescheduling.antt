@@ -28,9 +28,9 @@ module _ (id : TableId) (place : ℕ) (a b c : Mine) (stays : StaysOn a b) where
   more : GoesOn a b
   more = goes_staying a b stays
 
-  granted_after : (latch : LatchRecord) → (latch.book.waiting ≡ []) ⊎ ForgetsNobody id place latch b c → (latch.book.waiting ≡ []) ⊎ ForgetsNobody id place latch a c
-  granted_after latch (inl none) = inl none
-  granted_after latch (inr looked) = inr (looked_within b c a c (step_after a b c more) id place latch latch.book.waiting looked)
+  nobody_left_after : (latch : LatchRecord) → (latch.book.waiting ≡ []) ⊎ ForgetsNobody id place latch b c → (latch.book.waiting ≡ []) ⊎ ForgetsNobody id place latch a c
+  nobody_left_after latch (inl none) = inl none
+  nobody_left_after latch (inr looked) = inr (looked_within b c a c (step_after a b c more) id place latch latch.book.waiting looked)
 
   -- where nothing of waits changed before, way was made from there on
   pub rescheduled_after : b.0.settles ≡ a.0.settles → b.0.told ≡ a.0.told → b.0.number ≡ a.0.number → b.0.asks ≡ a.0.asks → HasRescheduled id place b c → HasRescheduled id place a c
@@ -41,7 +41,7 @@ module _ (id : TableId) (place : ℕ) (a b c : Mine) (stays : StaysOn a b) where
         grants = way.grants;
         settles = way.settles ∙ ap (λ (xs : List Settlement). xs ++ way.grants) settles;
         granted = granted_since id place way.grants a b a c more (granted_after id place way.grants b a b c more way.granted);
-        served = (s.0, leaves_after a b c stays s.0 s.1, record { kind = m.kind; did = m.did; word = m.word; freed = m.freed ∙ number; latch = m.latch; held = m.held; served = granted_after m.latch m.served });
+        served = (s.0, leaves_after a b c stays s.0 s.1, record { kind = m.kind; did = m.did; word = m.word; freed = m.freed ∙ number; latch = m.latch; held = m.held; served = nobody_left_after m.latch m.served });
         stays = λ state e. way.stays state (told ∙ e);
         unasked = λ none. way.unasked (asks ∙ none) ∙ told;
       }
