@@ -140,15 +140,7 @@ impl Visitor {
             return Answer::Refused;
         }
         let (place, number, wait) = (self.place, self.next, self.waits + 1);
-        match begin_wait(
-            rt,
-            &mut self.seat,
-            place,
-            self.kind,
-            number,
-            mode,
-            wait,
-        ) {
+        match begin_wait(rt, &mut self.seat, place, self.kind, number, mode, wait) {
             Ok(Queued::Granted) => {
                 self.ticket = Some(Own {
                     number,

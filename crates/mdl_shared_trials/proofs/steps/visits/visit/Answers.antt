@@ -1,7 +1,7 @@
 -- Whoever took a latch has it in hand until it is given back, and then holds none.
 use Rattle.std.proofs.Common.{◌≡◌, ℕ, Bool, true, false, not, ◌&&◌, ◌==◌, List, refl, sym, ap, ◌∙◌, subst, inr}
 use Rattle.std.specs.List.{filter}
-use Rattle.mdl_steps.specs.declared.view.Held.{Held}
+use Rattle.mdl_steps.specs.declared.view.LatchRecord.{LatchRecord}
 use Rattle.mdl_steps.specs.Plays.{Mine, raised, noting, lowered}
 use Rattle.mdl_steps.specs.SeatStates.{SeatState}
 use Rattle.mdl_steps.specs.Seats.{Holds, IsPlace, elsewhere}
@@ -96,4 +96,4 @@ returns-clause-idle c =
     ∙ ap (elsewhere here) (mine c.needs-needs.ensures.same)
     ∙ ap (λ (q : ℕ). elsewhere q c.take_latch.new.self.me) c.in_ok-latch.ensures.taken.0
     ∙ c.take_latch.ensures.apart
-    ∙ ap (λ (hs : List Held). filter (λ h. not (h.place == place)) hs) c.requires.idle
+    ∙ ap (λ (hs : List LatchRecord). filter (λ h. not (h.place == place)) hs) c.requires.idle
