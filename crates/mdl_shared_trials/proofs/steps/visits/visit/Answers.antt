@@ -73,7 +73,15 @@ read_word-lowered-requires-clause-place c =
 
 pub put_latch-requires-clause-place : goal.put_latch-requires-clause-place
 put_latch-requires-clause-place c =
-    place_there c.in_ok-latch.latch.place (table_of c.read_word-lowered.ensures.made) (read_word-lowered-requires-clause-place c)
+    let place = c.in_ok-latch.latch.place in
+    let taken = c.in_ok-latch.ensures.taken in
+    let h = taken.1.0 in
+    let has = subst (λ (q : ℕ). Holds q h h.book c.take_latch.new.self.me) (sym taken.0) taken.1.2 in
+    let same = subst (λ (m : Mine). Holds place h h.book m) (sym (mine c.needs-needs.ensures.same)) has in
+    let up = c.raise_flags.ensures.keeps h h.book same in
+    let noted = c.read_word-raised.ensures.keeps (raised true true h) h.book up in
+    let before = table_of c.read_word-raised.ensures.made ∙ table_of c.raise_flags.ensures.made.1 ∙ table_of c.needs-needs.ensures.same ∙ table_of taken.1.3 in
+    place_there place (table_of c.read_word-lowered.ensures.made ∙ table_of (c.lower_flags.ensures.made.1 h.book noted.carried) ∙ before) (subst (IsPlace c.args.seat.now.table) (sym taken.0) c.requires.place)
 
 pub returns-clause-table : goal.returns-clause-table
 returns-clause-table c =
