@@ -1,21 +1,21 @@
 //! Two sessions on two threads.
 ghost use Rattle.std.specs.Prelude.{◌≡◌, []};
-ghost use Rattle.mdl_steps.specs.Seats.{IsSized, IsPlace};
+ghost use Rattle.mdl_steps.specs.Seats.{IsPlace};
 
 use crate::steps::visits::{EMPTY, visit};
-use mdl_steps::{LockTable, Maker, Worker};
+use mdl_steps::{Maker, TableSeat};
+use std::sync::Arc;
 use std::test::Fail;
 use std::thread;
 
 // Whether a session saw nobody at a place each time that it came in, of so many visits.
-fn saw_nobody(mut worker: Worker, top: &LockTable, place: usize, visits: u32) -> bool
-    requires table { (worker.seat.table_id ≡ top.now.table_id) × IsSized top.now.table_id }
-    requires place { IsPlace top.now.table_id place }
-    requires idle { worker.seat.me.0.latches ≡ [] }
+fn saw_nobody(mut seat: TableSeat, place: usize, visits: u32) -> bool
+    requires place { IsPlace seat.table place }
+    requires idle { seat.me.0.latches ≡ [] }
 {
     let mut nobody = true;
     for _ in 0..visits {
-        if let Some(sight) = visit(&mut worker, top, place) {
+        if let Some(sight) = visit(&mut seat, place) {
             nobody = nobody && sight == EMPTY;
         }
     }
@@ -26,15 +26,16 @@ fn saw_nobody(mut worker: Worker, top: &LockTable, place: usize, visits: u32) ->
 #[test]
 fn two_threads_take_one_latch(rt: HostRuntime) -> Result<(), Fail> {
     let (table, mut maker) = Maker::of_places(rt.alloc(), 1, 2)?;
-    let top = &table.shared;
-    let slots = table.slot_count();
-    let (Some(one), Some(two)) = (maker.enrol(top, slots), maker.enrol(top, slots)) else {
+    let table = Arc::new(rt.alloc(), table)?;
+    let one = maker.enrol(Arc::try_clone(&table)?);
+    let two = maker.enrol(Arc::try_clone(&table)?);
+    let (Some(one), Some(two)) = (one, two) else {
         panic!(rt; "there is room for two");
     };
     let (first, second) = thread::join(
         &rt,
-        move || saw_nobody(one, top, 1, 20_000),
-        move || saw_nobody(two, top, 1, 20_000),
+        move || saw_nobody(one, 1, 20_000),
+        move || saw_nobody(two, 1, 20_000),
     );
     assert!(rt; first && second);
     Ok(())

@@ -3,17 +3,14 @@ ghost use Rattle.std.specs.Prelude.{◌≡◌, ℕ, ◌+◌, ◌<◌, ◌^◌, N
 ghost use Rattle.std.specs.Arc.{arc_value};
 ghost use Rattle.std.specs.Option.{option_to_list};
 ghost use Rattle.mdl_key.specs.Words.{is_mode_of};
-ghost use Rattle.mdl_steps.specs.Layout.{enrol_word};
 ghost use Rattle.mdl_steps.specs.Seats.{IsSized, IsPlace};
-ghost use Rattle.mdl_steps.specs.WaitSeats.{IsSession};
 ghost use Rattle.mdl_steps.specs.WaitStates.{IsLost, granted_state};
 ghost use Rattle.mdl_visits.specs.Idle.{IsIdle, HasSlowAlone};
 ghost use Rattle.mdl_shared.specs.Members.{kind_known};
 
 use mdl_key::{Key, Kind, Mode};
-use mdl_steps::layout::wait_word;
-use mdl_steps::{Ask, Loss, Maker, Own, OwnedTable, WaitWord, Worker};
-use mdl_visits::{Queued, Tried, grant_or_wait, release, resolve, try_grant, withdraw};
+use mdl_steps::{Ask, Loss, Maker, Own, OwnedTable, TableSeat, WaitWord};
+use mdl_visits::{Queued, Tried, begin_wait, end_lost_wait, release, resolve, try_now};
 use mdl_word::Word;
 use std::alloc::Global;
 use std::sync::{Arc, Wait};
@@ -38,8 +35,7 @@ pub(crate) enum Answer {
 /// A session at the place of one key, which it knows. It has one ticket there at most.
 #[derive(Drop)]
 pub(crate) struct Visitor {
-    table: Arc<OwnedTable, Global>,
-    worker: Worker,
+    seat: TableSeat,
     place: usize,
     kind: Kind,
     // The number of its next ticket, and that of its last wait.
@@ -47,24 +43,14 @@ pub(crate) struct Visitor {
     waits: u64,
     asks: Option<Ask>,
     ticket: Option<Own>,
-    ghost seated: { worker.seat.table_id ≡ (arc_value table).shared.table_id },
-    ghost sized: { IsSized (arc_value table).shared.table_id },
-    ghost placed: { IsPlace (arc_value table).shared.table_id place },
-    ghost known: { kind_known place worker.seat.me.0.known ≡ Some kind },
-    ghost idle: { IsIdle worker.seat.me },
-    ghost slow: { HasSlowAlone worker.seat.me },
-    ghost next_is: { next ≡ worker.seat.me.0.next },
-    ghost waits_is: { waits ≡ worker.seat.me.0.waits },
-    ghost asks_is: { asks ≡ worker.seat.me.0.asks },
-    ghost holds: { worker.seat.me.0.slow ≡ option_to_list ticket },
-}
-
-// Whether the table has the word of a session's wait.
-fn has_session(table: &OwnedTable, session: u16) -> bool
-    requires { IsSized table.now.shared.table_id }
-    ensures { result ≡ true → IsSession table.now.shared.table_id session }
-{
-    session > 0 && wait_word(table.slot_count(), session) < table.word_count()
+    ghost placed: { IsPlace seat.table place },
+    ghost known: { kind_known place seat.me.0.known ≡ Some kind },
+    ghost idle: { IsIdle seat.me },
+    ghost slow: { HasSlowAlone seat.me },
+    ghost next_is: { next ≡ seat.me.0.next },
+    ghost waits_is: { waits ≡ seat.me.0.waits },
+    ghost asks_is: { asks ≡ seat.me.0.asks },
+    ghost holds: { seat.me.0.slow ≡ option_to_list ticket },
 }
 
 impl Visitor {
@@ -78,16 +64,12 @@ impl Visitor {
     ) -> Option<Visitor>
         requires seated { maker.old.seat.table_id ≡ (arc_value table.now).shared.table_id }
         requires sized { IsSized (arc_value table.now).shared.table_id }
-        requires some { 0 < (arc_value table.now).shared.table_id.slots }
-        requires words { enrol_word (arc_value table.now).shared.table_id.slots < (arc_value table.now).shared.table_id.words }
         ensures seated { maker.new.seat.table_id ≡ maker.old.seat.table_id }
     {
-        let slots = table.slot_count();
-        let mut worker = maker.enrol(&table.shared, slots)?;
-        let place = resolve(rt, &mut worker, &table.shared, alloc, slots, key).ok()?;
+        let mut seat = maker.enrol(Arc::try_clone(table).ok()?)?;
+        let place = resolve(rt, &mut seat, alloc, key).ok()?;
         Some(Visitor {
-            table: Arc::try_clone(table).ok()?,
-            worker,
+            seat,
             place,
             kind: key.kind(),
             next: 1,
@@ -99,29 +81,23 @@ impl Visitor {
 
     /// The word of the lock.
     pub(crate) fn lock_word(&mut self) -> Word {
-        self.worker
-            .read_word_unlatched(&self.table.shared, self.place)
+        self.seat.read_word_unlatched(self.place)
     }
 
     /// The word of a session's wait.
     pub(crate) fn wait_word(&mut self, session: u16) -> Option<WaitWord> {
-        if !has_session(&self.table, session) {
+        if !self.seat.has_session(session) {
             return None;
         }
-        let slots = self.table.slot_count();
-        Some(self.worker.read_wait(&self.table.shared, slots, session))
+        Some(self.seat.read_wait(session))
     }
 
     /// Settles a wait as lost so, where it is unsettled, and tells the word that it met.
     pub(crate) fn settle(&mut self, session: u16, wait: u64, how: Loss) -> Option<WaitWord> {
-        if !has_session(&self.table, session) || wait > MOST_NUMBERS {
+        if !self.seat.has_session(session) || wait > MOST_NUMBERS {
             return None;
         }
-        let slots = self.table.slot_count();
-        let met = self
-            .worker
-            .settle_wait(&self.table.shared, slots, session, wait, how);
-        Some(met)
+        Some(self.seat.settle_wait(session, wait, how))
     }
 
     // Whether it may ask for a ticket in a mode: it has none, waits for none, and has a number for it.
@@ -142,15 +118,7 @@ impl Visitor {
             return Answer::Refused;
         }
         let (place, number) = (self.place, self.next);
-        match try_grant(
-            rt,
-            &mut self.worker,
-            &self.table.shared,
-            place,
-            self.kind,
-            number,
-            mode,
-        ) {
+        match try_now(rt, &mut self.seat, place, self.kind, number, mode) {
             Ok(Tried::Granted) => {
                 self.ticket = Some(Own {
                     number,
@@ -168,22 +136,11 @@ impl Visitor {
 
     /// Asks for a ticket, and begins to wait for it where it can't be had now.
     pub(crate) fn begin_wait<R: Wait>(&mut self, rt: &R, mode: Mode) -> Answer {
-        if !self.may_ask(mode) || !has_session(&self.table, self.worker.number()) {
+        if !self.may_ask(mode) {
             return Answer::Refused;
         }
         let (place, number, wait) = (self.place, self.next, self.waits + 1);
-        let slots = self.table.slot_count();
-        match grant_or_wait(
-            rt,
-            &mut self.worker,
-            &self.table.shared,
-            slots,
-            place,
-            self.kind,
-            number,
-            mode,
-            wait,
-        ) {
+        match begin_wait(rt, &mut self.seat, place, self.kind, number, mode, wait) {
             Ok(Queued::Granted) => {
                 self.ticket = Some(Own {
                     number,
@@ -225,13 +182,7 @@ impl Visitor {
         requires here { ticket.place ≡ self.old.place }
         requires unwaited { self.old.asks ≡ None }
     {
-        release(
-            rt,
-            &mut self.worker,
-            &self.table,
-            ticket.place,
-            ticket.number,
-        );
+        release(rt, &mut self.seat, ticket.place, ticket.number);
         self.ticket = None;
     }
 
@@ -243,12 +194,11 @@ impl Visitor {
         if self.ticket.is_some() || ask.place != self.place || self.waits > MOST_NUMBERS {
             return Answer::Refused;
         }
-        let session = self.worker.number();
-        if !has_session(&self.table, session) {
+        let session = self.seat.number();
+        if !self.seat.has_session(session) {
             return Answer::Refused;
         }
-        let slots = self.table.slot_count();
-        let word = self.worker.read_wait(&self.table.shared, slots, session);
+        let word = self.seat.read_wait(session);
         let state = word.state();
         if state == WaitWord::GRANTED {
             self.take_over(ask);
@@ -264,14 +214,11 @@ impl Visitor {
     // Takes the ticket of its granted wait over.
     fn take_over(&mut self, ask: Ask)
         requires asks { self.old.asks ≡ Some ask }
-        requires granted { self.old.worker.seat.me.0.told ≡ Some granted_state }
-        requires session { IsSession (arc_value self.old.table).shared.table_id self.old.worker.number }
+        requires granted { self.old.seat.me.0.told ≡ Some granted_state }
         requires empty { self.old.ticket ≡ None }
         requires few { self.old.waits < 2 ^ 60 }
     {
-        let slots = self.table.slot_count();
-        self.worker
-            .end_granted(&self.table.shared, slots, self.waits);
+        self.seat.end_granted(self.waits);
         self.ticket = Some(Own {
             number: ask.number,
             place: ask.place,
@@ -284,12 +231,11 @@ impl Visitor {
     // Gives its lost wait up.
     fn give_up<R: Wait>(&mut self, rt: &R, ask: Ask)
         requires asks { self.old.asks ≡ Some ask }
-        requires lost { (state : ℕ) × (self.old.worker.seat.me.0.told ≡ Some state) × IsLost state }
-        requires session { IsSession (arc_value self.old.table).shared.table_id self.old.worker.number }
+        requires lost { (state : ℕ) × (self.old.seat.me.0.told ≡ Some state) × IsLost state }
         requires here { ask.place ≡ self.old.place }
         requires few { self.old.waits < 2 ^ 60 }
     {
-        withdraw(rt, &mut self.worker, &self.table, ask, self.waits);
+        end_lost_wait(rt, &mut self.seat, ask, self.waits);
         self.asks = None;
     }
 }

@@ -1,9 +1,9 @@
 //! What a session does at a place under its latch.
 ghost use Rattle.std.specs.Prelude.{◌≡◌, ◌<◌, []};
-ghost use Rattle.mdl_steps.specs.Seats.{IsSized, IsPlace};
+ghost use Rattle.mdl_steps.specs.Seats.{IsPlace};
 
 use mdl_book::Needs;
-use mdl_steps::{LockTable, Worker};
+use mdl_steps::TableSeat;
 use mdl_word::Word;
 
 /// What a session saw at a place.
@@ -28,20 +28,19 @@ pub(crate) const EMPTY: Sight = Sight {
 };
 
 /// Takes the latch of a place, looks round there with all flags raised, and gives the latch back; nothing, where it is taken.
-pub(crate) fn visit(worker: &mut Worker, top: &LockTable, place: usize) -> Option<Sight>
-    requires table { (worker.old.seat.table_id ≡ top.now.table_id) × IsSized top.now.table_id }
-    requires place { IsPlace top.now.table_id place }
-    requires idle { worker.old.seat.me.0.latches ≡ [] }
-    ensures seat { (worker.new.seat.table_id ≡ worker.old.seat.table_id) × (worker.new.number ≡ worker.old.number) }
-    ensures idle { worker.new.seat.me.0.latches ≡ [] }
+pub(crate) fn visit(seat: &mut TableSeat, place: usize) -> Option<Sight>
+    requires place { IsPlace seat.old.table place }
+    requires idle { seat.old.me.0.latches ≡ [] }
+    ensures table { seat.new.table ≡ seat.old.table }
+    ensures idle { seat.new.me.0.latches ≡ [] }
 {
-    let latch = worker.take_latch(top, place)?;
-    let needs = worker.needs(top, &latch);
-    worker.raise_flags(top, &latch, true, true);
-    let raised = worker.read_word(top, &latch);
-    worker.lower_flags(top, &latch, needs.slow, needs.obtrusive, &[]);
-    let lowered = worker.read_word(top, &latch);
-    worker.put_latch(top, latch, &[]);
+    let latch = seat.take_latch(place)?;
+    let needs = seat.needs(&latch);
+    seat.raise_flags(&latch, true, true);
+    let raised = seat.read_word(&latch);
+    seat.lower_flags(&latch, needs.slow, needs.obtrusive, &[]);
+    let lowered = seat.read_word(&latch);
+    seat.put_latch(latch, &[]);
     Some(Sight {
         needs,
         raised,

@@ -1,5 +1,6 @@
 //! Waits of two sessions at a place.
 use mdl_steps::{Loss, Maker, WaitWord};
+use std::sync::Arc;
 use std::test::Fail;
 
 // A wait's word tells the wait's number and its state.
@@ -31,20 +32,18 @@ fn a_wait_word_has_a_number_and_a_state(rt: HostRuntime) -> Result<(), Fail> {
 #[test]
 fn who_never_waited_is_idle(rt: HostRuntime) -> Result<(), Fail> {
     let (table, mut maker) = Maker::of_places(rt.alloc(), 3, 2)?;
-    let top = &table.shared;
-    let slots = table.slot_count();
-    let (Some(mut one), Some(mut two)) = (maker.enrol(top, slots), maker.enrol(top, slots)) else {
+    let table = Arc::new(rt.alloc(), table)?;
+    let one = maker.enrol(Arc::try_clone(&table)?);
+    let two = maker.enrol(Arc::try_clone(&table)?);
+    let (Some(mut one), Some(mut two)) = (one, two) else {
         panic!(rt; "there is room for two");
     };
-    let own = one.read_wait(top, slots, 1);
+    let own = one.read_wait(1);
     assert_eq!(rt; own, WaitWord(0));
     assert_eq!(rt; (own.number(), own.state()), (0, WaitWord::IDLE));
-    assert_eq!(rt; two.read_wait(top, slots, 1), WaitWord(0));
-    assert_eq!(rt; one.read_wait(top, slots, 2), WaitWord(0));
-    assert_eq!(rt;
-        two.settle_wait(top, slots, 1, 1, Loss::Killed),
-        WaitWord(0)
-    );
-    assert_eq!(rt; one.read_wait(top, slots, 1), WaitWord(0));
+    assert_eq!(rt; two.read_wait(1), WaitWord(0));
+    assert_eq!(rt; one.read_wait(2), WaitWord(0));
+    assert_eq!(rt; two.settle_wait(1, 1, Loss::Killed), WaitWord(0));
+    assert_eq!(rt; one.read_wait(1), WaitWord(0));
     Ok(())
 }

@@ -3,10 +3,10 @@ use Rattle.std.proofs.lemmas.List.{nil_from_length}
 use Rattle.mdl_shared.proofs.Membership.{kind_there}
 use Rattle.mdl_shared_trials.proofs.steps.visitors.Visitor.begin_wait.Goals as goal
 
-pub grant_or_wait-requires-clause-kind : goal.grant_or_wait-requires-clause-kind
-grant_or_wait-requires-clause-kind g c =
+pub begin_wait-requires-clause-kind : goal.begin_wait-requires-clause-kind
+begin_wait-requires-clause-kind g c =
     let self = c.args.self.now in
-    kind_there self.place self.kind self.worker.seat.me.0.known self.known
+    kind_there self.place self.kind self.seat.me.0.known self.known
 
-pub grant_or_wait-requires-clause-unfast : goal.grant_or_wait-requires-clause-unfast
-grant_or_wait-requires-clause-unfast g c = let self = c.args.self.now in nil_from_length self.worker.seat.me.0.fast self.slow
+pub begin_wait-requires-clause-unfast : goal.begin_wait-requires-clause-unfast
+begin_wait-requires-clause-unfast g c = let self = c.args.self.now in nil_from_length self.seat.me.0.fast self.slow

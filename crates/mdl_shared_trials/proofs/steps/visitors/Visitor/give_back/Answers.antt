@@ -9,7 +9,7 @@ use Rattle.mdl_shared_trials.proofs.steps.visitors.Visitor.give_back.Goals as go
 pub release-requires-clause-known : goal.release-requires-clause-known
 release-requires-clause-known g c =
     let self = c.args.self.now in
-    let k = kind_there self.place self.kind self.worker.seat.me.0.known self.known in
+    let k = kind_there self.place self.kind self.seat.me.0.known self.known in
     (k.0, k.1, k.2, k.3 ∙ sym c.requires.here)
 
 pub release-requires-clause-held : goal.release-requires-clause-held
