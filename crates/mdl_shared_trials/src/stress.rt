@@ -1,6 +1,7 @@
 //! Eight sessions on eight threads make calls of every kind by chance for some seconds, over the locks of eight tables, wait with short patience,
 //! look for deadlocks and kill each other's waits. A ninth session looks at all books each tenth of a second meanwhile, and in the end.
 ghost use Rattle.std.specs.Prelude.{◌≡◌};
+ghost use Rattle.std.specs.Thread.{IsSync};
 ghost use Rattle.mdl_shared.specs.Passes.{table_of, pass_table};
 
 use crate::acts::{Act, Reply, changed, make};
@@ -325,8 +326,12 @@ fn play_four<R: Threads + Wait + Abort + Clock + Sync>(
 {
     let (early, late) = thread::join(
         rt,
-        move || play_two(rt, alloc, manager, one, two, change),
-        move || play_two(rt, alloc, manager, three, four, change),
+        move || -> Result<[u64; 8], Wrong>
+            requires { IsSync R.row × ((pass_table one ≡ table_of manager.now) × (pass_table two ≡ table_of manager.now)) }
+        { play_two(rt, alloc, manager, one, two, change) },
+        move || -> Result<[u64; 8], Wrong>
+            requires { IsSync R.row × ((pass_table three ≡ table_of manager.now) × (pass_table four ≡ table_of manager.now)) }
+        { play_two(rt, alloc, manager, three, four, change) },
     );
     Ok(sums(early?, late?))
 }
