@@ -14,6 +14,8 @@ mod chance;
 #[cfg(test)]
 mod changes;
 #[cfg(test)]
+mod clashes;
+#[cfg(test)]
 mod counting;
 #[cfg(test)]
 mod ending;

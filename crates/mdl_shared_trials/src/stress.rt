@@ -1,31 +1,41 @@
-//! Four sessions on four threads make calls of every kind by chance, over the locks of eight tables, wait with short patience, and kill each
-//! other's waits. From time to time, and in the end, all is looked at from under all latches.
-ghost use Rattle.std.specs.Prelude.{◌≡◌};
-ghost use Rattle.mdl_shared.specs.Passes.{table_of, pass_table};
+//! Eight sessions on eight threads make calls of every kind by chance for some seconds, over the locks of eight tables, wait with short patience,
+//! look for deadlocks and kill each other's waits. A ninth session looks at all books each tenth of a second meanwhile, and in the end.
+ghost use Rattle.std.specs.Prelude.{◌≡◌, ◌+◌, ◌<◌, length};
+ghost use Rattle.std.specs.Thread.{IsSync};
+ghost use Rattle.mdl_shared.specs.Passes.{ArePasses, table_of, pass_table};
 
 use crate::acts::{Act, Reply, changed, make};
 use crate::chance::Chance;
+use crate::clashes::{are_lawful, are_of};
 use crate::counting::putting;
 use crate::sessions::closed;
 use mdl_calls::{Held, Place, SpaceError, TicketId};
 use mdl_defs::Change;
-use mdl_key::{Key, Kind, conflicts_granted};
-use mdl_shared::{Audited, HoldsTickets, Manager, Pass, Session};
+use mdl_key::Key;
+use mdl_shared::{Audited, Manager, Pass, Session};
 use std::alloc::Global;
 use std::process::Abort;
 use std::sync::Wait;
 use std::test::Fail;
-use std::thread;
 use std::thread::Threads;
+use std::time::{Clock, Duration, Instant};
+use std::{io, thread};
 
 const TABLES: [&str; 8] = [
     "sales", "goods", "staff", "rooms", "bills", "tills", "desks", "doors",
 ];
 
-// How many calls a session makes, and how many of them go by between two looks at all.
-const CALLS: u32 = 12_500;
+// How many thousandths of a second the sessions make calls, and how many go by between two looks of the ninth.
+const SPAN: u64 = 3_000;
 
-const UNWATCHED: u32 = 1_250;
+const PAUSE: u64 = 100;
+
+// How many calls a session makes at most, and how many of them go by until it looks at the clock, and at all books.
+const CALLS: u32 = 10_000_000;
+
+const UNTIMED: u32 = 100;
+
+const UNWATCHED: u32 = 5_000;
 
 const MOST_HELD: usize = 4;
 
@@ -35,6 +45,12 @@ struct Wrong;
 
 impl From<SpaceError> for Wrong {
     fn from(_refused: SpaceError) -> Wrong {
+        Wrong
+    }
+}
+
+impl From<io::Error> for Wrong {
+    fn from(_clock: io::Error) -> Wrong {
         Wrong
     }
 }
@@ -108,7 +124,7 @@ fn ask<R: Wait>(session: &mut Session<R>, player: &mut Player<'_>) -> Result<(),
 
 // The wait of some session is killed, if it has one.
 fn kill<R: Wait>(session: &mut Session<R>, player: &mut Player<'_>) -> Result<(), Wrong> {
-    let target = u16::try_from(player.chance.below(5)).unwrap_or(0);
+    let target = u16::try_from(player.chance.below(9)).unwrap_or(0);
     match make(player.alloc, session, Act::WaitOf(target)) {
         Reply::Wait(Some(wait)) => {
             was_answered(make(player.alloc, session, Act::Kill(target, wait)))
@@ -131,8 +147,11 @@ fn wait_for<R: Wait>(
     }
 }
 
-// The wait is looked at until it is settled or patience is lost, and ended.
+// A deadlock is looked for in half of all waits. Then the wait is looked at until it is settled or patience is lost, and ended.
 fn end_wait<R: Wait>(session: &mut Session<R>, player: &mut Player<'_>) -> Result<(), Wrong> {
+    if player.chance.below(2) == 0 {
+        was_answered(make(player.alloc, session, Act::Search))?;
+    }
     for _ in 0..player.chance.below(100) {
         if make(player.alloc, session, Act::Poll) != Reply::Pending {
             break;
@@ -201,27 +220,34 @@ fn put<R: Wait>(
     }
 }
 
-// Whether the granted tickets of different sessions are compatible in each book.
-fn are_lawful(books: &[Audited]) -> bool {
-    books.iter().all(is_lawful)
+// Looks at all books, which are lawful, and of which the session has just the tickets that it holds.
+fn audit<R: Wait>(session: &mut Session<R>) -> Result<(), Wrong> {
+    let books = session.audit()?;
+    let held = session.held()?;
+    if are_lawful(&books) && are_of(&books, session.number(), &held) {
+        Ok(())
+    } else {
+        Err(Wrong)
+    }
 }
 
-fn is_lawful(book: &Audited) -> bool {
-    book.book.granted.iter().all(|asked| {
-        book.book.granted.iter().all(|held| {
-            asked.session == held.session || !conflicts_granted(Kind::Object, asked.mode, held.mode)
-        })
-    })
-}
-
-// All calls of a session, which knows the tables. In the end it gives all its tickets up.
-fn make_calls<R: Wait>(session: &mut Session<R>, player: &mut Player<'_>) -> Result<(), Wrong> {
+// All calls of a session, which knows the tables. In the end it looks at all books, and gives all its tickets up.
+fn make_calls<R: Wait + Clock>(
+    rt: &R,
+    session: &mut Session<&R>,
+    player: &mut Player<'_>,
+) -> Result<(), Wrong> {
+    let start = Instant::now(rt)?;
     for call in 0..CALLS {
+        if call % UNTIMED == 0 && start.elapsed(rt)? >= Duration::from_millis(SPAN) {
+            break;
+        }
         make_call(session, player)?;
-        if call % UNWATCHED == 0 && !are_lawful(&session.audit()?) {
-            return Err(Wrong);
+        if call % UNWATCHED == 0 {
+            audit(session)?;
         }
     }
+    audit(session)?;
     for ticket in session.held()? {
         session.release(ticket.id)?;
     }
@@ -240,7 +266,7 @@ fn look_up<R: Wait>(alloc: Global, session: &mut Session<R>) -> Result<(), Wrong
 }
 
 // What became of a session's part: how often it changed each table.
-fn play<R: Wait + Abort>(
+fn play<R: Wait + Abort + Clock>(
     rt: &R,
     alloc: Global,
     manager: &Manager,
@@ -258,17 +284,15 @@ fn play<R: Wait + Abort>(
     };
     let mut session = Session::open(rt, manager, pass);
     let outcome = match look_up(alloc, &mut session) {
-        Ok(()) => make_calls(&mut session, &mut player),
+        Ok(()) => make_calls(rt, &mut session, &mut player),
         Err(Wrong) => Err(Wrong),
     };
-    match session.close() {
-        Ok(_) => outcome.map(|()| player.changes),
-        Err(HoldsTickets(_session)) => panic!(rt; "a session keeps a ticket"),
-    }
+    closed(rt, session);
+    outcome.map(|()| player.changes)
 }
 
 // The same of two passes, on two threads.
-fn play_two<R: Threads + Wait + Abort + Sync>(
+fn play_two<R: Threads + Wait + Abort + Clock + Sync>(
     rt: &R,
     alloc: Global,
     manager: &Manager,
@@ -284,6 +308,50 @@ fn play_two<R: Threads + Wait + Abort + Sync>(
         move || play(rt, alloc, manager, two, change),
     );
     Ok(sums(early?, late?))
+}
+
+// The same of four passes, on four threads.
+fn play_four<R: Threads + Wait + Abort + Clock + Sync>(
+    rt: &R,
+    alloc: Global,
+    manager: &Manager,
+    one: Pass,
+    two: Pass,
+    three: Pass,
+    four: Pass,
+    change: &Change,
+) -> Result<[u64; 8], Wrong>
+    requires first { (pass_table one ≡ table_of manager.now) × (pass_table two ≡ table_of manager.now) }
+    requires second { (pass_table three ≡ table_of manager.now) × (pass_table four ≡ table_of manager.now) }
+{
+    let (early, late) = thread::join(
+        rt,
+        move || -> Result<[u64; 8], Wrong>
+            requires { IsSync R.row × ((pass_table one ≡ table_of manager.now) × (pass_table two ≡ table_of manager.now)) }
+        { play_two(rt, alloc, manager, one, two, change) },
+        move || -> Result<[u64; 8], Wrong>
+            requires { IsSync R.row × ((pass_table three ≡ table_of manager.now) × (pass_table four ≡ table_of manager.now)) }
+        { play_two(rt, alloc, manager, three, four, change) },
+    );
+    Ok(sums(early?, late?))
+}
+
+// Looks at all books from time to time, by the session of a pass.
+fn watch<R: Wait + Abort + Clock>(rt: &R, manager: &Manager, pass: Pass) -> Result<(), Wrong>
+    requires { pass_table pass ≡ table_of manager.now }
+{
+    let mut session = Session::open(rt, manager, pass);
+    let outcome = look_on(rt, &mut session);
+    closed(rt, session);
+    outcome
+}
+
+fn look_on<R: Wait + Clock>(rt: &R, session: &mut Session<&R>) -> Result<(), Wrong> {
+    for _ in 0..SPAN / PAUSE {
+        thread::sleep(rt, Duration::from_millis(PAUSE));
+        audit(session)?;
+    }
+    Ok(())
 }
 
 // How often two sessions together changed each table.
@@ -304,25 +372,75 @@ fn is_left(books: &[Audited], changes: [u64; 8]) -> bool {
         })
 }
 
+// The same of four, while the session of a fifth pass looks on.
+fn play_watched<R: Threads + Wait + Abort + Clock + Sync>(
+    rt: &R,
+    alloc: Global,
+    manager: &Manager,
+    first: Pass,
+    second: Pass,
+    third: Pass,
+    fourth: Pass,
+    watcher: Pass,
+    change: &Change,
+) -> Result<[u64; 8], Wrong>
+    requires first { (pass_table first ≡ table_of manager.now) × (pass_table second ≡ table_of manager.now) }
+    requires second { (pass_table third ≡ table_of manager.now) × (pass_table fourth ≡ table_of manager.now) }
+    requires watcher { pass_table watcher ≡ table_of manager.now }
+{
+    let (played, watched) = thread::join(
+        rt,
+        move || -> Result<[u64; 8], Wrong>
+            requires { IsSync R.row × ((pass_table first ≡ table_of manager.now) × (pass_table second ≡ table_of manager.now))
+                × ((pass_table third ≡ table_of manager.now) × (pass_table fourth ≡ table_of manager.now)) }
+        { play_four(rt, alloc, manager, first, second, third, fourth, change) },
+        move || -> Result<(), Wrong>
+            requires { IsSync R.row × (pass_table watcher ≡ table_of manager.now) }
+        { watch(rt, manager, watcher) },
+    );
+    watched?;
+    played
+}
+
+// The pass of the last session.
+fn take_last(_manager: &Manager, passes: &mut Vec<Pass>) -> Pass
+    requires some { 0 < length passes.old.items }
+    requires theirs { ArePasses (table_of _manager.now) passes.old.items }
+    ensures left { length passes.new.items + 1 ≡ length passes.old.items }
+    ensures theirs { ArePasses (table_of _manager.now) passes.new.items }
+    ensures table { pass_table result ≡ table_of _manager.now }
+{
+    passes.remove(passes.len() - 1)
+}
+
 #[test]
-fn four_threads_make_all_calls(rt: HostRuntime) -> Result<(), Fail> {
+fn eight_threads_make_all_calls_beside_audits(rt: HostRuntime) -> Result<(), Fail> {
     let alloc = rt.alloc();
-    let (manager, mut passes) = Manager::new(alloc, 8, 5)?;
-    let five = passes.remove(4);
-    let four = passes.remove(3);
-    let three = passes.remove(2);
-    let two = passes.remove(1);
-    let one = passes.remove(0);
+    let (manager, mut passes) = Manager::new(alloc, 8, 10)?;
+    let ten = take_last(&manager, &mut passes);
+    let nine = take_last(&manager, &mut passes);
+    let eight = take_last(&manager, &mut passes);
+    let seven = take_last(&manager, &mut passes);
+    let six = take_last(&manager, &mut passes);
+    let five = take_last(&manager, &mut passes);
+    let four = take_last(&manager, &mut passes);
+    let three = take_last(&manager, &mut passes);
+    let two = take_last(&manager, &mut passes);
+    let one = take_last(&manager, &mut passes);
     let change = putting(alloc)?;
     let (runtime, manager, change) = (&rt, &manager, &change);
     let (early, late) = thread::join(
         runtime,
-        move || play_two(runtime, alloc, manager, one, two, change),
-        move || play_two(runtime, alloc, manager, three, four, change),
+        move || play_four(runtime, alloc, manager, one, two, three, four, change),
+        move || {
+            play_watched(
+                runtime, alloc, manager, five, six, seven, eight, nine, change,
+            )
+        },
     );
-    let mut watcher = Session::open(&rt, manager, five);
-    let books = watcher.audit();
-    closed(&rt, watcher);
+    let mut last = Session::open(&rt, manager, ten);
+    let books = last.audit();
+    closed(&rt, last);
     match (early, late, books) {
         (Ok(early), Ok(late), Ok(books)) => assert!(rt; is_left(&books, sums(early, late))),
         _ => panic!(rt; "a call went wrong"),
