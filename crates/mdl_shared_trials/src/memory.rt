@@ -13,12 +13,12 @@ use mdl_shared::{Manager, NewError, Pass};
 use std::alloc::Global;
 use std::test::Fail;
 
-/// A space of three sessions, at the second try where memory was refused to the first.
-pub(crate) fn space(alloc: Global) -> Result<(Manager, Vec<Pass>), NewError>
+/// A space of so many places and three sessions, at the second try where memory was refused to the first.
+pub(crate) fn space(alloc: Global, places: u16) -> Result<(Manager, Vec<Pass>), NewError>
     ensures { IfOk result (λ made. (length made.1.items ≡ 3) × ArePasses (table_of made.0) made.1.items) }
 {
-    match Manager::new(alloc, 2, 3) {
-        Err(NewError::OutOfMemory) => Manager::new(alloc, 2, 3),
+    match Manager::new(alloc, places, 3) {
+        Err(NewError::OutOfMemory) => Manager::new(alloc, places, 3),
         outcome => outcome,
     }
 }

@@ -1,7 +1,13 @@
 //! Keys get places, one after the other, and keep them.
 use crate::acts::{Act, Lock, Reply};
+use crate::memory::space;
 use crate::rows::{RowOfTwo, are_right_of_two};
-use mdl_calls::SpaceError;
+use crate::sessions::closed;
+use mdl_calls::{Place, SpaceError};
+use mdl_key::Key;
+use mdl_shared::Session;
+use std::alloc::Global;
+use std::sync::Wait;
 use std::test::Fail;
 
 const NO_PLACE: Reply = Reply::Refused(SpaceError::NoPlace);
@@ -20,4 +26,51 @@ const KEYS: &[RowOfTwo] = &[
 #[test]
 fn keys_get_places_in_turn(rt: HostRuntime) -> Result<(), Fail> {
     are_right_of_two(&rt, 2, KEYS)
+}
+
+// The place of the table of a number.
+fn place_of<R: Wait>(
+    alloc: Global,
+    session: &mut Session<R>,
+    number: u16,
+) -> Result<Place, SpaceError> {
+    let Ok(name) = format!(in alloc; "t{number}") else {
+        return Err(SpaceError::OutOfMemory);
+    };
+    match Key::table(alloc, "shop", &name) {
+        Ok(key) => session.resolve(&key),
+        Err(_) => Err(SpaceError::OutOfMemory),
+    }
+}
+
+// The first of so many tables whose place isn't its number, if there is one. Where memory is refused to a call, the call is made again.
+fn first_elsewhere<R: Wait>(alloc: Global, session: &mut Session<R>, tables: u16) -> Option<u16> {
+    for number in 1..=tables {
+        let place = match place_of(alloc, session, number) {
+            Err(SpaceError::OutOfMemory) => place_of(alloc, session, number),
+            outcome => outcome,
+        };
+        if place != Ok(number) {
+            return Some(number);
+        }
+    }
+    None
+}
+
+const MANY: u16 = 250;
+
+// One session gives many tables their places, and the other finds them there. One more has none.
+#[test]
+fn many_keys_get_places_in_turn(rt: HostRuntime) -> Result<(), Fail> {
+    let alloc = rt.alloc();
+    let (manager, mut passes) = space(alloc, MANY)?;
+    let mut two = Session::open(&rt, &manager, passes.remove(1));
+    let mut one = Session::open(&rt, &manager, passes.remove(0));
+    assert_eq!(rt; first_elsewhere(alloc, &mut one, MANY), None);
+    assert_eq!(rt; first_elsewhere(alloc, &mut two, MANY), None);
+    assert_eq!(rt; first_elsewhere(alloc, &mut one, MANY + 1), Some(MANY + 1));
+    assert_eq!(rt; place_of(alloc, &mut two, MANY + 1), Err(SpaceError::NoPlace));
+    closed(&rt, one);
+    closed(&rt, two);
+    Ok(())
 }

@@ -119,7 +119,7 @@ pub(crate) fn are_right_at_last<R: Wait + Abort + AllocGlobal>(
     rt: &R,
     rows: &[Row],
 ) -> Result<(), Fail> {
-    let (manager, mut passes) = space(rt.alloc())?;
+    let (manager, mut passes) = space(rt.alloc(), 2)?;
     let mut session = Session::open(rt, &manager, passes.remove(0));
     assert_eq!(rt; first_wrong_at_last(rt.alloc(), &mut session, rows), None);
     closed(rt, session);
@@ -131,7 +131,7 @@ pub(crate) fn are_right_of_two_at_last<R: Wait + Abort + AllocGlobal>(
     rt: &R,
     rows: &[RowOfTwo],
 ) -> Result<(), Fail> {
-    let (manager, mut passes) = space(rt.alloc())?;
+    let (manager, mut passes) = space(rt.alloc(), 2)?;
     let two = Session::open(rt, &manager, passes.remove(1));
     let one = Session::open(rt, &manager, passes.remove(0));
     let mut sessions = Two { one, two };

@@ -84,7 +84,7 @@ pub record HasDirectory (k : Keys) (m : Mine) : Type 0 where
 
 -- the place of a key, by the keys in the order of their places, from place 1 on
 abbrev pub place_among : KeyName → List KeyName → Option ℕ
-place_among key keys = option_map (λ index. index + 1) (position (λ k. key_eq k key) keys)
+place_among key keys = option_map (λ index. index + 1) (position (key_eq key) keys)
 
 -- the seat has the directory's latch, with this record of it, and no place has the key
 pub record IsNewKey (key : KeyName) (k : Keys) (m : Mine) : Type 0 where

@@ -4,10 +4,10 @@
 //! directory in hand ([`TableSeat::list_key`]). It takes the latch of the next place ([`TableSeat::key_count`] and one), where nobody has
 //! ever been, leaves the key's empty book there ([`TableSeat::name_book`]), and gives the place to the key with that latch
 //! ([`TableSeat::put_latch_naming`]). Then the directory's latch is given back.
-ghost use Rattle.std.specs.Prelude.{◌≡◌, ℕ, ◌<◌, ◌∷◌, length, position, IfSome, OnOk, OnErr};
+ghost use Rattle.std.specs.Prelude.{◌≡◌, ◌∷◌, length, None, OnOk, OnErr};
 ghost use Rattle.mdl_book.specs.declared.book_view.BookView.{BookView};
 ghost use Rattle.mdl_book.specs.Books.{empty_book};
-ghost use Rattle.mdl_key.specs.Words.{KeyName, key_eq};
+ghost use Rattle.mdl_key.specs.Words.{KeyName};
 ghost use Rattle.mdl_steps.specs.declared.slot.Slot.TheVariants as slot;
 ghost use Rattle.mdl_steps.specs.declared.view.LatchRecord.{LatchRecord};
 ghost use Rattle.mdl_steps.specs.declared.view.Keys.{Keys};
@@ -29,17 +29,10 @@ impl Directory {
     pub fn place_of(&self, key: &Key) -> Option<usize>
         ensures { result ≡ place_among key.now self.now.keys }
     {
-        let index = index_of(&self.keys, key)?;
+        let index = self.keys.get_index_of(key)?;
+        prove!(index < self.keys.len());
         Some(index + 1)
     }
-}
-
-// The index of a key among others.
-fn index_of(keys: &[Key], key: &Key) -> Option<usize>
-    ensures here { result ≡ position (λ other. key_eq other key.now) keys.now }
-    ensures inside { IfSome result (λ index. index < length keys.now) }
-{
-    keys.iter().position(|other| *other == *key)
 }
 
 impl TableSeat {
@@ -67,14 +60,16 @@ impl TableSeat {
 
     /// Adds a key to the directory in hand, for the next place. The directory's latch can be given back only once the place has it
     /// ([`TableSeat::put_latch_naming`]).
+    #[tactic(auto, using(crate::proofs::Looking::goes_last))]
     pub fn list_key(&mut self, _latch: &LatchedDirectory, key: Key) -> Result<(), AllocError>
-        requires carried { (k : Keys) × (self.old.me.1 ≡ (0, slot.Directory k) ∷ rest self.old.me.1) }
+        requires new { (k : Keys) × (self.old.me.1 ≡ (0, slot.Directory k) ∷ rest self.old.me.1) × (place_among key k.keys ≡ None) }
         ensures listed { (k : Keys) → self.old.me.1 ≡ (0, slot.Directory k) ∷ rest self.old.me.1
             → OnOk result (self.new ≡ record self.old { me = (self.old.me.0, (0, slot.Directory (listing key k)) ∷ rest self.old.me.1) }) }
         ensures unchanged { OnErr result (self.new ≡ self.old) }
     {
         let directory = directory_in_hand(&mut self.seat, &self.table.shared);
-        Ok(directory.keys.push(key)?)
+        directory.keys.insert(key)?;
+        Ok(())
     }
 
     /// Leaves the empty book of a key in hand in the place of that which was there.

@@ -5,6 +5,7 @@ ghost use Rattle.mdl_steps.specs.Openings.{opening_words, opening_slots};
 
 use crate::layout::{enrol_word, word_count};
 use crate::{Directory, Slot};
+use indexmap::IndexSet;
 use mdl_book::Book;
 use mdl_key::Key;
 use std::alloc::{AllocError, Global};
@@ -29,7 +30,7 @@ pub(crate) fn opening_slots(alloc: Global, places: usize) -> Result<Vec<Slot>, A
     ensures { IfOk result (λ slots. slots.items ≡ opening_slots places) }
 {
     let directory = Directory {
-        keys: Vec::new(alloc),
+        keys: IndexSet::new(alloc),
     };
     let mut slots = vec![in alloc; Slot::Directory(directory)]?;
     for _place in 0..places {

@@ -13,11 +13,11 @@ use mdl_key::{Key, Namespace};
 use std::alloc::{AllocError, Global};
 
 impl Directory {
-    /// The tables of a schema and their places, in the order of the places.
+    /// The tables of a schema and their places, in the order of the places. It looks at each key.
     pub fn tables_of(&self, alloc: Global, schema: &str) -> Result<Vec<Known>, AllocError>
         ensures { IfOk result (λ tables. tables.items ≡ tables_from schema.now 1 self.now.keys) }
     {
-        list_tables(&self.keys, alloc, schema)
+        list_tables(self.keys.as_slice(), alloc, schema)
     }
 }
 

@@ -1,13 +1,15 @@
 //! What the slots of the table hold.
+use indexmap::IndexSet;
 use mdl_book::Book;
 use mdl_key::Key;
 use std::marker::Model;
 
-/// Which key has which place: the keys in the order of their places, from place 1 on.
+/// Which key has which place: the keys in the order of their places, from place 1 on. A key is found by its hash, so looking it up takes as
+/// long among many keys as among few.
 #[derive(Drop)]
 pub struct Directory {
     /// The keys.
-    pub keys: Vec<Key>,
+    pub keys: IndexSet<Key>,
 }
 
 impl Model for Directory {
@@ -15,7 +17,7 @@ impl Model for Directory {
 
     ghost Value = { Keys };
 
-    ghost view = { λ directory. record { keys = directory.keys.items } };
+    ghost view = { λ directory. record { keys = directory.keys.keys } };
 }
 
 /// What a slot of the table holds: slot 0 the directory, each other the book of its place.
