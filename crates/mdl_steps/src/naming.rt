@@ -58,8 +58,8 @@ impl TableSeat {
         directory.keys.len()
     }
 
-    /// Adds a key to the directory in hand, for the next place. The directory's latch can be given back only once the place has it
-    /// ([`TableSeat::put_latch_naming`]).
+    /// Adds a key that has no place yet to the directory in hand, for the next place. The directory's latch can be given back only once
+    /// the place has it ([`TableSeat::put_latch_naming`]).
     #[tactic(auto, using(crate::proofs::Looking::goes_last))]
     pub fn list_key(&mut self, _latch: &LatchedDirectory, key: Key) -> Result<(), AllocError>
         requires new { (k : Keys) × (self.old.me.1 ≡ (0, slot.Directory k) ∷ rest self.old.me.1) × (place_among key k.keys ≡ None) }
