@@ -69,7 +69,10 @@ fn many_keys_get_places_in_turn(rt: HostRuntime) -> Result<(), Fail> {
     assert_eq!(rt; first_elsewhere(alloc, &mut one, MANY), None);
     assert_eq!(rt; first_elsewhere(alloc, &mut two, MANY), None);
     assert_eq!(rt; first_elsewhere(alloc, &mut one, MANY + 1), Some(MANY + 1));
-    assert_eq!(rt; place_of(alloc, &mut two, MANY + 1), Err(SpaceError::NoPlace));
+    assert_eq!(rt;
+        place_of(alloc, &mut two, MANY + 1),
+        Err(SpaceError::NoPlace)
+    );
     closed(&rt, one);
     closed(&rt, two);
     Ok(())
