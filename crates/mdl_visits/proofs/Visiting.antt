@@ -28,9 +28,6 @@ makes_none m = ([], (λ i. and_log (sym (append-nil m.0.log) i)), refl)
     and_log : List Met → Mine
     and_log log = (record m.0 { log = log }, m.1)
 
-pub lingers_none : (m : Mine) → Lingers m m
-lingers_none m = ([], (λ i. (record m.0 { log = sym (append-nil m.0.log) i }, m.1)), tt, refl, tt)
-
 -- one that only met something
 pub lingers_one : (place found : ℕ) (m m′ m″ : Mine) → Lingers m m′ → m″ ≡ missed_latch place found m′ → Lingers m m″
 lingers_one place found m m′ m″ steps met =
