@@ -26,7 +26,8 @@ use Rattle.mdl_steps.specs.Layout.{latch_word, lock_word}
 use Rattle.mdl_steps.specs.Lists.{Each}
 use Rattle.mdl_steps.specs.Plays.{Mine, IsFresh, noting, raised}
 use Rattle.mdl_steps.specs.Rule.{Flagged, Lawful, NotedCounts}
-use Rattle.mdl_steps.specs.Seats.{Holds}
+use Rattle.mdl_steps.specs.SeatStates.{SeatState}
+use Rattle.mdl_steps.specs.Seats.{Holds, IsPlace, IsRising}
 
 -- ---- steps
 
@@ -96,11 +97,27 @@ IsStepAfter m a m′ e = GoesOn m a × (after : List Met) × (m′.0.log ≡ a.0
 abbrev pub LeavesBy : Mine → Mine → Met → Type 0
 LeavesBy m m′ e = (before : List Met) × (m′.0.log ≡ (m.0.log ++ before) ++ e ∷ []) × Each StaysThere before
 
+-- a step that was made between the two shows this
+abbrev pub HasStep : SeatState → SeatState → (Met → Type 0) → Type 0
+HasStep s s′ Shows = (e : Met) × IsStepOf s.me s′.me e × Shows e
+
 -- two steps, the second right after the first, that were made between the two
 abbrev pub AreStepsOf : Mine → Mine → Met → Met → Type 0
 AreStepsOf m m′ first second = (before : List Met) × (after : List Met) × (m′.0.log ≡ (m.0.log ++ before) ++ first ∷ second ∷ after)
 
 -- ---- a visit
+
+-- the session may go to a place: the table has it, and each latch that the session holds is of a lower place
+pub record MayVisit (place : ℕ) (s : SeatState) : Type 0 where
+  pub is_place : IsPlace s.table place
+  pub rising : IsRising place s.me
+
+-- the session holds the latch of a place, and has the book that the latch's record tells in hand. The record is so
+pub record HasLatched (place : ℕ) (s : SeatState) (IsSo : LatchRecord → Type 0) : Type 0 where
+  pub is_place : IsPlace s.table place
+  pub latch : LatchRecord
+  pub holds : Holds place latch latch.book s.me
+  pub is_so : IsSo latch
 
 -- the session came to a place: it took the latch there and made steps without deeds, a book of the place is in its hand, and nothing else changed
 pub record IsInside (place : ℕ) (m m′ : Mine) : Type 0 where
