@@ -1,12 +1,13 @@
 //! A search for a deadlock: the latches of all places that have a key are taken one after the other, and the deadlock is looked for in their
 //! books once all are taken. Only the lists of locks where somebody waits are copied: by the others nobody waits for anybody.
-ghost use Rattle.std.specs.Prelude.{◌≡◌, ◌+◌, ◌<◌, ◌≤◌, List, ◌∷◌, ◌++◌, IfOk, OnErr, OnOk};
+ghost use Rattle.std.specs.Prelude.{◌≡◌, ◌≤◌, List, ◌∷◌, ◌++◌, IfOk, OnErr, OnOk};
 ghost use Rattle.mdl_book.specs.declared.book_view.BookView.{BookView};
 ghost use Rattle.mdl_steps.specs.declared.slot.Slot.TheVariants as slot;
 ghost use Rattle.mdl_steps.specs.declared.view.Keys.{Keys};
 ghost use Rattle.mdl_steps.specs.SeatStates.{AtItsTable};
-ghost use Rattle.mdl_steps.specs.Seats.{IsRising, rest};
+ghost use Rattle.mdl_steps.specs.Seats.{rest};
 ghost use Rattle.mdl_visits.specs.declared.audited.Audited.{Audited};
+ghost use Rattle.mdl_visits.specs.Audits.{MayTakeAll};
 ghost use Rattle.mdl_visits.specs.Idle.{IsIdle};
 ghost use Rattle.mdl_visits.specs.Lookups.{TookDirectory};
 ghost use Rattle.mdl_visits.specs.Polls.{SettlesNothing};
@@ -52,8 +53,7 @@ fn search_from<R: Wait>(
     last: usize,
     lists: &mut ListCopies,
 ) -> Result<Search, AllocError>
-    requires places { (0 < place) × (place ≤ last + 1) × (last < seat.old.table.slots) × (last < 65536) }
-    requires rising { IsRising place seat.old.me }
+    requires through { MayTakeAll place last seat.old }
     ensures { EndsSearch result (FindsFrom place last lists.old seat.old seat.new) seat.old seat.new }
 {
     if place > last {
