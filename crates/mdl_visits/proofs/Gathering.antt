@@ -170,7 +170,7 @@ module _ (place q : ℕ) (a b c : SeatState) (at : q ≡ place) (taken : HasTake
       -- the books behind the place were gathered, and this one was met before
       pub gathers_more : (last : ℕ) (before middle more after : List Audited) (gathers : Gathers (place + 1) last middle more c.me d.me)
           → after ≡ before ++ record { place = q; book = h.book } ∷ gathers.books
-          → (all_of : Gathers place last before after a.me e.me) × (all_of.latches ≡ gathers.latches) × (all_of.books ≡ record { place = q; book = h.book } ∷ gathers.books)
+          → (whole : Gathers place last before after a.me e.me) × (whole.latches ≡ gathers.latches)
       gathers_more last before middle more after gathers listed =
           let count = gathers.all in (
             record {
@@ -185,11 +185,10 @@ module _ (place q : ℕ) (a b c : SeatState) (at : q ≡ place) (taken : HasTake
               stand = (taken.1.stands, gathers.stand);
             },
             refl,
-            refl,
           )
 
 -- behind the last place there is nothing to gather
-pub gathers_none : (place last : ℕ) (audited : List Audited) (m m′ : Mine) → place ≡ last + 1 → Gathers place last audited audited m m′
+unfoldable pub gathers_none : (place last : ℕ) (audited : List Audited) (m m′ : Mine) → place ≡ last + 1 → Gathers place last audited audited m m′
 gathers_none place last audited m m′ behind = record {
   latches = m.0.latches;
   had = inl refl;

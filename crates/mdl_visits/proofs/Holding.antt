@@ -200,7 +200,7 @@ module _ (place q last : ℕ) (a b c d e : SeatState) (at : q ≡ place) (taken 
       let who = a.me.0.number in
       let inner = subst (λ (t : TableId). Searches t who (place + 1) last (before ++ if_waited one) found c.me d.me) (table_of same ∙ table)
       (subst (λ (n : ℕ). Searches c.table n (place + 1) last (before ++ if_waited one) found c.me d.me) (ap (λ (m : Mine). m.0.number) came_there) (searches (before ++ if_waited one) (added before are))) in
-      let outer = gathers_more place q a b c at taken table same d reads e put rising last [] [] inner.books (one ∷ inner.books) inner.gathers (ap (λ (xs : List Audited). one ∷ xs) (sym inner.gathers.listed) ∙ refl) in
+      let outer = gathers_more place q a b c at taken table same d reads e put rising last [] [] inner.books (one ∷ inner.books) inner.gathers (ap (λ (xs : List Audited). one ∷ xs) inner.gathers.listed) in
       let latches = inner.gathers.latches in
       let judged = judges_within id who latches ((before ++ if_waited one) ++ inner.books) found a.me c.me d.me e.me goes_in (ap (λ (m : Mine). m.0.settles) came_there) goes_out
       (ap (λ (s : SeatState). s.me.0.settles) put) inner.judges in
@@ -227,6 +227,7 @@ module _ (place q last : ℕ) (a b c d e : SeatState) (at : q ≡ place) (taken 
 
 -- behind the last place it is looked for
 pub finds_here : (place last : ℕ) (lists : List Queues) (a b : SeatState) (found : Search) → place ≡ last + 1 → Finds lists a b found → FindsFrom place last lists a b found
+unfolding gathers_none
 finds_here place last lists a b found behind finds = (
   λ copied are. record {
     books = [];

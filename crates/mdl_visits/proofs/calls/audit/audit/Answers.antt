@@ -8,24 +8,6 @@ use Rattle.mdl_visits.proofs.Gathering.{as_reads}
 use Rattle.mdl_visits.proofs.Holding.{audits, in_hand, may_inform, may_take_all, steps_all, took_directory}
 use Rattle.mdl_visits.proofs.calls.audit.audit.Goals as goal
 
-pub audit_from-outcome-requires : goal.audit_from-outcome-requires
-audit_from-outcome-requires g c =
-    let a : SeatState = c.args.seat.now in
-    let b : SeatState = c.await_directory-directory.new.seat in
-    let counted : SeatState = c.key_count-last.new.self in
-    let taken = c.await_directory-directory.ensures.taken in
-    let same = c.key_count-last.ensures.same in
-    let count = c.key_count-last.ensures.told taken.1 (in_hand a b counted taken same c.requires.idle).carried in
-    record { through = may_take_all a b counted taken same c.requires.idle c.key_count-last.result count c.requires.slots }
-
-pub put_directory-requires : goal.put_directory-requires
-put_directory-requires g c =
-    let counted : SeatState = c.key_count-last.new.self in
-    let gathered : SeatState = c.audit_from-outcome.new.seat in record {
-      put = may_inform c.args.seat.now c.await_directory-directory.new.seat counted c.await_directory-directory.ensures.taken c.key_count-last.ensures.same c.requires.idle
-          gathered (as_reads counted gathered c.audit_from-outcome.ensures.steps);
-    }
-
 pub returns-clause-steps : goal.returns-clause-steps
 returns-clause-steps g c =
     let counted : SeatState = c.key_count-last.new.self in

@@ -1,9 +1,11 @@
 -- Each book is copied under its latch, whose record stays until the latches of the places behind it are given back.
-use Rattle.std.proofs.Common.{refl, arith, rules}
+use Rattle.std.proofs.Common.{refl, ap, ◌∙◌, arith, rules}
 use Rattle.std.proofs.lemmas.Result.{IfOk-weaker}
+use Rattle.mdl_steps.specs.Plays.{Mine}
 use Rattle.mdl_steps.specs.SeatStates.{SeatState}
 use Rattle.mdl_visits.proofs.Gathering.{back, carried_there, may_put, may_take_more}
 use Rattle.mdl_visits.proofs.Holding.{ends_more, finds_here}
+use Rattle.mdl_visits.proofs.Seats.{mine}
 use Rattle.mdl_visits.proofs.Words.{reads_none}
 use Rattle.mdl_visits.proofs.calls.search.+search_from.Goals as goal
 
@@ -23,7 +25,16 @@ put_latch-requires-clause-put g t c =
     may_put c.args.place latch.result.place c.args.seat.now latch.new.seat copied latch.ensures.place latch.ensures.taken latch.ensures.inside.0 c.add_if_waited.ensures.same copied (refl, reads_none copied.me)
 
 pub returns-in-Err : goal.returns-in-Err
-returns-in-Err g t c = ?
+returns-in-Err g t c =
+    let latch = c.await_latch-latch in
+    let copied : SeatState = c.add_if_waited.new.seat in
+    let same = c.add_if_waited.ensures.same in
+    record {
+      reads = back c.args.place latch.result.place c.args.seat.now latch.new.seat copied latch.ensures.place latch.ensures.taken latch.ensures.inside.0 same
+          copied (refl, reads_none copied.me) c.put_latch.new.self c.put_latch.ensures.made c.requires.through.rising;
+      found = tt;
+      nothing = ap (λ (s : SeatState). s.me.0.settles) (c.put_latch.ensures.made) ∙ ap (λ (m : Mine). m.0.settles) (mine same ∙ latch.ensures.taken.3.1);
+    }
 
 pub search_from-outcome-requires : goal.search_from-outcome-requires
 search_from-outcome-requires g t c =
