@@ -1,9 +1,7 @@
 -- Latches are taken in turn, something is done while they are held, and they are given back. Meanwhile books are copied, and words of waits are read.
 use Rattle.std.proofs.Common.{◌≡◌, ℕ, ◌+◌, ◌-◌, ◌<◌, ◌≤◌, ◌==◌, not, List, [], ◌∷◌, ◌++◌, length, map, filter, Some, None, Option, refl, sym, ap, ◌∙◌, subst, inl, inr, ⊎_elim, arith, append_assoc, append-nil, length-append}
-use Rattle.std.specs.Prelude.{slice_get}
 use Rattle.std.proofs.lemmas.Bool.{eq-eqb}
 use Rattle.atomic_table.specs.Seated.{TableId}
-use Rattle.mdl_key.specs.Words.{KeyName}
 use Rattle.mdl_steps.specs.declared.slot.Slot.TheVariants as slot
 use Rattle.mdl_steps.specs.declared.step_kind.StepKind.TheVariants.{PutLatch, TakeLatch}
 use Rattle.mdl_steps.specs.declared.view.LatchRecord.{LatchRecord}
@@ -12,22 +10,20 @@ use Rattle.mdl_steps.specs.declared.view.Met.{Met}
 use Rattle.mdl_steps.specs.Cells.{held_at}
 use Rattle.mdl_steps.specs.Layout.{latch_word}
 use Rattle.mdl_steps.specs.Lists.{Each}
-use Rattle.mdl_steps.specs.Plays.{Mine, IsDirectory, IsFresh, consulted, informed, latched, unlatched}
+use Rattle.mdl_steps.specs.Plays.{Mine, IsFresh, latched, unlatched}
 use Rattle.mdl_steps.specs.SeatStates.{AtItsTable, SeatState}
-use Rattle.mdl_steps.specs.Seats.{HasDirectory, Holds, IsRising, MayInform, MayPut, learnt, rest}
+use Rattle.mdl_steps.specs.Seats.{Holds, IsPlace, IsRising, MayPut, rest}
 use Rattle.mdl_steps.proofs.Hands.{elsewhere-rising}
 use Rattle.mdl_steps.proofs.Views.{held_at-past}
 use Rattle.mdl_visits.specs.declared.audited.Audited.{Audited}
-use Rattle.mdl_visits.specs.Audits.{AreKeyed, AreRecorded, Audits, Gathers, HadLatches, MayAllStand, MayTakeAll}
+use Rattle.mdl_visits.specs.Audits.{Gathers, HadLatches, MayTakeAll}
 use Rattle.mdl_visits.specs.Idle.{IsIdle}
-use Rattle.mdl_visits.specs.Lookups.{HadEither, TookDirectory}
 use Rattle.mdl_visits.specs.Searches.{ReadsWaits, ReadsWaitsQuietly, with_waits_read}
-use Rattle.mdl_visits.specs.Visits.{AllQuiet, GoesOn, IsQuiet, IsStepOf, MakesQuietSteps, MakesSteps, and_made, deeds_of}
+use Rattle.mdl_visits.specs.Visits.{AllQuiet, GoesOn, HasStep, IsQuiet, MakesQuietSteps, MayVisit, and_made, deeds_of}
 use Rattle.mdl_visits.proofs.Asking.{step_within}
-use Rattle.mdl_visits.proofs.Lookups.{had_none, no_latches, no_record}
+use Rattle.mdl_visits.proofs.Lookups.{no_latches}
 use Rattle.mdl_visits.proofs.Seats.{mine, table_of}
-use Rattle.mdl_visits.proofs.Steps.{each_append, each_map, none_then}
-use Rattle.mdl_visits.proofs.Words.{goes_reading}
+use Rattle.mdl_visits.proofs.Steps.{each_append, none_then}
 
 -- ---- steps alone are as if words of waits had been read besides
 
@@ -42,6 +38,26 @@ as_reads s s′ steps = (steps.0, record {
 
 pub as_steps : (m m′ : Mine) (reads : ReadsWaits m m′) → reads.told ≡ m.0.told → reads.settles ≡ m.0.settles → m′ ≡ and_made reads.made m
 as_steps m m′ reads told settles = reads.now ∙ (λ i. (record m.0 { log = m.0.log ++ reads.made; told = told i; settles = settles i }, m.1))
+
+pub quiet_steps_on : (a b c : SeatState) → AtItsTable a b MakesQuietSteps → AtItsTable b c MakesQuietSteps → AtItsTable a c MakesQuietSteps
+quiet_steps_on a b c first second =
+    let one = first.1 in
+    let two = second.1 in (
+      second.0 ∙ first.0,
+      (
+        one.0 ++ two.0,
+        two.1 ∙ ap (and_made two.0) one.1 ∙ (λ i. (record a.me.0 { log = append_assoc a.me.0.log one.0 two.0 i }, a.me.1)),
+        none_then one.0 two.0 [] one.2 two.2,
+        each_append (IsQuiet a.me.0.directory) one.0 two.0 one.3 (subst (λ (o : Option Keys). AllQuiet o two.0) (ap (λ (m : Mine). m.0.directory) one.1) two.3),
+      ),
+    )
+
+-- a session that holds no latch may go to a place, also after steps
+pub may_visit : (place : ℕ) (a b : SeatState) → AtItsTable a b MakesQuietSteps → IsIdle a.me → IsPlace a.table place → MayVisit place b
+may_visit place a b steps idle is_place = record {
+  is_place = subst (λ (id : TableId). IsPlace id place) (sym steps.0) is_place;
+  rising = subst (IsRising place) (sym steps.1.1) (subst (Each (λ (h : LatchRecord). h.place < place)) (sym (no_latches a.me idle)) tt);
+}
 
 -- ---- the latch of a place is taken, something is done, and it is given back
 
@@ -152,6 +168,18 @@ module _ (place q : ℕ) (a b c : SeatState) (at : q ≡ place) (taken : HasTake
               whole.had,
             ),
           )
+
+      -- the step that gave the latch back shows the record of the latch
+      pub gives_back : (Shows : Met → Type 0) → Shows gave → HasStep a e Shows
+      gives_back Shows shows = (
+        gave,
+        (
+          made ++ (took ∷ within),
+          [],
+          ap (λ (m : Mine). m.0.log) now ∙ ap (λ (log : List Met). a.me.0.log ++ log) (sym (append_assoc made (took ∷ within) (gave ∷ []))) ∙ sym (append_assoc a.me.0.log (made ++ (took ∷ within)) (gave ∷ [])),
+        ),
+        shows,
+      )
 
       goes_after : GoesOn d.me e.me
       goes_after = (_ ∷ [], ap (λ (s : SeatState). s.me.0.log) put)
