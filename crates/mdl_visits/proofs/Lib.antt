@@ -1,3 +1,4 @@
+pub mod Arriving
 pub mod Seats
 pub mod Visiting
 pub mod Altering
@@ -19,6 +20,7 @@ pub mod Reading
 pub mod Changing
 pub mod Lookups
 pub mod Naming
+pub mod Arriving
 pub mod Asking
 pub mod Gathering
 pub mod Sorting

@@ -110,11 +110,7 @@ pub record StandsOnce (waiting : List Ticket) : Type 0 where
   pub once : Once waiting
   pub single : (session first second : ℕ) (t u : Ticket) → ticket_of session first waiting ≡ Some t → ticket_of session second waiting ≡ Some u → first ≡ second
 
--- it does so by the record of the latch of a place
-abbrev pub WaitsOnce : ℕ → Mine → Type 0
-WaitsOnce place m = (h : LatchRecord) → held_at place m.0.latches ≡ Some h → StandsOnce h.book.waiting
-
--- or by a record whose flags tell the lists
+-- it does so by a record whose flags tell the lists
 abbrev pub IsOrderly : LatchRecord → Type 0
 IsOrderly h = StandsOnce h.book.waiting × TellsLists h.book h.slow h.obtrusive
 

@@ -11,17 +11,17 @@ use Rattle.mdl_visits.proofs.calls.reschedule.reschedule_and_put.Goals.{then-has
 
 pub grant_waiters-requires-clause-held : goal.grant_waiters-requires-clause-held
 grant_waiters-requires-clause-held c =
-    let held = c.requires.held in
-    let h = held.0 in
-    (h, subst (λ (x : Mine). Holds c.args.latch.place h h.book x) (sym {A = Mine} (mine c.has_waiters.ensures.same)) held.1, held.2)
+    let here = c.requires.here in
+    let h = here.latch in
+    (h, subst (λ (x : Mine). Holds c.args.latch.place h h.book x) (sym {A = Mine} (mine c.has_waiters.ensures.same)) here.holds, here.is_so)
 
 pub returns : goal.returns
 returns c =
     let id = c.args.seat.now.table in
     let place = c.args.latch.place in
     let m : Mine = c.args.seat.now.me in
-    let held = c.requires.held in
-    let h = held.0 in
+    let here = c.requires.here in
+    let h = here.latch in
     let out : Mine = c.put_latch.new.self.me in
     let same = c.has_waiters.ensures.same in
     let put = c.put_latch.ensures.made in
@@ -38,7 +38,7 @@ returns c =
             )
         | else-has_waiters w ↦ (
           table_of put ∙ table_of w.seat-is ∙ table_of same,
-          leaves_none id place h m out held.1 (nobody_waits h.book.waiting (sym (c.has_waiters.ensures.told h.book held.1.carried) ∙ w.if-has_waiters.false))
+          leaves_none id place h m out here.holds (nobody_waits h.book.waiting (sym (c.has_waiters.ensures.told h.book here.holds.carried) ∙ w.if-has_waiters.false))
               (mine put ∙ ap (λ (x : SeatState). unlatched place [] x.me) (w.seat-is ∙ same)),
         )
       ];
