@@ -84,8 +84,11 @@ module _ (place q : ℕ) (a b c : SeatState) (at : q ≡ place) (taken : HasTake
   came : c.me ≡ latched place h (and_made made a.me)
   came = mine same ∙ taken.3.1
 
-  pub carried_there : b.me.1 ≡ (q, slot.Place h.book) ∷ rest b.me.1
-  carried_there = (subst (λ (p : ℕ). Holds p h h.book b.me) (sym at) taken.2).carried
+  pub holds_there : Holds q h h.book c.me
+  holds_there = subst (λ (m : Mine). Holds q h h.book m) (sym (mine same)) (subst (λ (p : ℕ). Holds p h h.book b.me) (sym at) taken.2)
+
+  pub carried_there : c.me.1 ≡ (q, slot.Place h.book) ∷ rest c.me.1
+  carried_there = holds_there.carried
 
   pub may_take_more : (last : ℕ) → MayTakeAll place last a → place ≤ last → MayTakeAll (place + 1) last c
   may_take_more last may nearer =
