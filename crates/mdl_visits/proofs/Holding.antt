@@ -24,7 +24,7 @@ use Rattle.mdl_visits.specs.Searches.{AreQueuesOf, EndsSearch, Finds, FindsFrom,
 use Rattle.mdl_visits.specs.Visits.{AllQuiet, GoesOn, IsQuiet, IsStepOf, MakesSteps, and_made, deeds_of}
 use Rattle.mdl_visits.proofs.Asking.{step_within}
 use Rattle.mdl_visits.proofs.Gathering.{HasTaken, as_steps, back, gathers_more, gathers_none}
-use Rattle.mdl_visits.proofs.Lookups.{had_none, no_latches, no_record}
+use Rattle.mdl_visits.proofs.Lookups.{HasConsulted, had_none, no_latches, no_record}
 use Rattle.mdl_visits.proofs.Outcomes.{judges_if_waited, judges_within, knows_on}
 use Rattle.mdl_visits.proofs.Seats.{mine, table_of}
 use Rattle.mdl_visits.proofs.Steps.{each_map, none_then}
@@ -48,12 +48,6 @@ keys_from before (key ∷ keys) (a ∷ more) place at same keyed =
     ap (λ (x : KeyName). x ∷ map (λ (b : Audited). b.book.key) more) first ∙ ap (λ (xs : List KeyName). key ∷ xs) others
 
 -- ---- all of it, while the directory's latch is held
-
--- it was taken
-abbrev pub HasConsulted : SeatState → SeatState → Type 0
-HasConsulted a b =
-    (made : List Met) × (k : Keys) × IsDirectory a.table.slots k (and_made made a.me) × (b ≡ record a { me = consulted k (and_made made a.me) })
-    × AllQuiet a.me.0.directory made × (deeds_of made ≡ [])
 
 module _ (a b c : SeatState) (taken : HasConsulted a b) (same : c ≡ b) (idle : IsIdle a.me) where
   abbrev made : List Met
