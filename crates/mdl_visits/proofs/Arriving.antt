@@ -106,9 +106,9 @@ module _ (place : ℕ) (s : SeatState) (q : ℕ) (c : SeatState) (a : Arrives pl
   }
 
   -- and so the session's ticket
-  pub met_own : (number : ℕ) (ds : List Deed) (book : BookView) (w n : SeatState) → is_some (ticket_of c.me.0.number number a.latch.book.granted) ≡ true
-      → w ≡ record c { me = written q book c.me } → HasStep w n (DidUnder q ds w) → DoesToOwn place number ds s n
-  met_own number ds book w n there is step =
-      let m = met place s q w n a.at (came_written book w is).1 a.latch (ap (λ (x : SeatState). held_at q x.me.0.latches) is ∙ a.holds.recorded) ds step in
+  pub met_own : (number : ℕ) (ds : List Deed) (w n : SeatState) → is_some (ticket_of c.me.0.number number a.latch.book.granted) ≡ true
+      → CameTo q s w → w.me.0.latches ≡ c.me.0.latches → HasStep w n (DidUnder q ds w) → DoesToOwn place number ds s n
+  met_own number ds w n there came same step =
+      let m = met place s q w n a.at came.1 a.latch (ap (held_at q) same ∙ a.holds.recorded) ds step in
       let own = subst (λ (who : ℕ). is_some (ticket_of who number a.latch.book.granted) ≡ true) (sym number_kept) there in
       (m.0, m.1, record { word = m.2; latch = a.latch; held = m.3; there = own }, m.4)

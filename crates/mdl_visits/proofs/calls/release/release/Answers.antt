@@ -1,15 +1,15 @@
 -- The book that is met under the latch has the session's ticket, so it is taken out.
-use Rattle.std.proofs.Common.{◌≡◌, ℕ, [], ◌∷◌, subst}
+use Rattle.std.proofs.Common.{ℕ, [], ◌∷◌, ap, subst}
 use Rattle.mdl_steps.specs.declared.deed.Deed.TheVariants.{Lose}
 use Rattle.mdl_steps.specs.Deeds.{booked}
-use Rattle.mdl_steps.specs.SeatStates.{AtItsTable}
+use Rattle.mdl_steps.specs.SeatStates.{AtItsTable, SeatState}
 use Rattle.mdl_visits.specs.Grantings.{VisitsAndReschedules}
 use Rattle.mdl_visits.proofs.Arriving.{arrived, came_written, met_own}
 use Rattle.mdl_visits.proofs.Losing.{has_lost, lost, there}
 use Rattle.mdl_visits.proofs.calls.release.release.Goals as goal
 
-pub lower_flags_and_reschedule-requires-clause-worked : goal.lower_flags_and_reschedule-requires-clause-worked
-lower_flags_and_reschedule-requires-clause-worked g c =
+pub lower_flags_and_reschedule-requires : goal.lower_flags_and_reschedule-requires
+lower_flags_and_reschedule-requires g c =
     let place = c.args.place in
     let number = c.args.number in
     let s = c.args.seat.now in
@@ -18,7 +18,7 @@ lower_flags_and_reschedule-requires-clause-worked g c =
     let q = latch.result.place in
     let a = arrived place s c.requires.at q latch.new.seat told.place told.taken.0 told.taken.1 told.taken.2 told.inside told.stays in
     let out = lost place number s q latch.new.seat a c.requires.unwaited c.requires.held c.write_loss-gone.new.self c.write_loss-gone.result c.write_loss-gone.ensures.refused c.write_loss-gone.ensures.written in
-    has_lost place number s q latch.new.seat a c.requires.unwaited c.requires.held c.write_loss-gone.new.self c.requires.known out
+    record { worked = has_lost place number s q latch.new.seat a c.requires.unwaited c.requires.held c.write_loss-gone.new.self c.requires.known out }
 
 pub returns : goal.returns
 returns g c =
@@ -32,9 +32,10 @@ returns g c =
     let out = lost place number s q latch.new.seat a c.requires.unwaited c.requires.held c.write_loss-gone.new.self c.write_loss-gone.result c.write_loss-gone.ensures.refused c.write_loss-gone.ensures.written in
     let w = c.write_loss-gone.new.self in
     let n = c.lower_flags_and_reschedule.new.seat in
-    let book = booked latch.new.seat.me.0.number (Lose number) a.latch.book in
+    let came = came_written place s q latch.new.seat a (booked latch.new.seat.me.0.number (Lose number) a.latch.book) w out in
     record {
       released = subst (λ (p : ℕ). AtItsTable s n (VisitsAndReschedules s.table p (Lose number ∷ []))) a.at
-          (c.lower_flags_and_reschedule.ensures.rescheduled s (came_written place s q latch.new.seat a book w out));
-      step = met_own place s q latch.new.seat a number (Lose number ∷ []) book w n (there place number s q latch.new.seat a c.requires.unwaited c.requires.held) out c.lower_flags_and_reschedule.ensures.step;
+          (c.lower_flags_and_reschedule.ensures.rescheduled s came);
+      step = met_own place s q latch.new.seat a number (Lose number ∷ []) w n (there place number s q latch.new.seat a c.requires.unwaited c.requires.held)
+          came (ap (λ (x : SeatState). x.me.0.latches) out) c.lower_flags_and_reschedule.ensures.step;
     }
