@@ -17,7 +17,7 @@ use Rattle.mdl_steps.specs.Rule.{Flagged}
 use Rattle.mdl_steps.specs.SeatStates.{AtItsTable, SeatState}
 use Rattle.mdl_steps.specs.Seats.{Holds, IsPlace, written}
 use Rattle.mdl_steps.proofs.Hands.{holds_written}
-use Rattle.mdl_visits.specs.Leavings.{DidUnder, DoesToOwn, HasWorked}
+use Rattle.mdl_visits.specs.Leavings.{DidUnder, DoesToOwn, HasWorked, MeetsOwn}
 use Rattle.mdl_visits.specs.Visits.{CameTo, HasStep, IsInside, IsStepOf, LacksRoom, MayVisit, StaysOn}
 use Rattle.mdl_visits.proofs.Leaving.{step_later}
 use Rattle.mdl_visits.proofs.Seats.{mine, place_there, table_of}
@@ -106,9 +106,19 @@ module _ (place : ℕ) (s : SeatState) (q : ℕ) (c : SeatState) (a : Arrives pl
   }
 
   -- and so the session's ticket
+  pub meets_own : (number : ℕ) (e : Met) → is_some (ticket_of c.me.0.number number a.latch.book.granted) ≡ true → e.word ≡ lock_word place → held_at place e.held ≡ Some a.latch
+      → MeetsOwn place s.me.0.number number e
+  meets_own number e there word held = record {
+    word = word;
+    latch = a.latch;
+    held = held;
+    there = subst (λ (who : ℕ). is_some (ticket_of who number a.latch.book.granted) ≡ true) (sym number_kept) there;
+  }
+
+  pub met_here : (ds : List Deed) (w n : SeatState) → CameTo q s w → w.me.0.latches ≡ c.me.0.latches → HasStep w n (DidUnder q ds w)
+      → (e : Met) × IsStepOf s.me n.me e × (e.word ≡ lock_word place) × (held_at place e.held ≡ Some a.latch) × (e.deeds ≡ ds)
+  met_here ds w n came same step = met place s q w n a.at came.1 a.latch (ap (held_at q) same ∙ a.holds.recorded) ds step
+
   pub met_own : (number : ℕ) (ds : List Deed) (w n : SeatState) → is_some (ticket_of c.me.0.number number a.latch.book.granted) ≡ true
       → CameTo q s w → w.me.0.latches ≡ c.me.0.latches → HasStep w n (DidUnder q ds w) → DoesToOwn place number ds s n
-  met_own number ds w n there came same step =
-      let m = met place s q w n a.at came.1 a.latch (ap (held_at q) same ∙ a.holds.recorded) ds step in
-      let own = subst (λ (who : ℕ). is_some (ticket_of who number a.latch.book.granted) ≡ true) (sym number_kept) there in
-      (m.0, m.1, record { word = m.2; latch = a.latch; held = m.3; there = own }, m.4)
+  met_own number ds w n there came same step = let m = met_here ds w n came same step in (m.0, m.1, meets_own number m.0 there m.2 m.3, m.4)

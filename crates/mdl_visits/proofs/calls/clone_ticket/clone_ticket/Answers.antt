@@ -26,7 +26,7 @@ lower_flags_and_put-requires g c =
           (c.in-Ok.ensures.written a.latch.book a.holds.carried);
     }
 
-pub lower_flags_and_put-requires-in-Err : goal.lower_flags_and_put-in-Err-requires
+pub lower_flags_and_put-requires-in-Err : goal.lower_flags_and_put-requires-in-Err
 lower_flags_and_put-requires-in-Err g c =
     let latch = c.await_latch-latch in
     let told = latch.ensures in
