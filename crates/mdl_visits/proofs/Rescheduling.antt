@@ -1,4 +1,4 @@
--- Way is made, and the latch given back.
+-- Waits are granted, and the latch given back.
 use Rattle.std.proofs.Common.{◌≡◌, ℕ, nat_lt, length, arith, true, false, List, [], ◌∷◌, ◌++◌, Some, refl, sym, ap, ◌∙◌, subst, inl, inr, append_assoc, append-nil}
 use Rattle.std.specs.Prelude.{◌⊎◌}
 use Rattle.std.proofs.lemmas.Bool.{lt-ltb}
@@ -31,7 +31,7 @@ module _ (id : TableId) (place : ℕ) (a b c : Mine) (stays : StaysOn a b) where
   nobody_left_after latch (inl none) = inl none
   nobody_left_after latch (inr looked) = inr (looked_within b c a c (step_after a b c more) id place latch latch.book.waiting looked)
 
-  -- where nothing of waits changed before, way was made from there on
+  -- where nothing of waits changed before, waits were granted from there on
   pub rescheduled_after : b.0.settles ≡ a.0.settles → b.0.told ≡ a.0.told → b.0.number ≡ a.0.number → b.0.asks ≡ a.0.asks → HasRescheduled id place b c → HasRescheduled id place a c
   rescheduled_after settles told number asks way =
       let s = way.served in

@@ -5,7 +5,7 @@ ghost use Rattle.mdl_steps.specs.SeatStates.{AtItsTable};
 ghost use Rattle.mdl_steps.specs.Seats.{Holds};
 ghost use Rattle.mdl_steps.specs.WaitSeats.{IsSession};
 ghost use Rattle.mdl_steps.specs.WaitStates.{unsettled_state, wait_state};
-ghost use Rattle.mdl_visits.specs.Grantings.{ForgetsNobody, HasJustMet, IsGrantedFrom, IsOrderly, IsReady, IsTriedOrGranted, Reschedules, ReschedulesInTurn};
+ghost use Rattle.mdl_visits.specs.Grantings.{ForgetsNobody, HasJustMet, IsGrantedFrom, IsOrderly, IsGrantableTicket, IsTriedOrGranted, Reschedules, ReschedulesInTurn};
 ghost use Rattle.mdl_visits.specs.Visits.{HasLatched};
 
 use mdl_book::Sessions;
@@ -28,7 +28,7 @@ pub(crate) fn grant_waiters(seat: &mut TableSeat, latch: &Latched)
 
 // Grants the wait of a session, whose ticket can be granted, if the table has the session and the wait is unsettled.
 fn grant_waiter(seat: &mut TableSeat, latch: &Latched, session: u16, number: u64)
-    requires here { HasLatched latch.now.place seat.old (IsReady session number) }
+    requires here { HasLatched latch.now.place seat.old (IsGrantableTicket session number) }
     ensures tried { (h : LatchRecord) → Holds latch.now.place h h.book seat.old.me
         → IsTriedOrGranted seat.old.table latch.now.place session number h seat.old.me seat.new.me }
     ensures in_turn { AtItsTable seat.old seat.new (ReschedulesInTurn seat.old.table latch.now.place session number) }
@@ -45,7 +45,7 @@ fn grant_waiter(seat: &mut TableSeat, latch: &Latched, session: u16, number: u64
 // Grants a wait that was met unsettled just before, if it is so still.
 fn grant_unsettled(seat: &mut TableSeat, latch: &Latched, session: u16, number: u64, wait: WaitWord)
     requires session { IsSession seat.old.table session }
-    requires here { HasLatched latch.now.place seat.old (λ h. IsReady session number h × HasJustMet seat.old.table.slots latch.now.place session h seat.old.me) }
+    requires here { HasLatched latch.now.place seat.old (λ h. IsGrantableTicket session number h × HasJustMet seat.old.table.slots latch.now.place session h seat.old.me) }
     requires unsettled { wait_state wait.0 ≡ unsettled_state }
     ensures granted { (h : LatchRecord) → Holds latch.now.place h h.book seat.old.me
         → IsGrantedFrom seat.old.table.slots latch.now.place session number wait.0 h seat.old.me seat.new.me }
