@@ -17,13 +17,6 @@ use Rattle.mdl_visits.proofs.Visiting.{visits_put}
 
 -- ---- steps of a call's parts are steps of the call
 
-pub steps_then : (m m′ m″ : Mine) → MakesSteps m m′ → MakesSteps m′ m″ → MakesSteps m m″
-steps_then m m′ m″ first second = (
-  first.0 ++ second.0,
-  second.1 ∙ ap (and_made second.0) first.1 ∙ (λ i. (record m.0 { log = append_assoc m.0.log first.0 second.0 i }, m.1)),
-  none_then first.0 second.0 [] first.2 second.2,
-)
-
 pub goes_on : (m m′ : Mine) → MakesSteps m m′ → GoesOn m m′
 goes_on m m′ steps = (steps.0, ap (λ (x : Mine). x.0.log) steps.1)
 

@@ -14,11 +14,6 @@ mine told = ap (λ (x : SeatState). x.me) told
 pub table_of : {s t : SeatState} → s ≡ t → s.table ≡ t.table
 table_of told = ap (λ (x : SeatState). x.table) told
 
--- two facts of a result
-pub both_ok : {T E : Type 0} (result : Result T E) (P Q : T → Type 0) → IfOk result P → IfOk result Q → IfOk result (λ x. P x × Q x)
-both_ok (Ok x) P Q one other = (one, other)
-both_ok (Err e) P Q one other = tt
-
 -- a place of a seat's table is one of the table that it is at later
 pub place_there : (place : ℕ) {table later : TableId} → later ≡ table → IsPlace table place → IsPlace later place
 place_there place same is_place = subst (λ (t : TableId). IsPlace t place) (sym same) is_place
