@@ -189,8 +189,7 @@ module _ (place q : ℕ) (change : Change) (a b w : SeatState) (at : q ≡ place
   refused e table same put rising why told drop = ⊎_elim
       (λ is.
       let shows = gives_back place q a b w at taken table same w (as_reads w w (refl, no_steps w.me)) e put rising
-      (λ x. (met : MeetsFault place a.me.0.number change why x) × Follows place met.latch.book.standing a.me × IsNamed place met.latch.book.key a.me)
-      (
+      (λ x. (met : MeetsFault place a.me.0.number change why x) × Follows place met.latch.book.standing a.me × IsNamed place met.latch.book.key a.me) (
         record { kind = refl; word = refl; freed = refl; latch = taken.0; held = held_at-first place taken.0 a.me.0.latches taken.1.here; fault = is },
         follows taken.1,
         taken.1.named,

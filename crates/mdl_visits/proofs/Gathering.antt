@@ -31,10 +31,13 @@ pub no_steps : (m : Mine) → MakesQuietSteps m m
 no_steps m = ([], ap (λ (log : List Met). (record m.0 { log = log }, m.1)) (sym (append-nil m.0.log)), refl, tt)
 
 abbrev pub as_reads : (s s′ : SeatState) → AtItsTable s s′ MakesQuietSteps → AtItsTable s s′ ReadsWaitsQuietly
-as_reads s s′ steps = (steps.0, record {
-  reads = record { made = steps.1.0; told = s.me.0.told; settles = s.me.0.settles; now = steps.1.1; did = steps.1.2; stays = λ state told. told };
-  had = steps.1.3;
-})
+as_reads s s′ steps = (
+  steps.0,
+  record {
+    reads = record { made = steps.1.0; told = s.me.0.told; settles = s.me.0.settles; now = steps.1.1; did = steps.1.2; stays = λ state told. told };
+    had = steps.1.3;
+  },
+)
 
 pub as_steps : (m m′ : Mine) (reads : ReadsWaits m m′) → reads.told ≡ m.0.told → reads.settles ≡ m.0.settles → m′ ≡ and_made reads.made m
 as_steps m m′ reads told settles = reads.now ∙ (λ i. (record m.0 { log = m.0.log ++ reads.made; told = told i; settles = settles i }, m.1))
@@ -152,9 +155,11 @@ module _ (place q : ℕ) (a b c : SeatState) (at : q ≡ place) (taken : HasTake
             did = none_then made (took ∷ within ++ gave ∷ []) [] taken.3.3 (none_then within (gave ∷ []) [] reads.1.reads.did refl);
             stays = λ state told. reads.1.reads.stays state (ap (λ (m : Mine). m.0.told) came ∙ told);
           };
-          had = each_append (IsQuiet a.me.0.directory) made (took ∷ within ++ gave ∷ []) taken.3.2
-              ((refl, refl), each_append (IsQuiet a.me.0.directory) within (gave ∷ [])
-              (subst (λ (o : Option Keys). AllQuiet o within) (ap (λ (m : Mine). m.0.directory) came) reads.1.had) ((refl, refl), tt));
+          had = each_append (IsQuiet a.me.0.directory) made (took ∷ within ++ gave ∷ []) taken.3.2 (
+            (refl, refl),
+            each_append (IsQuiet a.me.0.directory) within (gave ∷ [])
+                (subst (λ (o : Option Keys). AllQuiet o within) (ap (λ (m : Mine). m.0.directory) came) reads.1.had) ((refl, refl), tt),
+          );
         },
       )
 

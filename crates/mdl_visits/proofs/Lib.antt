@@ -19,7 +19,6 @@ pub mod Reading
 pub mod Changing
 pub mod Lookups
 pub mod Naming
-pub mod Arriving
 pub mod Asking
 pub mod Gathering
 pub mod Sorting

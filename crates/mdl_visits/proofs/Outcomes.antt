@@ -179,8 +179,8 @@ module _ (lists : List Queues) (a b c : SeatState) (first : OnlyReadsWaits a b) 
   pub finds_after : (found : Search) → Finds lists b c found → Finds lists a c found
   finds_after found finds = (
     λ audited are.
-    judges_within a.table a.me.0.number a.me.0.latches audited found a.me b.me c.me c.me (goes_reading a.me b.me first.0.1) first.1 (goes_nowhere c.me) refl
-    (at_first a b first.0 (λ id latches who. Judges id who latches audited found b.me c.me) (finds.0 audited are)),
+        judges_within a.table a.me.0.number a.me.0.latches audited found a.me b.me c.me c.me (goes_reading a.me b.me first.0.1) first.1 (goes_nowhere c.me) refl
+        (at_first a b first.0 (λ id latches who. Judges id who latches audited found b.me c.me) (finds.0 audited are)),
     at_first a b first.0 (λ id latches who. KnowsVictim who found c.me) finds.1,
   )
 
@@ -206,15 +206,18 @@ module _ (lists : List Queues) (a b c : SeatState) (first : OnlyReadsWaits a b) 
     )
 
     pub misses_victim : SettlesNothing b.me c.me × IfSome (read_of victim words) (WasOther b.table.slots b.me c.me) → FindsAtOnce lists a c None
-    misses_victim missed = (missed.0 ∙ first.1, λ audited are. record {
-      words = words;
-      all = read.0;
-      read = still;
-      victim = victim;
-      found = is audited are;
-      other = other_after a.table.slots a.me b.me c.me (read_of victim words) (goes_reading a.me b.me first.0.1)
-          (at_first a b first.0 (λ id latches who. IfSome (read_of victim words) (WasOther id.slots b.me c.me)) missed.1);
-    })
+    misses_victim missed = (
+      missed.0 ∙ first.1,
+      λ audited are. record {
+        words = words;
+        all = read.0;
+        read = still;
+        victim = victim;
+        found = is audited are;
+        other = other_after a.table.slots a.me b.me c.me (read_of victim words) (goes_reading a.me b.me first.0.1)
+            (at_first a b first.0 (λ id latches who. IfSome (read_of victim words) (WasOther id.slots b.me c.me)) missed.1);
+      },
+    )
 
 -- ---- by fewer books
 

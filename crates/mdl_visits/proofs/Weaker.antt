@@ -57,8 +57,7 @@ module _ (held : Own) (s : SeatState) (q : ℕ) (c : SeatState) (a : Arrives hel
         → w ≡ record c { me = written q (booked c.me.0.number (Gain number mode) a.latch.book) c.me } → HasWorked q (Gain number mode ∷ []) w
     has_gained number w idle next is =
         has_worked held.place s q c a (Gain number mode ∷ []) w
-        (fits.0, fits.1, fits.2, fits.3)
-        (
+        (fits.0, fits.1, fits.2, fits.3) (
           next ∙ sym (ap (λ (x : Mine). x.0.next) a.came.1.now),
           inr (record {
             idle = ap (λ (x : Mine). x.0.asks) a.came.1.now ∙ idle;

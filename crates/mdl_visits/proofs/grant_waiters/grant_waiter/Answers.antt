@@ -28,7 +28,7 @@ grant_unsettled-requires-clause-here c =
       is_so = (
         here.is_so,
         subst (λ (t : TableId). HasJustMet t.slots place session here.latch a) (sym (table_of c.read_wait-wait.ensures.made))
-          (just_met ReadWait (inl refl) id place session c.args.number word here.latch m a here.holds here.is_so read refl),
+            (just_met ReadWait (inl refl) id place session c.args.number word here.latch m a here.holds here.is_so read refl),
       );
     }
 

@@ -1,5 +1,5 @@
 -- The wait was open by its word, and was met so or otherwise.
-use Rattle.std.proofs.Common.{◌≡◌, ◌+◌, ◌*◌, Some, inl, arith}
+use Rattle.std.proofs.Common.{◌≡◌, Some, inl, arith}
 use Rattle.std.specs.Prelude.{◌%◌, ◌/◌}
 use Rattle.std.proofs.lemmas.Bool.Decides.{nat_tests}
 use Rattle.mdl_visits.proofs.Outcomes.{tries_nothing, tries_to_settle}

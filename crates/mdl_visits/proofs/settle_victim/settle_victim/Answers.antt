@@ -1,7 +1,5 @@
 -- What was found at last is what comes of it.
 use Rattle.std.proofs.Common.{◌≡◌, Err, refl, subst, ◌∙◌, rules}
-use Rattle.std.specs.Prelude.{Option}
-use Rattle.mdl_calls.specs.declared.answers.Search.{Search}
 use Rattle.mdl_visits.specs.Searches.{FindsAtOnce}
 use Rattle.mdl_visits.proofs.Outcomes.{finds_after}
 use Rattle.mdl_visits.proofs.Words.{only_reads_on, reads_none, reads_on}

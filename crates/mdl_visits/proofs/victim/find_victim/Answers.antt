@@ -1,5 +1,5 @@
 -- Each lock more is that of a book, so the graph of all locks has the deadlock of their books.
-use Rattle.std.proofs.Common.{◌<◌, ◌≤◌, length, take, Option, None, Some, sym, ap, ◌∙◌, arith}
+use Rattle.std.proofs.Common.{◌<◌, ◌≤◌, length, take, None, Some, sym, ap, ◌∙◌, arith}
 use Rattle.mdl_visits.specs.Searches.{books_of, settled_by}
 use Rattle.mdl_visits.proofs.Deadlocks.{all_added, lock_more, victim_same}
 use Rattle.mdl_visits.proofs.victim.find_victim.Goals as goal

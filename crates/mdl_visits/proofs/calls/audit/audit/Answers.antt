@@ -5,7 +5,7 @@ use Rattle.mdl_steps.specs.SeatStates.{SeatState}
 use Rattle.mdl_visits.specs.declared.audited.Audited.{Audited}
 use Rattle.mdl_visits.specs.Audits.{Gathers}
 use Rattle.mdl_visits.proofs.Gathering.{as_reads}
-use Rattle.mdl_visits.proofs.Holding.{audits, in_hand, may_inform, may_take_all, steps_all, took_directory}
+use Rattle.mdl_visits.proofs.Holding.{audits, in_hand, steps_all, took_directory}
 use Rattle.mdl_visits.proofs.calls.audit.audit.Goals as goal
 
 pub returns-clause-steps : goal.returns-clause-steps

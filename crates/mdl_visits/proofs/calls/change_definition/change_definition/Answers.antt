@@ -5,7 +5,7 @@ use Rattle.mdl_book.specs.Books.{redefining}
 use Rattle.mdl_steps.specs.SeatStates.{SeatState}
 use Rattle.mdl_steps.specs.Seats.{IsPlace}
 use Rattle.mdl_visits.proofs.Changing.{changed, has_redefined, may_put_changed, no_fault, refused}
-use Rattle.mdl_visits.proofs.Gathering.{as_reads, back_steps, carried_there, may_put, no_steps}
+use Rattle.mdl_visits.proofs.Gathering.{as_reads, back_steps, carried_there, no_steps}
 use Rattle.mdl_visits.proofs.Seats.{place_there, table_of}
 use Rattle.mdl_visits.proofs.calls.change_definition.change_definition.Goals as goal
 

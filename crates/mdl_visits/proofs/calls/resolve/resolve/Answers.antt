@@ -1,8 +1,7 @@
 -- The session knows the key, which stands at its place by the directory's record.
-use Rattle.std.proofs.Common.{◌≡◌, ℕ, ◌<◌, Ok, Err, Some, refl, ap, subst}
-use Rattle.std.specs.Prelude.{IfOk, Result}
+use Rattle.std.proofs.Common.{ℕ, Ok, Err, refl, subst}
+use Rattle.std.specs.Prelude.{Result}
 use Rattle.mdl_steps.specs.declared.view.Keys.{Keys}
-use Rattle.mdl_steps.specs.Rule.{key_at}
 use Rattle.mdl_steps.specs.SeatStates.{AtItsTable, SeatState}
 use Rattle.mdl_steps.specs.Seats.{HasDirectory}
 use Rattle.mdl_visits.specs.declared.resolve_error.ResolveError.{ResolveError}

@@ -5,7 +5,7 @@ use Rattle.std.proofs.lemmas.Result.{IfOk-weaker}
 use Rattle.mdl_steps.specs.Copies.{Queues}
 use Rattle.mdl_steps.specs.SeatStates.{SeatState}
 use Rattle.mdl_visits.specs.Searches.{FindsFrom}
-use Rattle.mdl_visits.proofs.Holding.{in_hand, may_inform, may_take_all, reads_all, searched, took_directory}
+use Rattle.mdl_visits.proofs.Holding.{in_hand, reads_all, searched, took_directory}
 use Rattle.mdl_visits.proofs.calls.search.search_deadlock.Goals as goal
 
 pub returns-clause-reads : goal.returns-clause-reads

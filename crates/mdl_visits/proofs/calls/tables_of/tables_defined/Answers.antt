@@ -5,7 +5,7 @@ use Rattle.mdl_steps.specs.declared.view.Known.{Known}
 use Rattle.mdl_steps.specs.Plays.{Mine}
 use Rattle.mdl_visits.specs.Tables.{Asked, HasAsked, WasAsked}
 use Rattle.mdl_visits.proofs.Asking.{asked_more}
-use Rattle.mdl_visits.proofs.Gathering.{may_visit, quiet_steps_on}
+use Rattle.mdl_visits.proofs.Gathering.{quiet_steps_on}
 use Rattle.mdl_visits.proofs.calls.tables_of.tables_defined.Goals as goal
 
 pub loop-table-preserved : goal.loop-table-preserved
