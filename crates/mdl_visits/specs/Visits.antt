@@ -73,6 +73,10 @@ IsQuiet directory e = (e.directory ≡ directory) × (raises_flags e.kind ≡ fa
 abbrev pub AllQuiet : Option Keys → List Met → Type 0
 AllQuiet directory made = Each (IsQuiet directory) made
 
+-- steps without deeds were made between the two at which the session had of the directory what it had before and raised no flag, and nothing else changed
+abbrev pub MakesQuietSteps : Mine → Mine → Type 0
+MakesQuietSteps m m′ = (made : List Met) × (m′ ≡ and_made made m) × (deeds_of made ≡ []) × AllQuiet m.0.directory made
+
 -- a step at which the session stayed: it gave no latch back and raised no flag
 abbrev pub StaysThere : Met → Type 0
 StaysThere e = (gives_back e.kind ≡ false) × (raises_flags e.kind ≡ false)
