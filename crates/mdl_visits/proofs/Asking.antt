@@ -17,13 +17,6 @@ use Rattle.mdl_visits.proofs.Visiting.{visits_put}
 
 -- ---- steps of a call's parts are steps of the call
 
-pub steps_then : (m m′ m″ : Mine) → MakesSteps m m′ → MakesSteps m′ m″ → MakesSteps m m″
-steps_then m m′ m″ first second = (
-  first.0 ++ second.0,
-  second.1 ∙ ap (and_made second.0) first.1 ∙ (λ i. (record m.0 { log = append_assoc m.0.log first.0 second.0 i }, m.1)),
-  none_then first.0 second.0 [] first.2 second.2,
-)
-
 pub goes_on : (m m′ : Mine) → MakesSteps m m′ → GoesOn m m′
 goes_on m m′ steps = (steps.0, ap (λ (x : Mine). x.0.log) steps.1)
 
@@ -42,31 +35,6 @@ step_within a b c d e before step after = (
 
 asked_within : (who : ℕ) (a b c d : Mine) (x : Asked) → GoesOn a b → WasAsked who b c x → GoesOn c d → WasAsked who a d x
 asked_within who a b c d x before was after = (was.0, step_within a b c d was.0 before was.1 after, was.2)
-
--- ---- one place is looked at
-
-module _ (place : ℕ) (m m′ m″ : Mine) (inside : IsInside place m m′) (put : m″ ≡ unlatched place [] m′) where
-  puts : Met
-  puts = record { kind = PutLatch; deeds = []; word = latch_word place; found = m.0.number; held = inside.latches; directory = m.0.directory }
-
-  pub looked : MakesSteps m m″
-  looked = let visit = visits_put place [] m m′ m″ inside put in (visit.made, visit.now, visit.did)
-
-  pub meets_definition : (h : LatchRecord) (who : ℕ) (defined : Bool) → m.0.number ≡ who → held_at place m′.0.latches ≡ Some h → defined ≡ is_some h.book.standing.definition
-      → (e : Met) × IsStepOf m m″ e × MeetsDefinition place who defined e
-  unfolding puts
-  meets_definition h who defined mine recorded stands = (
-    puts,
-    (inside.made, [], ap (λ (x : Mine). x.0.log) (put ∙ ap (unlatched place []) inside.now)),
-    record {
-      kind = refl;
-      word = refl;
-      freed = mine;
-      latch = h;
-      held = ap (λ (x : Mine). held_at place x.0.latches) (sym inside.now) ∙ recorded;
-      stands = sym stands;
-    },
-  )
 
 -- ---- one more table was asked
 

@@ -1,6 +1,6 @@
 -- What stands under a key is changed in hand, and then its version is written.
-use Rattle.std.proofs.Common.{◌≡◌, ℕ, ◌+◌, ◌-◌, ◌==◌, map, true, false, List, [], ◌∷◌, ◌++◌, Option, Some, None, Result, Ok, Err, refl, sym, ap, ◌∙◌, subst, inl, inr, append_assoc, arith}
-use Rattle.std.specs.Prelude.{◌⊎◌, is_some, IfOk, IfErr, OnErr}
+use Rattle.std.proofs.Common.{◌≡◌, ℕ, ◌+◌, ◌-◌, ◌==◌, map, true, false, List, [], ◌∷◌, ◌++◌, Option, Some, None, Result, Ok, Err, refl, sym, ap, ◌∙◌, subst, inl, inr, ⊎_elim, append_assoc, arith}
+use Rattle.std.specs.Prelude.{◌⊎◌, is_some}
 use Rattle.std.specs.Option.{option_map}
 use Rattle.std.proofs.lemmas.Bool.{and_from, eq-eqb}
 use Rattle.mdl_key.specs.declared.mode.Mode.{Mode}
@@ -24,7 +24,8 @@ use Rattle.mdl_steps.specs.Cells.{held_at, own_at, ticket_by}
 use Rattle.mdl_steps.specs.Deeds.{NotWaited}
 use Rattle.mdl_steps.specs.Layout.{latch_word, version_word}
 use Rattle.mdl_steps.specs.Plays.{Mine, IsFresh, latched, redefined, restood, unlatched}
-use Rattle.mdl_steps.specs.Seats.{Holds, HasExclusive, HasRedefined, written}
+use Rattle.mdl_steps.specs.SeatStates.{AtItsTable, SeatState}
+use Rattle.mdl_steps.specs.Seats.{Holds, HasExclusive, HasRedefined, IsRising, MayPut, written}
 use Rattle.mdl_steps.proofs.Hands.{holds_written, elsewhere-redefined}
 use Rattle.mdl_steps.proofs.Tickets.{and_false}
 use Rattle.mdl_steps.proofs.Views.{by_bool, held_at-first, held_at-changed}
@@ -32,23 +33,12 @@ use Rattle.mdl_visits.specs.Leavings.{Learns, knowing}
 use Rattle.mdl_visits.specs.Numbers.{numbered, is_ask_apart}
 use Rattle.mdl_visits.specs.Readings.{Follows}
 use Rattle.mdl_visits.specs.Redefinitions.{HasExclusiveAt, IsNamed, IsRefusedFor, MeetsFault, Redefines, redefined_and_put}
-use Rattle.mdl_visits.specs.Visits.{AreStepsOf, IsInside, IsStepOf, and_made}
+use Rattle.mdl_visits.specs.Visits.{AreStepsOf, IsInside, and_made}
+use Rattle.mdl_visits.proofs.Gathering.{HasTaken, as_reads, gives_back, holds_there, no_steps}
 use Rattle.mdl_visits.proofs.Numbers.{has_number, not_waited}
+use Rattle.mdl_visits.proofs.Reading.{follows}
+use Rattle.mdl_visits.proofs.Seats.{mine, table_of}
 use Rattle.mdl_visits.proofs.Steps.{none_then}
-
--- a seat has one record of a latch
-pub one_record : {place : ℕ} {h g : LatchRecord} {b c : BookView} {m : Mine} → Holds place h b m → Holds place g c m → h ≡ g
-one_record has too = let a = has.recorded in let b = too.recorded in cc
-
--- ---- in hand
-
-module _ (place : ℕ) (change : Change) (h : LatchRecord) (m m′ : Mine) (is : m′ ≡ written place (redefining change h.book) m) where
-  pub has_redefined : Holds place h h.book m → HasExclusive h m → standing_fault h.book.key.namespace change h.book.standing ≡ None → HasRedefined place h change m′
-  has_redefined has exclusive allowed = subst (λ (x : Mine). HasRedefined place h change x) (sym is) (record {
-    holds = holds_written place h h.book (redefining change h.book) m has;
-    allowed = allowed;
-    exclusive = exclusive;
-  })
 
 -- ---- the session's ticket
 
@@ -130,64 +120,79 @@ refusal change (Some fault) why told drop = inl (ap Some (sym (same told)))
     same : ◌≡◌ {A = Result ℕ ChangeError} (Err why) (Err fault) → why ≡ fault
     same e = cc
 
-module _ (place : ℕ) (change : Change) (h : LatchRecord) (m m′ m″ : Mine) (inside : IsInside place m m′) (has : Holds place h h.book m′) (after : Follows place h.book.standing m)
-    (named : IsNamed place h.book.key m) where
-  -- what became of it where it was made
-  pub redefines : (made : List Met) (result : Result ℕ ChangeError) → h.place ≡ place → m′ ≡ latched place h (and_made made m)
-      → IfOk result (λ version. (version ≡ h.book.standing.version + 1) × (m″ ≡ redefined_and_put place (standing_after change h.book.standing) m′))
-      → Refuses (standing_fault h.book.key.namespace change h.book.standing) OutOfMemory result
-      → IfOk result (λ version. Redefines place change version m m″ × ((standing : Standing) × (standing.version ≡ version) × Learns place standing m m″))
-  redefines made (Err why) here took done told = tt
-  redefines made (Ok version) here took done told =
-      let standing : Standing = standing_after change h.book.standing in
-      let knows = learns place standing m m′ m″ done.1 inside in (
-        record {
-          take = record { kind = TakeLatch; deeds = []; word = latch_word place; found = 0; held = h ∷ m.0.latches; directory = m.0.directory };
-          write = record { kind = WriteVersion; deeds = []; word = version_word place; found = standing.version - 1; held = (redefined place standing m′).0.latches; directory = m′.0.directory };
-          steps = steps place standing m m′ m″ done.1 h made took;
-          meets = record {
-            takes = refl;
-            writes = refl;
-            latched = refl;
-            free = refl;
-            latch = h;
-            held = held_at-first place h m.0.latches here;
-            allowed = no_fault (standing_fault h.book.key.namespace change h.book.standing) version told;
-            newer = done.0;
-            written = refl;
-            older = let before : ℕ = h.book.standing.version in let less : (before + 1) - 1 ≡ before = omega arith in less;
-            stands = held_at-changed place (restood standing) (λ x. refl) m′.0.latches h has.recorded;
-          };
-          follows = after;
-          named = named;
-          learnt = ap (λ (x : Mine). x.0.reads) knows.1;
-        },
-        (standing, sym done.0, knows),
-      )
+-- ---- the whole call
 
-  -- and where it wasn't
-  pub refused : (who : ℕ) (result : Result ℕ ChangeError) → m.0.number ≡ who → OnErr result (m″ ≡ unlatched place [] m′)
-      → Refuses (standing_fault h.book.key.namespace change h.book.standing) OutOfMemory result
-      → (change ≡ Drop → RefusesJust (standing_fault h.book.key.namespace change h.book.standing) result)
-      → IfErr result (λ why. IsRefusedFor place who change why m m″)
-  refused who (Ok version) mine put told drop = tt
-  refused who (Err why) mine put told drop = because (refusal change (standing_fault h.book.key.namespace change h.book.standing) why told drop)
-    where
-      meets : standing_fault h.book.key.namespace change h.book.standing ≡ Some why → (e : Met) × IsStepOf m m″ e × (met : MeetsFault place who change why e) × Follows place met.latch.book.standing m × IsNamed place met.latch.book.key m
-      meets fault =
-          let puts : Met = record { kind = PutLatch; deeds = []; word = latch_word place; found = m.0.number; held = inside.latches; directory = m.0.directory } in (
-            puts,
-            (inside.made, [], ap (λ (x : Mine). x.0.log) (put ∙ ap (unlatched place []) inside.now)),
-            record { kind = refl; word = refl; freed = mine; latch = h; held = ap (λ (x : Mine). held_at place x.0.latches) (sym inside.now) ∙ has.recorded; fault = fault },
-            after,
-            named,
-          )
+module _ (place q : ℕ) (change : Change) (a b w : SeatState) (at : q ≡ place) (taken : HasTaken place a.me b.me) where
+  abbrev book : BookView
+  book = taken.0.book
 
-      because : (standing_fault h.book.key.namespace change h.book.standing ≡ Some why) ⊎ ((why ≡ OutOfMemory) × (change ≡ Drop → ⊥)) → IsRefusedFor place who change why m m″
-      because (inl fault) = inl (meets fault)
-      because (inr memory) = inr memory
+  abbrev after : Standing
+  after = standing_after change book.standing
 
--- what is told of a refusal tells what follows from it
-pub on_refusal : {A E : Type 0} {P Q : Type 0} (result : Result A E) → (P → Q) → OnErr result P → OnErr result Q
-on_refusal (Ok a) follows told = tt
-on_refusal (Err e) follows told = follows told
+  abbrev fault : Option ChangeError
+  fault = standing_fault book.key.namespace change book.standing
+
+  -- the change was made in hand
+  module _ (table : b.table ≡ a.table) (wrote : w ≡ record b { me = written q (redefining change book) b.me }) (allowed : fault ≡ None)
+      (apart : is_ask_apart a.me.0.next a.me.0.slow a.me.0.asks ≡ true) (exclusive : HasExclusiveAt place a.me.0.slow) where
+    pub has_redefined : HasRedefined q taken.0 change w.me
+    has_redefined = subst (HasRedefined q taken.0 change) (sym (mine wrote)) (record {
+      holds = holds_written q taken.0 book (redefining change book) b.me (holds_there place q a b b at taken table refl);
+      allowed = allowed;
+      exclusive = subst (HasExclusive taken.0) (sym taken.3.1) (exclusive_there place taken.0 a.me taken.1 apart exclusive);
+    })
+
+    pub may_put_changed : (v : SeatState) → ((h : LatchRecord) (some : BookView) → Holds q h some w.me → Holds q (restood some.standing h) some v.me) → MayPut q [] v.me
+    may_put_changed v keeps = (
+      restood after taken.0,
+      record { holds = keeps taken.0 (redefining change book) has_redefined.holds; act = inr refl; may = tt },
+      taken.1.exact,
+    )
+
+    -- its version was written, and the latch was given back
+    pub changed : (v e : SeatState) → v ≡ record w { me = redefined q after w.me } → e ≡ record v { me = unlatched q [] v.me } → IsInside place a.me b.me → (version : ℕ) → version ≡ after.version
+        → AtItsTable a e (Redefines place change version) × ((standing : Standing) × (standing.version ≡ version) × Learns place standing a.me e.me)
+    changed v e published put inside version newer =
+        let went : e.me ≡ redefined_and_put place after b.me =
+        mine put ∙ ap (unlatched q []) (mine published ∙ ap (redefined q after) (mine wrote)) ∙ ap (λ (p : ℕ). redefined_and_put p after b.me) at in
+        let knows = learns place after a.me b.me e.me went inside in (
+          (
+            table_of put ∙ table_of published ∙ table_of wrote ∙ table,
+            record {
+              take = record { kind = TakeLatch; deeds = []; word = latch_word place; found = 0; held = taken.0 ∷ a.me.0.latches; directory = a.me.0.directory };
+              write = record { kind = WriteVersion; deeds = []; word = version_word place; found = after.version - 1; held = (redefined place after b.me).0.latches; directory = b.me.0.directory };
+              steps = steps place after a.me b.me e.me went taken.0 taken.3.0 taken.3.1;
+              meets = record {
+                takes = refl;
+                writes = refl;
+                latched = refl;
+                free = refl;
+                latch = taken.0;
+                held = held_at-first place taken.0 a.me.0.latches taken.1.here;
+                allowed = allowed;
+                newer = newer;
+                written = refl;
+                older = let before : ℕ = book.standing.version in let less : (before + 1) - 1 ≡ before = omega arith in less;
+                stands = held_at-changed place (restood after) (λ x. refl) b.me.0.latches taken.0 taken.2.recorded;
+              };
+              follows = follows taken.1;
+              named = taken.1.named;
+              learnt = ap (λ (x : Mine). x.0.reads) knows.1;
+            },
+          ),
+          (after, sym newer, knows),
+        )
+
+  -- it was refused, and the latch was given back
+  pub refused : (e : SeatState) (table : b.table ≡ a.table) → w ≡ b → e ≡ record w { me = unlatched q [] w.me } → IsRising place a.me → (why : ChangeError) → Refuses {T = ℕ} fault OutOfMemory (Err why)
+      → (change ≡ Drop → RefusesJust {T = ℕ} fault (Err why)) → IsRefusedFor place a.me.0.number change why a.me e.me
+  refused e table same put rising why told drop = ⊎_elim
+      (λ is.
+      let shows = gives_back place q a b w at taken table same w (as_reads w w (refl, no_steps w.me)) e put rising
+      (λ x. (met : MeetsFault place a.me.0.number change why x) × Follows place met.latch.book.standing a.me × IsNamed place met.latch.book.key a.me) (
+        record { kind = refl; word = refl; freed = refl; latch = taken.0; held = held_at-first place taken.0 a.me.0.latches taken.1.here; fault = is },
+        follows taken.1,
+        taken.1.named,
+      ) in
+      inl (shows.0, shows.1, shows.2.0, shows.2.1, shows.2.2))
+      (λ memory. inr memory) (refusal change fault why told drop)

@@ -7,7 +7,7 @@ use Rattle.mdl_steps.specs.declared.deed.Deed.{Deed}
 use Rattle.mdl_steps.specs.Plays.{Mine}
 use Rattle.mdl_visits.specs.Grantings.{VisitsAndReschedules}
 use Rattle.mdl_visits.specs.Leavings.{Learns}
-use Rattle.mdl_visits.specs.Searches.{Listens}
+use Rattle.mdl_visits.specs.Searches.{ReadsWaits}
 use Rattle.mdl_visits.specs.Visits.{Does, MakesSteps, Visits}
 use Rattle.mdl_visits.specs.WaitEndings.{EndsLost}
 use Rattle.mdl_visits.specs.WaitOpenings.{Opens}
@@ -35,5 +35,5 @@ module _ (m m′ : Mine) where
   pub does_ends : (id : TableId) (place : ℕ) → EndsLost id place m m′ → Does [] m m′
   does_ends id place ended = (ended.made, ap (λ (x : Mine). x.0.log) ended.now, ended.did)
 
-  pub does_listens : Listens m m′ → Does [] m m′
-  does_listens listens = (listens.made, ap (λ (x : Mine). x.0.log) listens.now, listens.did)
+  pub does_reads : ReadsWaits m m′ → Does [] m m′
+  does_reads reads = (reads.made, ap (λ (x : Mine). x.0.log) reads.now, reads.did)

@@ -1,227 +1,258 @@
--- A search while latches are taken and given back around it.
-use Rattle.std.proofs.Common.{◌≡◌, ℕ, ◌+◌, List, [], ◌∷◌, ◌++◌, length, map, Some, refl, sym, ap, ◌∙◌, subst, inl, inr, ⊎_elim, arith, append_assoc, append-nil}
-use Rattle.std.specs.Prelude.{Option}
-use Rattle.std.proofs.lemmas.List.{append_cancel_left}
+-- Something is done while the directory's latch is held: the books of all keys are gathered, and a deadlock is looked for.
+use Rattle.std.proofs.Common.{◌≡◌, ℕ, ◌+◌, ◌-◌, ◌<◌, ◌≤◌, List, [], ◌∷◌, ◌++◌, length, map, Some, Option, Result, refl, sym, ap, ◌∙◌, subst, inl, inr, ⊎_elim, arith, append_assoc, append-nil, length-append}
+use Rattle.std.specs.Prelude.{IfOk, OnErr, slice_get}
+use Rattle.std.proofs.lemmas.Result.{IfOk-weaker, on_err_weaker}
 use Rattle.atomic_table.specs.Seated.{TableId}
 use Rattle.mdl_calls.specs.declared.answers.Search.{Search}
+use Rattle.mdl_key.specs.Words.{KeyName}
+use Rattle.mdl_steps.specs.declared.step_kind.StepKind.TheVariants.{PutLatch, TakeLatch}
 use Rattle.mdl_steps.specs.declared.view.LatchRecord.{LatchRecord}
 use Rattle.mdl_steps.specs.declared.view.Keys.{Keys}
 use Rattle.mdl_steps.specs.declared.view.Met.{Met}
-use Rattle.mdl_steps.specs.declared.view.Settlement.{Settlement}
-use Rattle.mdl_steps.specs.Cells.{held_at}
-use Rattle.mdl_steps.specs.Plays.{Mine, IsDirectory, IsFresh, consulted, informed, latched, unlatched}
-use Rattle.mdl_steps.specs.Rule.{TellsLists}
-use Rattle.mdl_steps.specs.Seats.{HasDirectory, Holds, MayPut, learnt}
+use Rattle.mdl_steps.specs.Copies.{Queues}
+use Rattle.mdl_steps.specs.Layout.{latch_word}
+use Rattle.mdl_steps.specs.Lists.{Each}
+use Rattle.mdl_steps.specs.Plays.{Mine, IsDirectory, consulted, informed, latched, unlatched}
+use Rattle.mdl_steps.specs.Rule.{key_at}
+use Rattle.mdl_steps.specs.SeatStates.{AtItsTable, SeatState}
+use Rattle.mdl_steps.specs.Seats.{HasDirectory, IsRising, MayInform, learnt}
 use Rattle.mdl_visits.specs.declared.audited.Audited.{Audited}
-use Rattle.mdl_visits.specs.Audits.{AreRecorded, Gathers, HadLatches}
+use Rattle.mdl_visits.specs.Audits.{AreKeyed, AreRecorded, Audits, Gathers, HadLatches, MayAllStand, MayTakeAll}
 use Rattle.mdl_visits.specs.Idle.{IsIdle}
-use Rattle.mdl_visits.specs.Lookups.{TookDirectory}
-use Rattle.mdl_visits.specs.Searches.{Hears, Listens, Judges, Searched, Searches, hearing, if_waited}
-use Rattle.mdl_visits.specs.Visits.{AllQuiet, GoesOn, IsInside, MakesSteps, StaysQuiet, and_made, deeds_of}
-use Rattle.mdl_visits.proofs.Gathering.{gathers_more, keys_from, makes_all, moment_of, more_latches, there_and_back, took_first}
-use Rattle.mdl_visits.proofs.Outcomes.{judges_if_waited, judges_within}
-use Rattle.mdl_visits.proofs.Steps.{quiet_there}
+use Rattle.mdl_visits.specs.Lookups.{HadEither, TookDirectory}
+use Rattle.mdl_visits.specs.Searches.{AreQueuesOf, EndsSearch, Finds, FindsFrom, Judges, KnowsVictim, ReadsWaits, ReadsWaitsQuietly, Searched, Searches, if_waited, with_waits_read}
+use Rattle.mdl_visits.specs.Visits.{AllQuiet, GoesOn, IsQuiet, IsStepOf, MakesSteps, and_made, deeds_of}
+use Rattle.mdl_visits.proofs.Asking.{step_within}
+use Rattle.mdl_visits.proofs.Gathering.{HasTaken, as_steps, back, gathers_more, gathers_none}
+use Rattle.mdl_visits.proofs.Lookups.{HasConsulted, had_none, no_latches, no_record}
+use Rattle.mdl_visits.proofs.Outcomes.{judges_if_waited, judges_within, knows_on}
+use Rattle.mdl_visits.proofs.Seats.{mine, table_of}
+use Rattle.mdl_visits.proofs.Steps.{each_map, none_then}
 
--- ---- of steps alone
+-- ---- the keys of the books
 
-pub steps_settle : (m m′ : Mine) → MakesSteps m m′ → m′.0.settles ≡ m.0.settles
-steps_settle m m′ steps = ap (λ (x : Mine). x.0.settles) steps.1
+key_between : (before keys : List KeyName) (key : KeyName) → slice_get (before ++ key ∷ keys) (length before) ≡ Some key
+key_between [] keys key = refl
+key_between (x ∷ xs) keys key = key_between xs keys key
 
--- ---- as if only steps had been made
+keys_from : (before keys : List KeyName) (books : List Audited) (place : ℕ) → place ≡ length before + 1 → length books ≡ length keys → AreKeyed (before ++ keys) place books
+    → map (λ (a : Audited). a.book.key) books ≡ keys
+keys_from before [] [] place at same keyed = refl
+keys_from before [] (a ∷ more) place at same keyed = absurd (omega arith)
+keys_from before (key ∷ keys) [] place at same keyed = absurd (omega arith)
+keys_from before (key ∷ keys) (a ∷ more) place at same keyed =
+    let here : place - 1 ≡ length before = omega arith in
+    let first : a.book.key ≡ key = keyed.0 key (ap (slice_get (before ++ key ∷ keys)) here ∙ key_between before keys key) in
+    let longer : length (before ++ key ∷ []) ≡ length before + 1 = length-append before (key ∷ []) in
+    let others = keys_from (before ++ key ∷ []) keys more (place + 1) (omega arith) (omega arith) (subst (λ (all : List KeyName). AreKeyed all (place + 1) more) (sym (append_assoc before (key ∷ []) keys)) keyed.1) in
+    ap (λ (x : KeyName). x ∷ map (λ (b : Audited). b.book.key) more) first ∙ ap (λ (xs : List KeyName). key ∷ xs) others
 
--- other things told of its own wait, and other waits that it settled
-abbrev retold : Option ℕ → List Settlement → Mine → Mine
-retold told settles m = (record m.0 { told = told; settles = settles }, m.1)
+-- ---- all of it, while the directory's latch is held
 
-unfoldable pub same_gathers : (place last : ℕ) (before after : List Audited) (m m′ m″ : Mine) → m″.0.log ≡ m′.0.log → Gathers place last before after m m′ → Gathers place last before after m m″
-same_gathers place last before after m m′ m″ same g = record {
-  latches = g.latches;
-  had = ⊎_elim (λ at_once. inl at_once) (λ later. inr (later.0, (later.1.0, later.1.1, same ∙ later.1.2), later.2, later.3)) g.had;
-  kept = g.kept;
-  books = g.books;
-  listed = g.listed;
-  all = g.all;
-  recorded = g.recorded;
-  keyed = g.keyed;
-  stand = g.stand;
-}
+module _ (a b c : SeatState) (taken : HasConsulted a b) (same : c ≡ b) (idle : IsIdle a.me) where
+  abbrev made : List Met
+  made = taken.0
 
--- a book more before those that are gathered
-unfoldable pub behind_one : (place last : ℕ) (one : Audited) (books : List Audited) (m m′ : Mine) → Gathers place last [] books m m′ → Gathers place last (one ∷ []) (one ∷ books) m m′
-behind_one place last one books m m′ g = record {
-  latches = g.latches;
-  had = g.had;
-  kept = g.kept;
-  books = g.books;
-  listed = ap (λ (xs : List Audited). one ∷ xs) g.listed;
-  all = g.all;
-  recorded = g.recorded;
-  keyed = g.keyed;
-  stand = g.stand;
-}
+  abbrev k : Keys
+  k = taken.1
 
--- ---- a place's latch
+  came : c.me ≡ consulted k (and_made made a.me)
+  came = mine (same ∙ taken.3)
 
-pub may_put_heard : (place : ℕ) (h : LatchRecord) (m m′ : Mine) → TellsLists h.book h.slow h.obtrusive → Holds place h h.book m → Hears m m′ → MayPut place [] m′
-may_put_heard place h m m′ tells holds hears = subst (MayPut place []) (sym hears.now) (
-  h,
-  record { holds = record { recorded = holds.recorded; carried = holds.carried }; act = inr refl; may = tt },
-  tells,
-)
+  pub there : c.table ≡ a.table
+  there = table_of (same ∙ taken.3)
 
-pub back_heard : (place : ℕ) (h : LatchRecord) (made : List Met) (m m′ m″ m‴ : Mine) → IsInside place m m′ → AllQuiet m.0.directory made → m′ ≡ latched place h (and_made made m) → Hears m′ m″
-    → m‴ ≡ unlatched place [] m″ → Hears m m‴
-back_heard place h made m m′ m″ m‴ inside had taken hears put =
-    let stepped : Mine = and_made hears.made m′ in
-    let visit : MakesSteps m (unlatched place [] stepped) = there_and_back place m m′ stepped (unlatched place [] stepped) inside (hears.made, refl, hears.did) refl in
-    let keeps : StaysQuiet m (unlatched place [] stepped) = quiet_there place h made m m′ stepped (unlatched place [] stepped) had taken (hears.made, refl, hears.had) refl refl in
-    let log : m.0.log ++ visit.0 ≡ m.0.log ++ keeps.0 = sym (ap (λ (x : Mine). x.0.log) visit.1) ∙ keeps.1 in
-    let same : visit.0 ≡ keeps.0 = append_cancel_left m.0.log visit.0 keeps.0 log in
-    record {
-      made = keeps.0;
-      told = hears.told;
-      settles = hears.settles;
-      now = put ∙ ap (unlatched place []) hears.now ∙ ap (retold hears.told hears.settles) visit.1
-          ∙ ap (λ (l : List Met). (record m.0 { log = l; told = hears.told; settles = hears.settles }, m.1)) log;
-      did = ap deeds_of (sym same) ∙ visit.2;
-      stays = λ state told. hears.stays state (ap (λ (x : Mine). x.0.told) inside.now ∙ told);
-      had = keeps.2;
-    }
+  pub in_hand : HasDirectory k b.me
+  in_hand = subst (HasDirectory k) (sym (mine taken.3)) (record { recorded = refl; carried = refl })
 
-module _ (id : TableId) (who place last : ℕ) (found : Search) where
-  -- behind the last place there is nothing to gather
-  pub searches_none : (copied : List Audited) (m m′ : Mine) → place ≡ last + 1 → Judges id who m.0.latches copied found m m′ → Searches id who place last copied found m m′
-  searches_none copied m m′ behind judges = record {
-    books = [];
-    gathers = record {
-      latches = m.0.latches;
-      had = inl refl;
-      kept = λ q h below e. e;
-      books = [];
-      listed = refl;
-      all = omega arith;
-      recorded = tt;
-      keyed = λ k has. tt;
-      stand = tt;
-    };
-    judges = subst (λ (audited : List Audited). Judges id who m.0.latches audited found m m′) (sym (append-nil copied)) judges;
+  -- no other latch is held at first
+  pub may_take_all : (last : ℕ) → last ≡ length k.keys → a.table.slots ≤ 65536 → MayTakeAll 1 last c
+  may_take_all last count few =
+      let fit = taken.2.fit in
+      let slots = ap (λ (id : TableId). id.slots) there in record {
+        some = omega arith;
+        next = omega arith;
+        inside = omega arith;
+        narrow = omega arith;
+        rising = subst (IsRising 1) (sym came) (subst (Each (λ (h : LatchRecord). h.place < 1)) (sym (no_latches a.me idle)) tt);
+      }
+
+  module _ (d : SeatState) (reads : AtItsTable c d ReadsWaitsQuietly) where
+    abbrev within : List Met
+    within = reads.1.reads.made
+
+    pub may_inform : MayInform d.me
+    may_inform = (k, subst (HasDirectory k) (sym (reads.1.reads.now ∙ ap (with_waits_read within reads.1.reads.told reads.1.reads.settles) came)) (record { recorded = refl; carried = refl }))
+
+    module _ (e : SeatState) (put : e ≡ record d { me = informed (learnt d.me 0) d.me }) where
+      abbrev first : Met
+      first = record { kind = TakeLatch; deeds = []; word = latch_word 0; found = 0; held = a.me.0.latches; directory = Some k }
+
+      abbrev final : Met
+      final = record { kind = PutLatch; deeds = []; word = latch_word 0; found = a.me.0.number; held = a.me.0.latches; directory = Some k }
+
+      abbrev all : List Met
+      all = made ++ (first ∷ within ++ final ∷ [])
+
+      joined : (((a.me.0.log ++ made) ++ first ∷ []) ++ within) ++ final ∷ [] ≡ a.me.0.log ++ all
+      joined = simp append_assoc
+
+      now : e.me ≡ with_waits_read all reads.1.reads.told reads.1.reads.settles a.me
+      now = mine put
+          ∙ ap (λ (m : Mine). informed (learnt m 0) m) (reads.1.reads.now ∙ ap (with_waits_read within reads.1.reads.told reads.1.reads.settles) came)
+          ∙ (λ i. (record a.me.0 { log = joined i; told = reads.1.reads.told; settles = reads.1.reads.settles; directory = no_record a.me.0.directory idle.1 i; known = append-nil a.me.0.known i }, a.me.1))
+
+      pub reads_all : AtItsTable a e ReadsWaits
+      reads_all = (
+        table_of put ∙ reads.0 ∙ there,
+        record {
+          made = all;
+          told = reads.1.reads.told;
+          settles = reads.1.reads.settles;
+          now = now;
+          did = none_then made (first ∷ within ++ final ∷ []) [] taken.5 (none_then within (final ∷ []) [] reads.1.reads.did refl);
+          stays = λ state told. reads.1.reads.stays state (ap (λ (m : Mine). m.0.told) came ∙ told);
+        },
+      )
+
+      -- where only steps were made, only steps were made
+      pub steps_all : reads.1.reads.told ≡ c.me.0.told → reads.1.reads.settles ≡ c.me.0.settles → AtItsTable a e MakesSteps
+      unfolding reads_all
+      steps_all told settles =
+          let whole = reads_all.1 in
+          (reads_all.0, (all, as_steps a.me e.me whole (told ∙ ap (λ (m : Mine). m.0.told) came) (settles ∙ ap (λ (m : Mine). m.0.settles) came), whole.did))
+
+      pub took_directory : TookDirectory a.table.slots k k a.me e.me
+      took_directory = record {
+        before = made;
+        within = within;
+        after = [];
+        recorded = taken.2;
+        listed = ap (λ (m : Mine). m.0.log) now ∙ sym (append_assoc (a.me.0.log ++ made) (first ∷ []) (within ++ final ∷ []) ∙ append_assoc a.me.0.log made (first ∷ within ++ final ∷ []));
+        none_before = had_none a.me idle made taken.4;
+        either_within = each_map (IsQuiet c.me.0.directory) (HadEither k k) (λ x had. inl (had.0 ∙ ap (λ (m : Mine). m.0.directory) came, had.1)) within reads.1.had;
+        none_after = tt;
+      }
+
+      pub goes_first : GoesOn a.me c.me
+      goes_first = (made ++ first ∷ [], ap (λ (m : Mine). m.0.log) came ∙ append_assoc a.me.0.log made (first ∷ []))
+
+      pub goes_last : GoesOn d.me e.me
+      goes_last = (_ ∷ [], ap (λ (s : SeatState). s.me.0.log) put)
+
+      moment_of : (latches : List LatchRecord) → HadLatches latches c.me d.me → (x : Met) × IsStepOf a.me e.me x × (x.held ≡ latches) × (x.directory ≡ Some k)
+      moment_of latches had = ⊎_elim
+          (λ at_once. (
+            first,
+            (made, within ++ final ∷ [], ap (λ (m : Mine). m.0.log) now ∙ sym (append_assoc a.me.0.log made (first ∷ within ++ final ∷ []))),
+            sym (at_once ∙ ap (λ (m : Mine). m.0.latches) came),
+            refl,
+          ))
+          (λ later. (later.0, step_within a.me c.me d.me e.me later.0 goes_first later.1 goes_last, later.2, later.3 ∙ ap (λ (m : Mine). m.0.directory) came))
+          had
+
+      -- the books of all keys were gathered, while the session had these latches
+      pub audits : (last : ℕ) (audited : List Audited) → last ≡ length k.keys → (gathers : Gathers 1 last [] audited c.me d.me) → (is : Audits k audited a.me e.me) × (is.moment.held ≡ gathers.latches)
+      audits last audited count gathers =
+          let moment = moment_of gathers.latches gathers.had in
+          let number = gathers.all in
+          let long = ap (λ (xs : List Audited). length xs) gathers.listed in (
+            record {
+              all = omega arith;
+              keys = ap (map (λ (x : Audited). x.book.key)) gathers.listed ∙ keys_from [] k.keys gathers.books 1 refl (omega arith) (gathers.keyed k (ap (λ (m : Mine). m.0.directory) came));
+              moment = moment.0;
+              step = moment.1;
+              directory = moment.3;
+              recorded = subst (λ (xs : List Audited). AreRecorded 1 moment.0.held xs) (sym gathers.listed)
+                  (subst (λ (held : List LatchRecord). AreRecorded 1 held gathers.books) (sym moment.2) gathers.recorded);
+              stand = subst MayAllStand (sym gathers.listed) gathers.stand;
+            },
+            moment.2,
+          )
+
+-- ---- a deadlock is looked for
+
+module _ (place q last : ℕ) (a b c d e : SeatState) (at : q ≡ place) (taken : HasTaken place a.me b.me) (table : b.table ≡ a.table) (same : c ≡ b) (reads : AtItsTable c d ReadsWaitsQuietly)
+    (put : e ≡ record d { me = unlatched q [] d.me }) (rising : IsRising place a.me) (lists more : List Queues)
+    (added : (copied : List Audited) → AreQueuesOf copied lists → AreQueuesOf (copied ++ if_waited (record { place = q; book = taken.0.book })) more) where
+  abbrev one : Audited
+  one = record { place = q; book = taken.0.book }
+
+  abbrev came_there : c.me ≡ latched place taken.0 (and_made taken.3.0 a.me)
+  came_there = mine same ∙ taken.3.1
+
+  goes_in : GoesOn a.me c.me
+  goes_in = (taken.3.0 ++ _ ∷ [], ap (λ (m : Mine). m.0.log) came_there ∙ append_assoc a.me.0.log taken.3.0 (_ ∷ []))
+
+  goes_out : GoesOn d.me e.me
+  goes_out = (_ ∷ [], ap (λ (s : SeatState). s.me.0.log) put)
+
+  searches_more : (found : Search) → ((copied : List Audited) → AreQueuesOf copied more → Searches c.table c.me.0.number (place + 1) last copied found c.me d.me)
+      → (before : List Audited) → AreQueuesOf before lists → Searches a.table a.me.0.number place last before found a.me e.me
+  searches_more found searches before are =
+      let id = a.table in
+      let who = a.me.0.number in
+      let inner = subst (λ (t : TableId). Searches t who (place + 1) last (before ++ if_waited one) found c.me d.me) (table_of same ∙ table)
+      (subst (λ (n : ℕ). Searches c.table n (place + 1) last (before ++ if_waited one) found c.me d.me) (ap (λ (m : Mine). m.0.number) came_there) (searches (before ++ if_waited one) (added before are))) in
+      let outer = gathers_more place q a b c at taken table same d reads e put rising last [] [] inner.books (one ∷ inner.books) inner.gathers (ap (λ (xs : List Audited). one ∷ xs) inner.gathers.listed) in
+      let latches = inner.gathers.latches in
+      let judged = judges_within id who latches ((before ++ if_waited one) ++ inner.books) found a.me c.me d.me e.me goes_in (ap (λ (m : Mine). m.0.settles) came_there) goes_out
+      (ap (λ (s : SeatState). s.me.0.settles) put) inner.judges in
+      let all = judges_if_waited id who latches one before inner.books found a.me e.me judged in
+      record {
+        books = one ∷ inner.books;
+        gathers = outer.0;
+        judges = subst (λ (ls : List LatchRecord). Judges id who ls (before ++ one ∷ inner.books) found a.me e.me) (sym outer.1) all;
+      }
+
+  pub finds_more : (found : Search) → FindsFrom (place + 1) last more c d found → FindsFrom place last lists a e found
+  finds_more found finds = (
+    searches_more found finds.0,
+    knows_on a.me.0.number found d.me e.me (ap (λ (s : SeatState). s.me.0.told) put)
+        (subst (λ (n : ℕ). KnowsVictim n found d.me) (ap (λ (m : Mine). m.0.number) came_there) finds.1),
+  )
+
+  pub ends_more : {E : Type 0} (result : Result Search E) → EndsSearch result (FindsFrom (place + 1) last more c d) c d → EndsSearch result (FindsFrom place last lists a e) a e
+  ends_more result ends = record {
+    reads = back place q a b c at taken table same d reads e put rising;
+    found = IfOk-weaker result (FindsFrom (place + 1) last more c d) (FindsFrom place last lists a e) finds_more ends.found;
+    nothing = on_err_weaker result (λ kept. ap (λ (s : SeatState). s.me.0.settles) put ∙ kept ∙ ap (λ (m : Mine). m.0.settles) came_there) ends.nothing;
   }
 
-  module _ (h : LatchRecord) (made : List Met) (m m′ m″ m‴ : Mine) (here : h.place ≡ place) (taken : m′ ≡ latched place h (and_made made m)) (hears : Hears m′ m″) (put : m‴ ≡ unlatched place [] m″) where
-    stepped : Mine
-    stepped = and_made hears.made m′
+-- behind the last place it is looked for
+pub finds_here : (place last : ℕ) (lists : List Queues) (a b : SeatState) (found : Search) → place ≡ last + 1 → Finds lists a b found → FindsFrom place last lists a b found
+unfolding gathers_none
+finds_here place last lists a b found behind finds = (
+  λ copied are. record {
+    books = [];
+    gathers = gathers_none place last [] a.me b.me behind;
+    judges = subst (λ (all : List Audited). Judges a.table a.me.0.number a.me.0.latches all found a.me b.me) (sym (append-nil copied)) (finds.0 copied are);
+  },
+  finds.1,
+)
 
-    log_stepped : m″.0.log ≡ stepped.0.log
-    unfolding stepped
-    log_stepped = ap (λ (x : Mine). x.0.log) hears.now
-
-    log_put : m‴.0.log ≡ (unlatched place [] stepped).0.log
-    unfolding stepped
-    log_put = ap (λ (x : Mine). x.0.log) put ∙ ap (λ (x : Mine). (unlatched place [] x).0.log) hears.now
-
-    before_then : GoesOn m m′
-    before_then = (made ++ _ ∷ [], ap (λ (x : Mine). x.0.log) taken ∙ append_assoc m.0.log made (_ ∷ []))
-
-    after_then : GoesOn m″ m‴
-    after_then = (_ ∷ [], ap (λ (x : Mine). x.0.log) put)
-
-    pub searches_more : IsFresh place h m → (q : ℕ) (before middle : List Audited) → q ≡ place → held_at place m′.0.latches ≡ Some h
-        → middle ≡ before ++ if_waited (record { place = q; book = h.book }) → Searches id who (place + 1) last middle found m′ m″ → Searches id who place last before found m m‴
-    unfolding same_gathers behind_one stepped
-    searches_more fresh q before middle at recorded added more =
-        let one : Audited = record { place = q; book = h.book } in
-        let books : List Audited = one ∷ more.books in
-        let inner : Gathers (place + 1) last (one ∷ []) books m′ stepped =
-        behind_one (place + 1) last one more.books m′ stepped (same_gathers (place + 1) last [] more.books m′ m″ stepped (sym log_stepped) more.gathers) in
-        let outer : Gathers place last [] books m (unlatched place [] stepped) =
-        gathers_more place h made m m′ here taken stepped (unlatched place [] stepped) (hears.made, refl, hears.did) refl fresh last q [] (one ∷ []) books at recorded refl inner in
-        let same : outer.latches ≡ more.gathers.latches =
-        more_latches place h made m m′ here taken stepped (unlatched place [] stepped) (hears.made, refl, hears.did) refl fresh last q [] (one ∷ []) books at recorded refl inner in
-        let judged = judges_within id who more.gathers.latches (middle ++ more.books) found m m′ m″ m‴ before_then (ap (λ (x : Mine). x.0.settles) taken) after_then
-        (ap (λ (x : Mine). x.0.settles) put) more.judges in
-        let all = judges_if_waited id who more.gathers.latches one before more.books found m m‴
-        (subst (λ (copied : List Audited). Judges id who more.gathers.latches (copied ++ more.books) found m m‴) added judged) in
-        record {
-          books = books;
-          gathers = same_gathers place last [] books m (unlatched place [] stepped) m‴ log_put outer;
-          judges = subst (λ (latches : List LatchRecord). Judges id who latches (before ++ books) found m m‴) (sym same) all;
-        }
-
--- ---- the directory's latch
-
-module _ (id : TableId) (k : Keys) (made : List Met) (m m′ m″ : Mine) (taken : m′ ≡ consulted k (and_made made m)) (hears : Hears m′ m″) where
-  pub has_heard : HasDirectory k m″
-  has_heard = subst (HasDirectory k) (sym (hears.now ∙ ap (hearing hears.made hears.told hears.settles) taken)) (record { recorded = refl; carried = refl })
-
-  module _ (m‴ : Mine) (put : m‴ ≡ informed (learnt m″ 0) m″) (idle : IsIdle m) (is : IsDirectory id.slots k (and_made made m)) where
-    met : Mine
-    met = and_made hears.made m′
-
-    over : Mine
-    unfolding met
-    over = informed (learnt met 0) met
-
-    as_over : m‴ ≡ retold hears.told hears.settles over
-    unfolding met over
-    as_over = put ∙ ap (λ (x : Mine). informed (learnt x 0) x) hears.now
-
-    all_steps : deeds_of made ≡ [] → MakesSteps m over
-    unfolding met over
-    all_steps did = makes_all id.slots k made m m′ met taken (hears.made, refl, hears.did) over refl idle is did
-
-    pub hears_all : deeds_of made ≡ [] → Listens m m‴
-    hears_all did = record {
-      made = (all_steps did).0;
-      told = hears.told;
-      settles = hears.settles;
-      now = as_over ∙ ap (retold hears.told hears.settles) (all_steps did).1;
-      did = (all_steps did).2;
-      stays = λ state told. hears.stays state (ap (λ (x : Mine). x.0.told) taken ∙ told);
-    }
-
-    same_log : m‴.0.log ≡ over.0.log
-    same_log = ap (λ (x : Mine). x.0.log) as_over
-
-    pub took_heard : AllQuiet m.0.directory made → TookDirectory id.slots k k m m‴
-    unfolding met over
-    took_heard lingered =
-        let took = took_first id.slots k made m m′ met taken (hears.made, refl, hears.did) over refl idle is lingered (hears.made, refl, hears.had) in
-        record {
-          before = took.before;
-          within = took.within;
-          after = took.after;
-          recorded = took.recorded;
-          listed = same_log ∙ took.listed;
-          none_before = took.none_before;
-          either_within = took.either_within;
-          none_after = took.none_after;
-        }
-
-    begins : GoesOn m m′
-    begins = (made ++ _ ∷ [], ap (λ (x : Mine). x.0.log) taken ∙ append_assoc m.0.log made (_ ∷ []))
-
-    ends : GoesOn m″ m‴
-    ends = (_ ∷ [], ap (λ (x : Mine). x.0.log) put)
-
-    pub searched : (who last : ℕ) (found : Search) → last ≡ length k.keys → Searches id who 1 last [] found m′ m″ → Searched id who k found m m‴
-    unfolding met over
-    searched who last found count searches =
-        let audited = searches.books in
-        let gathers = searches.gathers in
-        let inner : HadLatches gathers.latches m′ met =
-        ⊎_elim (λ at_once. inl at_once) (λ later. inr (later.0, (later.1.0, later.1.1, sym (ap (λ (x : Mine). x.0.log) hears.now) ∙ later.1.2), later.2, later.3)) gathers.had in
-        let moment = moment_of id.slots k made m m′ met taken (hears.made, refl, hears.did) over refl idle is gathers.latches inner in
-        let judged = judges_within id who gathers.latches audited found m m′ m″ m‴ begins (ap (λ (x : Mine). x.0.settles) taken) ends (ap (λ (x : Mine). x.0.settles) put) searches.judges in
-        let all = gathers.all in
-        let long = ap (λ (xs : List Audited). length xs) gathers.listed in
-        record {
-          audited = audited;
-          all = omega arith;
-          keys = ap (map (λ (a : Audited). a.book.key)) gathers.listed ∙ keys_from [] k.keys gathers.books 1 refl (omega arith) (gathers.keyed k (ap (λ (x : Mine). x.0.directory) taken));
-          moment = moment.0;
-          step = (moment.1.0, moment.1.1, same_log ∙ moment.1.2);
-          directory = moment.3;
-          recorded = subst (λ (xs : List Audited). AreRecorded 1 moment.0.held xs) (sym gathers.listed)
-              (subst (λ (held : List LatchRecord). AreRecorded 1 held gathers.books) (sym moment.2) gathers.recorded);
-          judges = subst (λ (latches : List LatchRecord). Judges id who latches audited found m m‴) (sym moment.2) judged;
-        }
+-- what was found once all latches were taken is what is found
+pub searched : (a b c d e : SeatState) (taken : HasConsulted a b) (same : c ≡ b) (idle : IsIdle a.me) (reads : AtItsTable c d ReadsWaitsQuietly) (put : e ≡ record d { me = informed (learnt d.me 0) d.me })
+    (last : ℕ) → last ≡ length taken.1.keys → (found : Search) → FindsFrom 1 last [] c d found
+    → Searched a.table a.me.0.number taken.1 found a.me e.me × KnowsVictim a.me.0.number found e.me
+searched a b c d e taken same idle reads put last count found finds =
+    let id = a.table in
+    let who = a.me.0.number in
+    let came : c ≡ record a { me = consulted taken.1 (and_made taken.0 a.me) } = same ∙ taken.3 in
+    let searches = subst (λ (s : SeatState). Searches s.table s.me.0.number 1 last [] found c.me d.me) came (finds.0 [] refl) in
+    let both = audits a b c taken same idle d reads e put last searches.books count searches.gathers in
+    let books = both.0 in
+    let judged = judges_within id who searches.gathers.latches searches.books found a.me c.me d.me e.me (goes_first a b c taken same idle d reads e put) (ap (λ (s : SeatState). s.me.0.settles) came)
+    (goes_last a b c taken same idle d reads e put) (ap (λ (s : SeatState). s.me.0.settles) put) searches.judges in (
+      record {
+        audited = searches.books;
+        all = books.all;
+        keys = books.keys;
+        moment = books.moment;
+        step = books.step;
+        directory = books.directory;
+        recorded = books.recorded;
+        judges = subst (λ (latches : List LatchRecord). Judges id who latches searches.books found a.me e.me) (sym both.1) judged;
+      },
+      knows_on who found d.me e.me (ap (λ (s : SeatState). s.me.0.told) put) (subst (λ (s : SeatState). KnowsVictim s.me.0.number found d.me) came finds.1),
+    )

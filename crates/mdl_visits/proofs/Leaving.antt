@@ -48,9 +48,9 @@ module _ (place : ℕ) (ds : List Deed) (found : ℕ) (book : BookView) (slow ob
   )
 
   -- the first of its two steps was on the word, while the session had what it had, and did the deeds
-  pub first_step : (e : Met) × IsStepOf m last e × (e.word ≡ lock_word place) × (e.held ≡ m.0.latches) × (e.deeds ≡ ds)
+  pub first_step : (e : Met) × IsStepOf m last e × ((e.word ≡ lock_word place) × (e.held ≡ m.0.latches) × (e.deeds ≡ ds))
   unfolding lowers puts
-  first_step = (lowers, ([], puts ∷ [], both ∙ ap (λ (log : List Met). log ++ lowers ∷ puts ∷ []) (sym (append-nil m.0.log))), refl, refl, refl)
+  first_step = (lowers, ([], puts ∷ [], both ∙ ap (λ (log : List Met). log ++ lowers ∷ puts ∷ []) (sym (append-nil m.0.log))), (refl, refl, refl))
 
 -- ---- of a session that came to the place before
 

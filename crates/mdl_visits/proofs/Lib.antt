@@ -1,3 +1,4 @@
+pub mod Arriving
 pub mod Seats
 pub mod Visiting
 pub mod Altering
@@ -12,7 +13,6 @@ pub mod Rescheduling
 pub mod Losing
 pub mod Covered
 pub mod Weaker
-pub mod Meeting
 pub mod Uniting
 pub mod Numbers
 pub mod Reading

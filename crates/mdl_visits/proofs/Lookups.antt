@@ -4,6 +4,7 @@ use Rattle.std.specs.Prelude.{Option, Result, Ok, Err, slice_get, is_some}
 use Rattle.std.specs.Option.{option_map, option_to_list}
 use Rattle.std.proofs.lemmas.Bool.{lt-ltb}
 use Rattle.std.proofs.lemmas.List.{nil_from_length}
+use Rattle.atomic_table.specs.Seated.{TableId}
 use Rattle.mdl_key.specs.Words.{KeyName}
 use Rattle.mdl_steps.specs.declared.slot.Slot.{Slot}
 use Rattle.mdl_steps.specs.declared.step_kind.StepKind.TheVariants.{PutLatch, TakeLatch}
@@ -14,12 +15,14 @@ use Rattle.mdl_steps.specs.Layout.{latch_word}
 use Rattle.mdl_steps.specs.Lists.{Each}
 use Rattle.mdl_steps.specs.Plays.{Mine, IsDirectory, consulted, informed, listing}
 use Rattle.mdl_steps.specs.Rule.{key_at}
-use Rattle.mdl_steps.specs.Seats.{HasDirectory, learnt, place_among, recorded_key}
+use Rattle.mdl_steps.specs.SeatStates.{AtItsTable, SeatState}
+use Rattle.mdl_steps.specs.Seats.{HasDirectory, MayInform, learnt, place_among, recorded_key}
 use Rattle.mdl_steps.proofs.Looking.{there}
 use Rattle.mdl_visits.specs.declared.resolve_error.ResolveError.{ResolveError}
 use Rattle.mdl_visits.specs.Idle.{IsIdle}
 use Rattle.mdl_visits.specs.Lookups.{TookDirectory, HadEither, HasLooked, HasNamed, IsAnswer, knowing, relisted}
 use Rattle.mdl_visits.specs.Visits.{AllQuiet, and_made, deeds_of, MakesSteps}
+use Rattle.mdl_visits.proofs.Seats.{mine, table_of}
 use Rattle.mdl_visits.proofs.Steps.{none_then}
 use Rattle.mdl_steps.proofs.NewKeys.{key_last}
 
@@ -54,37 +57,38 @@ some_there (x ∷ xs) zero key e = omega arith
 some_there (x ∷ xs) (suc i) key e = let next = some_there xs i key e in omega arith
 
 -- a key that has a place was found there
-pub found_there : (slots : ℕ) (key : KeyName) (place : ℕ) (k : Keys) (m new : Mine) → HasDirectory k m → length k.keys < slots → place_among key k.keys ≡ Some place → new ≡ m
-    → HasLooked slots key k (Ok place) m new
-found_there slots key place k m new has fit e same =
+pub found_there : (key : KeyName) (place : ℕ) (k : Keys) (a b : SeatState) → HasDirectory k a.me → length k.keys < a.table.slots → place_among key k.keys ≡ Some place → b ≡ a
+    → AtItsTable a b (HasLooked a.table.slots key k (Ok place))
+found_there key place k a b has fit e same =
     let at = there key k.keys place e in
     let inside = some_there k.keys (place - 1) key at.1 in
-    let first = at.0 in
-    record { made = []; left = k; seat = same ∙ relisted_nothing k m has; had = tt; did = refl; answer = inl (e, refl); stands = (first, omega arith, at.1) }
+    let first = at.0 in (
+      table_of same,
+      record { made = []; left = k; seat = mine same ∙ relisted_nothing k a.me has; had = tt; did = refl; answer = inl (e, refl); stands = (first, omega arith, at.1) },
+    )
 
 -- a new one has none yet
-pub found_nowhere : (slots : ℕ) (key : KeyName) (why : ResolveError) (k : Keys) (m new : Mine) → HasDirectory k m → IsAnswer slots key k k (Err why) → new ≡ m
-    → HasLooked slots key k (Err why) m new
-found_nowhere slots key why k m new has is same = record { made = []; left = k; seat = same ∙ relisted_nothing k m has; had = tt; did = refl; answer = is; stands = tt }
+pub found_nowhere : (key : KeyName) (why : ResolveError) (k : Keys) (a b : SeatState) → HasDirectory k a.me → IsAnswer a.table.slots key k k (Err why) → b ≡ a
+    → AtItsTable a b (HasLooked a.table.slots key k (Err why))
+found_nowhere key why k a b has is same =
+    (table_of same, record { made = []; left = k; seat = mine same ∙ relisted_nothing k a.me has; had = tt; did = refl; answer = is; stands = tt })
 
 -- it stands at the next place then
-pub stands_next : (slots : ℕ) (key : KeyName) (place : ℕ) (k : Keys) (m new : Mine) → HasNamed key k m new → place_among key k.keys ≡ None → place ≡ length k.keys + 1 → place < slots
-    → HasLooked slots key k (Ok place) m new
-stands_next slots key place k m new named none next fit =
-    let at : place - 1 ≡ length k.keys = omega arith in
-    record {
-      made = named.0;
-      left = listing key k;
-      seat = named.1;
-      had = named.2;
-      did = named.3;
-      answer = inr (none, next, refl);
-      stands = (omega arith, fit, ap (slice_get (k.keys ++ key ∷ [])) at ∙ key_last k.keys key);
-    }
-
--- the seat still has the directory's latch
-pub has_looked : (slots : ℕ) (key : KeyName) (k : Keys) (result : Result ℕ ResolveError) (old new : Mine) (l : HasLooked slots key k result old new) → HasDirectory l.left new
-has_looked slots key k result old new l = subst (λ (m : Mine). HasDirectory l.left m) (sym l.seat) (record { recorded = refl; carried = refl })
+pub stands_next : (key : KeyName) (place : ℕ) (k : Keys) (a b : SeatState) → AtItsTable a b (HasNamed key k) → place_among key k.keys ≡ None → place ≡ length k.keys + 1 → place < a.table.slots
+    → AtItsTable a b (HasLooked a.table.slots key k (Ok place))
+stands_next key place k a b named none next fit =
+    let at : place - 1 ≡ length k.keys = omega arith in (
+      named.0,
+      record {
+        made = named.1.0;
+        left = listing key k;
+        seat = named.1.1;
+        had = named.1.2;
+        did = named.1.3;
+        answer = inr (none, next, refl);
+        stands = (omega arith, fit, ap (slice_get (k.keys ++ key ∷ [])) at ∙ key_last k.keys key);
+      },
+    )
 
 -- ---- the directory's latch is given back
 
@@ -95,66 +99,83 @@ learning k place = option_to_list (option_map (λ key. record { key = key; place
 learning_one : (k : Keys) (place : ℕ) (key : KeyName) → 0 < place → key_at k.keys place ≡ Some key → learning k place ≡ record { key = key; place = place } ∷ []
 learning_one k place key some e = rw (lt-ltb 0 place some) (ap (λ (o : Option KeyName). option_to_list (option_map {T = KeyName} {U = Known} (λ x. record { key = x; place = place }) o)) e)
 
--- the three calls, one after the other
-pub put_after : (k : Keys) (made more : List Met) (after : Keys) (place : ℕ) (old taken looked new : Mine) → taken ≡ consulted k (and_made made old) → looked ≡ relisted more after taken
-    → new ≡ informed (learnt looked place) looked
-    → new ≡ informed (learnt (relisted more after (consulted k (and_made made old))) place) (relisted more after (consulted k (and_made made old)))
-put_after k made more after place old taken looked new first second third =
-    third ∙ ap (λ (m : Mine). informed (learnt m place) m) (second ∙ ap (λ (m : Mine). relisted more after m) first)
+-- it was taken
+abbrev pub HasConsulted : SeatState → SeatState → Type 0
+HasConsulted a b =
+    (made : List Met) × (k : Keys) × IsDirectory a.table.slots k (and_made made a.me) × (b ≡ record a { me = consulted k (and_made made a.me) })
+    × AllQuiet a.me.0.directory made × (deeds_of made ≡ [])
 
-module _ (slots : ℕ) (k : Keys) (made : List Met) (old : Mine) (idle : IsIdle old) (is : IsDirectory slots k (and_made made old))
-    (more : List Met) (after : Keys) (place : ℕ) (new : Mine)
-    (e : new ≡ informed (learnt (relisted more after (consulted k (and_made made old))) place) (relisted more after (consulted k (and_made made old)))) where
-  abbrev took : Met
-  took = record { kind = TakeLatch; deeds = []; word = latch_word 0; found = 0; held = old.0.latches; directory = Some k }
+module _ (key : KeyName) (result : Result ℕ ResolveError) (a b c : SeatState) (taken : HasConsulted a b)
+    (told : (k : Keys) → HasDirectory k b.me → AtItsTable b c (HasLooked b.table.slots key k result)) where
+  pub looked : HasLooked a.table.slots key taken.1 result b.me c.me
+  looked = subst (λ (id : TableId). HasLooked id.slots key taken.1 result b.me c.me) (table_of taken.3)
+      (told taken.1 (subst (HasDirectory taken.1) (sym (mine taken.3)) (has_taken taken.1 (and_made taken.0 a.me)))).1
 
-  abbrev gave : Met
-  gave = record { kind = PutLatch; deeds = []; word = latch_word 0; found = old.0.number; held = old.0.latches; directory = Some after }
+  pub may_inform_looked : MayInform c.me
+  may_inform_looked = (looked.left, subst (HasDirectory looked.left) (sym looked.seat) (record { recorded = refl; carried = refl }))
 
-  abbrev all : List Met
-  all = made ++ (took ∷ more ++ gave ∷ [])
+  module _ (place : ℕ) (e : SeatState) (put : e ≡ record c { me = informed (learnt c.me place) c.me }) (idle : IsIdle a.me) where
+    abbrev took : Met
+    took = record { kind = TakeLatch; deeds = []; word = latch_word 0; found = 0; held = a.me.0.latches; directory = Some taken.1 }
 
-  joined : (((old.0.log ++ made) ++ took ∷ []) ++ more) ++ gave ∷ [] ≡ old.0.log ++ all
-  joined = simp append_assoc
+    abbrev gave : Met
+    gave = record { kind = PutLatch; deeds = []; word = latch_word 0; found = a.me.0.number; held = a.me.0.latches; directory = Some looked.left }
 
-  -- none of the steps has deeds
-  did_all : deeds_of made ≡ [] → deeds_of more ≡ [] → deeds_of all ≡ []
-  did_all first later = none_then made (took ∷ more ++ gave ∷ []) [] first (none_then more (gave ∷ []) [] later refl)
+    abbrev all : List Met
+    all = taken.0 ++ (took ∷ looked.made ++ gave ∷ [])
 
-  -- only steps were made, and this is known
-  pub put_is : new ≡ (record old.0 { log = old.0.log ++ all; known = old.0.known ++ learning after place }, old.1)
-  put_is = e
-      ∙ ap (λ (log : List Met). (record old.0 { log = log; directory = None; known = old.0.known ++ learning after place }, old.1)) joined
-      ∙ ap (λ (d : Option Keys). (record old.0 { log = old.0.log ++ all; directory = d; known = old.0.known ++ learning after place }, old.1)) (no_record old.0.directory idle.1)
+    joined : (((a.me.0.log ++ taken.0) ++ took ∷ []) ++ looked.made) ++ gave ∷ [] ≡ a.me.0.log ++ all
+    joined = simp append_assoc
 
-  pub idle_then : IsIdle new
-  idle_then = subst IsIdle (sym put_is) idle
+    -- only steps were made, and this is known
+    put_is : e.me ≡ (record a.me.0 { log = a.me.0.log ++ all; known = a.me.0.known ++ learning looked.left place }, a.me.1)
+    put_is = mine put
+        ∙ ap (λ (m : Mine). informed (learnt m place) m) (looked.seat ∙ ap (relisted looked.made looked.left) (mine taken.3))
+        ∙ (λ i. (record a.me.0 { log = joined i; directory = no_record a.me.0.directory idle.1 i; known = a.me.0.known ++ learning looked.left place }, a.me.1))
 
-  pub took_directory : AllQuiet old.0.directory made → Each (HadEither k after) more → TookDirectory slots k after old new
-  took_directory lingered had = record {
-    before = made;
-    within = more;
-    after = [];
-    recorded = is;
-    listed = ap (λ (m : Mine). m.0.log) e ∙ append_assoc ((old.0.log ++ made) ++ took ∷ []) more (gave ∷ []);
-    none_before = had_none old idle made lingered;
-    either_within = had;
-    none_after = tt;
-  }
+    did_all : deeds_of all ≡ []
+    did_all = none_then taken.0 (took ∷ looked.made ++ gave ∷ []) [] taken.5 (none_then looked.made (gave ∷ []) [] looked.did refl)
 
-  pub knows_one : deeds_of made ≡ [] → deeds_of more ≡ [] → (key : KeyName) → 0 < place → key_at after.keys place ≡ Some key
-      → MakesSteps (knowing (record { key = key; place = place }) old) new
-  knows_one first later key some at = (
-    all,
-    put_is ∙ ap (λ (more_known : List Known). (record old.0 { log = old.0.log ++ all; known = old.0.known ++ more_known }, old.1)) (learning_one after place key some at),
-    did_all first later,
-  )
+    pub idle_then : IsIdle e.me
+    idle_then = subst IsIdle (sym put_is) idle
 
-  pub knows_nothing : deeds_of made ≡ [] → deeds_of more ≡ [] → place ≡ 0 → MakesSteps old new
-  knows_nothing first later none = (
-    all,
-    put_is
-        ∙ ap (λ (p : ℕ). (record old.0 { log = old.0.log ++ all; known = old.0.known ++ learning after p }, old.1)) none
-        ∙ ap (λ (known : List Known). (record old.0 { log = old.0.log ++ all; known = known }, old.1)) (append-nil old.0.known),
-    did_all first later,
-  )
+    pub answered : (k left : Keys) × AtItsTable a e (TookDirectory a.table.slots k left) × IsAnswer a.table.slots key k left result
+    answered = (
+      taken.1,
+      looked.left,
+      (
+        table_of put ∙ (told taken.1 (subst (HasDirectory taken.1) (sym (mine taken.3)) (has_taken taken.1 (and_made taken.0 a.me)))).0 ∙ table_of taken.3,
+        record {
+          before = taken.0;
+          within = looked.made;
+          after = [];
+          recorded = taken.2;
+          listed = ap (λ (m : Mine). m.0.log) put_is
+              ∙ sym (append_assoc (a.me.0.log ++ taken.0) (took ∷ []) (looked.made ++ gave ∷ []) ∙ append_assoc a.me.0.log taken.0 (took ∷ looked.made ++ gave ∷ []));
+          none_before = had_none a.me idle taken.0 taken.4;
+          either_within = looked.had;
+          none_after = tt;
+        },
+      ),
+      looked.answer,
+    )
+
+    pub knows_one : (0 < place) × (place < a.table.slots) × (key_at looked.left.keys place ≡ Some key) → (0 < place) × (place < a.table.slots) × MakesSteps (knowing (record { key = key; place = place }) a.me) e.me
+    knows_one stands = (
+      stands.0,
+      stands.1,
+      (
+        all,
+        put_is ∙ ap (λ (more : List Known). (record a.me.0 { log = a.me.0.log ++ all; known = a.me.0.known ++ more }, a.me.1)) (learning_one looked.left place key stands.0 stands.2),
+        did_all,
+      ),
+    )
+
+    pub knows_nothing : place ≡ 0 → MakesSteps a.me e.me
+    knows_nothing none = (
+      all,
+      put_is
+          ∙ ap (λ (p : ℕ). (record a.me.0 { log = a.me.0.log ++ all; known = a.me.0.known ++ learning looked.left p }, a.me.1)) none
+          ∙ ap (λ (known : List Known). (record a.me.0 { log = a.me.0.log ++ all; known = known }, a.me.1)) (append-nil a.me.0.known),
+      did_all,
+    )

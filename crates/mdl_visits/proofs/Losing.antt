@@ -1,29 +1,26 @@
 -- A list of tickets that loses one has nothing that it hadn't.
-use Rattle.std.proofs.Common.{◌≡◌, ℕ, ◌+◌, ◌<◌, ◌≤◌, Bool, true, false, ◌||◌, List, [], ◌∷◌, length, Some, None, refl, sym, ap, ◌∙◌, subst, inl, arith}
+use Rattle.std.proofs.Common.{◌≡◌, ℕ, ◌+◌, ◌<◌, ◌≤◌, Bool, true, false, ◌||◌, List, [], ◌∷◌, length, Some, None, refl, sym, ap, ◌∙◌, subst, arith}
 use Rattle.std.specs.Prelude.{is_some, Option, Result, OnOk}
 use Rattle.std.specs.Option.{ok_or}
 use Rattle.std.specs.List.{list_any}
 use Rattle.std.proofs.lemmas.Bool.{ltb-true, lt-ltb}
+use Rattle.mdl_book.specs.declared.book_error.BookError.{BookError}
+use Rattle.mdl_book.specs.declared.book_error.BookError.TheVariants.{NotHere}
 use Rattle.mdl_book.specs.declared.book_view.BookView.{BookView}
 use Rattle.mdl_book.specs.declared.ticket.Ticket.{Ticket}
 use Rattle.mdl_book.specs.Books.{any_obtrusive, lock_kind, removing}
 use Rattle.mdl_book.specs.Tickets.{is_ticket, ticket_of, without}
-use Rattle.mdl_steps.specs.declared.deed.Deed.{Deed}
 use Rattle.mdl_steps.specs.declared.deed.Deed.TheVariants.{Lose}
-use Rattle.mdl_steps.specs.declared.view.LatchRecord.{LatchRecord}
-use Rattle.mdl_steps.specs.declared.view.Met.{Met}
-use Rattle.mdl_steps.specs.declared.view.View.{View}
-use Rattle.mdl_steps.specs.Cells.{held_at}
-use Rattle.mdl_steps.specs.Deeds.{KnowsPlace, NotWaited, booked, all_booked}
-use Rattle.mdl_steps.specs.Layout.{lock_word}
-use Rattle.mdl_steps.specs.Plays.{Mine}
-use Rattle.mdl_steps.specs.Rule.{Flagged, TellsLists}
-use Rattle.mdl_steps.specs.Seats.{HasDone, Holds, written}
-use Rattle.mdl_steps.proofs.Hands.{holds_written}
+use Rattle.mdl_steps.specs.declared.slot.Slot.TheVariants as slot
+use Rattle.mdl_steps.specs.Deeds.{KnowsPlace, NotWaited, booked}
+use Rattle.mdl_steps.specs.Rule.{Flagged}
+use Rattle.mdl_steps.specs.SeatStates.{SeatState}
+use Rattle.mdl_steps.specs.Seats.{rest, written}
 use Rattle.mdl_steps.proofs.Tickets.{without-hit, without-miss}
 use Rattle.mdl_steps.proofs.Views.{by_bool}
-use Rattle.mdl_visits.specs.Leavings.{Leaves, MeetsOwn}
-use Rattle.mdl_visits.specs.Visits.{IsStepOf}
+use Rattle.mdl_visits.specs.Leavings.{HasTicket, HasWorked}
+use Rattle.mdl_visits.proofs.Arriving.{Arrives, has_worked, number_kept, unwaited_there}
+use Rattle.mdl_visits.proofs.Leaving.{own_found}
 
 module _ (session number : ℕ) where
   pub any_before : (p : Ticket → Bool) (ts : List Ticket) → list_any p (without session number ts) ≡ true → list_any p ts ≡ true
@@ -83,29 +80,24 @@ pub found_one : (found : Option Ticket) → is_some found ≡ true → (t : Tick
 found_one (Some t) there = (t, refl)
 found_one None there = absurd (cc)
 
--- and its session may give the latch back
-pub has_lost : (place who number : ℕ) (h : LatchRecord) (m m′ : Mine) → m.0.number ≡ who → Holds place h h.book m → TellsLists h.book h.slow h.obtrusive → KnowsPlace m.0 place → NotWaited m.0 number
-    → is_some (ticket_of who number h.book.granted) ≡ true → m′ ≡ written place (booked who (Lose number) h.book) m
-    → (g : LatchRecord) × HasDone place (Lose number ∷ []) g m′ × Flagged (all_booked m′.0.number (Lose number ∷ []) g.book) g.slow g.obtrusive
-has_lost place who number h m m′ number_is has exact known unwaited there is =
-    let held = found_one (ticket_of who number h.book.granted) there in
-    let held_by_me = subst (λ (w : ℕ). ticket_of w number h.book.granted ≡ Some held.0) (sym number_is) held.1 in
-    subst (λ (x : Mine). (g : LatchRecord) × HasDone place (Lose number ∷ []) g x × Flagged (all_booked x.0.number (Lose number ∷ []) g.book) g.slow g.obtrusive) (sym is)
-    (subst (λ (w : ℕ). (g : LatchRecord) × HasDone place (Lose number ∷ []) g (written place (booked w (Lose number) h.book) m) × Flagged (removing m.0.number number g.book) g.slow g.obtrusive) number_is (
-      h,
-      record { holds = holds_written place h h.book (removing m.0.number number h.book) m has; act = inl known; may = (held.0, (held_by_me, unwaited)) },
-      still_flagged m.0.number number h.book h.slow h.obtrusive ((λ e. exact.0 ∙ e), λ e. exact.1 ∙ e),
-    ))
+module _ {place : ℕ} {s : SeatState} {q : ℕ} {c : SeatState} (a : Arrives place s q c) (number : ℕ) (unwaited : NotWaited s.me.0 number) (held : HasTicket place number s.me.0.slow) where
+  -- the session's ticket stands in the book that is met
+  pub there : is_some (ticket_of c.me.0.number number a.latch.book.granted) ≡ true
+  there =
+      subst (λ (who : ℕ). is_some (ticket_of who number a.latch.book.granted) ≡ true) (number_kept a)
+      (ap is_some (a.fresh.own number unwaited) ∙ own_found s.me.0.number place number s.me.0.slow held)
 
--- what was left after a write was left before it
-pub left_written : (place : ℕ) (ds : List Deed) (book : BookView) (m m′ n : Mine) → m′ ≡ written place book m → Leaves place ds m′ n → Leaves place ds m n
-left_written place ds book m m′ n is left = subst (λ (x : Mine). Leaves place ds x n) is left
+  -- so it is taken out
+  pub lost : (w : SeatState) (result : Result Ticket BookError)
+      → ((book : BookView) → c.me.1 ≡ (q, slot.Place book) ∷ rest c.me.1 → result ≡ ok_or (ticket_of c.me.0.number number book.granted) NotHere)
+      → ((book : BookView) → c.me.1 ≡ (q, slot.Place book) ∷ rest c.me.1 → OnOk result (w ≡ record c { me = written q (booked c.me.0.number (Lose number) book) c.me }))
+      → w ≡ record c { me = written q (booked c.me.0.number (Lose number) a.latch.book) c.me }
+  lost w result refused wrote =
+      taken_out (ticket_of c.me.0.number number a.latch.book.granted) NotHere result there (refused a.latch.book a.holds.carried) (wrote a.latch.book a.holds.carried)
 
--- and a step on the word after it was one that met the ticket
-pub met_own : (place who number : ℕ) (ds : List Deed) (h : LatchRecord) (book : BookView) (m m′ n : Mine) → held_at place m.0.latches ≡ Some h → is_some (ticket_of who number h.book.granted) ≡ true
-    → m′ ≡ written place book m → (e : Met) × IsStepOf m′ n e × (e.word ≡ lock_word place) × (e.held ≡ m′.0.latches) × (e.deeds ≡ ds)
-    → (e : Met) × IsStepOf m n e × MeetsOwn place who number e × (e.deeds ≡ ds)
-met_own place who number ds h book m m′ n recorded there is step =
-    let same : m′.0 ≡ m.0 = ap (λ (x : Mine). x.0) is in
-    let made = subst (λ (x : Mine). IsStepOf x n step.0) is step.1 in
-    (step.0, made, record { word = step.2; latch = h; held = ap (held_at place) (step.3 ∙ ap (λ (v : View). v.latches) same) ∙ recorded; there = there }, step.4)
+  pub has_lost : (w : SeatState) → KnowsPlace s.me.0 place → w ≡ record c { me = written q (booked c.me.0.number (Lose number) a.latch.book) c.me } → HasWorked q (Lose number ∷ []) w
+  has_lost w known is =
+      let ticket = found_one (ticket_of c.me.0.number number a.latch.book.granted) there in
+      has_worked a (Lose number ∷ []) w known (ticket.0, (ticket.1, unwaited_there a number unwaited))
+      (still_flagged c.me.0.number number a.latch.book a.latch.slow a.latch.obtrusive ((λ e. a.fresh.exact.0 ∙ e), λ e. a.fresh.exact.1 ∙ e))
+      is

@@ -1,8 +1,9 @@
 -- The next place gets a new key: what the seat may do then, and what it has afterwards.
-use Rattle.std.proofs.Common.{◌≡◌, ℕ, ◌+◌, ◌-◌, ◌==◌, not, false, List, [], ◌∷◌, ◌++◌, length, Some, None, refl, sym, ap, ◌∙◌, subst, inl, inr, arith, append_assoc}
+use Rattle.std.proofs.Common.{◌≡◌, ℕ, ◌+◌, ◌-◌, ◌<◌, ◌==◌, not, false, List, [], ◌∷◌, ◌++◌, length, Some, None, refl, sym, ap, ◌∙◌, subst, inl, inr, arith, append_assoc}
 use Rattle.std.specs.Prelude.{Option, slice_get}
 use Rattle.std.specs.List.{filter}
 use Rattle.std.specs.Option.{option_map}
+use Rattle.atomic_table.specs.Seated.{TableId}
 use Rattle.mdl_key.specs.Words.{KeyName}
 use Rattle.mdl_book.specs.declared.book_view.BookView.{BookView}
 use Rattle.mdl_book.specs.Books.{empty_book, has_obtrusive, has_tickets}
@@ -15,11 +16,14 @@ use Rattle.mdl_steps.specs.declared.view.Met.{Met}
 use Rattle.mdl_steps.specs.Layout.{latch_word}
 use Rattle.mdl_steps.specs.Plays.{Mine, IsFresh, latched, listing, named}
 use Rattle.mdl_steps.specs.Rule.{key_at, IsUnused}
-use Rattle.mdl_steps.specs.Seats.{HasDirectory, Holds, MayName, place_among, rest, written}
+use Rattle.mdl_steps.specs.Lists.{Each}
+use Rattle.mdl_steps.specs.SeatStates.{AtItsTable, SeatState}
+use Rattle.mdl_steps.specs.Seats.{HasDirectory, IsPlace, IsRising, MayName, rest, written}
 use Rattle.mdl_steps.proofs.Hands.{elsewhere-taken, holds_taken, holds_written}
-use Rattle.mdl_visits.specs.Lookups.{HadEither, HasNamed, IsListed}
+use Rattle.mdl_visits.specs.Lookups.{HadEither, HasNamed, IsListed, IsNext}
 use Rattle.mdl_steps.proofs.NewKeys.{none_after}
-use Rattle.mdl_visits.specs.Visits.{AllQuiet, IsQuiet, and_made, deeds_of}
+use Rattle.mdl_visits.specs.Visits.{AllQuiet, IsQuiet, MayVisit, and_made, deeds_of}
+use Rattle.mdl_visits.proofs.Seats.{mine, table_of}
 use Rattle.mdl_visits.proofs.Steps.{each_append, each_map, none_then}
 
 -- a book that nobody uses has nothing to tell
@@ -73,24 +77,38 @@ named_is place key k h made old new here alone is lingered did e =
     )
 
 -- a copy of the key was added to the directory in hand, and there is another copy
-pub listed_at : (place : ℕ) (asked listed key : KeyName) (k : Keys) (old new : Mine) → HasDirectory k old → place_among asked k.keys ≡ None → place ≡ length k.keys + 1
-    → listed ≡ asked → key ≡ asked → new ≡ (old.0, (0, slot.Directory (listing listed k)) ∷ rest old.1) → IsListed place key k new
-listed_at place asked listed key k old new has none next first second e =
-    subst (λ (x : KeyName). IsListed place x k new) (sym second) (subst (λ (m : Mine). IsListed place asked k m) (sym e) (record {
-      recorded = has.recorded;
-      carried = ap (λ (x : KeyName). (0, slot.Directory (listing x k)) ∷ rest old.1) first;
-      new = none;
-      next = next;
-    }))
+module _ (place : ℕ) (asked copy : KeyName) (k : Keys) (a l : SeatState) (is : IsNext place asked k a) (listed : l ≡ record a { me = (a.me.0, (0, slot.Directory (listing copy k)) ∷ rest a.me.1) }) where
+  pub may_visit_next : MayVisit place l
+  may_visit_next =
+      let next = is.next in
+      let inside = is.inside in
+      record {
+        is_place = subst (λ (id : TableId). IsPlace id place) (sym (table_of listed)) (omega arith, inside);
+        rising = subst (IsRising place) (sym (mine listed)) (subst (Each (λ (h : LatchRecord). h.place < place)) (sym is.holds.alone) tt);
+      }
+
+  pub is_listed : (key : KeyName) → copy ≡ asked → key ≡ asked → IsListed place key k l.me
+  is_listed key first second =
+      subst (λ (x : KeyName). IsListed place x k l.me) (sym second) (subst (IsListed place asked k) (sym (mine listed)) (record {
+        recorded = is.holds.has.recorded;
+        carried = ap (λ (x : KeyName). (0, slot.Directory (listing x k)) ∷ rest a.me.1) first;
+        new = is.new;
+        next = is.next;
+      }))
+
+  -- what was named then is so of the whole call
+  pub named_since : (key : KeyName) (e : SeatState) → key ≡ asked → AtItsTable l e (HasNamed key k) → (other : Keys) → HasDirectory other a.me → AtItsTable a e (HasNamed asked other)
+  named_since key e second named other has =
+      let whole : HasNamed key k a.me e.me = subst (λ (m : Mine). HasNamed key k m e.me) (mine listed) named.1 in (
+        named.0 ∙ table_of listed,
+        subst (λ (x : Keys). HasNamed asked x a.me e.me) (same_record k other a.me is.holds.has.recorded has.recorded) (subst (λ (x : KeyName). HasNamed x k a.me e.me) second whole),
+      )
 
 -- what a record tells of a seat doesn't hang on its list of steps
 fresh_then : (place : ℕ) (h : LatchRecord) (made : List Met) (m : Mine) → IsFresh place h m → IsFresh place h (and_made made m)
 fresh_then place h made m f = record { here = f.here; exact = f.exact; unnoted = f.unnoted; lawful = f.lawful; modes = f.modes; own = f.own; named = f.named; keyed = f.keyed; vacant = f.vacant; once = f.once; single = f.single; wished = f.wished; lost = f.lost; stands = f.stands; reads = f.reads; noted = f.noted; fast_noted = f.fast_noted; fast_few = f.fast_few; fast_plain = f.fast_plain; fast_beside = f.fast_beside }
 
 -- ---- the same along the calls, the held latch being that of the place
-
-pub holds_at : (place here : ℕ) (h : LatchRecord) (m new : Mine) → here ≡ place → h.place ≡ place → new ≡ latched place h m → Holds here h h.book new
-holds_at place here h m new at is e = subst (λ (p : ℕ). Holds p h h.book new) (sym at) (subst (λ (x : Mine). Holds place h h.book x) (sym e) (holds_taken place h m is))
 
 module _ (place here : ℕ) (key : KeyName) (k : Keys) (h : LatchRecord) (made : List Met) (old mid next : Mine) (at : here ≡ place) (fresh : IsFresh place h old)
     (is : IsListed place key k old) (taken : mid ≡ latched place h (and_made made old)) (named_book : next ≡ written here (empty_book key) mid) where

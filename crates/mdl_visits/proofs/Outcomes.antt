@@ -1,5 +1,5 @@
 -- What a search comes to: nobody waits in a cycle, or the victim's wait was settled.
-use Rattle.std.proofs.Common.{◌≡◌, ◌≢◌, ℕ, ◌+◌, ◌*◌, ◌<◌, ◌==◌, ◌&&◌, nat_lt, List, [], ◌∷◌, ◌++◌, length, take, drop, get_or, Some, None, inl, inr, refl, sym, ap, ◌∙◌, arith, append-nil}
+use Rattle.std.proofs.Common.{◌≡◌, ◌≢◌, ℕ, Bool, false, ◌+◌, ◌*◌, ◌<◌, ◌==◌, ◌&&◌, nat_lt, List, [], ◌∷◌, ◌++◌, length, take, drop, get_or, Some, None, inl, inr, refl, sym, ap, ◌∙◌, arith, append-nil}
 use Rattle.std.specs.Prelude.{◌%◌, All, IfSome, Option}
 use Rattle.std.specs.Option.{option_map, option_or}
 use Rattle.std.proofs.lemmas.Bool.{and_parts, eq-eqb, eqb-true, false≢true}
@@ -16,19 +16,22 @@ use Rattle.mdl_steps.specs.declared.view.Met.{Met}
 use Rattle.mdl_steps.specs.declared.view.Settlement.{Settlement}
 use Rattle.mdl_steps.specs.declared.view.View.{View}
 use Rattle.mdl_steps.specs.Layout.{wait_word}
+use Rattle.mdl_steps.specs.Copies.{Queues}
 use Rattle.mdl_steps.specs.Plays.{Mine}
+use Rattle.mdl_steps.specs.SeatStates.{AtItsTable, SeatState}
 use Rattle.mdl_steps.specs.WaitPlays.{TellsOwn, meeting, missed_wait, settled_lost, wait_in}
 use Rattle.mdl_steps.proofs.Views.{by_bool, other}
 use Rattle.mdl_visits.specs.declared.audited.Audited.{Audited}
 use Rattle.mdl_visits.specs.declared.waits_read.WaitRead.{WaitRead}
 use Rattle.mdl_visits.specs.Grantings.{StaysTold}
 use Rattle.mdl_visits.specs.Polls.{SettlesNothing}
-use Rattle.mdl_visits.specs.Searches.{AreOfAll, SettlesVictim, Hears, IsOutcome, Judges, KnowsVictim, Misses, WasHeard, WasOther, books_of, heard_of, if_waited, settled_by}
+use Rattle.mdl_visits.specs.Searches.{AreQueuesOf, AreRead, Finds, FindsAtOnce, IsOutcome, Judges, KnowsVictim, OnlyReadsWaits, ReadsWaitsQuietly, SettlesVictim, TriesToSettle, WasOther, WasRead, books_of, if_waited, read_of, settled_by}
 use Rattle.mdl_visits.specs.Visits.{GoesOn}
-use Rattle.mdl_visits.proofs.Asking.{step_within}
+use Rattle.mdl_visits.proofs.Asking.{goes_nowhere, step_within}
 use Rattle.mdl_visits.proofs.Deadlocks.{same_if_waited}
+use Rattle.mdl_visits.proofs.Seats.{mine, table_of}
 use Rattle.mdl_visits.proofs.Steps.{step_after}
-use Rattle.mdl_visits.proofs.Words.{all_within, hears_missed}
+use Rattle.mdl_visits.proofs.Words.{all_within, at_first, goes_reading, reads_none, reads_word}
 
 -- ---- a wait is settled as the victim's
 
@@ -45,95 +48,105 @@ stays_lost slots session number v own state told =
     (λ other. rw other told)
 
 module _ (slots session number : ℕ) (m m′ : Mine) (lost : m′ ≡ settled_lost slots session number 3 m) where
-  hears_lost : TellsOwn slots session (wait_in number 1) m.0 → Hears m m′
-  hears_lost own = record {
-    made = record { kind = SettleWait; deeds = []; word = wait_word slots session; found = wait_in number 1; held = m.0.latches; directory = m.0.directory } ∷ [];
-    told = (meeting session (wait_in number 3) m.0).told;
-    settles = m.0.settles ++ record { session = session; wait = number; state = 3 } ∷ [];
-    now = lost;
-    did = refl;
-    stays = stays_lost slots session number m.0 own;
+  abbrev settle : Met
+  settle = record { kind = SettleWait; deeds = []; word = wait_word slots session; found = wait_in number 1; held = m.0.latches; directory = m.0.directory }
+
+  reads_lost : TellsOwn slots session (wait_in number 1) m.0 → ReadsWaitsQuietly m m′
+  reads_lost own = record {
+    reads = record {
+      made = settle ∷ [];
+      told = (meeting session (wait_in number 3) m.0).told;
+      settles = m.0.settles ++ record { session = session; wait = number; state = 3 } ∷ [];
+      now = lost;
+      did = refl;
+      stays = stays_lost slots session number m.0 own;
+    };
     had = ((refl, refl), tt);
   }
 
-  pub settles_victim : SettlesVictim slots session m.0.latches m m′
-  settles_victim =
-      let e : Met = record { kind = SettleWait; deeds = []; word = wait_word slots session; found = wait_in number 1; held = m.0.latches; directory = m.0.directory } in
-      record {
-        wait = number;
-        settles = ap (λ (x : Mine). x.0.settles) lost;
-        moment = e;
-        step = ([], [], ap (λ (x : Mine). x.0.log) lost ∙ ap (λ (log : List Met). log ++ e ∷ []) (sym (append-nil m.0.log)));
-        kind = refl;
-        met = record { word = refl; found = refl };
-        held = refl;
-      }
+  settles_victim : SettlesVictim slots session m.0.latches m m′
+  settles_victim = record {
+    wait = number;
+    settles = ap (λ (x : Mine). x.0.settles) lost;
+    moment = settle;
+    step = ([], [], ap (λ (x : Mine). x.0.log) lost ∙ ap (λ (log : List Met). log ++ settle ∷ []) (sym (append-nil m.0.log)));
+    kind = refl;
+    met = record { word = refl; found = refl };
+    held = refl;
+  }
 
--- the session's own wait is known to be lost then
-pub knows_lost : (slots session number : ℕ) (m m′ : Mine) → m′ ≡ settled_lost slots session number 3 m → session ≡ m.0.number → m′.0.told ≡ Some 3
-knows_lost slots session number m m′ lost own =
-    let word : (8 * number + 3) % 8 ≡ 3 = omega arith in
-    ap (λ (x : Mine). x.0.told) lost ∙ rw word (rw (eq-eqb session m.0.number own) refl)
+  -- the session's own wait is known to be lost then
+  knows_lost : session ≡ m.0.number → m′.0.told ≡ Some 3
+  knows_lost own =
+      let word : (8 * number + 3) % 8 ≡ 3 = omega arith in
+      ap (λ (x : Mine). x.0.told) lost ∙ rw word (rw (eq-eqb session m.0.number own) refl)
 
--- and it knows that as long as it is told so
-pub knows_on : (who : ℕ) (found : Search) (m m′ : Mine) → m′.0.told ≡ m.0.told → KnowsVictim who found m → KnowsVictim who found m′
-knows_on who NoCycle m m′ same knows = tt
-knows_on who (Victim victim) m m′ same knows = λ own. same ∙ knows own
-
--- whichever word was met
-pub hears_settling : (slots session number found : ℕ) (m m′ : Mine) → TellsOwn slots session found m.0 → (found ≡ wait_in number 1 → m′ ≡ settled_lost slots session number 3 m)
-    → (found ≢ wait_in number 1 → m′ ≡ missed_wait slots session found m) → Hears m m′
-hears_settling slots session number found m m′ own settled missed =
-    by_bool (found == wait_in number 1)
+-- by the exchange that settles a wait, whichever word it met
+pub tries_to_settle : (number found : ℕ) (r : WaitRead) (done : Bool) (a b : SeatState) → r.word.0 ≡ wait_in number 1 → done ≡ (found == r.word.0) → TellsOwn a.table.slots r.session found a.me.0
+    → (found ≡ wait_in number 1 → b ≡ record a { me = settled_lost a.table.slots r.session number 3 a.me })
+    → (found ≢ wait_in number 1 → b ≡ record a { me = missed_wait a.table.slots r.session found a.me }) → TriesToSettle r.session (Some r) done a b
+tries_to_settle number found r done a b unsettled told own settled missed =
+    by_bool (found == r.word.0)
     (λ same.
-    let is = eqb-true found (wait_in number 1) same in
-    hears_lost slots session number m m′ (settled is) (rw (sym is) own))
-    (λ differ. hears_missed slots session found m m′ own (missed (λ is. false≢true (sym differ ∙ eq-eqb found (wait_in number 1) is))))
+    let is : found ≡ wait_in number 1 = eqb-true found r.word.0 same ∙ unsettled in
+    let lost = mine (settled is) in
+    record {
+      reads = (table_of (settled is), reads_lost a.table.slots r.session number a.me b.me lost (rw (sym is) own));
+      settled = λ yes. (settles_victim a.table.slots r.session number a.me b.me lost, knows_lost a.table.slots r.session number a.me b.me lost);
+      missed = λ no. absurd (false≢true (sym no ∙ told ∙ same));
+    })
+    (λ differ.
+    let differs : found ≢ r.word.0 = λ is. false≢true (sym differ ∙ eq-eqb found r.word.0 is) in
+    let other_word = missed (λ is. differs (is ∙ sym unsettled)) in
+    let met = mine other_word in
+    let e : Met = record { kind = MissWait; deeds = []; word = wait_word a.table.slots r.session; found = found; held = a.me.0.latches; directory = a.me.0.directory } in
+    record {
+      reads = (table_of other_word, reads_word MissWait refl a.table.slots r.session found a.me b.me own met);
+      settled = λ yes. absurd (false≢true (sym differ ∙ sym told ∙ yes));
+      missed = λ no. (
+        ap (λ (x : Mine). x.0.settles) met,
+        inr (e, ([], [], ap (λ (x : Mine). x.0.log) met ∙ ap (λ (log : List Met). log ++ e ∷ []) (sym (append-nil a.me.0.log))), record { word_is = refl; differs = differs }),
+      );
+    })
 
--- ---- another word was met
+-- where nothing was done, since the word that was read isn't that of an open wait, or no word was read
+pub tries_nothing : (victim : ℕ) (read : Option WaitRead) (a : SeatState) → IfSome read (WasOther a.table.slots a.me a.me) → TriesToSettle victim read false a a
+tries_nothing victim read a other_word = record {
+  reads = (refl, reads_none a.me);
+  settled = λ yes. absurd (false≢true yes);
+  missed = λ no. (refl, other_word);
+}
 
-pub other_met : (slots found : ℕ) (h : WaitRead) (m m′ : Mine) → m′ ≡ missed_wait slots h.session found m → found ≢ h.word.0 → SettlesNothing m m′ × WasOther slots m m′ h
-other_met slots found h m m′ missed differs =
-    let e : Met = record { kind = MissWait; deeds = []; word = wait_word slots h.session; found = found; held = m.0.latches; directory = m.0.directory } in (
-      ap (λ (x : Mine). x.0.settles) missed,
-      inr (e, ([], [], ap (λ (x : Mine). x.0.log) missed ∙ ap (λ (log : List Met). log ++ e ∷ []) (sym (append-nil m.0.log))), record { word_is = refl; differs = differs }),
-    )
-
--- of a session of which no word was heard before the next one
-module _ (session : ℕ) (words : List WaitRead) (i : ℕ) (d : WaitRead) (inside : i < length words) (none : heard_of session (take i words) ≡ None) where
-  with_next : (o : Option WaitRead) → heard_of session (get_or words i d ∷ []) ≡ o → heard_of session (take (i + 1) words) ≡ o
+-- of a session of which no word was read before the next one
+module _ (session : ℕ) (words : List WaitRead) (i : ℕ) (d : WaitRead) (inside : i < length words) (none : read_of session (take i words) ≡ None) where
+  with_next : (o : Option WaitRead) → read_of session (get_or words i d ∷ []) ≡ o → read_of session (take (i + 1) words) ≡ o
   with_next o next =
-      ap (heard_of session) (take_more words i d inside)
+      ap (read_of session) (take_more words i d inside)
       ∙ find-append (λ (x : WaitRead). x.session == session) (take i words) (get_or words i d ∷ [])
-      ∙ ap (λ (before : Option WaitRead). option_or before (heard_of session (get_or words i d ∷ []))) none
+      ∙ ap (λ (before : Option WaitRead). option_or before (read_of session (get_or words i d ∷ []))) none
       ∙ next
 
-  pub none_still : (get_or words i d).session ≢ session → heard_of session (take (i + 1) words) ≡ None
+  pub none_still : (get_or words i d).session ≢ session → read_of session (take (i + 1) words) ≡ None
   none_still differs = with_next None (rw (other (get_or words i d).session session differs) refl)
 
-  pub heard_first : (get_or words i d).session ≡ session → heard_of session words ≡ Some (get_or words i d)
-  heard_first same =
-      let next : heard_of session (take (i + 1) words) ≡ Some (get_or words i d) = with_next (Some (get_or words i d)) (rw (eq-eqb (get_or words i d).session session same) refl) in
-      ap (heard_of session) (sym (take-append-drop (i + 1) words))
+  pub read_first : (get_or words i d).session ≡ session → read_of session words ≡ Some (get_or words i d)
+  read_first same =
+      let next : read_of session (take (i + 1) words) ≡ Some (get_or words i d) = with_next (Some (get_or words i d)) (rw (eq-eqb (get_or words i d).session session same) refl) in
+      ap (read_of session) (sym (take-append-drop (i + 1) words))
       ∙ find-append (λ (x : WaitRead). x.session == session) (take (i + 1) words) (drop (i + 1) words)
-      ∙ ap (λ (before : Option WaitRead). option_or before (heard_of session (drop (i + 1) words))) next
+      ∙ ap (λ (before : Option WaitRead). option_or before (read_of session (drop (i + 1) words))) next
+
+-- ---- of a call that did something before and after
 
 -- what is met otherwise is so of a call that did something before
 other_after : (slots : ℕ) (a b c : Mine) (o : Option WaitRead) → GoesOn a b → IfSome o (WasOther slots b c) → IfSome o (WasOther slots a c)
 other_after slots a b c None before none = tt
-other_after slots a b c (Some h) before (inl settled) = inl settled
-other_after slots a b c (Some h) before (inr met) = inr (met.0, step_after a b c before met.0 met.1, met.2)
-
-pub misses : (id : TableId) (who victim : ℕ) (latches : List LatchRecord) (audited : List Audited) (words : List WaitRead) (a b c : Mine) → AreOfAll id words → All (WasHeard id.slots latches a c) words
-    → victim_in (settled_by words) (books_of audited) who ≡ Some victim → GoesOn a b → IfSome (heard_of victim words) (WasOther id.slots b c) → Misses id who latches audited a c
-misses id who victim latches audited words a b c all heard found before met =
-    record { words = words; all = all; heard = heard; victim = victim; found = found; other = other_after id.slots a b c (heard_of victim words) before met }
-
--- ---- of a call that did something before and after
+other_after slots a b c (Some r) before (inl settled) = inl settled
+other_after slots a b c (Some r) before (inr met) = inr (met.0, step_after a b c before met.0 met.1, met.2)
 
 module _ (slots who : ℕ) (latches : List LatchRecord) (audited : List Audited) (words : List WaitRead) (a b c d : Mine)
     (before : GoesOn a b) (same : b.0.settles ≡ a.0.settles) (after : GoesOn c d) (kept : d.0.settles ≡ c.0.settles) where
-  pub victim_within : (victim : ℕ) → SettlesVictim slots victim latches b c → SettlesVictim slots victim latches a d
+  victim_within : (victim : ℕ) → SettlesVictim slots victim latches b c → SettlesVictim slots victim latches a d
   victim_within victim fells = record {
     wait = fells.wait;
     settles = kept ∙ fells.settles ∙ ap (λ (all : List Settlement). all ++ record { session = victim; wait = fells.wait; state = 3 } ∷ []) same;
@@ -153,9 +166,58 @@ pub judges_within : (id : TableId) (who : ℕ) (latches : List LatchRecord) (aud
 judges_within id who latches audited found a b c d before same after kept judges = record {
   words = judges.words;
   all = judges.all;
-  heard = all_within id.slots latches a b c d judges.words before after judges.heard;
+  read = all_within id.slots latches a b c d judges.words before after judges.read;
   outcome = outcome_within id.slots who latches audited judges.words a b c d before same after kept found judges.outcome;
 }
+
+-- a session that is the victim knows that as long as it is told so
+pub knows_on : (who : ℕ) (found : Search) (m m′ : Mine) → m′.0.told ≡ m.0.told → KnowsVictim who found m → KnowsVictim who found m′
+knows_on who NoCycle m m′ same knows = tt
+knows_on who (Victim victim) m m′ same knows = λ own. same ∙ knows own
+
+module _ (lists : List Queues) (a b c : SeatState) (first : OnlyReadsWaits a b) where
+  pub finds_after : (found : Search) → Finds lists b c found → Finds lists a c found
+  finds_after found finds = (
+    λ audited are.
+        judges_within a.table a.me.0.number a.me.0.latches audited found a.me b.me c.me c.me (goes_reading a.me b.me first.0.1) first.1 (goes_nowhere c.me) refl
+        (at_first a b first.0 (λ id latches who. Judges id who latches audited found b.me c.me) (finds.0 audited are)),
+    at_first a b first.0 (λ id latches who. KnowsVictim who found c.me) finds.1,
+  )
+
+  -- the words were read, and by these and the lists there is a victim
+  module _ (words : List WaitRead) (victim : ℕ) (read : AreRead words a b) (then : AtItsTable b c ReadsWaitsQuietly)
+      (is : (audited : List Audited) → AreQueuesOf audited lists → victim_in (settled_by words) (books_of audited) a.me.0.number ≡ Some victim) where
+    still : All (WasRead a.table.slots a.me.0.latches a.me c.me) words
+    still = all_within a.table.slots a.me.0.latches a.me a.me b.me c.me words (goes_nowhere a.me) (goes_reading b.me c.me then.1) read.1
+
+    pub finds_victim : SettlesVictim b.table.slots victim b.me.0.latches b.me c.me × KnowsVictim b.me.0.number (Victim victim) c.me → Finds lists a c (Victim victim)
+    finds_victim settled = (
+      λ audited are. record {
+        words = words;
+        all = read.0;
+        read = still;
+        outcome = (
+          is audited are,
+          victim_within a.table.slots a.me.0.number a.me.0.latches audited words a.me b.me c.me c.me (goes_reading a.me b.me first.0.1) first.1 (goes_nowhere c.me) refl victim
+              (at_first a b first.0 (λ id latches who. SettlesVictim id.slots victim latches b.me c.me) settled.0),
+        );
+      },
+      at_first a b first.0 (λ id latches who. KnowsVictim who (Victim victim) c.me) settled.1,
+    )
+
+    pub misses_victim : SettlesNothing b.me c.me × IfSome (read_of victim words) (WasOther b.table.slots b.me c.me) → FindsAtOnce lists a c None
+    misses_victim missed = (
+      missed.0 ∙ first.1,
+      λ audited are. record {
+        words = words;
+        all = read.0;
+        read = still;
+        victim = victim;
+        found = is audited are;
+        other = other_after a.table.slots a.me b.me c.me (read_of victim words) (goes_reading a.me b.me first.0.1)
+            (at_first a b first.0 (λ id latches who. IfSome (read_of victim words) (WasOther id.slots b.me c.me)) missed.1);
+      },
+    )
 
 -- ---- by fewer books
 
@@ -165,7 +227,7 @@ pub judges_if_waited : (id : TableId) (who : ℕ) (latches : List LatchRecord) (
 judges_if_waited id who latches one before after found m m′ judges = record {
   words = judges.words;
   all = judges.all;
-  heard = judges.heard;
+  read = judges.read;
   outcome = by_found found judges.outcome;
 }
   where

@@ -1,6 +1,6 @@
 -- A visit to read what stands at a place.
-use Rattle.std.proofs.Common.{◌≡◌, ℕ, [], ◌∷◌, ◌++◌, Ok, Err, Some, ap, ◌∙◌, refl, sym, subst, append_assoc}
-use Rattle.std.specs.Prelude.{IfOk, Result, is_some}
+use Rattle.std.proofs.Common.{◌≡◌, ℕ, List, [], ◌∷◌, ◌++◌, Some, ap, ◌∙◌, refl, sym, subst, append_assoc}
+use Rattle.std.specs.Prelude.{is_some}
 use Rattle.mdl_key.specs.Words.{KeyName}
 use Rattle.mdl_defs.specs.Standings.{MayStand}
 use Rattle.mdl_defs.specs.declared.standing.Standing.{Standing}
@@ -9,17 +9,12 @@ use Rattle.mdl_steps.specs.declared.view.LatchRecord.{LatchRecord}
 use Rattle.mdl_steps.specs.declared.view.Met.{Met}
 use Rattle.mdl_steps.specs.Cells.{held_at}
 use Rattle.mdl_steps.specs.Layout.{latch_word}
-use Rattle.mdl_steps.specs.Plays.{Mine, IsFresh, read_and_put}
+use Rattle.mdl_steps.specs.Plays.{Mine, IsFresh, latched, read_and_put}
 use Rattle.mdl_visits.specs.Leavings.{Learns, MeetsStanding, knowing}
 use Rattle.mdl_visits.specs.Readings.{Follows, WasHeld, WereHeld}
-use Rattle.mdl_visits.specs.Visits.{IsInside, IsStepOf}
+use Rattle.mdl_visits.specs.Visits.{AllQuiet, IsInside, IsStepOf, StaysQuiet, and_made}
 use Rattle.mdl_visits.proofs.Leaving.{own_found}
-use Rattle.mdl_visits.proofs.Steps.{none_then}
-
--- what is told of a result tells what follows from it
-pub ok_told : {A E : Type 0} {P Q : A → Type 0} (result : Result A E) → ((a : A) → P a → Q a) → IfOk result P → IfOk result Q
-ok_told (Ok a) follows told = follows a told
-ok_told (Err e) follows told = tt
+use Rattle.mdl_visits.proofs.Steps.{none_then, quiet_on, quiet_one, quiet_taken}
 
 -- what the holder of a fresh latch is told of what it read and noted
 pub follows : {place : ℕ} {h : LatchRecord} {m : Mine} → IsFresh place h m → Follows place h.book.standing m
@@ -44,6 +39,11 @@ module _ (place : ℕ) (standing : Standing) (m m′ m″ : Mine) (inside : IsIn
         ∙ (λ i. (record (knowing place standing m.0) { latches = inside.others i; log = append_assoc m.0.log inside.made (puts ∷ []) i }, m.1)),
     none_then inside.made (puts ∷ []) [] inside.did refl,
   )
+
+  pub quiet_read : (h : LatchRecord) (made : List Met) → AllQuiet m.0.directory made → m′ ≡ latched place h (and_made made m) → StaysQuiet m m″
+  quiet_read h made had taken =
+      let put : Met = record { kind = PutLatch; deeds = []; word = latch_word place; found = m′.0.number; held = m′.0.latches; directory = m′.0.directory } in
+      quiet_on m m′ m″ (quiet_taken place h made m m′ had taken) (ap (λ (x : Mine). x.0.directory) taken) (quiet_one put m′ m″ (ap (λ (x : Mine). x.0.log) read) (refl, refl))
 
   pub meets_standing : (h : LatchRecord) (who : ℕ) → m.0.number ≡ who → IsFresh place h m → held_at place m′.0.latches ≡ Some h → standing ≡ h.book.standing
       → (e : Met) × IsStepOf m m″ e × MeetsStanding place who standing e × WereHeld place who m e

@@ -1,5 +1,5 @@
--- Way is made, and the latch given back.
-use Rattle.std.proofs.Common.{◌≡◌, ℕ, nat_lt, length, arith, true, false, List, [], ◌∷◌, ◌++◌, Some, refl, sym, ap, ◌∙◌, subst, inl, inr, append_assoc, append-nil}
+-- Waits are granted, and the latch given back.
+use Rattle.std.proofs.Common.{◌≡◌, ℕ, nat_lt, length, arith, true, false, List, [], ◌∷◌, ◌++◌, refl, sym, ap, ◌∙◌, inl, inr, append_assoc, append-nil}
 use Rattle.std.specs.Prelude.{◌⊎◌}
 use Rattle.std.proofs.lemmas.Bool.{lt-ltb}
 use Rattle.atomic_table.specs.Seated.{TableId}
@@ -12,12 +12,11 @@ use Rattle.mdl_steps.specs.declared.view.LatchRecord.{LatchRecord}
 use Rattle.mdl_steps.specs.declared.view.Met.{Met}
 use Rattle.mdl_steps.specs.declared.view.Settlement.{Settlement}
 use Rattle.mdl_steps.specs.Deeds.{all_booked, all_done}
-use Rattle.mdl_steps.specs.Cells.{held_at}
 use Rattle.mdl_steps.specs.Layout.{latch_word, lock_word}
 use Rattle.mdl_steps.specs.Plays.{Mine, unlatched}
-use Rattle.mdl_steps.specs.Seats.{Holds, elsewhere, rest, written}
+use Rattle.mdl_steps.specs.Seats.{Holds, elsewhere, rest}
 use Rattle.mdl_steps.proofs.Hands.{elsewhere-settled}
-use Rattle.mdl_visits.specs.Grantings.{ForgetsNobody, IsLowered, ReschedulesAndLeaves, HasRescheduled, Reschedules, StandsOnce, VisitsAndReschedules, WaitsOnce}
+use Rattle.mdl_visits.specs.Grantings.{ForgetsNobody, IsLowered, ReschedulesAndLeaves, HasRescheduled, Reschedules, VisitsAndReschedules}
 use Rattle.mdl_visits.specs.Visits.{GoesOn, IsInside, IsStepOf, StaysOn}
 use Rattle.mdl_visits.proofs.Steps.{goes_staying, leaves_after, none_then, step_after, step_before}
 use Rattle.mdl_visits.proofs.Way.{granted_after, granted_before, granted_since, looked_within, stays_of}
@@ -32,7 +31,7 @@ module _ (id : TableId) (place : ℕ) (a b c : Mine) (stays : StaysOn a b) where
   nobody_left_after latch (inl none) = inl none
   nobody_left_after latch (inr looked) = inr (looked_within b c a c (step_after a b c more) id place latch latch.book.waiting looked)
 
-  -- where nothing of waits changed before, way was made from there on
+  -- where nothing of waits changed before, waits were granted from there on
   pub rescheduled_after : b.0.settles ≡ a.0.settles → b.0.told ≡ a.0.told → b.0.number ≡ a.0.number → b.0.asks ≡ a.0.asks → HasRescheduled id place b c → HasRescheduled id place a c
   rescheduled_after settles told number asks way =
       let s = way.served in
@@ -148,13 +147,11 @@ module _ (id : TableId) (place : ℕ) (ds : List Deed) (m b c : Mine) (low : IsL
     way = rescheduled_after id place m b c m_low (ap (λ (x : Mine). x.0.settles) low.4) (ap (λ (x : Mine). x.0.told) low.4) (ap (λ (x : Mine). x.0.number) low.4) (ap (λ (x : Mine). x.0.asks) low.4) left.way;
   }
 
-  pub step_lowered : (e : Met) × IsStepOf m c e × (e.word ≡ lock_word place) × (e.held ≡ m.0.latches) × (e.deeds ≡ ds)
+  pub step_lowered : (e : Met) × IsStepOf m c e × ((e.word ≡ lock_word place) × (e.held ≡ m.0.latches) × (e.deeds ≡ ds))
   step_lowered = (
     lowers,
     step_before m b c (left.made, ap (λ (x : Mine). x.0.log) left.now) lowers ([], [], ap (λ (x : Mine). x.0.log) low.4 ∙ ap (λ (log : List Met). log ++ lowers ∷ []) (sym (append-nil m.0.log))),
-    refl,
-    refl,
-    refl,
+    (refl, refl, refl),
   )
 
 -- deeds are done to granted tickets alone
@@ -179,25 +176,7 @@ visits_and_reschedules id place ds m a c inside stays left = record {
       (ap (λ (x : Mine). x.0.number) inside.now) (ap (λ (x : Mine). x.0.asks) inside.now) left.way;
 }
 
--- what was left after a write was left before it
-pub rescheduled_before_write : (id : TableId) (place : ℕ) (ds : List Deed) (book : BookView) (m b c : Mine) → b ≡ written place book m → ReschedulesAndLeaves id place ds b c → ReschedulesAndLeaves id place ds m c
-rescheduled_before_write id place ds book m b c is left = shown (subst (λ (x : Mine). ReschedulesAndLeaves id place ds x c) is left)
-  where
-    shown : ReschedulesAndLeaves id place ds (written place book m) c → ReschedulesAndLeaves id place ds m c
-    shown l = record { told = l.told; settles = l.settles; made = l.made; now = l.now; did = l.did; way = rescheduled_after id place m (written place book m) c ([], sym (append-nil m.0.log), tt) refl refl refl refl l.way }
-
 -- a list with no element
 pub nobody_waits : (ts : List Ticket) → nat_lt 0 (length ts) ≡ false → ts ≡ []
 nobody_waits [] e = refl
 nobody_waits (t ∷ ts) e = absurd (let some : nat_lt 0 (length (t ∷ ts)) ≡ true = lt-ltb 0 (length (t ∷ ts)) (omega arith) in cc)
-
--- the record of a latch is the only one of its place
-pub waits_once : (place : ℕ) (h : LatchRecord) (m : Mine) → held_at place m.0.latches ≡ Some h → StandsOnce h.book.waiting → WaitsOnce place m
-waits_once place h m recorded once g also = subst (λ (x : LatchRecord). StandsOnce x.book.waiting) (same h g (sym recorded ∙ also)) once
-  where
-    same : (h g : LatchRecord) → Some h ≡ Some g → h ≡ g
-    same h g e = cc
-
--- it is so still after a write
-pub waits_written : (place : ℕ) (book : BookView) (m b : Mine) → b ≡ written place book m → WaitsOnce place m → WaitsOnce place b
-waits_written place book m b is once = subst (λ (x : Mine). WaitsOnce place x) (sym is) once

@@ -1,8 +1,7 @@
 -- What an equation of a seat's whole value tells.
 use Rattle.std.proofs.Common.{◌≡◌, ℕ, Ok, Err, ap, subst, sym}
-use Rattle.std.specs.Prelude.{IfOk, OnOk, OnErr, Result}
+use Rattle.std.specs.Prelude.{IfOk, Result}
 use Rattle.atomic_table.specs.Seated.{TableId}
-use Rattle.mdl_steps.specs.Plays.{Mine}
 use Rattle.mdl_steps.specs.SeatStates.{SeatState}
 use Rattle.mdl_steps.specs.Seats.{IsPlace}
 
@@ -14,11 +13,6 @@ mine told = ap (λ (x : SeatState). x.me) told
 pub table_of : {s t : SeatState} → s ≡ t → s.table ≡ t.table
 table_of told = ap (λ (x : SeatState). x.table) told
 
--- which it is also where the call may fail, and changes nothing then
-pub table_kept : {T E : Type 0} (result : Result T E) (s t : SeatState) (m : Mine) → OnOk result (t ≡ record s { me = m }) → OnErr result (t ≡ s) → t.table ≡ s.table
-table_kept (Ok x) s t m done failed = table_of done
-table_kept (Err e) s t m done failed = table_of failed
-
 -- two facts of a result
 pub both_ok : {T E : Type 0} (result : Result T E) (P Q : T → Type 0) → IfOk result P → IfOk result Q → IfOk result (λ x. P x × Q x)
 both_ok (Ok x) P Q one other = (one, other)
@@ -27,12 +21,3 @@ both_ok (Err e) P Q one other = tt
 -- a place of a seat's table is one of the table that it is at later
 pub place_there : (place : ℕ) {table later : TableId} → later ≡ table → IsPlace table place → IsPlace later place
 place_there place same is_place = subst (λ (t : TableId). IsPlace t place) (sym same) is_place
-
--- what the session knows and has there, where the call may fail
-pub mine_ok : {T E : Type 0} (result : Result T E) (s t : SeatState) → OnOk result (t ≡ s) → OnOk result (t.me ≡ s.me)
-mine_ok (Ok x) s t done = mine done
-mine_ok (Err e) s t done = tt
-
-pub mine_err : {T E : Type 0} (result : Result T E) (s t : SeatState) → OnErr result (t ≡ s) → OnErr result (t.me ≡ s.me)
-mine_err (Ok x) s t failed = tt
-mine_err (Err e) s t failed = mine failed

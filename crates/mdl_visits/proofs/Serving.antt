@@ -24,7 +24,7 @@ use Rattle.mdl_steps.specs.Seats.{Holds, written}
 use Rattle.mdl_steps.specs.WaitPlays.{met_wait_by, settled_granted, wait_in, with_admitted, TellsOwn}
 use Rattle.mdl_steps.proofs.Hands.{holds_written}
 use Rattle.mdl_steps.proofs.Views.{other}
-use Rattle.mdl_visits.specs.Grantings.{AreTried, ForgetsNobody, HasJustMet, IsGrantedFrom, IsLookedThrough, IsReady, IsTriedOrGranted, IsTried, ReschedulesInTurn, MayReschedule, MeetsWaiter, OnlyMeets, ahead_of}
+use Rattle.mdl_visits.specs.Grantings.{AreTried, ForgetsNobody, HasJustMet, IsGrantedFrom, IsLookedThrough, IsGrantableTicket, IsTriedOrGranted, IsTried, ReschedulesInTurn, MayReschedule, MeetsWaiter, OnlyMeets, ahead_of}
 use Rattle.mdl_visits.specs.Visits.{GoesOn, IsStepOf}
 use Rattle.mdl_visits.proofs.Losing.{taken_out}
 use Rattle.mdl_visits.proofs.Steps.{goes_by, step_after, step_before}
@@ -46,7 +46,7 @@ some_is : (o : Option Ticket) (t : Ticket) → o ≡ Some t → is_some o ≡ tr
 some_is o t e = ap is_some e
 
 -- a step that only met a wait's word, while its ticket waits there, and what was met
-pub waiter_met : (kind : StepKind) → OnlyMeets kind → (slots place session number found : ℕ) (h : LatchRecord) (m m′ : Mine) → m′ ≡ met_wait_by kind slots session found m → Holds place h h.book m → IsReady session number h
+pub waiter_met : (kind : StepKind) → OnlyMeets kind → (slots place session number found : ℕ) (h : LatchRecord) (m m′ : Mine) → m′ ≡ met_wait_by kind slots session found m → Holds place h h.book m → IsGrantableTicket session number h
     → (e : Met) × IsStepOf m m′ e × MeetsWaiter slots place session number e × (e.found ≡ found)
 waiter_met kind only slots place session number found h m m′ is has ready =
     let e : Met = record { kind = kind; deeds = []; word = wait_word slots session; found = found; held = m.0.latches; directory = m.0.directory } in (
@@ -59,11 +59,11 @@ waiter_met kind only slots place session number found h m m′ is has ready =
 -- ---- the exchange
 
 -- a ticket that can be granted waits there, so the book in hand has it granted
-pub admitted_there : {P : Type 0} (session number : ℕ) (h : LatchRecord) (result : Result Ticket BookError) → IsReady session number h → result ≡ ok_or (ticket_of session number h.book.waiting) NotHere → OnOk result P → P
+pub admitted_there : {P : Type 0} (session number : ℕ) (h : LatchRecord) (result : Result Ticket BookError) → IsGrantableTicket session number h → result ≡ ok_or (ticket_of session number h.book.waiting) NotHere → OnOk result P → P
 admitted_there session number h result ready refused done =
     taken_out (ticket_of session number h.book.waiting) NotHere result (some_is (ticket_of session number h.book.waiting) ready.wish ready.waits) refused done
 
-module _ (id : TableId) (place session number wait count : ℕ) (h : LatchRecord) (m a b : Mine) (has : Holds place h h.book m) (ready : IsReady session number h) (just : HasJustMet id.slots place session h m)
+module _ (id : TableId) (place session number wait count : ℕ) (h : LatchRecord) (m a b : Mine) (has : Holds place h h.book m) (ready : IsGrantableTicket session number h) (just : HasJustMet id.slots place session h m)
     (made : a ≡ settled_granted id.slots place session number count m) (keeps : Holds place (with_admitted session number h) h.book a)
     (own : TellsOwn id.slots session (wait_in count 1) m.0) (admitted : b ≡ written place (admitting session number h.book) a) where
   pub is_admitted : (g : LatchRecord) → Holds place g g.book m → IsGrantedFrom id.slots place session number wait g m b
@@ -80,7 +80,7 @@ module _ (id : TableId) (place session number wait count : ℕ) (h : LatchRecord
       made (found_number session number h.book.waiting ready.wish ready.waits) own)
       (rescheduled_written id place start h.book (admitting session number h.book) a b keeps.carried admitted)
 
-module _ (kind : StepKind) (only : OnlyMeets kind) (id : TableId) (place session number word : ℕ) (h : LatchRecord) (m a : Mine) (has : Holds place h h.book m) (ready : IsReady session number h)
+module _ (kind : StepKind) (only : OnlyMeets kind) (id : TableId) (place session number word : ℕ) (h : LatchRecord) (m a : Mine) (has : Holds place h h.book m) (ready : IsGrantableTicket session number h)
     (is : a ≡ met_wait_by kind id.slots session word m) where
   -- it met another word
   pub is_missed : (wait : ℕ) → word ≢ wait → (g : LatchRecord) → Holds place g g.book m → IsGrantedFrom id.slots place session number wait g m a
@@ -89,7 +89,7 @@ module _ (kind : StepKind) (only : OnlyMeets kind) (id : TableId) (place session
       subst (λ (x : LatchRecord). IsGrantedFrom id.slots place session number wait x m a) (one_record place h g m has mine)
       (inl ((step.0, step.1, step.2, λ same. other (sym step.3 ∙ same)), holds_met kind id.slots place session word h m a is has))
 
-  -- a step that met the word makes way
+  -- a step that met the word reschedules
   pub rescheduling_missed : TellsOwn id.slots session word m.0 → ReschedulesInTurn id place session number m a
   rescheduling_missed own start g mine looked = rescheduled_met id place start kind only session word g.book m a mine.carried own is
 
@@ -166,7 +166,7 @@ fewer_untried untried session there =
     omega arith
 
 module _ (id : TableId) (place session number word : ℕ) (h : LatchRecord) (m a b : Mine) (untried : set.FinSet nat_cmp) (before : GoesOn m a) (more : GoesOn a b) (has : Holds place h h.book a) (may : MayReschedule word h)
-    (ready : IsReady session number h) (served : IsTriedOrGranted id place session number h a b) (tried : AreTried id place untried h m a) where
+    (ready : IsGrantableTicket session number h) (served : IsTriedOrGranted id place session number h a b) (tried : AreTried id place untried h m a) where
   -- who was tried before was tried
   still : (who its : ℕ) → IsTried id place who its m a → IsTried id place who its m b
   still who its (inl none) = inl none

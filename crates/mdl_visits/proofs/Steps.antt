@@ -85,9 +85,6 @@ does_then ds more a b c first later = (
 
 -- ---- what the session has of the directory meanwhile
 
-pub quiet_none : (m m′ : Mine) → m′ ≡ m → StaysQuiet m m′
-quiet_none m m′ same = ([], ap (λ (x : Mine). x.0.log) same ∙ sym (append-nil m.0.log), tt)
-
 pub quiet_on : (a b c : Mine) → StaysQuiet a b → b.0.directory ≡ a.0.directory → StaysQuiet b c → StaysQuiet a c
 quiet_on a b c first same more = (
   first.0 ++ more.0,
@@ -107,12 +104,3 @@ quiet_taken place h made a b had taken =
       ap (λ (x : Mine). x.0.log) taken ∙ append_assoc a.0.log made (took ∷ []),
       each_append (IsQuiet a.0.directory) made (took ∷ []) had ((refl, refl), tt),
     )
-
--- it is taken, something is done, and it is given back
-pub quiet_there : (place : ℕ) (h : LatchRecord) (made : List Met) (a b c d : Mine) → AllQuiet a.0.directory made → b ≡ latched place h (and_made made a) → StaysQuiet b c
-    → c.0.directory ≡ b.0.directory → d ≡ unlatched place [] c → StaysQuiet a d
-quiet_there place h made a b c d had taken inside same put =
-    let gave : Met = record { kind = PutLatch; deeds = []; word = latch_word place; found = c.0.number; held = c.0.latches; directory = c.0.directory } in
-    let last : StaysQuiet c d = quiet_one gave c d (ap (λ (x : Mine). x.0.log) put) (refl, refl) in
-    let had_still : b.0.directory ≡ a.0.directory = ap (λ (x : Mine). x.0.directory) taken in
-    quiet_on a c d (quiet_on a b c (quiet_taken place h made a b had taken) had_still inside) (same ∙ had_still) last

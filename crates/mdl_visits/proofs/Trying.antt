@@ -1,38 +1,42 @@
 -- What a try comes to, by the record of the latch as it was entered.
-use Rattle.std.proofs.Common.{◌≡◌, ℕ, ◌+◌, ◌≤◌, Bool, true, false, cond, ◌||◌, List, [], ◌∷◌, ◌++◌, length, Option, Some, None, Result, Err, refl, sym, ap, ◌∙◌, subst, inl, inr, append_assoc, length-append, arith}
-use Rattle.std.specs.Prelude.{◌⊎◌, nat_lt, nat_le, is_some}
+use Rattle.std.proofs.Common.{◌≡◌, ℕ, ◌+◌, ◌≤◌, Bool, true, false, cond, ◌||◌, List, [], ◌∷◌, ◌++◌, length, Some, None, Result, Err, refl, sym, ap, ◌∙◌, subst, inl, inr, append_assoc, length-append, arith}
+use Rattle.std.specs.Prelude.{◌⊎◌, nat_lt, nat_le, is_some, OnOk, Option}
 use Rattle.std.proofs.lemmas.Bool.{and_parts, lt-ltb, leb-true, or_right}
 use Rattle.std.proofs.lemmas.List.Folds.{list_any-append}
 use Rattle.mdl_key.specs.declared.mode.Mode.{Mode}
 use Rattle.mdl_key.specs.declared.namespace.Kind.{Kind}
-use Rattle.mdl_key.specs.Refusals.{Refuses}
+use Rattle.mdl_key.specs.Refusals.{Refuses, RefusesJust}
 use Rattle.mdl_key.specs.Words.{KeyName, is_mode_of, is_obtrusive, kind_of}
 use Rattle.mdl_book.specs.declared.book_error.BookError.{BookError}
 use Rattle.mdl_book.specs.declared.book_error.BookError.TheVariants as fault
 use Rattle.mdl_book.specs.declared.book_view.BookView.{BookView}
 use Rattle.mdl_book.specs.declared.ticket.Ticket.{Ticket}
-use Rattle.mdl_book.specs.Books.{lock_kind, granting, grant_fault, any_obtrusive, ticket_count}
+use Rattle.mdl_book.specs.Books.{lock_kind, granting, grant_fault, change_fault, any_obtrusive, full_fault, ticket_count}
 use Rattle.mdl_book.specs.FastTickets.{can_be_granted, may_stand}
-use Rattle.mdl_book.specs.Granting.{goes_first}
 use Rattle.mdl_book.specs.Tickets.{ticket_of}
 use Rattle.mdl_steps.specs.declared.deed.Deed.{Deed}
 use Rattle.mdl_steps.specs.declared.deed.Deed.TheVariants.{Gain, Alter}
 use Rattle.mdl_steps.specs.declared.step_kind.StepKind.TheVariants.{PutLatch, ReadWord}
 use Rattle.mdl_steps.specs.declared.view.LatchRecord.{LatchRecord}
 use Rattle.mdl_steps.specs.declared.view.Met.{Met}
-use Rattle.mdl_steps.specs.Deeds.{MayBeGranted, MayDo, MayJoin, MayUpgrade, booked}
+use Rattle.mdl_steps.specs.Cells.{held_at}
+use Rattle.mdl_steps.specs.Deeds.{KnowsPlace, MayBeGranted, MayDo, MayJoin, booked}
 use Rattle.mdl_steps.specs.Layout.{latch_word, lock_word}
 use Rattle.mdl_steps.specs.Plays.{Mine, noting, raised, unlatched}
 use Rattle.mdl_steps.specs.Rule.{TellsLists}
+use Rattle.mdl_steps.specs.SeatStates.{AtItsTable, SeatState}
 use Rattle.mdl_steps.specs.Seats.{Holds, MayPut, written}
 use Rattle.mdl_steps.proofs.Hands.{holds_written}
 use Rattle.mdl_steps.proofs.Views.{by_bool}
-use Rattle.mdl_visits.proofs.Altering.{altered_exactly}
+use Rattle.mdl_visits.specs.Leavings.{DidUnder, HasTicket, HasWorked}
+use Rattle.mdl_visits.specs.Visits.{Enters, HasEntered, HasStep, IsInside, KnowsKind, Visits, WasBlocked, WasGranted, WasRefused}
+use Rattle.mdl_visits.proofs.Altering.{altered_exactly, just_done, none_clashes}
+use Rattle.mdl_visits.proofs.Arriving.{met_full}
 use Rattle.mdl_visits.proofs.Leaving.{own_found}
 use Rattle.mdl_visits.proofs.Losing.{found_one}
 use Rattle.mdl_visits.proofs.Numbers.{idle_waits_not}
-use Rattle.mdl_visits.specs.Leavings.{HasTicket}
-use Rattle.mdl_visits.specs.Visits.{Enters, GoesOn, IsStepOf, KnowsKind, MayLeave, MeetsFull, MeetsGrantable}
+use Rattle.mdl_visits.proofs.Seats.{mine, table_of}
+use Rattle.mdl_visits.proofs.Visiting.{inside_written, visits_put}
 
 -- ---- flags
 
@@ -67,162 +71,210 @@ may_join book word session mode false obtrusive noted is stands = inl (sym is, (
 err_is : (T : Type 0) (a b : BookError) → ◌≡◌ {A = Result T BookError} (Err a) (Err b) → a ≡ b
 err_is T a b e = cc
 
--- why a ticket that may stand wasn't written
+-- why a ticket wasn't written, where none is refused but for want of room
+pub full : (T : Type 0) (count : ℕ) (cause : BookError) → Refuses {T = T} (full_fault count) fault.OutOfMemory (Err cause) → (cause ≡ fault.OutOfMemory) ⊎ ((cause ≡ fault.Full) × (65535 ≤ count))
+full T count cause refuses =
+    by_bool (nat_le 65535 count)
+    (λ many. let is_full = rw many at refuses in inr (err_is T cause fault.Full is_full, leb-true 65535 count many))
+    (λ room. inl (rw room at refuses))
+
+-- and one that may stand is
 pub refusal : (T : Type 0) (ticket : Ticket) (word : ℕ) (book : BookView) (cause : BookError) → may_stand (lock_kind book) book.granted word ticket.session ticket.mode ≡ true
     → Refuses {T = T} (grant_fault ticket word book) fault.OutOfMemory (Err cause) → (cause ≡ fault.OutOfMemory) ⊎ ((cause ≡ fault.Full) × (65535 ≤ ticket_count book))
 refusal T ticket word book cause stands refuses =
-    let left = rw stands at refuses in
-    by_bool (nat_le 65535 (ticket_count book))
-    (λ full. let is_full = rw full at left in inr (err_is T cause fault.Full is_full, leb-true 65535 (ticket_count book) full))
-    (λ room. inl (rw room at left))
+    full T (ticket_count book) cause (rw stands at refuses)
 
-module _ (place word session number : ℕ) (mode : Mode) (kind : Kind) (asks : Bool) (m m′ : Mine) (entered : Enters place asks word m m′)
-    (knows : KnowsKind m.0 place kind) (is_mode : is_mode_of kind mode ≡ true) (is : asks ≡ is_obtrusive kind mode) where
-  -- the record of the latch, as the wish is tested
-  abbrev latch : LatchRecord
-  latch = noting word (raised true asks entered.found)
+-- ---- as the place was entered
+
+module _ {place q word : ℕ} {mode : Mode} {can : Bool} {s c : SeatState} (has : HasEntered place q word mode can s c) where
+  abbrev entered : Enters place has.obtrusive word mode can s.me c.me
+  entered = has.entered.1
 
   abbrev book : BookView
   book = entered.found.book
 
-  kind_is : lock_kind book ≡ kind
-  kind_is = ap kind_of_key (entered.fresh.named knows.0 knows.1 knows.2 knows.3) ∙ knows.4
-    where
-      kind_of_key : KeyName → Kind
-      kind_of_key key = kind_of key.namespace
+  -- the record of the latch, as the wish is tested
+  abbrev pub entered_latch : LatchRecord
+  entered_latch = noting word (raised true has.obtrusive entered.found)
 
-  joins : can_be_granted (lock_kind book) book.granted book.waiting word session mode ≡ true → MayJoin session book latch.noted mode
-  joins can = may_join book word session mode asks entered.found.obtrusive entered.found.noted (is ∙ ap (λ k. is_obtrusive k mode) (sym kind_is)) (and_parts _ _ can).0
+  kind_known : (kind : Kind) → KnowsKind s.me.0 place kind → lock_kind book ≡ kind
+  kind_known kind knows = ap (λ (key : KeyName). kind_of key.namespace) (entered.fresh.named knows.0 knows.1 knows.2 knows.3) ∙ knows.4
 
-  is_mode_here : is_mode_of (lock_kind book) mode ≡ true
-  is_mode_here = ap (λ k. is_mode_of k mode) kind_is ∙ is_mode
+  pub is_mode_here : is_mode_of (lock_kind book) mode ≡ true
+  is_mode_here = ap (λ k. is_mode_of k mode) (kind_known has.kind has.wish.knows) ∙ has.wish.is_mode
 
-  asks_here : asks ≡ is_obtrusive (lock_kind book) mode
-  asks_here = is ∙ ap (λ k. is_obtrusive k mode) (sym kind_is)
+  pub asks_here : has.obtrusive ≡ is_obtrusive (lock_kind book) mode
+  asks_here = has.asks ∙ ap (λ k. is_obtrusive k mode) (sym (kind_known has.kind has.wish.knows))
 
-  module _ (mine : m.0.number ≡ session) where
-    me : session ≡ m′.0.number
-    me = sym mine ∙ sym (ap (λ (x : Mine). x.0.number) entered.inside.now)
+  pub entered_known : KnowsPlace c.me.0 q
+  entered_known =
+      let knows = subst (λ (x : Mine). KnowsKind x.0 place has.kind) (sym entered.inside.now) has.wish.knows in
+      subst (KnowsPlace c.me.0) (sym has.at) (knows.0, knows.1, knows.2, knows.3)
 
-    joins_here : can_be_granted (lock_kind book) book.granted book.waiting word session mode ≡ true → MayJoin m′.0.number book latch.noted mode
-    joins_here can = subst (λ (s : ℕ). MayJoin s book latch.noted mode) me (joins can)
+  pub entered_idle : c.me.0.asks ≡ None
+  entered_idle = ap (λ (x : Mine). x.0.asks) entered.inside.now ∙ has.wish.idle
 
-    -- and it waits for nothing, and behind nobody
-    granted_here : m.0.asks ≡ None → can_be_granted (lock_kind book) book.granted book.waiting word session mode ≡ true → MayBeGranted m′.0 book latch.noted mode
-    granted_here idle can = record {
-      idle = ap (λ (x : Mine). x.0.asks) entered.inside.now ∙ idle;
-      is_mode = is_mode_here;
-      joins = joins_here can;
-      first = subst (λ (s : ℕ). goes_first (lock_kind book) book.waiting s mode ≡ true) me (and_parts _ _ can).1;
-    }
+  pub entered_holds : Holds q entered_latch book c.me
+  entered_holds = subst (λ (p : ℕ). Holds p entered_latch book c.me) (sym has.at) entered.holds
 
-    -- it has a deed written that it may do, and may give the latch back
-    may_put : (d : Deed) (m″ : Mine) → MayDo m′.0 book latch.noted (d ∷ []) → TellsLists (booked session d book) true (asks || entered.found.obtrusive)
-        → m″ ≡ written place (booked session d book) m′ → MayPut place (d ∷ []) m″
-    may_put d m″ may told wrote =
-        let known = subst (λ (x : Mine). KnowsKind x.0 place kind) (sym entered.inside.now) knows in
-        let has : Holds place latch (booked session d book) (written place (booked session d book) m′) = holds_written place latch book (booked session d book) m′ entered.holds in
-        subst (MayPut place (d ∷ [])) (sym wrote) (
-          latch,
-          record {
-            holds = subst (λ (s : ℕ). Holds place latch (booked s d book) (written place (booked session d book) m′)) me has;
-            act = inl (known.0, known.1, known.2, known.3);
-            may = may;
-          },
-          subst (λ (s : ℕ). TellsLists (booked s d book) true (asks || entered.found.obtrusive)) me told,
-        )
+  pub entered_inside : IsInside q s.me c.me
+  entered_inside = subst (λ (p : ℕ). IsInside p s.me c.me) (sym has.at) entered.inside
 
-    -- the deed is the ticket that it gains
-    pub ready : (m″ : Mine) → m.0.asks ≡ None → number ≡ m.0.next → can_be_granted (lock_kind book) book.granted book.waiting word session mode ≡ true
-        → m″ ≡ written place (booked session (Gain number mode) book) m′ → MayPut place (Gain number mode ∷ []) m″
-    ready m″ idle next can wrote =
-        may_put (Gain number mode) m″
-        (next ∙ sym (ap (λ (x : Mine). x.0.next) entered.inside.now), inl (granted_here idle can))
-        (granted_exactly (record { session = session; number = number; mode = mode }) book entered.found.slow entered.found.obtrusive asks entered.fresh.exact asks_here)
-        wrote
+  me : s.me.0.number ≡ c.me.0.number
+  me = sym (ap (λ (x : Mine). x.0.number) entered.inside.now)
 
-    -- the ticket that it has there stands in the book
-    pub stands : m.0.asks ≡ None → HasTicket place number m.0.slow → is_some (ticket_of session number book.granted) ≡ true
-    stands idle has =
-        subst (λ (s : ℕ). is_some (ticket_of s number book.granted) ≡ true) mine (ap is_some (entered.fresh.own number (idle_waits_not m.0 number idle)) ∙ own_found m.0.number place number m.0.slow has)
+  pub told_here : can_be_granted (lock_kind book) book.granted book.waiting word c.me.0.number mode ≡ can
+  told_here = subst (λ (who : ℕ). can_be_granted (lock_kind book) book.granted book.waiting word who mode ≡ can) me entered.told
 
-    -- it may be brought to the mode
-    may_upgrade : m.0.asks ≡ None → HasTicket place number m.0.slow → can_be_granted (lock_kind book) book.granted book.waiting word session mode ≡ true
-        → MayUpgrade m′.0 book latch.noted number mode
-    may_upgrade idle has can =
-        let granted = granted_here idle can in
-        let held = found_one (ticket_of session number book.granted) (stands idle has) in
-        let held_here = subst (λ (s : ℕ). ticket_of s number book.granted ≡ Some held.0) me held.1 in
-        ((held.0, (held_here, idle_waits_not m′.0 number granted.idle)), granted)
+  -- it may go with nothing done
+  pub rested : HasWorked q [] c
+  rested = record {
+    is_place = has.is_place;
+    latch = entered_latch;
+    done = record { holds = entered_holds; act = inr refl; may = tt };
+    flagged = ((λ some. refl), λ some. or_right has.obtrusive entered.found.obtrusive (entered.fresh.exact.1 ∙ some));
+    once = record { once = entered.fresh.once; single = entered.fresh.single };
+  }
 
-    -- the deed is the other mode of that ticket, an obtrusive one
-    pub ready_altered : (m″ : Mine) → asks ≡ true → m.0.asks ≡ None → HasTicket place number m.0.slow
-        → can_be_granted (lock_kind book) book.granted book.waiting word session mode ≡ true
-        → m″ ≡ written place (booked session (Alter number mode) book) m′ → MayPut place (Alter number mode ∷ []) m″
-    ready_altered m″ up idle has can wrote =
-        may_put (Alter number mode) m″
-        (inl (may_upgrade idle has can))
-        (altered_exactly session number mode book asks entered.found.obtrusive up (sym asks_here ∙ up) (stands idle has))
-        wrote
-
-  -- the step that gave it back, with a deed, shows that the wish could be granted
-  pub grantable : (m″ m‴ : Mine) (wrote : BookView) (deed : Deed) → m.0.number ≡ session → can_be_granted (lock_kind book) book.granted book.waiting word session mode ≡ true
-      → m″ ≡ written place wrote m′ → m‴ ≡ unlatched place (deed ∷ []) m″ → (e : Met) × IsStepOf m m‴ e × MeetsGrantable place session mode deed e
-  grantable m″ m‴ wrote deed mine can writes puts =
-      let e : Met = record { kind = PutLatch; deeds = deed ∷ []; word = latch_word place; found = m′.0.number; held = m′.0.latches; directory = m′.0.directory } in (
-        e,
-        (
-          entered.inside.made,
-          [],
-          ap (λ (x : Mine). x.0.log) (puts ∙ ap (unlatched place (deed ∷ [])) writes) ∙ ap (λ (log : List Met). log ++ e ∷ []) (ap (λ (x : Mine). x.0.log) entered.inside.now),
-        ),
-        record {
-          kind = refl;
-          did = refl;
-          word = refl;
-          freed = ap (λ (x : Mine). x.0.number) entered.inside.now ∙ mine;
-          latch = latch;
-          held = entered.holds.recorded;
-          beside = joins can;
-          first = (and_parts _ _ can).1;
-        },
+  -- and did so, though there was no room
+  pub refused : (cause : BookError) (w n : SeatState) → w ≡ c → (cause ≡ fault.OutOfMemory) ⊎ ((cause ≡ fault.Full) × (65535 ≤ ticket_count book))
+      → ((b : SeatState) → AtItsTable b w (IsInside q) → AtItsTable b n (Visits q [])) → HasStep w n (DidUnder q [] w) → WasRefused place cause s n
+  refused cause w n same why visited step =
+      let inside = subst (λ (x : SeatState). IsInside q s.me x.me) (sym same) entered_inside in (
+        subst (λ (p : ℕ). AtItsTable s n (Visits p [])) has.at (visited s (table_of same ∙ has.entered.0, inside)),
+        met_full place s q w n has.at inside entered_latch (ap (λ (x : SeatState). held_at q x.me.0.latches) same ∙ entered_holds.recorded) [] step cause why,
       )
 
-module _ (place word : ℕ) (asks : Bool) (m m′ : Mine) (entered : Enters place asks word m m′) where
-  -- it may go with nothing done
-  pub may_leave : MayLeave place m′
-  may_leave = (
-    noting word (raised true asks entered.found),
-    entered.holds,
-    ((λ some. refl), λ some. or_right asks entered.found.obtrusive (entered.fresh.exact.1 ∙ some)),
-  )
+-- whether the wish can be granted is known
+pub as_told : {place q word : ℕ} {mode : Mode} {can known : Bool} {s c : SeatState} → can ≡ known → HasEntered place q word mode can s c → HasEntered place q word mode known s c
+as_told {place} {q} {word} {mode} {can} {known} {s} {c} is has = subst (λ (b : Bool). HasEntered place q word mode b s c) is has
 
-  -- the step that read the word
-  abbrev read : Met
-  read = record { kind = ReadWord; deeds = []; word = lock_word place; found = word; held = m′.0.latches; directory = m′.0.directory }
+-- ---- where the wish can't be granted
 
-  read_there : (m″ : Mine) → GoesOn m′ m″ → IsStepOf m m″ read
-  read_there m″ goes = (
-    entered.read.0,
-    goes.0,
-    goes.1 ∙ ap (λ (log : List Met). log ++ goes.0) entered.read.1 ∙ append_assoc (m.0.log ++ entered.read.0) (read ∷ []) goes.0,
-  )
+module _ {place q word : ℕ} {mode : Mode} {s c : SeatState} (has : HasEntered place q word mode false s c) where
+  -- the step that read the word shows it
+  pub blocked : (n : SeatState) → ((b : SeatState) → AtItsTable b c (IsInside q) → AtItsTable b n (Visits q [])) → HasStep c n (DidUnder q [] c) → WasBlocked place mode s n
+  blocked n visited step =
+      let entered = has.entered.1 in
+      let read : Met = record { kind = ReadWord; deeds = []; word = lock_word place; found = word; held = c.me.0.latches; directory = c.me.0.directory } in
+      let after : List Met = step.1.0 ++ step.0 ∷ step.1.1 in (
+        subst (λ (p : ℕ). AtItsTable s n (Visits p [])) has.at (visited s (has.entered.0, entered_inside has)),
+        (
+          read,
+          (
+            entered.read.0,
+            after,
+            step.1.2 ∙ append_assoc c.me.0.log step.1.0 (step.0 ∷ step.1.1) ∙ ap (λ (log : List Met). log ++ after) entered.read.1 ∙ append_assoc (s.me.0.log ++ entered.read.0) (read ∷ []) after,
+          ),
+          record { kind = refl; word = refl; latch = entered_latch has; held = entered.holds.recorded; blocked = entered.told },
+        ),
+      )
 
-  full : (m″ : Mine) → GoesOn m′ m″ → 65535 ≤ ticket_count entered.found.book → (e : Met) × IsStepOf m m″ e × MeetsFull place e
-  full m″ goes many = (
-    read,
-    read_there m″ goes,
-    record { word = refl; latch = noting word (raised true asks entered.found); held = entered.holds.recorded; full = many },
-  )
+-- ---- where it can
 
-  -- why the ticket wasn't written, though the wish could be granted
-  pub refused : (T : Type 0) (ticket : Ticket) (cause : BookError) (m″ : Mine) → GoesOn m′ m″
-      → can_be_granted (lock_kind entered.found.book) entered.found.book.granted entered.found.book.waiting word ticket.session ticket.mode ≡ true
-      → Refuses {T = T} (grant_fault ticket word entered.found.book) fault.OutOfMemory (Err cause)
-      → (cause ≡ fault.OutOfMemory) ⊎ ((cause ≡ fault.Full) × ((e : Met) × IsStepOf m m″ e × MeetsFull place e))
-  refused T ticket cause m″ goes can refuses = because (refusal T ticket word entered.found.book cause (and_parts _ _ can).0 refuses)
-    where
-      because : (cause ≡ fault.OutOfMemory) ⊎ ((cause ≡ fault.Full) × (65535 ≤ ticket_count entered.found.book))
-          → (cause ≡ fault.OutOfMemory) ⊎ ((cause ≡ fault.Full) × ((e : Met) × IsStepOf m m″ e × MeetsFull place e))
-      because (inl e) = inl e
-      because (inr e) = inr (e.0, full m″ goes e.1)
+module _ {place q word : ℕ} {mode : Mode} {s c : SeatState} (has : HasEntered place q word mode true s c) where
+  abbrev found : LatchRecord
+  found = has.entered.1.found
+
+  abbrev latch : LatchRecord
+  latch = entered_latch has
+
+  joins : (session : ℕ) → can_be_granted (lock_kind found.book) found.book.granted found.book.waiting word session mode ≡ true → MayJoin session found.book latch.noted mode
+  joins session can = may_join found.book word session mode has.obtrusive found.obtrusive found.noted (asks_here has) (and_parts _ _ can).0
+
+  granted_here : MayBeGranted c.me.0 found.book latch.noted mode
+  granted_here =
+      let can = told_here has in
+      record {
+        idle = entered_idle has;
+        is_mode = is_mode_here has;
+        joins = joins c.me.0.number can;
+        first = (and_parts _ _ can).1;
+      }
+
+  -- it has a deed written that it may do, and may give the latch back
+  may_put : (d : Deed) (w : SeatState) → MayDo c.me.0 found.book latch.noted (d ∷ []) → TellsLists (booked c.me.0.number d found.book) true (has.obtrusive || found.obtrusive)
+      → w ≡ record c { me = written q (booked c.me.0.number d found.book) c.me } → MayPut q (d ∷ []) w.me
+  may_put d w may told wrote =
+      subst (λ (x : SeatState). MayPut q (d ∷ []) x.me) (sym wrote) (
+        latch,
+        record {
+          holds = holds_written q latch found.book (booked c.me.0.number d found.book) c.me (entered_holds has);
+          act = inl (entered_known has);
+          may = may;
+        },
+        told,
+      )
+
+  -- the deed is the ticket that it gains
+  pub ready : (number : ℕ) (w : SeatState) → number ≡ c.me.0.next → w ≡ record c { me = written q (booked c.me.0.number (Gain number mode) found.book) c.me } → MayPut q (Gain number mode ∷ []) w.me
+  ready number w next wrote =
+      may_put (Gain number mode) w
+      (next, inl granted_here)
+      (granted_exactly (record { session = c.me.0.number; number = number; mode = mode }) found.book found.slow found.obtrusive has.obtrusive has.entered.1.fresh.exact
+      (asks_here has))
+      wrote
+
+  -- why the ticket wasn't written
+  pub why_not : (T : Type 0) (number : ℕ) (cause : BookError)
+      → Refuses {T = T} (grant_fault (record { session = c.me.0.number; number = number; mode = mode }) word found.book) fault.OutOfMemory (Err cause)
+      → (cause ≡ fault.OutOfMemory) ⊎ ((cause ≡ fault.Full) × (65535 ≤ ticket_count found.book))
+  why_not T number cause refuses =
+      refusal T (record { session = c.me.0.number; number = number; mode = mode }) word found.book cause (and_parts _ _ (told_here has)).0 refuses
+
+  -- or the other mode of a ticket that it has there, an obtrusive one
+  module _ (number : ℕ) (kind : Kind) (knows : KnowsKind s.me.0 place kind) (loud : is_obtrusive kind mode ≡ true) (held : HasTicket place number s.me.0.slow) where
+    up : has.obtrusive ≡ true
+    up = asks_here has ∙ ap (λ k. is_obtrusive k mode) (kind_known has kind knows) ∙ loud
+
+    stands : is_some (ticket_of c.me.0.number number found.book.granted) ≡ true
+    stands =
+        subst (λ (who : ℕ). is_some (ticket_of who number found.book.granted) ≡ true) (me has)
+        (ap is_some (has.entered.1.fresh.own number (idle_waits_not s.me.0 number has.wish.idle)) ∙ own_found s.me.0.number place number s.me.0.slow held)
+
+    pub ready_altered : (w : SeatState) → w ≡ record c { me = written q (booked c.me.0.number (Alter number mode) found.book) c.me } → MayPut q (Alter number mode ∷ []) w.me
+    ready_altered w wrote =
+        let ticket = found_one (ticket_of c.me.0.number number found.book.granted) stands in
+        may_put (Alter number mode) w
+        (inl ((ticket.0, (ticket.1, idle_waits_not c.me.0 number granted_here.idle)), granted_here))
+        (altered_exactly c.me.0.number number mode found.book has.obtrusive found.obtrusive up (sym (asks_here has) ∙ up) stands)
+        wrote
+
+    -- which was written
+    pub altered : (w : SeatState) (result : Result Unit BookError) → RefusesJust (change_fault c.me.0.number number mode word found.book) result
+        → OnOk result (w ≡ record c { me = written q (booked c.me.0.number (Alter number mode) found.book) c.me })
+        → w ≡ record c { me = written q (booked c.me.0.number (Alter number mode) found.book) c.me }
+    altered w result refuses wrote =
+        just_done (change_fault c.me.0.number number mode word found.book) result
+        (none_clashes c.me.0.number number mode word found.book stands (and_parts _ _ (told_here has)).0) refuses wrote
+
+  -- the step that gave the latch back, with the deed, shows that the wish could be granted
+  pub granted : (d : Deed) (w n : SeatState) → w ≡ record c { me = written q (booked c.me.0.number d found.book) c.me } → n ≡ record w { me = unlatched q (d ∷ []) w.me } → WasGranted place mode d s n
+  granted d w n writes puts =
+      let entered = has.entered.1 in
+      let inside = entered_inside has in
+      let e : Met = record { kind = PutLatch; deeds = d ∷ []; word = latch_word q; found = c.me.0.number; held = c.me.0.latches; directory = c.me.0.directory } in (
+        (
+          table_of puts ∙ table_of writes ∙ has.entered.0,
+          subst (λ (p : ℕ). Visits p (d ∷ []) s.me n.me) has.at
+              (visits_put q (d ∷ []) s.me w.me n.me (inside_written q (booked c.me.0.number d found.book) s.me c.me w.me inside (mine writes)) (mine puts)),
+        ),
+        (
+          e,
+          (
+            entered.inside.made,
+            [],
+            ap (λ (x : Mine). x.0.log) (mine puts ∙ ap (unlatched q (d ∷ [])) (mine writes)) ∙ ap (λ (log : List Met). log ++ e ∷ []) (ap (λ (x : Mine). x.0.log) entered.inside.now),
+          ),
+          record {
+            kind = refl;
+            did = refl;
+            word = ap latch_word has.at;
+            freed = ap (λ (x : Mine). x.0.number) entered.inside.now;
+            latch = latch;
+            held = entered.holds.recorded;
+            beside = joins s.me.0.number entered.told;
+            first = (and_parts _ _ entered.told).1;
+          },
+        ),
+      )

@@ -1,39 +1,92 @@
 -- One ticket takes the mode of another, and this is taken out of the book in hand.
-use Rattle.std.proofs.Common.{◌≡◌, ◌≢◌, ℕ, true, List, ◌∷◌, refl, sym, ap, ◌∙◌, subst}
+use Rattle.std.proofs.Common.{◌≡◌, ◌≢◌, ℕ, true, List, [], ◌∷◌, Some, None, refl, sym, ap, ◌∙◌, subst}
 use Rattle.std.specs.Prelude.{is_some, OnOk, Result}
 use Rattle.std.specs.Option.{ok_or}
 use Rattle.mdl_key.specs.declared.mode.Mode.{Mode}
+use Rattle.mdl_key.specs.Refusals.{RefusesJust}
 use Rattle.mdl_book.specs.declared.book_error.BookError.{BookError}
 use Rattle.mdl_book.specs.declared.book_error.BookError.TheVariants.{NotHere}
 use Rattle.mdl_book.specs.declared.book_view.BookView.{BookView}
 use Rattle.mdl_book.specs.declared.ticket.Ticket.{Ticket}
+use Rattle.mdl_book.specs.Books.{change_fault, lock_kind}
 use Rattle.mdl_book.specs.Tickets.{ticket_of, with_mode}
 use Rattle.mdl_steps.specs.declared.deed.Deed.TheVariants.{Alter, Lose}
 use Rattle.mdl_steps.specs.declared.slot.Slot.TheVariants as slot
-use Rattle.mdl_steps.specs.Deeds.{booked}
-use Rattle.mdl_steps.specs.Plays.{Mine}
+use Rattle.mdl_steps.specs.declared.view.Own.{Own}
+use Rattle.mdl_steps.specs.Cells.{ticket_by}
+use Rattle.mdl_steps.specs.Deeds.{KnowsPlace, booked}
+use Rattle.mdl_steps.specs.Plays.{IsFresh, Mine}
+use Rattle.mdl_steps.specs.SeatStates.{SeatState}
 use Rattle.mdl_steps.specs.Seats.{rest, written}
 use Rattle.mdl_steps.proofs.Tickets.{is_passed, of_other_number, of-mode_other}
-use Rattle.mdl_visits.proofs.Losing.{taken_out}
+use Rattle.mdl_visits.specs.Leavings.{HasWorked}
+use Rattle.mdl_visits.specs.Numbers.{numbered}
+use Rattle.mdl_system.specs.Strength.{covers}
+use Rattle.mdl_system.proofs.StrengthLemmas.{covers-at_least}
+use Rattle.mdl_visits.proofs.Arriving.{Arrives, has_worked, number_kept}
+use Rattle.mdl_visits.proofs.Covered.{IsCovered, altered, altered_flagged, covered_by_own, own_mode, own_there}
+use Rattle.mdl_visits.proofs.Losing.{still_flagged, taken_out}
+use Rattle.mdl_visits.proofs.Numbers.{idle_waits_not}
 
 -- a ticket stays where another one gets another mode
 other_there : (who number other : ℕ) (mode : Mode) (ts : List Ticket) → number ≢ other → is_some (ticket_of who other ts) ≡ true → is_some (ticket_of who other (with_mode who number mode ts)) ≡ true
 other_there who number other mode ts two there =
     ap is_some (of-mode_other who number who other (λ t is. of_other_number who other t (λ e. two (sym (is_passed who number t is).1 ∙ e))) mode ts) ∙ there
 
-module _ (place who kept gone : ℕ) (mode : Mode) (book : BookView) (m m′ : Mine) (first : m′ ≡ written place (booked who (Alter kept mode) book) m) where
-  -- the book with the first ticket in its new mode is in hand
-  pub carried : m′.1 ≡ (place, slot.Place (booked who (Alter kept mode) book)) ∷ rest m′.1
-  carried = subst (λ (x : Mine). x.1 ≡ (place, slot.Place (booked who (Alter kept mode) book)) ∷ rest x.1) (sym first) refl
+module _ (kept gone : Own) {s : SeatState} {q : ℕ} {c : SeatState} (a : Arrives kept.place s q c) (here : kept.place ≡ gone.place) (idle : s.me.0.asks ≡ None) (two : kept.number ≢ gone.number)
+    (held : (numbered kept.number s.me.0.slow ≡ Some kept) × (numbered gone.number s.me.0.slow ≡ Some gone)) where
+  -- both tickets stand in the book that is met
+  pub first : ticket_of c.me.0.number kept.number a.latch.book.granted ≡ Some (ticket_by c.me.0.number kept)
+  first = own_there c.me.0.number kept.number kept a.latch s.me (number_kept a) a.fresh (idle_waits_not s.me.0 kept.number idle) held.0
 
-  -- and then the one without the second
-  pub both_written : (session : ℕ) (m″ : Mine) (result : Result Ticket BookError) → session ≡ who → kept ≢ gone → is_some (ticket_of who gone book.granted) ≡ true
-      → ((b : BookView) → m′.1 ≡ (place, slot.Place b) ∷ rest m′.1 → result ≡ ok_or (ticket_of session gone b.granted) NotHere)
-      → ((b : BookView) → m′.1 ≡ (place, slot.Place b) ∷ rest m′.1 → OnOk result (m″ ≡ written place (booked session (Lose gone) b) m′))
-      → m″ ≡ written place (booked who (Lose gone) (booked who (Alter kept mode) book)) m
-  both_written session m″ result mine two there refused wrote =
-      let after : BookView = booked who (Alter kept mode) book in
-      let stays = subst (λ (w : ℕ). is_some (ticket_of w gone after.granted) ≡ true) (sym mine) (other_there who kept gone mode book.granted two there) in
-      taken_out (ticket_of session gone after.granted) NotHere result stays (refused after carried) (wrote after carried)
-      ∙ ap (written place (booked session (Lose gone) after)) first
-      ∙ (λ i. written place (booked (mine i) (Lose gone) after) m)
+  pub second : ticket_of c.me.0.number gone.number a.latch.book.granted ≡ Some (ticket_by c.me.0.number gone)
+  second =
+      own_there c.me.0.number gone.number gone a.latch s.me (number_kept a) (subst (λ (p : ℕ). IsFresh p a.latch s.me) here a.fresh)
+      (idle_waits_not s.me.0 gone.number idle) held.1
+
+  covered : IsCovered c.me.0.number gone.mode a.latch
+  covered = covered_by_own kept.place c.me.0.number gone.number gone a.latch s.me a.fresh second
+
+  -- the book with the first in its new mode, and then without the second
+  abbrev pub changed : BookView
+  changed = booked c.me.0.number (Alter kept.number gone.mode) a.latch.book
+
+  module _ (d : SeatState) (result : Result Unit BookError) (refused : RefusesJust (change_fault c.me.0.number kept.number gone.mode 0 a.latch.book) result)
+      (wrote : OnOk result (d ≡ record c { me = written q changed c.me })) where
+    pub changed_first : d ≡ record c { me = written q changed c.me }
+    changed_first = altered c.me.0.number gone.mode a.latch covered kept.number result (ap is_some first) refused wrote
+
+    pub carries_changed : d.me.1 ≡ (q, slot.Place changed) ∷ rest d.me.1
+    carries_changed = subst (λ (x : SeatState). x.me.1 ≡ (q, slot.Place changed) ∷ rest x.me.1) (sym changed_first) refl
+
+    pub united : (w : SeatState) (lost : Result Ticket BookError)
+        → ((b : BookView) → d.me.1 ≡ (q, slot.Place b) ∷ rest d.me.1 → lost ≡ ok_or (ticket_of d.me.0.number gone.number b.granted) NotHere)
+        → ((b : BookView) → d.me.1 ≡ (q, slot.Place b) ∷ rest d.me.1 → OnOk lost (w ≡ record d { me = written q (booked d.me.0.number (Lose gone.number) b) d.me }))
+        → w ≡ record c { me = written q (booked c.me.0.number (Lose gone.number) changed) c.me }
+    united w lost told wrote =
+        let stays = other_there c.me.0.number kept.number gone.number gone.mode a.latch.book.granted two (ap is_some second) in
+        let there = subst (λ (x : SeatState). is_some (ticket_of x.me.0.number gone.number changed.granted) ≡ true) (sym changed_first) stays in
+        taken_out (ticket_of d.me.0.number gone.number changed.granted) NotHere lost there (told changed carries_changed) (wrote changed carries_changed)
+        ∙ ap (λ (x : SeatState). record x { me = written q (booked x.me.0.number (Lose gone.number) changed) x.me }) changed_first
+
+  -- the first one's mode was covered by the second's
+  pub has_united : (w : SeatState) → KnowsPlace s.me.0 kept.place → covers gone.mode kept.mode ≡ true
+      → w ≡ record c { me = written q (booked c.me.0.number (Lose gone.number) changed) c.me } → HasWorked q (Alter kept.number gone.mode ∷ Lose gone.number ∷ []) w
+  has_united w known strong is =
+      let idle_there = ap (λ (x : Mine). x.0.asks) a.came.1.now ∙ idle in
+      let kind = lock_kind a.latch.book in
+      has_worked a (Alter kept.number gone.mode ∷ Lose gone.number ∷ []) w known
+      (record {
+        idle = idle_there;
+        two = two;
+        old = ticket_by c.me.0.number kept;
+        old_held = (first, idle_waits_not c.me.0 kept.number idle_there);
+        new = ticket_by c.me.0.number gone;
+        new_held = (second, idle_waits_not c.me.0 gone.number idle_there);
+        mode_is = refl;
+        is_mode = covered.is_mode;
+        at_least = covers-at_least kind gone.mode kept.mode (own_mode kept.place c.me.0.number gone.number gone a.latch s.me a.fresh second)
+            (own_mode kept.place c.me.0.number kept.number kept a.latch s.me a.fresh first) strong;
+      })
+      (still_flagged c.me.0.number gone.number changed a.latch.slow a.latch.obtrusive (altered_flagged c.me.0.number gone.mode a.latch covered kept.number))
+      is

@@ -1,7 +1,10 @@
 -- A visit to a place, put together of its steps.
 use Rattle.std.proofs.Common.{◌≡◌, ℕ, ◌==◌, Bool, true, cond, List, [], ◌∷◌, ◌++◌, map, refl, sym, ap, ◌∙◌, subst, append_assoc, append-nil}
 use Rattle.std.proofs.lemmas.Bool.{eq-eqb}
+use Rattle.mdl_key.specs.declared.mode.Mode.{Mode}
 use Rattle.mdl_book.specs.declared.book_view.BookView.{BookView}
+use Rattle.mdl_book.specs.Books.{lock_kind}
+use Rattle.mdl_book.specs.FastTickets.{can_be_granted}
 use Rattle.mdl_steps.specs.declared.deed.Deed.{Deed}
 use Rattle.mdl_steps.specs.declared.slot.Slot.TheVariants as slot
 use Rattle.mdl_steps.specs.declared.step_kind.StepKind.{StepKind}
@@ -24,9 +27,6 @@ makes_none m = ([], (λ i. and_log (sym (append-nil m.0.log) i)), refl)
   where
     and_log : List Met → Mine
     and_log log = (record m.0 { log = log }, m.1)
-
-pub lingers_none : (m : Mine) → Lingers m m
-lingers_none m = ([], (λ i. (record m.0 { log = sym (append-nil m.0.log) i }, m.1)), tt, refl, tt)
 
 -- one that only met something
 pub lingers_one : (place found : ℕ) (m m′ m″ : Mine) → Lingers m m′ → m″ ≡ missed_latch place found m′ → Lingers m m″
@@ -109,19 +109,24 @@ visits_put place ds m m′ m″ inside put =
 
 -- ---- as it was entered
 
-pub enters : (place found word : ℕ) (obtrusive : Bool) (h : LatchRecord) (m a b c : Mine) → IsFresh place h m → IsInside place m a → b ≡ stepped (RaiseFlags true obtrusive) place found (raised true obtrusive) a
-    → c ≡ stepped ReadWord place word (noting word) b → Holds place (noting word (raised true obtrusive h)) h.book c → Enters place obtrusive word m c
-enters place found word obtrusive h m a b c fresh inside raise read holds =
+pub enters : (place found word : ℕ) (obtrusive : Bool) (mode : Mode) (can : Bool) (h : LatchRecord) (m a b c : Mine) → IsFresh place h m → IsInside place m a
+    → b ≡ stepped (RaiseFlags true obtrusive) place found (raised true obtrusive) a → c ≡ stepped ReadWord place word (noting word) b
+    → Holds place (noting word (raised true obtrusive h)) h.book c → can ≡ can_be_granted (lock_kind h.book) h.book.granted h.book.waiting word c.0.number mode
+    → Enters place obtrusive word mode can m c
+enters place found word obtrusive mode can h m a b c fresh inside raise read holds told =
     let up = inside_stepped (RaiseFlags true obtrusive) place found (raised true obtrusive) m a b (λ x. refl) inside raise in
+    let in_hand = inside_stepped ReadWord place word (noting word) m b c (λ x. refl) up read in
+    let who = ap (λ (x : Mine). x.0.number) in_hand.now in
     record {
       found = h;
       fresh = fresh;
       holds = holds;
-      inside = inside_stepped ReadWord place word (noting word) m b c (λ x. refl) up read;
+      inside = in_hand;
       read = (
         up.made,
         ap (λ (x : Mine). x.0.log) read
             ∙ ap (λ (log : List Met). log ++ record { kind = ReadWord; deeds = []; word = lock_word place; found = word; held = (changed place (noting word) b.0).latches; directory = b.0.directory } ∷ []) (ap (λ (x : Mine). x.0.log) up.now)
             ∙ ap (λ (x : Mine). (m.0.log ++ up.made) ++ record { kind = ReadWord; deeds = []; word = lock_word place; found = word; held = x.0.latches; directory = x.0.directory } ∷ []) (sym read),
       );
+      told = sym (told ∙ ap (λ (n : ℕ). can_be_granted (lock_kind h.book) h.book.granted h.book.waiting word n mode) who);
     }

@@ -1,10 +1,10 @@
 -- A session ends its lost wait under the latch, and gives the latch back.
-use Rattle.std.proofs.Common.{◌≡◌, ℕ, ◌+◌, ◌<◌, Bool, List, [], ◌∷◌, ◌++◌, length, Some, None, Result, Ok, Err, refl, sym, ap, ◌∙◌, subst, inr, append_assoc, arith}
+use Rattle.std.proofs.Common.{◌≡◌, ℕ, ◌+◌, ◌<◌, ◌==◌, map, cond, Bool, List, [], ◌∷◌, ◌++◌, length, Some, None, Result, Ok, Err, refl, sym, ap, ◌∙◌, subst, inr, append_assoc, arith}
 use Rattle.std.specs.Prelude.{Option, OnErr, OnOk}
 use Rattle.std.specs.Option.{ok_or}
 use Rattle.std.proofs.lemmas.Bool.{ltb-true, lt-ltb}
-use Rattle.atomic_table.specs.Seated.{TableId}
 use Rattle.mdl_book.specs.declared.book_error.BookError.{BookError}
+use Rattle.mdl_book.specs.declared.book_error.BookError.TheVariants.{NotHere}
 use Rattle.mdl_book.specs.declared.book_view.BookView.{BookView}
 use Rattle.mdl_book.specs.declared.ticket.Ticket.{Ticket}
 use Rattle.mdl_book.specs.Books.{any_obtrusive, cancelling, lock_kind}
@@ -14,22 +14,27 @@ use Rattle.mdl_steps.specs.declared.step_kind.StepKind.TheVariants.{EndWait}
 use Rattle.mdl_steps.specs.declared.view.Ask.{Ask}
 use Rattle.mdl_steps.specs.declared.view.LatchRecord.{LatchRecord}
 use Rattle.mdl_steps.specs.declared.view.Met.{Met}
-use Rattle.mdl_steps.specs.Deeds.{all_booked}
+use Rattle.mdl_steps.specs.Cells.{held_at}
 use Rattle.mdl_steps.specs.Layout.{wait_word}
-use Rattle.mdl_steps.specs.Plays.{Mine, IsFresh}
+use Rattle.mdl_steps.specs.Plays.{Mine}
 use Rattle.mdl_steps.specs.Rule.{Flagged}
-use Rattle.mdl_steps.specs.Seats.{HasDone, Holds, elsewhere, rest, written}
+use Rattle.mdl_steps.specs.SeatStates.{SeatState}
+use Rattle.mdl_steps.specs.Seats.{Holds, elsewhere, rest, written}
 use Rattle.mdl_steps.specs.WaitPlays.{ended_lost, wait_in, with_cancelled}
 use Rattle.mdl_steps.specs.WaitSeats.{MayCancel}
+use Rattle.mdl_steps.specs.WaitStates.{IsLost}
 use Rattle.mdl_steps.proofs.Hands.{holds_written}
 use Rattle.mdl_steps.proofs.Tickets.{once-without, without-miss}
 use Rattle.mdl_steps.proofs.Views.{by_bool}
-use Rattle.mdl_visits.specs.WaitEndings.{EndsLost, EndsThere, MayEnd, idle, without_wait}
-use Rattle.mdl_visits.specs.Grantings.{ReschedulesAndLeaves, StandsOnce, WaitsOnce}
-use Rattle.mdl_visits.specs.Visits.{IsInside, StaysOn}
+use Rattle.mdl_visits.specs.WaitEndings.{idle, without_wait}
+use Rattle.mdl_visits.specs.Grantings.{StandsOnce}
+use Rattle.mdl_visits.specs.Leavings.{HasWorked}
+use Rattle.mdl_visits.specs.Visits.{CameTo, StaysThere}
+use Rattle.mdl_visits.proofs.Arriving.{Arrives}
 use Rattle.mdl_visits.proofs.Losing.{any_before, no_longer}
+use Rattle.mdl_visits.proofs.Seats.{mine, place_there, table_of}
+use Rattle.mdl_visits.proofs.Steps.{each_append, none_then}
 use Rattle.mdl_visits.proofs.Waiting.{found_before}
-use Rattle.mdl_visits.proofs.Rescheduling.{visits_and_reschedules, waits_once, rescheduled_after}
 
 -- ---- the book
 
@@ -57,17 +62,17 @@ module _ (session number : ℕ) where
       (λ miss. without-miss session number t ts miss ∙ ap (λ (xs : List Ticket). t ∷ xs) (none_there ts (rw miss at e)))
 
   -- so the book in hand is without it, whether it was there or not
-  pub cancelled : (place : ℕ) (book : BookView) (m m′ : Mine) (fault : BookError) (result : Result Ticket BookError) → m.1 ≡ (place, slot.Place book) ∷ rest m.1
-      → result ≡ ok_or (ticket_of session number book.waiting) fault
-      → OnOk result (m′ ≡ written place (cancelling session number book) m) → OnErr result (m′ ≡ m) → m′ ≡ written place (cancelling session number book) m
-  cancelled place book m m′ fault (Ok t) carried is wrote same = wrote
-  cancelled place book m m′ fault (Err e) carried is wrote same = at (ticket_of session number book.waiting) refl is
+  cancelled : (q : ℕ) (book : BookView) (c w : SeatState) (result : Result Ticket BookError) → c.me.1 ≡ (q, slot.Place book) ∷ rest c.me.1
+      → result ≡ ok_or (ticket_of session number book.waiting) NotHere
+      → OnOk result (w ≡ record c { me = written q (cancelling session number book) c.me }) → OnErr result (w ≡ c) → w ≡ record c { me = written q (cancelling session number book) c.me }
+  cancelled q book c w (Ok t) carried is wrote same = wrote
+  cancelled q book c w (Err e) carried is wrote same = at (ticket_of session number book.waiting) refl is
     where
-      at : (o : Option Ticket) → ticket_of session number book.waiting ≡ o → ◌≡◌ {A = Result Ticket BookError} (Err e) (ok_or o fault) → m′ ≡ written place (cancelling session number book) m
+      at : (o : Option Ticket) → ticket_of session number book.waiting ≡ o → ◌≡◌ {A = Result Ticket BookError} (Err e) (ok_or o NotHere) → w ≡ record c { me = written q (cancelling session number book) c.me }
       at (Some t) found told = absurd (cc)
       at None none told =
           let stays : cancelling session number book ≡ book = (λ i. record book { waiting = none_there book.waiting none i }) in
-          same ∙ (λ i. (m.0, carried i)) ∙ ap (λ (b : BookView). written place b m) (sym stays)
+          same ∙ (λ i. record c { me = (c.me.0, carried i) }) ∙ ap (λ (b : BookView). record c { me = written q b c.me }) (sym stays)
 
 -- ---- who waits
 
@@ -79,81 +84,80 @@ stands_less session number ts stands = record {
       stands.single who i j t u (found_before session number ts stands.once who i t first) (found_before session number ts stands.once who j u second);
 }
 
--- ---- the steps
-
-module _ (place : ℕ) (h : LatchRecord) (m m₁ m₂ : Mine) (may : MayEnd place h m) (wrote : m₁ ≡ written place (cancelling m.0.number may.may.ask.number h.book) m) where
-  pub holds_less : Holds place h (cancelling m.0.number may.may.ask.number h.book) m₁
-  holds_less =
-      subst (Holds place h (cancelling m.0.number may.may.ask.number h.book)) (sym wrote)
-      (holds_written place h h.book (cancelling m.0.number may.may.ask.number h.book) m may.holds)
-
-  pub may_cancel : MayCancel place h m₁
-  may_cancel =
-      let o = may.may in
-      subst (MayCancel place h) (sym wrote) (record { recorded = o.recorded; state = o.state; told = o.told; lost = o.lost; ask = o.ask; asks = o.asks; here = o.here })
-
-  -- the latch may be given back
-  pub may_settle : Holds place (with_cancelled m₁.0.number may.may.ask.number h) (cancelling m.0.number may.may.ask.number h.book) m₂
-      → (g : LatchRecord) × HasDone place [] g m₂ × Flagged (all_booked m₂.0.number [] g.book) g.slow g.obtrusive
-  may_settle holds =
-      let same : m₁.0.number ≡ m.0.number = ap (λ (x : Mine). x.0.number) wrote in (
-        with_cancelled m.0.number may.may.ask.number h,
-        record {
-          holds = subst (λ (n : ℕ). Holds place (with_cancelled n may.may.ask.number h) (cancelling m.0.number may.may.ask.number h.book) m₂) same holds;
-          act = inr refl;
-          may = tt;
-        },
-        still_flagged m.0.number may.may.ask.number h.book h.slow h.obtrusive ((λ e. may.exact.0 ∙ e), λ e. may.exact.1 ∙ e),
-      )
-
-  -- and each session waits there at most once
-  pub waits_less : Holds place (with_cancelled m₁.0.number may.may.ask.number h) (cancelling m.0.number may.may.ask.number h.book) m₂ → StandsOnce h.book.waiting → WaitsOnce place m₂
-  waits_less holds once =
-      waits_once place (with_cancelled m₁.0.number may.may.ask.number h) m₂ holds.recorded (stands_less m₁.0.number may.may.ask.number h.book.waiting once)
-
-  pub ends_there : (id : TableId) (slots state : ℕ) (m₃ : Mine) → m₂ ≡ ended_lost slots place may.may.ask.number state m₁ → elsewhere place m₂ ≡ elsewhere place m₁ → ReschedulesAndLeaves id place [] m₂ m₃
-      → EndsThere id place m m₃
-  ends_there id slots state m₃ ended apart left =
-      let e : Met = record { kind = EndWait; deeds = []; word = wait_word slots m.0.number; found = wait_in m.0.waits state; held = m.0.latches; directory = m.0.directory } in
-      let others : elsewhere place m₂ ≡ elsewhere place m = apart ∙ ap (elsewhere place) wrote in
-      let same : m₂ ≡ ended_lost slots place may.may.ask.number state (written place (cancelling m.0.number may.may.ask.number h.book) m) =
-      ended ∙ ap (ended_lost slots place may.may.ask.number state) wrote in
-      record {
-        told = left.told;
-        settles = left.settles;
-        made = e ∷ left.made;
-        now = left.now
-            ∙ ap (λ (x : Mine). (record x.0 { latches = elsewhere place m₂; told = left.told; settles = left.settles; log = x.0.log ++ left.made }, rest x.1)) same
-            ∙ (λ i. (record (idle m.0) { latches = others i; told = left.told; settles = left.settles; log = append_assoc m.0.log (e ∷ []) left.made i }, rest m.1));
-        did = left.did;
-        way = rescheduled_after id place (without_wait m) m₂ m₃ (e ∷ [], ap (λ (x : Mine). x.0.log) same, ((refl, refl), tt)) (ap (λ (x : Mine). x.0.settles) same) (ap (λ (x : Mine). x.0.told) same)
-            (ap (λ (x : Mine). x.0.number) same) (ap (λ (x : Mine). x.0.asks) same) left.way;
-      }
-
 -- ---- the visit
 
-module _ (place : ℕ) (m m′ : Mine) (inside : IsInside place m m′) where
-  pub may_end : (h : LatchRecord) (a : Ask) (state : ℕ) → IsFresh place h m → Holds place h h.book m′ → m.0.asks ≡ Some a → a.place ≡ place → m.0.told ≡ Some state → 2 < state
-      → (may : MayEnd place h m′) × (a.number ≡ may.may.ask.number)
-  may_end h a state fresh holds asks here told lost = (
-    record {
-      holds = holds;
-      may = record {
-        recorded = holds.recorded;
-        state = state;
-        told = ap (λ (x : Mine). x.0.told) inside.now ∙ told;
-        lost = lost;
-        ask = a;
-        asks = ap (λ (x : Mine). x.0.asks) inside.now ∙ asks;
-        here = here;
-      };
-      exact = fresh.exact;
-    },
-    refl,
-  )
+module _ (ask : Ask) {s : SeatState} {q : ℕ} {c : SeatState} (a : Arrives ask.place s q c) where
+  -- the book without the ticket
+  abbrev less : BookView
+  less = cancelling c.me.0.number ask.number a.latch.book
 
-  pub ends : (id : TableId) (m″ : Mine) → StaysOn m m′ → EndsThere id place m′ m″ → EndsLost id place m m″
-  ends id m″ stays ended =
-      visits_and_reschedules id place [] (without_wait m) (without_wait m′) m″
-      (record { latches = inside.latches; made = inside.made; book = inside.book; now = ap without_wait inside.now; others = inside.others; did = inside.did })
-      stays ended
+  pub withdrawn : (w : SeatState) (result : Result Ticket BookError)
+      → ((book : BookView) → c.me.1 ≡ (q, slot.Place book) ∷ rest c.me.1 → result ≡ ok_or (ticket_of c.me.0.number ask.number book.waiting) NotHere)
+      → ((book : BookView) → c.me.1 ≡ (q, slot.Place book) ∷ rest c.me.1 → OnOk result (w ≡ record c { me = written q (cancelling c.me.0.number ask.number book) c.me }))
+      → OnErr result (w ≡ c) → w ≡ record c { me = written q less c.me }
+  withdrawn w result refused wrote same =
+      cancelled c.me.0.number ask.number q a.latch.book c w result a.holds.carried (refused a.latch.book a.holds.carried) (wrote a.latch.book a.holds.carried) same
+
+  module _ (w : SeatState) (is : w ≡ record c { me = written q less c.me }) where
+    pub asks_there : s.me.0.asks ≡ Some ask → w.me.0.asks ≡ Some ask
+    asks_there asks = ap (λ (x : SeatState). x.me.0.asks) is ∙ ap (λ (x : Mine). x.0.asks) a.came.1.now ∙ asks
+
+    pub told_there : (state : ℕ) → s.me.0.told ≡ Some state → w.me.0.told ≡ Some state
+    told_there state told = ap (λ (x : SeatState). x.me.0.told) is ∙ ap (λ (x : Mine). x.0.told) a.came.1.now ∙ told
+
+    pub waits_there : w.me.0.waits ≡ s.me.0.waits
+    waits_there = ap (λ (x : SeatState). x.me.0.waits) is ∙ ap (λ (x : Mine). x.0.waits) a.came.1.now
+
+    pub may_cancel : (state : ℕ) → s.me.0.asks ≡ Some ask → s.me.0.told ≡ Some state → IsLost state → MayCancel q a.latch w.me
+    may_cancel state asks told lost = record {
+      recorded = ap (λ (x : SeatState). held_at q x.me.0.latches) is ∙ a.holds.recorded;
+      state = state;
+      told = told_there state told;
+      lost = lost;
+      ask = ask;
+      asks = asks_there asks;
+      here = sym a.at;
+    }
+
+    pub holds_less : Holds q a.latch less w.me
+    holds_less = subst (λ (x : SeatState). Holds q a.latch less x.me) (sym is) (holds_written q a.latch a.latch.book less c.me a.holds)
+
+    module _ (state : ℕ) (v : SeatState) (ended : v ≡ record w { me = ended_lost w.table.slots q ask.number state w.me }) where
+      -- the latch may be given back
+      pub has_ended : Holds q (with_cancelled w.me.0.number ask.number a.latch) less v.me → HasWorked q [] v
+      has_ended holds =
+          let same : w.me.0.number ≡ c.me.0.number = ap (λ (x : SeatState). x.me.0.number) is in
+          record {
+            is_place = place_there q (table_of ended ∙ table_of is) a.is_place;
+            latch = with_cancelled c.me.0.number ask.number a.latch;
+            done = record { holds = subst (λ (n : ℕ). Holds q (with_cancelled n ask.number a.latch) less v.me) same holds; act = inr refl; may = tt };
+            flagged = still_flagged c.me.0.number ask.number a.latch.book a.latch.slow a.latch.obtrusive ((λ e. a.fresh.exact.0 ∙ e), λ e. a.fresh.exact.1 ∙ e);
+            once = stands_less c.me.0.number ask.number a.latch.book.waiting (record { once = a.fresh.once; single = a.fresh.single });
+          }
+
+      -- it is as if a session without the wait had come
+      pub came_ended : elsewhere q v.me ≡ elsewhere q w.me → CameTo q (record s { me = without_wait s.me }) v
+      came_ended apart =
+          let inside = a.came.1 in
+          let slots = w.table.slots in
+          let e : Met = record { kind = EndWait; deeds = []; word = wait_word slots s.me.0.number; found = wait_in s.me.0.waits state; held = inside.latches; directory = s.me.0.directory } in
+          let met : Met = record { kind = EndWait; deeds = []; word = wait_word slots w.me.0.number; found = wait_in w.me.0.waits state; held = w.me.0.latches; directory = w.me.0.directory } in
+          let latches = map (λ (h : LatchRecord). cond (h.place == q) (with_cancelled s.me.0.number ask.number h) h) inside.latches in
+          let whole = mine ended ∙ ap (ended_lost slots q ask.number state) (mine is ∙ ap (written q less) inside.now)
+          ∙ (λ i. (record (idle s.me.0) { latches = latches; log = append_assoc s.me.0.log inside.made (e ∷ []) i }, (q, slot.Place less) ∷ s.me.1)) in (
+            table_of ended ∙ table_of is ∙ a.came.0,
+            record {
+              latches = latches;
+              made = inside.made ++ e ∷ [];
+              book = less;
+              now = whole;
+              others = ap (elsewhere q) (sym whole) ∙ apart ∙ ap (elsewhere q) (mine is) ∙ ap (elsewhere q) inside.now ∙ inside.others;
+              did = none_then inside.made (e ∷ []) [] inside.did refl;
+            },
+            (
+              a.came.2.0 ++ met ∷ [],
+              ap (λ (x : SeatState). x.me.0.log) ended ∙ ap (λ (x : SeatState). x.me.0.log ++ met ∷ []) is ∙ ap (λ (log : List Met). log ++ met ∷ []) a.came.2.1
+                  ∙ append_assoc s.me.0.log a.came.2.0 (met ∷ []),
+              each_append StaysThere a.came.2.0 (met ∷ []) a.came.2.2 ((refl, refl), tt),
+            ),
+          )

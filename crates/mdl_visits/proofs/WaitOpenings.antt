@@ -1,17 +1,14 @@
 -- A session opens a wait under the latch, and gives the latch back.
-use Rattle.std.proofs.Common.{◌≡◌, ℕ, ◌+◌, ◌==◌, map, Bool, true, false, cond, ◌||◌, List, [], ◌∷◌, ◌++◌, length, Some, None, Result, Ok, Err, refl, sym, ap, ◌∙◌, subst, inl, inr, append_assoc, length-append, arith}
-use Rattle.std.specs.Prelude.{◌⊎◌, ◌≤◌, nat_lt, IfErr, IfOk, OnErr}
-use Rattle.std.proofs.lemmas.Bool.{lt-ltb, or_right}
+use Rattle.std.proofs.Common.{◌≡◌, ℕ, ◌+◌, ◌==◌, map, Bool, true, false, cond, ◌||◌, List, [], ◌∷◌, ◌++◌, length, Some, refl, sym, ap, ◌∙◌, subst, inr, append_assoc, length-append, arith}
+use Rattle.std.specs.Prelude.{nat_lt}
+use Rattle.std.proofs.lemmas.Bool.{lt-ltb}
 use Rattle.std.proofs.lemmas.List.Folds.{list_any-append}
+use Rattle.atomic_table.specs.Seated.{TableId}
 use Rattle.mdl_key.specs.declared.mode.Mode.{Mode}
-use Rattle.mdl_key.specs.declared.namespace.Kind.{Kind}
-use Rattle.mdl_key.specs.Words.{KeyName, is_mode_of, is_obtrusive, kind_of}
+use Rattle.mdl_key.specs.Words.{is_obtrusive}
 use Rattle.mdl_book.specs.declared.book_view.BookView.{BookView}
 use Rattle.mdl_book.specs.declared.ticket.Ticket.{Ticket}
-use Rattle.mdl_book.specs.declared.book_error.BookError.{BookError}
-use Rattle.mdl_book.specs.declared.book_error.BookError.TheVariants as fault
-use Rattle.mdl_book.specs.Books.{any_obtrusive, enqueueing, lock_kind, ticket_count}
-use Rattle.mdl_book.specs.FastTickets.{can_be_granted}
+use Rattle.mdl_book.specs.Books.{any_obtrusive, enqueueing, lock_kind}
 use Rattle.mdl_steps.specs.declared.slot.Slot.TheVariants as slot
 use Rattle.mdl_steps.specs.declared.step_kind.StepKind.TheVariants.{OpenWait, PutLatch, ReadWord}
 use Rattle.mdl_steps.specs.declared.view.LatchRecord.{LatchRecord}
@@ -20,15 +17,18 @@ use Rattle.mdl_steps.specs.Cells.{held_at}
 use Rattle.mdl_steps.specs.Layout.{latch_word, lock_word, wait_word}
 use Rattle.mdl_steps.specs.Plays.{Mine, noting, raised, unlatched}
 use Rattle.mdl_steps.specs.Rule.{TellsLists}
+use Rattle.mdl_steps.specs.SeatStates.{SeatState}
 use Rattle.mdl_steps.specs.Seats.{Holds, MayPut, written}
 use Rattle.mdl_steps.specs.WaitPlays.{asked_ticket, opened, with_waiting}
 use Rattle.mdl_steps.specs.WaitSeats.{MayOpen}
 use Rattle.mdl_steps.specs.WaitStates.{idle_state, wait_in}
 use Rattle.mdl_steps.proofs.Hands.{holds_written, elsewhere-stepped}
 use Rattle.mdl_steps.proofs.Views.{held_at-changed}
-use Rattle.mdl_visits.specs.WaitOpenings.{MayQueue, MeetsOpening, Opens, awaiting}
-use Rattle.mdl_visits.specs.Visits.{AreStepsOf, Enters, GoesOn, IsInside, IsStepOf, KnowsKind, MeetsBlocked, MeetsFull}
+use Rattle.mdl_visits.specs.WaitOpenings.{BeginsWait, MeetsOpening, Opens, awaiting}
+use Rattle.mdl_visits.specs.Visits.{AreStepsOf, Enters, HasEntered, IsInside, MeetsBlocked}
+use Rattle.mdl_visits.proofs.Seats.{mine, table_of}
 use Rattle.mdl_visits.proofs.Steps.{none_then}
+use Rattle.mdl_visits.proofs.Trying.{asks_here, entered_holds, entered_idle, entered_known, entered_latch, is_mode_here}
 
 -- ---- flags
 
@@ -56,57 +56,43 @@ waits_exactly t book slow obtrusive asks exact is = (
 
 -- ---- as the place was entered
 
-module _ (place word : ℕ) (mode : Mode) (kind : Kind) (asks : Bool) (m m′ : Mine) (entered : Enters place asks word m m′)
-    (knows : KnowsKind m.0 place kind) (is_mode : is_mode_of kind mode ≡ true) (is : asks ≡ is_obtrusive kind mode) where
-  -- the record of the latch
-  abbrev latch : LatchRecord
-  latch = noting word (raised true asks entered.found)
+-- under a latch with its book in hand, the session may open a wait for a mode, and the flags tell the lists exactly once it has
+record MayQueue (place : ℕ) (mode : Mode) (h : LatchRecord) (m : Mine) : Type 0 where
+  pub holds : Holds place h h.book m
+  pub may : MayOpen place mode h m
+  pub exact : TellsLists (enqueueing (asked_ticket mode m.0) h.book) h.slow h.obtrusive
 
-  abbrev book : BookView
-  book = entered.found.book
-
-  kind_is : lock_kind book ≡ kind
-  kind_is = ap kind_of_key (entered.fresh.named knows.0 knows.1 knows.2 knows.3) ∙ knows.4
-    where
-      kind_of_key : KeyName → Kind
-      kind_of_key key = kind_of key.namespace
-
-  exact : TellsLists (enqueueing (asked_ticket mode m′.0) book) true (asks || entered.found.obtrusive)
-  exact =
-      waits_exactly (asked_ticket mode m′.0) book entered.found.slow entered.found.obtrusive asks entered.fresh.exact
-      (is ∙ ap (λ k. is_obtrusive k mode) (sym kind_is))
-
-  pub may_queue : m.0.asks ≡ None → m.0.fast ≡ [] → MayQueue place mode latch m′
-  may_queue idle unfast =
-      let known = subst (λ (x : Mine). KnowsKind x.0 place kind) (sym entered.inside.now) knows in
-      let told = exact in
-      record {
-        holds = entered.holds;
-        may = record {
-          recorded = entered.holds.recorded;
-          idle = ap (λ (x : Mine). x.0.asks) entered.inside.now ∙ idle;
-          unfast = ap (λ (x : Mine). x.0.fast) entered.inside.now ∙ unfast;
-          known = (known.0, known.1, known.2, known.3);
-          mode_is = ap (λ k. is_mode_of k mode) kind_is ∙ is_mode;
-          flagged = ((λ some. told.0 ∙ some), λ some. told.1 ∙ some);
-        };
-        exact = told;
-        flagged = ((λ some. refl), λ some. or_right asks entered.found.obtrusive (entered.fresh.exact.1 ∙ some));
-      }
+may_queue : {place q word : ℕ} {mode : Mode} {s c : SeatState} (has : HasEntered place q word mode false s c) → c.me.0.fast ≡ [] → MayQueue q mode (entered_latch has) c.me
+may_queue {mode = mode} {c = c} has unfast =
+    let found = has.entered.1.found in
+    let holds = entered_holds has in
+    let exact = waits_exactly (asked_ticket mode c.me.0) found.book found.slow found.obtrusive has.obtrusive has.entered.1.fresh.exact (asks_here has) in
+    record {
+      holds = holds;
+      may = record {
+        recorded = holds.recorded;
+        idle = entered_idle has;
+        unfast = unfast;
+        known = entered_known has;
+        mode_is = is_mode_here has;
+        flagged = ((λ some. exact.0 ∙ some), λ some. exact.1 ∙ some);
+      };
+      exact = exact;
+    }
 
 -- ---- the steps
 
 module _ (place : ℕ) (mode : Mode) (h : LatchRecord) (m m₁ : Mine) (may : MayQueue place mode h m) (wrote : m₁ ≡ written place (enqueueing (asked_ticket mode m.0) h.book) m) where
-  pub holds_wish : Holds place h (enqueueing (asked_ticket mode m.0) h.book) m₁
+  holds_wish : Holds place h (enqueueing (asked_ticket mode m.0) h.book) m₁
   holds_wish = subst (Holds place h (enqueueing (asked_ticket mode m.0) h.book)) (sym wrote) (holds_written place h h.book (enqueueing (asked_ticket mode m.0) h.book) m may.holds)
 
-  pub may_open : MayOpen place mode h m₁
+  may_open : MayOpen place mode h m₁
   may_open =
       let o = may.may in
       subst (MayOpen place mode h) (sym wrote) (record { recorded = o.recorded; idle = o.idle; unfast = o.unfast; known = o.known; mode_is = o.mode_is; flagged = o.flagged })
 
   -- the latch may be given back
-  pub may_put : (m₂ : Mine) → Holds place (with_waiting (asked_ticket mode m₁.0) h) (enqueueing (asked_ticket mode m.0) h.book) m₂ → MayPut place [] m₂
+  may_put : (m₂ : Mine) → Holds place (with_waiting (asked_ticket mode m₁.0) h) (enqueueing (asked_ticket mode m.0) h.book) m₂ → MayPut place [] m₂
   may_put m₂ holds =
       let same : asked_ticket mode m₁.0 ≡ asked_ticket mode m.0 = ap (λ (x : Mine). asked_ticket mode x.0) wrote in (
         with_waiting (asked_ticket mode m.0) h,
@@ -117,9 +103,6 @@ module _ (place : ℕ) (mode : Mode) (h : LatchRecord) (m m₁ : Mine) (may : Ma
         },
         may.exact,
       )
-
-  pub put : (slots : ℕ) (m₂ m₃ : Mine) → m₂ ≡ opened slots place mode m₁ → m₃ ≡ unlatched place [] m₂ → m₃ ≡ unlatched place [] (opened slots place mode m)
-  put slots m₂ m₃ opens puts = puts ∙ ap (unlatched place []) opens ∙ ap (λ (x : Mine). unlatched place [] (opened slots place mode x)) wrote
 
 -- ---- the visit
 
@@ -139,7 +122,7 @@ module _ (slots place : ℕ) (mode : Mode) (m m′ m″ : Mine) (inside : IsInsi
   log : ((m.0.log ++ inside.made) ++ opens_step ∷ []) ++ puts_step ∷ [] ≡ m.0.log ++ (inside.made ++ opens_step ∷ puts_step ∷ [])
   log = append_assoc (m.0.log ++ inside.made) (opens_step ∷ []) (puts_step ∷ []) ∙ append_assoc m.0.log inside.made (opens_step ∷ puts_step ∷ [])
 
-  pub opens : Opens place mode m m″
+  opens : Opens place mode m m″
   unfolding came held opens_step puts_step
   opens =
       let others = elsewhere-stepped OpenWait place 0 (with_waiting (asked_ticket mode m.0)) came (λ x. refl) ∙ inside.others in
@@ -160,9 +143,6 @@ module _ (slots place : ℕ) (mode : Mode) (m m′ m″ : Mine) (inside : IsInsi
   log_there : m″.0.log ≡ m′.0.log ++ opens_there ∷ puts_there ∷ []
   log_there = ap (λ (x : Mine). x.0.log) made ∙ append_assoc m′.0.log (opens_there ∷ []) (puts_there ∷ [])
 
-  pub goes_on : GoesOn m′ m″
-  goes_on = (opens_there ∷ puts_there ∷ [], log_there)
-
   -- the first opens the wait
   opening : (h : LatchRecord) → held_at place m′.0.latches ≡ Some h → MeetsOpening slots place m.0.number m.0.waits m.0.next mode opens_there
   opening h recorded = record {
@@ -176,10 +156,9 @@ module _ (slots place : ℕ) (mode : Mode) (m m′ m″ : Mine) (inside : IsInsi
   }
 
   -- right after the one that read the word
-  pub blocked_then : (word who : ℕ) (asks : Bool) (entered : Enters place asks word m m′)
-      → can_be_granted (lock_kind entered.found.book) entered.found.book.granted entered.found.book.waiting word who mode ≡ false
-      → (e f : Met) × AreStepsOf m m″ e f × MeetsBlocked place who mode e × MeetsOpening slots place m.0.number m.0.waits m.0.next mode f
-  blocked_then word who asks entered never =
+  blocked_then : (word : ℕ) (asks : Bool) (entered : Enters place asks word mode false m m′)
+      → (e f : Met) × AreStepsOf m m″ e f × MeetsBlocked place m.0.number mode e × MeetsOpening slots place m.0.number m.0.waits m.0.next mode f
+  blocked_then word asks entered =
       let read : Met = record { kind = ReadWord; deeds = []; word = lock_word place; found = word; held = m′.0.latches; directory = m′.0.directory } in (
         read,
         opens_there,
@@ -188,40 +167,39 @@ module _ (slots place : ℕ) (mode : Mode) (m m′ m″ : Mine) (inside : IsInsi
           puts_there ∷ [],
           log_there ∙ ap (λ (all : List Met). all ++ opens_there ∷ puts_there ∷ []) entered.read.1 ∙ append_assoc (m.0.log ++ entered.read.0) (read ∷ []) (opens_there ∷ puts_there ∷ []),
         ),
-        record { kind = refl; word = refl; latch = noting word (raised true asks entered.found); held = entered.holds.recorded; blocked = never },
+        record { kind = refl; word = refl; latch = noting word (raised true asks entered.found); held = entered.holds.recorded; blocked = entered.told },
         opening (noting word (raised true asks entered.found)) entered.holds.recorded,
       )
 
--- ---- what the step that read the word tells of a full book
+-- ---- the call
 
-module _ (place word : ℕ) (asks : Bool) (m m′ m″ : Mine) (entered : Enters place asks word m m′) (goes : GoesOn m′ m″) where
-  read_step : Met
-  read_step = record { kind = ReadWord; deeds = []; word = lock_word place; found = word; held = m′.0.latches; directory = m′.0.directory }
+module _ {place q word : ℕ} {mode : Mode} {s c : SeatState} (has : HasEntered place q word mode false s c) (number : ℕ) (next : number ≡ c.me.0.next) (w : SeatState)
+    (wrote : w ≡ record c { me = written q (enqueueing (record { session = c.me.0.number; number = number; mode = mode }) has.entered.1.found.book) c.me }) where
+  abbrev latch : LatchRecord
+  latch = entered_latch has
 
-  read_there : IsStepOf m m″ read_step
-  unfolding read_step
-  read_there = (
-    entered.read.0,
-    goes.0,
-    goes.1 ∙ ap (λ (log : List Met). log ++ goes.0) entered.read.1 ∙ append_assoc (m.0.log ++ entered.read.0) (read_step ∷ []) goes.0,
-  )
+  wished : w.me ≡ written q (enqueueing (asked_ticket mode c.me.0) latch.book) c.me
+  wished = subst (λ (n : ℕ). w.me ≡ written q (enqueueing (record { session = c.me.0.number; number = n; mode = mode }) latch.book) c.me) next (mine wrote)
 
-  pub full : (cause : BookError) → (cause ≡ fault.OutOfMemory) ⊎ ((cause ≡ fault.Full) × (65535 ≤ ticket_count entered.found.book))
-      → (cause ≡ fault.OutOfMemory) ⊎ ((cause ≡ fault.Full) × ((e : Met) × IsStepOf m m″ e × MeetsFull place e))
-  unfolding read_step
-  full cause (inl memory) = inl memory
-  full cause (inr many) = inr (
-    many.0,
-    (read_step, read_there, record { word = refl; latch = noting word (raised true asks entered.found); held = entered.holds.recorded; full = many.1 }),
-  )
+  pub wish_opens : c.me.0.fast ≡ [] → MayOpen q mode latch w.me
+  wish_opens unfast = may_open q mode latch c.me w.me (may_queue has unfast) wished
 
--- what is told of an error holds of whatever follows from it
-pub if_err : {T E : Type 0} {P Q : E → Type 0} (r : Result T E) → ((e : E) → r ≡ Err e → P e → Q e) → IfErr r P → IfErr r Q
-if_err (Ok t) follows told = tt
-if_err (Err e) follows told = follows e refl told
+  pub wish_puts : c.me.0.fast ≡ [] → (m : Mine) → ((h : LatchRecord) (book : BookView) → Holds q h book w.me → Holds q (with_waiting (asked_ticket mode w.me.0) h) book m) → MayPut q [] m
+  wish_puts unfast m keeps =
+      let may = may_queue has unfast in
+      may_put q mode latch c.me w.me may wished m (keeps latch _ (holds_wish q mode latch c.me w.me may wished))
 
-pub if_ok : {T E : Type 0} (P : T → Type 0) (r : Result T E) (t : T) → r ≡ Ok t → IfOk r P → P t
-if_ok P r t is told = subst (λ x. IfOk x P) is told
-
-pub on_err : {T E : Type 0} {P : Type 0} (r : Result T E) (e : E) → r ≡ Err e → OnErr r P → P
-on_err {P = P} r e is told = subst (λ x. OnErr x P) is told
+  pub begins : (v n : SeatState) → v ≡ record w { me = opened w.table.slots q mode w.me } → n ≡ record v { me = unlatched q [] v.me } → BeginsWait place mode number s n
+  begins v n opens_wait puts =
+      let slots = s.table.slots in
+      let there = table_of wrote ∙ has.entered.0 in
+      let made = mine puts ∙ ap (λ (x : SeatState). unlatched q [] x.me) opens_wait
+      ∙ ap (λ (t : TableId). unlatched q [] (opened t.slots q mode w.me)) there
+      ∙ ap (λ (x : Mine). unlatched q [] (opened slots q mode x)) wished in
+      let here : n.me ≡ unlatched place [] (opened slots place mode c.me) = subst (λ (p : ℕ). n.me ≡ unlatched p [] (opened slots p mode c.me)) has.at made in
+      let inside = has.entered.1.inside in
+      let steps = blocked_then slots place mode s.me c.me n.me inside here word has.obtrusive has.entered.1 in
+      let asked = next ∙ ap (λ (x : Mine). x.0.next) inside.now in (
+        (table_of puts ∙ table_of opens_wait ∙ there, opens slots place mode s.me c.me n.me inside here),
+        (steps.0, steps.1, steps.2, steps.3, subst (λ (k : ℕ). MeetsOpening slots place s.me.0.number s.me.0.waits k mode steps.1) (sym asked) steps.4),
+      )

@@ -26,7 +26,7 @@ use Rattle.mdl_steps.specs.Rule.{TellsLists}
 use Rattle.mdl_steps.specs.WaitPlays.{with_admitted}
 use Rattle.mdl_steps.proofs.Tickets.{is_itself, is_passed, without-hit, without-miss, of-without_other, of-without_own, once-without}
 use Rattle.mdl_steps.proofs.Views.{by_bool}
-use Rattle.mdl_visits.specs.Grantings.{IsOrderly, IsReady, MayReschedule, ahead_of}
+use Rattle.mdl_visits.specs.Grantings.{IsOrderly, IsGrantableTicket, MayReschedule, ahead_of}
 
 -- ---- one of the list is taken out
 
@@ -189,9 +189,9 @@ may_join word h t may there stands = by_bool (is_obtrusive (lock_kind h.book) t.
     or_true false = refl
 
 pub is_next : (word session number : ℕ) (untried : set.FinSet nat_cmp) (h : LatchRecord) → MayReschedule word h → Some (session, number) ≡ option_map ticket_id (next_grantable word untried h.book)
-    → IsReady session number h × (set.contains untried session ≡ true)
+    → IsGrantableTicket session number h × (set.contains untried session ≡ true)
 is_next word session number untried h may told =
-    elim (next_grantable word untried h.book) as (λ o. next_grantable word untried h.book ≡ o → Some (session, number) ≡ option_map ticket_id o → IsReady session number h × (set.contains untried session ≡ true)) [
+    elim (next_grantable word untried h.book) as (λ o. next_grantable word untried h.book ≡ o → Some (session, number) ≡ option_map ticket_id o → IsGrantableTicket session number h × (set.contains untried session ≡ true)) [
       | None ↦ λ _ none. absurd (cc)
       | Some t ↦ λ found same.
           let id : (t.session, t.number) ≡ (session, number) = cc in
@@ -199,7 +199,7 @@ is_next word session number untried h may told =
           let parts = and_parts (set.contains untried t.session) (can_be_granted (lock_kind h.book) h.book.granted h.book.waiting word t.session t.mode) ready in
           let can = and_parts (may_stand (lock_kind h.book) h.book.granted word t.session t.mode) (goes_first (lock_kind h.book) h.book.waiting t.session t.mode) parts.1 in
           let there = found_by_id (is_ready word untried h.book) h.book.waiting t may.0.0.once found in
-          subst (λ (who : ℕ × ℕ). IsReady who.0 who.1 h × (set.contains untried who.0 ≡ true)) id
+          subst (λ (who : ℕ × ℕ). IsGrantableTicket who.0 who.1 h × (set.contains untried who.0 ≡ true)) id
           (record { wish = t; waits = there; beside = may_join word h t may there can.0; first = can.1 }, parts.0)
     ] refl told
 

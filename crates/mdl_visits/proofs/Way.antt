@@ -1,4 +1,4 @@
--- Way is made step by step.
+-- Waits are granted step by step.
 use Rattle.std.proofs.Common.{◌≡◌, ℕ, ◌+◌, ◌*◌, ◌%◌, ◌<◌, ◌==◌, ◌&&◌, nat_lt, false, List, [], ◌∷◌, ◌++◌, Some, None, refl, sym, ap, ◌∙◌, subst, append_assoc, append-nil, inl, inr, arith}
 use Rattle.std.proofs.lemmas.Bool.{and_parts, eqb-true, ltb-true}
 use Rattle.atomic_table.specs.Seated.{TableId}
@@ -18,7 +18,7 @@ use Rattle.mdl_steps.specs.Seats.{Holds, elsewhere, rest, written}
 use Rattle.mdl_steps.specs.WaitPlays.{wait_in, met_wait_by, meeting, settled_granted, with_admitted, TellsOwn}
 use Rattle.mdl_steps.proofs.Hands.{elsewhere-stepped}
 use Rattle.mdl_steps.proofs.Views.{by_bool, held_at-changed}
-use Rattle.mdl_visits.specs.Grantings.{AreGranted, ArePassedOver, HasJustMet, IsLookedThrough, IsReady, Reschedules, MeetsGranted, OnlyMeets, StaysTold, WasSettled, ahead_of}
+use Rattle.mdl_visits.specs.Grantings.{AreGranted, ArePassedOver, HasJustMet, IsLookedThrough, IsGrantableTicket, Reschedules, MeetsGranted, OnlyMeets, StaysTold, WasSettled, ahead_of}
 use Rattle.mdl_visits.specs.Visits.{GoesOn, IsStepAfter, IsStepOf, StaysOn, StaysThere, gives_back, raises_flags}
 use Rattle.mdl_visits.proofs.Steps.{each_append, each_map, goes_on, none_then, step_after}
 
@@ -139,7 +139,7 @@ granted_since id place grants first start a b more =
     each_map (λ (g : Settlement). (e : Met) × (x : Mine) × IsStepAfter a x b e × MeetsGranted id place start x g e) (λ (g : Settlement). (e : Met) × (x : Mine) × IsStepAfter a x b e × MeetsGranted id place first x g e)
     (λ g met. (met.0, met.1, met.2, meets_since id place first start met.1 g met.0 more met.3)) grants
 
--- ---- way is made
+-- ---- waits are granted
 
 -- who only meets something stays
 only_stays : (kind : StepKind) → OnlyMeets kind → (gives_back kind ≡ false) × (raises_flags kind ≡ false)
@@ -201,7 +201,7 @@ module _ (id : TableId) (place : ℕ) (start : Mine) where
     kept = ((refl, refl), tt);
   }
 
-  module _ (session ticket number : ℕ) (h : LatchRecord) (book : BookView) (m m′ : Mine) (has : Holds place h book m) (ready : IsReady session ticket h) (just : HasJustMet id.slots place session h m)
+  module _ (session ticket number : ℕ) (h : LatchRecord) (book : BookView) (m m′ : Mine) (has : Holds place h book m) (ready : IsGrantableTicket session ticket h) (just : HasJustMet id.slots place session h m)
       (looked : IsLookedThrough id place h (ahead_of session ticket h.book.waiting) start m) (is : m′ ≡ settled_granted id.slots place session ticket number m) where
     latches_then : List LatchRecord
     latches_then = (changed place (with_admitted session ticket) m.0).latches

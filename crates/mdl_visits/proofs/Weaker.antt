@@ -1,80 +1,76 @@
 -- A session has written into the book in hand what its own ticket covers, and may give the latch back.
-use Rattle.std.proofs.Common.{◌≡◌, ◌≢◌, ℕ, true, List, [], ◌∷◌, Some, None, sym, subst, inl, inr}
+use Rattle.std.proofs.Common.{◌≡◌, ℕ, true, [], ◌∷◌, Some, None, Result, Err, ap, sym, ◌∙◌, inr}
+use Rattle.std.specs.Prelude.{◌⊎◌, ◌≤◌, is_some, OnOk}
 use Rattle.mdl_key.specs.declared.mode.Mode.{Mode}
-use Rattle.mdl_key.specs.Words.{IsAtLeast}
-use Rattle.mdl_book.specs.declared.ticket.Ticket.{Ticket}
-use Rattle.mdl_book.specs.Books.{lock_kind}
+use Rattle.mdl_key.specs.Refusals.{Refuses, RefusesJust}
+use Rattle.mdl_book.specs.declared.book_error.BookError.{BookError}
+use Rattle.mdl_book.specs.declared.book_error.BookError.TheVariants as fault
+use Rattle.mdl_book.specs.Books.{change_fault, grant_fault, ticket_count}
 use Rattle.mdl_book.specs.Tickets.{ticket_of}
-use Rattle.mdl_steps.specs.declared.deed.Deed.{Deed}
-use Rattle.mdl_steps.specs.declared.deed.Deed.TheVariants.{Alter, Gain, Lose}
-use Rattle.mdl_steps.specs.declared.view.LatchRecord.{LatchRecord}
-use Rattle.mdl_steps.specs.Deeds.{HoldsTicket, KnowsPlace, MayDo, NotWaited, all_booked, booked}
+use Rattle.mdl_steps.specs.declared.deed.Deed.TheVariants.{Alter, Gain}
+use Rattle.mdl_steps.specs.declared.view.Own.{Own}
+use Rattle.mdl_steps.specs.Cells.{ticket_by}
+use Rattle.mdl_steps.specs.Deeds.{NotWaited, booked}
 use Rattle.mdl_steps.specs.Plays.{Mine}
-use Rattle.mdl_steps.specs.Rule.{Flagged}
-use Rattle.mdl_steps.specs.Seats.{HasDone, Holds, written}
-use Rattle.mdl_steps.proofs.Hands.{holds_written}
-use Rattle.mdl_visits.specs.Coverings.{IsCovered}
-use Rattle.mdl_system.specs.Strength.{may_downgrade}
+use Rattle.mdl_steps.specs.SeatStates.{SeatState}
+use Rattle.mdl_steps.specs.Seats.{written}
+use Rattle.mdl_visits.specs.Coverings.{FitsAt}
+use Rattle.mdl_visits.specs.Leavings.{HasWorked}
+use Rattle.mdl_visits.specs.Numbers.{numbered}
+use Rattle.mdl_system.specs.Strength.{covers, may_downgrade}
 use Rattle.mdl_system.proofs.StrengthLemmas.{downgrade-listed}
-use Rattle.mdl_visits.proofs.Covered.{altered_flagged, gained_flagged}
-use Rattle.mdl_visits.proofs.Losing.{still_flagged}
-use Rattle.mdl_visits.proofs.Numbers.{idle_waits_not}
+use Rattle.mdl_visits.proofs.Arriving.{Arrives, has_worked, number_kept, unwaited_there}
+use Rattle.mdl_visits.proofs.Covered.{IsCovered, altered, altered_flagged, covered_by, fits_lock, gained_flagged, own_there, stands}
+use Rattle.mdl_visits.proofs.Trying.{refusal}
 
--- what it may do and has written it has done
-has_done : (place : ℕ) (ds : List Deed) (h : LatchRecord) (m m′ : Mine) → Holds place h h.book m → KnowsPlace m.0 place → MayDo m.0 h.book h.noted ds
-    → Flagged (all_booked m.0.number ds h.book) h.slow h.obtrusive → m′ ≡ written place (all_booked m.0.number ds h.book) m
-    → (g : LatchRecord) × HasDone place ds g m′ × Flagged (all_booked m′.0.number ds g.book) g.slow g.obtrusive
-has_done place ds h m m′ has known may flagged is =
-    subst (λ (x : Mine). (g : LatchRecord) × HasDone place ds g x × Flagged (all_booked x.0.number ds g.book) g.slow g.obtrusive) (sym is) (
-      h,
-      record { holds = holds_written place h h.book (all_booked m.0.number ds h.book) m has; act = inl known; may = may },
-      flagged,
-    )
+module _ (held : Own) {s : SeatState} {q : ℕ} {c : SeatState} (a : Arrives held.place s q c) (unwaited : NotWaited s.me.0 held.number) (found : numbered held.number s.me.0.slow ≡ Some held) where
+  -- the session's ticket stands in the book that is met
+  pub there : ticket_of c.me.0.number held.number a.latch.book.granted ≡ Some (ticket_by c.me.0.number held)
+  there = own_there c.me.0.number held.number held a.latch s.me (number_kept a) a.fresh unwaited found
 
-module _ (place who : ℕ) (mode : Mode) (h : LatchRecord) (m m′ : Mine) (mine : m.0.number ≡ who) (has : Holds place h h.book m) (covered : IsCovered who mode h) (known : KnowsPlace m.0 place) where
-  by_me : IsCovered m.0.number mode h
-  by_me = subst (λ (w : ℕ). IsCovered w mode h) (sym mine) covered
+  module _ (mode : Mode) (fits : FitsAt s.me.0 held.place mode) (strong : covers held.mode mode ≡ true) where
+    covered : IsCovered c.me.0.number mode a.latch
+    covered = covered_by held.place c.me.0.number held.number held mode a.latch s.me a.fresh there strong (fits_lock held.place mode a.latch s.me a.fresh fits)
 
-  written_by_me : (ds : List Deed) → m′ ≡ written place (all_booked who ds h.book) m → m′ ≡ written place (all_booked m.0.number ds h.book) m
-  written_by_me ds is = subst (λ (w : ℕ). m′ ≡ written place (all_booked w ds h.book) m) (sym mine) is
+    -- so it gets a mode to which it may be brought down
+    pub lowered_to : (w : SeatState) (result : Result Unit BookError) → RefusesJust (change_fault c.me.0.number held.number mode 0 a.latch.book) result
+        → OnOk result (w ≡ record c { me = written q (booked c.me.0.number (Alter held.number mode) a.latch.book) c.me })
+        → w ≡ record c { me = written q (booked c.me.0.number (Alter held.number mode) a.latch.book) c.me }
+    lowered_to w result refused wrote = altered c.me.0.number mode a.latch covered held.number result (ap is_some there) refused wrote
 
-  held_by_me : (number : ℕ) (t : Ticket) → NotWaited m.0 number → ticket_of who number h.book.granted ≡ Some t → HoldsTicket m.0 h.book number t
-  held_by_me number t unwaited there = (subst (λ (w : ℕ). ticket_of w number h.book.granted ≡ Some t) (sym mine) there, unwaited)
+    pub has_altered : (w : SeatState) → may_downgrade held.mode mode ≡ true → w ≡ record c { me = written q (booked c.me.0.number (Alter held.number mode) a.latch.book) c.me }
+        → HasWorked q (Alter held.number mode ∷ []) w
+    has_altered w weaker is =
+        has_worked a (Alter held.number mode ∷ []) w
+        (fits.0, fits.1, fits.2, fits.3)
+        (inr (record {
+          ticket = ticket_by c.me.0.number held;
+          held = (there, unwaited_there a held.number unwaited);
+          is_mode = covered.is_mode;
+          weaker = downgrade-listed held.mode mode weaker;
+        }))
+        (altered_flagged c.me.0.number mode a.latch covered held.number)
+        is
 
-  -- another mode of a ticket, to which it may be brought down
-  pub has_altered : (number : ℕ) (t : Ticket) → NotWaited m.0 number → ticket_of who number h.book.granted ≡ Some t → may_downgrade t.mode mode ≡ true → m′ ≡ written place (booked who (Alter number mode) h.book) m
-      → (g : LatchRecord) × HasDone place (Alter number mode ∷ []) g m′ × Flagged (all_booked m′.0.number (Alter number mode ∷ []) g.book) g.slow g.obtrusive
-  has_altered number t unwaited there weaker is =
-      has_done place (Alter number mode ∷ []) h m m′ has known
-      (inr (record { ticket = t; held = held_by_me number t unwaited there; is_mode = by_me.is_mode; weaker = downgrade-listed t.mode mode weaker }))
-      (altered_flagged m.0.number mode h by_me number)
-      (written_by_me (Alter number mode ∷ []) is)
+    -- or a second one beside it
+    pub has_gained : (number : ℕ) (w : SeatState) → s.me.0.asks ≡ None → number ≡ s.me.0.next
+        → w ≡ record c { me = written q (booked c.me.0.number (Gain number mode) a.latch.book) c.me } → HasWorked q (Gain number mode ∷ []) w
+    has_gained number w idle next is =
+        has_worked a (Gain number mode ∷ []) w
+        (fits.0, fits.1, fits.2, fits.3) (
+          next ∙ sym (ap (λ (x : Mine). x.0.next) a.came.1.now),
+          inr (record {
+            idle = ap (λ (x : Mine). x.0.asks) a.came.1.now ∙ idle;
+            is_mode = covered.is_mode;
+            cloned = (covered.stronger, covered.there, covered.own, covered.at_least);
+          }),
+        )
+        (gained_flagged c.me.0.number mode a.latch covered number)
+        is
 
-  -- one ticket more
-  pub has_gained : (number : ℕ) → m.0.asks ≡ None → number ≡ m.0.next → m′ ≡ written place (booked who (Gain number mode) h.book) m
-      → (g : LatchRecord) × HasDone place (Gain number mode ∷ []) g m′ × Flagged (all_booked m′.0.number (Gain number mode ∷ []) g.book) g.slow g.obtrusive
-  has_gained number idle next is =
-      has_done place (Gain number mode ∷ []) h m m′ has known
-      (next, inr (record { idle = idle; is_mode = by_me.is_mode; cloned = (by_me.stronger, by_me.there, by_me.own, by_me.at_least) }))
-      (gained_flagged m.0.number mode h by_me number)
-      (written_by_me (Gain number mode ∷ []) is)
-
-  -- the mode of another ticket, which is as strong, and one ticket less
-  pub has_folded : (kept gone : ℕ) → m.0.asks ≡ None → kept ≢ gone → ((t : Ticket) × (ticket_of who kept h.book.granted ≡ Some t) × IsAtLeast (lock_kind h.book) mode t.mode)
-      → ((t : Ticket) × (ticket_of who gone h.book.granted ≡ Some t) × (t.mode ≡ mode)) → m′ ≡ written place (booked who (Lose gone) (booked who (Alter kept mode) h.book)) m
-      → (g : LatchRecord) × HasDone place (Alter kept mode ∷ Lose gone ∷ []) g m′ × Flagged (all_booked m′.0.number (Alter kept mode ∷ Lose gone ∷ []) g.book) g.slow g.obtrusive
-  has_folded kept gone idle two old new is =
-      has_done place (Alter kept mode ∷ Lose gone ∷ []) h m m′ has known
-      (record {
-        idle = idle;
-        two = two;
-        old = old.0;
-        old_held = held_by_me kept old.0 (idle_waits_not m.0 kept idle) old.1;
-        new = new.0;
-        new_held = held_by_me gone new.0 (idle_waits_not m.0 gone idle) new.1;
-        mode_is = new.2;
-        is_mode = by_me.is_mode;
-        at_least = old.2;
-      })
-      (still_flagged m.0.number gone (booked m.0.number (Alter kept mode) h.book) h.slow h.obtrusive (altered_flagged m.0.number mode h by_me kept))
-      (written_by_me (Alter kept mode ∷ Lose gone ∷ []) is)
+    -- which is refused for want of room alone
+    pub no_room : (T : Type 0) (number : ℕ) (cause : BookError)
+        → Refuses {T = T} (grant_fault (record { session = c.me.0.number; number = number; mode = mode }) 0 a.latch.book) fault.OutOfMemory (Err cause)
+        → (cause ≡ fault.OutOfMemory) ⊎ ((cause ≡ fault.Full) × (65535 ≤ ticket_count a.latch.book))
+    no_room T number cause refuses =
+        refusal T (record { session = c.me.0.number; number = number; mode = mode }) 0 a.latch.book cause (stands c.me.0.number mode a.latch covered) refuses

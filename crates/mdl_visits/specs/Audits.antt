@@ -1,5 +1,5 @@
 -- An audit: the books of all places that have a key, as a session's records of their latches had them at one of its steps.
-use Rattle.std.specs.Prelude.{◌≡◌, ◌⊎◌, ℕ, ◌+◌, ◌<◌, List, [], ◌∷◌, ◌++◌, length, map, Some}
+use Rattle.std.specs.Prelude.{◌≡◌, ◌⊎◌, ℕ, ◌+◌, ◌<◌, ◌≤◌, List, [], ◌∷◌, ◌++◌, length, map, Some}
 use Rattle.mdl_key.specs.Words.{KeyName}
 use Rattle.mdl_defs.specs.Standings.{MayStand}
 use Rattle.mdl_steps.specs.declared.view.LatchRecord.{LatchRecord}
@@ -9,6 +9,8 @@ use Rattle.mdl_steps.specs.Cells.{held_at}
 use Rattle.mdl_steps.specs.Lists.{Each}
 use Rattle.mdl_steps.specs.Plays.{Mine}
 use Rattle.mdl_steps.specs.Rule.{key_at}
+use Rattle.mdl_steps.specs.SeatStates.{SeatState}
+use Rattle.mdl_steps.specs.Seats.{IsRising}
 use Rattle.mdl_visits.specs.declared.audited.Audited.{Audited}
 use Rattle.mdl_visits.specs.Visits.{IsStepOf}
 
@@ -33,6 +35,15 @@ AreKeyed keys place (a ∷ more) = ((key : KeyName) → key_at keys place ≡ So
 -- the definition of each book may stand under the book's key
 abbrev pub MayAllStand : List Audited → Type 0
 MayAllStand books = Each (λ (a : Audited). MayStand a.book.key.namespace a.book.standing) books
+
+-- the session may take the latches of the places from one to another, if there are any: the table has the places, whose numbers have 16 bits, and each
+-- latch that it holds is of a lower place
+pub record MayTakeAll (place last : ℕ) (s : SeatState) : Type 0 where
+  pub some : 0 < place
+  pub next : place ≤ last + 1
+  pub inside : last < s.table.slots
+  pub narrow : last < 65536
+  pub rising : IsRising place s.me
 
 -- the session had the latches of the places from one to another, beside those that it had of lower ones, and added the books of these places to a
 -- list, in order, as they were then

@@ -1,4 +1,4 @@
--- How a session makes way at a place whose latch it holds: it grants the waits there that can be granted, the first in order of arrival first.
+-- How a session reschedules at a place whose latch it holds: it grants the waits there that can be granted, the first in order of arrival first.
 use Rattle.std.specs.Prelude.{◌≡◌, ◌≢◌, ℕ, ◌==◌, not, Bool, true, false, List, [], ◌∷◌, ◌++◌, Contains, filter, is_some, Option, Some, None, ◌⊎◌}
 use Rattle.std.specs.List.{before_first}
 use Rattle.std.specs.FinSet as set
@@ -110,11 +110,7 @@ pub record StandsOnce (waiting : List Ticket) : Type 0 where
   pub once : Once waiting
   pub single : (session first second : ℕ) (t u : Ticket) → ticket_of session first waiting ≡ Some t → ticket_of session second waiting ≡ Some u → first ≡ second
 
--- it does so by the record of the latch of a place
-abbrev pub WaitsOnce : ℕ → Mine → Type 0
-WaitsOnce place m = (h : LatchRecord) → held_at place m.0.latches ≡ Some h → StandsOnce h.book.waiting
-
--- or by a record whose flags tell the lists
+-- it does so by a record whose flags tell the lists
 abbrev pub IsOrderly : LatchRecord → Type 0
 IsOrderly h = StandsOnce h.book.waiting × TellsLists h.book h.slow h.obtrusive
 
@@ -123,7 +119,7 @@ abbrev pub MayReschedule : ℕ → LatchRecord → Type 0
 MayReschedule word h = IsOrderly h × (h.obtrusive ≡ true → h.noted ≡ Some word)
 
 -- a session's ticket of this number waits there, and can be granted
-pub record IsReady (session number : ℕ) (h : LatchRecord) : Type 0 where
+pub record IsGrantableTicket (session number : ℕ) (h : LatchRecord) : Type 0 where
   pub wish : Ticket
   pub waits : ticket_of session number h.book.waiting ≡ Some wish
   pub beside : MayJoin session h.book h.noted wish.mode
@@ -151,7 +147,7 @@ IsGrantedFrom slots place session number word h m m′ =
     (((e : Met) × IsStepOf m m′ e × MeetsWaiter slots place session number e × (e.found ≢ word)) × Holds place h h.book m′)
     ⊎ Holds place (with_admitted session number h) (with_admitted session number h).book m′
 
--- ---- way is made
+-- ---- waits are granted
 
 -- what was told of one's own wait stays so
 abbrev pub StaysTold : Option ℕ → Option ℕ → Type 0
@@ -179,7 +175,7 @@ pub record Reschedules (id : TableId) (place : ℕ) (start m m′ : Mine) : Type
   pub did : deeds_of made ≡ []
   pub kept : Each StaysThere made
 
--- way is made for a ticket in its turn: from each start, if those that arrived before it were passed over since
+-- a ticket is granted or tried in its turn: from each start, if those that arrived before it were passed over since
 abbrev pub ReschedulesInTurn : TableId → ℕ → ℕ → ℕ → Mine → Mine → Type 0
 ReschedulesInTurn id place session number m m′ =
     (start : Mine) (h : LatchRecord) → Holds place h h.book m → IsLookedThrough id place h (ahead_of session number h.book.waiting) start m →
@@ -197,7 +193,7 @@ pub record MeetsRescheduled (id : TableId) (place who : ℕ) (m m′ : Mine) (e 
   pub held : held_at place e.held ≡ Some latch
   pub served : (latch.book.waiting ≡ []) ⊎ ForgetsNobody id place latch m m′
 
--- way was made at a place between the two: waits were granted by steps between them, nobody was forgotten at the last of them, as the latch was
+-- the place was rescheduled between the two: waits were granted by steps between them, nobody was forgotten at the last of them, as the latch was
 -- given back, and what was told of the session's own wait stays so. No step before gave a latch back, so all was done under that latch. A session
 -- without a wait is told of none
 pub record HasRescheduled (id : TableId) (place : ℕ) (m m′ : Mine) : Type 0 where
@@ -208,7 +204,7 @@ pub record HasRescheduled (id : TableId) (place : ℕ) (m m′ : Mine) : Type 0 
   pub stays : StaysTold m.0.told m′.0.told
   pub unasked : m.0.asks ≡ None → m′.0.told ≡ m.0.told
 
--- the latch of a place, which the session held, and the slot that it took last were given back after these deeds and after way was made there,
+-- the latch of a place, which the session held, and the slot that it took last were given back after these deeds and after waits were granted there,
 -- and nothing else changed. The steps tell just these deeds
 pub record ReschedulesAndLeaves (id : TableId) (place : ℕ) (ds : List Deed) (m m′ : Mine) : Type 0 where
   pub told : Option ℕ
@@ -218,7 +214,7 @@ pub record ReschedulesAndLeaves (id : TableId) (place : ℕ) (ds : List Deed) (m
   pub did : deeds_of made ≡ ds
   pub way : HasRescheduled id place m m′
 
--- the session came to a place, did these deeds there, made way and went: it has the latches and the slots that it had, and nothing else changed.
+-- the session came to a place, did these deeds there, granted waits and went: it has the latches and the slots that it had, and nothing else changed.
 -- Its steps tell just these deeds
 pub record VisitsAndReschedules (id : TableId) (place : ℕ) (ds : List Deed) (m m′ : Mine) : Type 0 where
   pub told : Option ℕ

@@ -11,16 +11,32 @@ use Rattle.mdl_steps.specs.declared.view.Met.{Met}
 use Rattle.mdl_steps.specs.declared.view.Own.{Own}
 use Rattle.mdl_steps.specs.declared.view.View.{View}
 use Rattle.mdl_steps.specs.Cells.{held_at}
-use Rattle.mdl_steps.specs.Deeds.{all_done}
+use Rattle.mdl_steps.specs.Deeds.{all_booked, all_done}
 use Rattle.mdl_steps.specs.Layout.{latch_word, lock_word}
 use Rattle.mdl_steps.specs.Plays.{Mine, noting_version}
-use Rattle.mdl_steps.specs.Seats.{elsewhere, rest}
-use Rattle.mdl_visits.specs.Visits.{and_made, deeds_of}
+use Rattle.mdl_steps.specs.Rule.{Flagged}
+use Rattle.mdl_steps.specs.SeatStates.{SeatState}
+use Rattle.mdl_steps.specs.Seats.{HasDone, IsPlace, elsewhere, rest}
+use Rattle.mdl_visits.specs.Grantings.{StandsOnce}
+use Rattle.mdl_visits.specs.Visits.{and_made, deeds_of, IsStepOf}
 
 -- the latch of a place, which the session held, and the slot that it took last were given back after these deeds, steps were made that tell just
 -- these, and nothing else changed
 abbrev pub Leaves : ℕ → List Deed → Mine → Mine → Type 0
 Leaves place ds m m′ = (made : List Met) × (m′ ≡ and_made made (record (all_done place ds m.0) { latches = elsewhere place m }, rest m.1)) × (deeds_of made ≡ ds)
+
+-- the session holds the latch of a place, and has done these deeds in its book. The flags that are up tell of each ticket in it, and each session
+-- waits there at most once
+pub record HasWorked (place : ℕ) (ds : List Deed) (s : SeatState) : Type 0 where
+  pub is_place : IsPlace s.table place
+  pub latch : LatchRecord
+  pub done : HasDone place ds latch s.me
+  pub flagged : Flagged (all_booked s.me.0.number ds latch.book) latch.slow latch.obtrusive
+  pub once : StandsOnce latch.book.waiting
+
+-- a step on the word of a place, which did these deeds, made while the session had the latches that it has here
+abbrev pub DidUnder : ℕ → List Deed → SeatState → Met → Type 0
+DidUnder place ds s e = (e.word ≡ lock_word place) × (e.held ≡ s.me.0.latches) × (e.deeds ≡ ds)
 
 -- what a session knows once it has read what stands at a place: this, under each ticket that it has there
 abbrev pub knowing : ℕ → Standing → View → View
@@ -36,6 +52,10 @@ pub record MeetsOwn (place session number : ℕ) (e : Met) : Type 0 where
   pub latch : LatchRecord
   pub held : held_at place e.held ≡ Some latch
   pub there : is_some (ticket_of session number latch.book.granted) ≡ true
+
+-- a step that was made between the two met the session's own granted ticket so, and did these deeds
+abbrev pub DoesToOwn : ℕ → ℕ → List Deed → SeatState → SeatState → Type 0
+DoesToOwn place number ds s s′ = (e : Met) × IsStepOf s.me s′.me e × MeetsOwn place s.me.0.number number e × (e.deeds ≡ ds)
 
 -- one of the tickets is of this number, at this place
 abbrev pub HasTicket : ℕ → ℕ → List Own → Type 0

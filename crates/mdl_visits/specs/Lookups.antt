@@ -10,7 +10,8 @@ use Rattle.mdl_steps.specs.Layout.{latch_word}
 use Rattle.mdl_steps.specs.Lists.{Each}
 use Rattle.mdl_steps.specs.Plays.{Mine, IsDirectory, consulted, listing}
 use Rattle.mdl_steps.specs.Rule.{key_at}
-use Rattle.mdl_steps.specs.Seats.{place_among, rest}
+use Rattle.mdl_steps.specs.SeatStates.{SeatState}
+use Rattle.mdl_steps.specs.Seats.{HasDirectory, place_among, rest}
 use Rattle.mdl_visits.specs.declared.resolve_error.ResolveError.{ResolveError}
 use Rattle.mdl_visits.specs.declared.resolve_error.ResolveError.TheVariants.{NoPlace, OutOfMemory}
 use Rattle.mdl_visits.specs.Visits.{AllQuiet, IsQuiet, and_made, deeds_of}
@@ -48,6 +49,19 @@ IsAnswer slots key k left (Err NoPlace) = (place_among key k.keys ≡ None) × (
 IsAnswer slots key k left (Err OutOfMemory) = (place_among key k.keys ≡ None) × (length k.keys + 1 < slots) × (left ≡ k)
 
 -- ---- while the session holds the directory's latch
+
+-- it holds no other latch, and this is its directory, which has fewer keys than the table has places
+pub record HoldsKeys (k : Keys) (s : SeatState) : Type 0 where
+  pub has : HasDirectory k s.me
+  pub alone : s.me.0.latches ≡ []
+  pub fit : length k.keys < s.table.slots
+
+-- the key has no place by this directory, and may get this one, which is the next
+pub record IsNext (place : ℕ) (key : KeyName) (k : Keys) (s : SeatState) : Type 0 where
+  pub holds : HoldsKeys k s
+  pub new : place_among key k.keys ≡ None
+  pub next : place ≡ length k.keys + 1
+  pub inside : place < s.table.slots
 
 -- steps were made, and the seat has this record of the directory's latch and this directory in hand
 abbrev pub relisted : List Met → Keys → Mine → Mine

@@ -1,5 +1,5 @@
 -- A search for a deadlock: what a session meets and does while it has the latches of all places that have a key.
-use Rattle.std.specs.Prelude.{◌≡◌, ◌≢◌, ◌⊎◌, ℕ, zero, suc, ◌≤◌, ◌==◌, ◌&&◌, nat_lt, not, true, if◌then◌else◌, List, [], ◌∷◌, ◌++◌, length, map, find, All, Option, Some, None, IfSome}
+use Rattle.std.specs.Prelude.{◌≡◌, ◌≢◌, ◌⊎◌, ℕ, zero, suc, ◌≤◌, ◌==◌, ◌&&◌, nat_lt, not, Bool, true, false, if◌then◌else◌, List, [], ◌∷◌, ◌++◌, length, map, find, All, Option, Some, None, IfSome, MatchOption, Result, IfOk, OnErr}
 use Rattle.std.specs.List.{list_any}
 use Rattle.atomic_table.specs.Seated.{TableId}
 use Rattle.mdl_book.specs.declared.book_view.BookView.{BookView}
@@ -17,6 +17,7 @@ use Rattle.mdl_steps.specs.declared.wait_word.Loss.TheVariants as loss
 use Rattle.mdl_steps.specs.Copies.{Queues, queues_of}
 use Rattle.mdl_steps.specs.Layout.{wait_word}
 use Rattle.mdl_steps.specs.Plays.{Mine}
+use Rattle.mdl_steps.specs.SeatStates.{AtItsTable, SeatState}
 use Rattle.mdl_steps.specs.WaitSeats.{IsSession}
 use Rattle.mdl_steps.specs.WaitStates.{lost_state, unsettled_state, wait_state}
 use Rattle.mdl_visits.specs.declared.audited.Audited.{Audited}
@@ -30,7 +31,7 @@ use Rattle.mdl_visits.specs.Visits.{AllQuiet, IsStepOf, deeds_of}
 
 -- whether a session has no open wait by one of these words: it has none, or it is settled
 abbrev pub settled_by : List WaitRead → SessionTest
-settled_by words session = list_any (λ (h : WaitRead). h.session == session && not (wait_state h.word.0 == unsettled_state)) words
+settled_by words session = list_any (λ (r : WaitRead). r.session == session && not (wait_state r.word.0 == unsettled_state)) words
 
 -- the sessions from 1 to so many
 unfoldable pub sessions_to : ℕ → List ℕ
@@ -40,21 +41,21 @@ sessions_to (suc n) = sessions_to n ++ suc n ∷ []
 -- these are the words of all sessions of the table, each once, in order
 pub record AreOfAll (id : TableId) (words : List WaitRead) : Type 0 where
   pub last : ℕ
-  pub sessions : map (λ (h : WaitRead). h.session) words ≡ sessions_to last
-  pub each : All (λ (h : WaitRead). IsSession id h.session × (is_session h.session ≡ true)) words
+  pub sessions : map (λ (r : WaitRead). r.session) words ≡ sessions_to last
+  pub each : All (λ (r : WaitRead). IsSession id r.session × (is_session r.session ≡ true)) words
   pub every : (session : ℕ) → IsSession id session → is_session session ≡ true → session ≤ last
 
 -- one of the steps between the two met this word, while the session had just these latches
-abbrev pub WasHeard : ℕ → List LatchRecord → Mine → Mine → WaitRead → Type 0
-WasHeard slots latches m m′ h = (e : Met) × IsStepOf m m′ e × (e.word ≡ wait_word slots h.session) × (e.found ≡ h.word.0) × (e.held ≡ latches)
+abbrev pub WasRead : ℕ → List LatchRecord → Mine → Mine → WaitRead → Type 0
+WasRead slots latches m m′ r = (e : Met) × IsStepOf m m′ e × (e.word ≡ wait_word slots r.session) × (e.found ≡ r.word.0) × (e.held ≡ latches)
 
--- the word that was heard of a session's wait, if any
-abbrev pub heard_of : ℕ → List WaitRead → Option WaitRead
-heard_of session words = find (λ (h : WaitRead). h.session == session) words
+-- the word that was read of a session's wait, if any
+abbrev pub read_of : ℕ → List WaitRead → Option WaitRead
+read_of session words = find (λ (r : WaitRead). r.session == session) words
 
 -- by this word a session's wait wasn't open, or one of the steps between the two met another word
 abbrev pub WasOther : ℕ → Mine → Mine → WaitRead → Type 0
-WasOther slots m m′ h = (wait_state h.word.0 ≢ unsettled_state) ⊎ ((e : Met) × IsStepOf m m′ e × MeetsOther slots h.session h.word.0 e)
+WasOther slots m m′ r = (wait_state r.word.0 ≢ unsettled_state) ⊎ ((e : Met) × IsStepOf m m′ e × MeetsOther slots r.session r.word.0 e)
 
 -- ---- what is found
 
@@ -70,7 +71,7 @@ AreQueuesOf audited lists = map (λ (a : Audited). queues_of a.book) audited ≡
 -- these latches, and no other wait was settled
 pub record SettlesVictim (slots victim : ℕ) (latches : List LatchRecord) (m m′ : Mine) : Type 0 where
   pub wait : ℕ
-  pub settles : Settles victim wait 3 m m′
+  pub settles : Settles victim wait (lost_state loss.Victim) m m′
   pub moment : Met
   pub step : IsStepOf m m′ moment
   pub kind : moment.kind ≡ SettleWait
@@ -94,17 +95,17 @@ KnowsVictim who (Victim victim) m = victim ≡ who → m.0.told ≡ Some (lost_s
 pub record Judges (id : TableId) (who : ℕ) (latches : List LatchRecord) (audited : List Audited) (found : Search) (m m′ : Mine) : Type 0 where
   pub words : List WaitRead
   pub all : AreOfAll id words
-  pub heard : All (WasHeard id.slots latches m m′) words
+  pub read : All (WasRead id.slots latches m m′) words
   pub outcome : IsOutcome id.slots who latches audited words m m′ found
 
 -- of the words of all sessions, as steps between the two met them, and of these books a victim came, whose word was another one by then
 pub record Misses (id : TableId) (who : ℕ) (latches : List LatchRecord) (audited : List Audited) (m m′ : Mine) : Type 0 where
   pub words : List WaitRead
   pub all : AreOfAll id words
-  pub heard : All (WasHeard id.slots latches m m′) words
+  pub read : All (WasRead id.slots latches m m′) words
   pub victim : ℕ
   pub found : victim_in (settled_by words) (books_of audited) who ≡ Some victim
-  pub other : IfSome (heard_of victim words) (WasOther id.slots m m′)
+  pub other : IfSome (read_of victim words) (WasOther id.slots m m′)
 
 -- a place's book, if somebody waits there
 abbrev pub if_waited : Audited → List Audited
@@ -132,24 +133,61 @@ pub record Searched (id : TableId) (who : ℕ) (k : Keys) (found : Search) (m m�
 -- ---- what becomes of the session
 
 -- steps were made that met the words of waits, or settled them
-abbrev pub hearing : List Met → Option ℕ → List Settlement → Mine → Mine
-hearing made told settles m = (record m.0 { log = m.0.log ++ made; told = told; settles = settles }, m.1)
+abbrev pub with_waits_read : List Met → Option ℕ → List Settlement → Mine → Mine
+with_waits_read made told settles m = (record m.0 { log = m.0.log ++ made; told = told; settles = settles }, m.1)
 
 -- likewise, without deeds, and nothing else changed. What was told of its own wait stays so
-pub record Listens (m m′ : Mine) : Type 0 where
+pub record ReadsWaits (m m′ : Mine) : Type 0 where
   pub made : List Met
   pub told : Option ℕ
   pub settles : List Settlement
-  pub now : m′ ≡ hearing made told settles m
+  pub now : m′ ≡ with_waits_read made told settles m
   pub did : deeds_of made ≡ []
   pub stays : StaysTold m.0.told told
 
 -- likewise, and at each step the session had of the directory what it had before, and raised no flag
-pub record Hears (m m′ : Mine) : Type 0 where
-  pub made : List Met
-  pub told : Option ℕ
-  pub settles : List Settlement
-  pub now : m′ ≡ hearing made told settles m
-  pub did : deeds_of made ≡ []
-  pub stays : StaysTold m.0.told told
-  pub had : AllQuiet m.0.directory made
+pub record ReadsWaitsQuietly (m m′ : Mine) : Type 0 where
+  pub reads : ReadsWaits m m′
+  pub had : AllQuiet m.0.directory reads.made
+
+-- likewise of a seat, and no wait was settled
+abbrev pub OnlyReadsWaits : SeatState → SeatState → Type 0
+OnlyReadsWaits s s′ = AtItsTable s s′ ReadsWaitsQuietly × SettlesNothing s.me s′.me
+
+-- these are the words of all sessions' waits, as steps between the two met them, while the session had just the latches that it had at first
+abbrev pub AreRead : List WaitRead → SeatState → SeatState → Type 0
+AreRead words s s′ = AreOfAll s.table words × All (WasRead s.table.slots s.me.0.latches s.me s′.me) words
+
+-- ---- what the parts of a search come to
+
+-- the wait of a session was to be settled as the victim's, if by the word that was read of it, if any, it was open. It was settled, which the session knows
+-- of its own wait; or no wait was settled, since the word was another one by then
+pub record TriesToSettle (victim : ℕ) (read : Option WaitRead) (done : Bool) (s s′ : SeatState) : Type 0 where
+  pub reads : AtItsTable s s′ ReadsWaitsQuietly
+  pub settled : done ≡ true → SettlesVictim s.table.slots victim s.me.0.latches s.me s′.me × KnowsVictim s.me.0.number (Victim victim) s′.me
+  pub missed : done ≡ false → SettlesNothing s.me s′.me × IfSome read (WasOther s.table.slots s.me s′.me)
+
+-- words of waits were read or settled, and this came of it; or memory ran out, and no wait was settled
+pub record EndsSearch {T E : Type 0} (result : Result T E) (Comes : T → Type 0) (s s′ : SeatState) : Type 0 where
+  pub reads : AtItsTable s s′ ReadsWaitsQuietly
+  pub found : IfOk result Comes
+  pub nothing : OnErr result (SettlesNothing s.me s′.me)
+
+-- this was judged by these lists, of whichever books they are
+abbrev pub Finds : List Queues → SeatState → SeatState → Search → Type 0
+Finds lists s s′ found =
+    ((audited : List Audited) → AreQueuesOf audited lists → Judges s.table s.me.0.number s.me.0.latches audited found s.me s′.me)
+    × KnowsVictim s.me.0.number found s′.me
+
+-- likewise, or nothing was found, since the victim's wait had another word by then
+abbrev pub FindsAtOnce : List Queues → SeatState → SeatState → Option Search → Type 0
+FindsAtOnce lists s s′ tried =
+    MatchOption tried
+    (SettlesNothing s.me s′.me × ((audited : List Audited) → AreQueuesOf audited lists → Misses s.table s.me.0.number s.me.0.latches audited s.me s′.me))
+    (Finds lists s s′)
+
+-- this was judged by these lists, of whichever books they are, and by the books of the places from one to another
+abbrev pub FindsFrom : ℕ → ℕ → List Queues → SeatState → SeatState → Search → Type 0
+FindsFrom place last lists s s′ found =
+    ((copied : List Audited) → AreQueuesOf copied lists → Searches s.table s.me.0.number place last copied found s.me s′.me)
+    × KnowsVictim s.me.0.number found s′.me

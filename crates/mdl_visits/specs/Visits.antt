@@ -1,11 +1,13 @@
 -- A visit of a session to a place: it takes the latch there, does what it came for, and gives the latch back. What it met
 -- there stands in its list of steps.
-use Rattle.std.specs.Prelude.{◌≡◌, ℕ, ◌≤◌, ◌==◌, not, Bool, true, false, List, [], ◌∷◌, ◌++◌, filter, Option, Some}
+use Rattle.std.specs.Prelude.{◌≡◌, ℕ, ◌≤◌, ◌==◌, not, Bool, true, false, List, [], ◌∷◌, ◌++◌, filter, Option, Some, None, ◌⊎◌}
 use lib.ListN.{get_elem?}
 use mathlib.Core.Option.{some}
 use Rattle.mdl_key.specs.declared.mode.Mode.{Mode}
 use Rattle.mdl_key.specs.declared.namespace.Kind.{Kind}
-use Rattle.mdl_key.specs.Words.{kind_of}
+use Rattle.mdl_key.specs.Words.{is_mode_of, is_obtrusive, kind_of}
+use Rattle.mdl_book.specs.declared.book_error.BookError.{BookError}
+use Rattle.mdl_book.specs.declared.book_error.BookError.TheVariants as fault
 use Rattle.mdl_book.specs.declared.book_view.BookView.{BookView}
 use Rattle.mdl_book.specs.declared.ticket.Ticket.{Ticket}
 use Rattle.mdl_book.specs.Books.{lock_kind, ticket_count}
@@ -25,8 +27,15 @@ use Rattle.mdl_steps.specs.Deeds.{MayJoin, all_done}
 use Rattle.mdl_steps.specs.Layout.{latch_word, lock_word}
 use Rattle.mdl_steps.specs.Lists.{Each}
 use Rattle.mdl_steps.specs.Plays.{Mine, IsFresh, noting, raised}
-use Rattle.mdl_steps.specs.Rule.{Flagged, Lawful, NotedCounts}
-use Rattle.mdl_steps.specs.Seats.{Holds}
+use Rattle.mdl_steps.specs.Rule.{Lawful, NotedCounts}
+use Rattle.mdl_steps.specs.SeatStates.{AtItsTable, SeatState}
+use Rattle.mdl_steps.specs.Seats.{Holds, IsPlace, IsRising}
+
+-- ---- what a session knows
+
+-- the session has looked up a key whose place this is, of this kind
+abbrev pub KnowsKind : View → ℕ → Kind → Type 0
+KnowsKind v place kind = (i : ℕ) × (k : Known) × (get_elem? v.known i ≡ some k) × (k.place ≡ place) × (kind_of k.key.namespace ≡ kind)
 
 -- ---- steps
 
@@ -64,6 +73,10 @@ IsQuiet directory e = (e.directory ≡ directory) × (raises_flags e.kind ≡ fa
 abbrev pub AllQuiet : Option Keys → List Met → Type 0
 AllQuiet directory made = Each (IsQuiet directory) made
 
+-- steps without deeds were made between the two at which the session had of the directory what it had before and raised no flag, and nothing else changed
+abbrev pub MakesQuietSteps : Mine → Mine → Type 0
+MakesQuietSteps m m′ = (made : List Met) × (m′ ≡ and_made made m) × (deeds_of made ≡ []) × AllQuiet m.0.directory made
+
 -- a step at which the session stayed: it gave no latch back and raised no flag
 abbrev pub StaysThere : Met → Type 0
 StaysThere e = (gives_back e.kind ≡ false) × (raises_flags e.kind ≡ false)
@@ -96,6 +109,10 @@ IsStepAfter m a m′ e = GoesOn m a × (after : List Met) × (m′.0.log ≡ a.0
 abbrev pub LeavesBy : Mine → Mine → Met → Type 0
 LeavesBy m m′ e = (before : List Met) × (m′.0.log ≡ (m.0.log ++ before) ++ e ∷ []) × Each StaysThere before
 
+-- a step that was made between the two shows this
+abbrev pub HasStep : SeatState → SeatState → (Met → Type 0) → Type 0
+HasStep s s′ Shows = (e : Met) × IsStepOf s.me s′.me e × Shows e
+
 -- two steps, the second right after the first, that were made between the two
 abbrev pub AreStepsOf : Mine → Mine → Met → Met → Type 0
 AreStepsOf m m′ first second = (before : List Met) × (after : List Met) × (m′.0.log ≡ (m.0.log ++ before) ++ first ∷ second ∷ after)
@@ -111,6 +128,22 @@ pub record IsInside (place : ℕ) (m m′ : Mine) : Type 0 where
   pub others : filter (λ h. not (h.place == place)) latches ≡ m.0.latches
   pub did : deeds_of made ≡ []
 
+-- the session may go to a place: the table has it, and each latch that the session holds is of a lower place
+pub record MayVisit (place : ℕ) (s : SeatState) : Type 0 where
+  pub is_place : IsPlace s.table place
+  pub rising : IsRising place s.me
+
+-- the session came to a place, whose latch it has then. It gave no latch back, raised no flag and did no deed
+abbrev pub CameTo : ℕ → SeatState → SeatState → Type 0
+CameTo place s s′ = (s′.table ≡ s.table) × IsInside place s.me s′.me × StaysOn s.me s′.me
+
+-- the session holds the latch of a place, and has the book that the latch's record tells in hand. The record is so
+pub record HasLatched (place : ℕ) (s : SeatState) (IsSo : LatchRecord → Type 0) : Type 0 where
+  pub is_place : IsPlace s.table place
+  pub latch : LatchRecord
+  pub holds : Holds place latch latch.book s.me
+  pub is_so : IsSo latch
+
 -- the session came to a place, did these deeds there and went: it has the latches and the slots that it had, and nothing else changed. Its
 -- steps tell just these deeds
 pub record Visits (place : ℕ) (ds : List Deed) (m m′ : Mine) : Type 0 where
@@ -118,17 +151,32 @@ pub record Visits (place : ℕ) (ds : List Deed) (m m′ : Mine) : Type 0 where
   pub now : m′ ≡ and_made made (all_done place ds m.0, m.1)
   pub did : deeds_of made ≡ ds
 
--- it came in, raised the flag SLOW, and OBTRUSIVE where its wish is obtrusive, and then read this word of the lock
-pub record Enters (place : ℕ) (obtrusive : Bool) (word : ℕ) (m m′ : Mine) : Type 0 where
+-- it came in, raised the flag SLOW, and OBTRUSIVE where its wish is obtrusive, and then read this word of the lock, by which a wish for a mode can
+-- be granted or can't
+pub record Enters (place : ℕ) (obtrusive : Bool) (word : ℕ) (mode : Mode) (can : Bool) (m m′ : Mine) : Type 0 where
   pub found : LatchRecord
   pub fresh : IsFresh place found m
   pub holds : Holds place (noting word (raised true obtrusive found)) found.book m′
   pub inside : IsInside place m m′
   pub read : (before : List Met) × (m′.0.log ≡ (m.0.log ++ before) ++ record { kind = ReadWord; deeds = []; word = lock_word place; found = word; held = m′.0.latches; directory = m′.0.directory } ∷ [])
+  pub told : can_be_granted (lock_kind found.book) found.book.granted found.book.waiting word m.0.number mode ≡ can
 
--- it may go: the book is as it was, and the flags tell of each ticket in it
-abbrev pub MayLeave : ℕ → Mine → Type 0
-MayLeave place m = (h : LatchRecord) × Holds place h h.book m × Flagged h.book h.slow h.obtrusive
+-- a session that waits for nothing has a wish for a mode at a place, whose key it knows as one of this kind, which has the mode
+pub record HasWish (place : ℕ) (kind : Kind) (mode : Mode) (v : View) : Type 0 where
+  pub idle : v.asks ≡ None
+  pub knows : KnowsKind v place kind
+  pub is_mode : is_mode_of kind mode ≡ true
+
+-- with such a wish it entered a place, whose latch is that of the place q, and read this word of the lock there, by which the wish can be granted
+-- or can't
+pub record HasEntered (place q word : ℕ) (mode : Mode) (can : Bool) (s s′ : SeatState) : Type 0 where
+  pub at : q ≡ place
+  pub is_place : IsPlace s′.table q
+  pub kind : Kind
+  pub wish : HasWish place kind mode s.me.0
+  pub obtrusive : Bool
+  pub asks : obtrusive ≡ is_obtrusive kind mode
+  pub entered : AtItsTable s s′ (Enters place obtrusive word mode can)
 
 -- ---- what a step met
 
@@ -159,6 +207,22 @@ pub record MeetsFull (place : ℕ) (e : Met) : Type 0 where
   pub held : held_at place e.held ≡ Some latch
   pub full : 65535 ≤ ticket_count latch.book
 
+-- the session came to a place and went with this deed, and a step shows that its wish could be granted
+abbrev pub WasGranted : ℕ → Mode → Deed → SeatState → SeatState → Type 0
+WasGranted place mode deed s s′ = AtItsTable s s′ (Visits place (deed ∷ [])) × HasStep s s′ (MeetsGrantable place s.me.0.number mode deed)
+
+-- it came and went with nothing done, and a step shows that its wish couldn't be granted
+abbrev pub WasBlocked : ℕ → Mode → SeatState → SeatState → Type 0
+WasBlocked place mode s s′ = AtItsTable s s′ (Visits place []) × HasStep s s′ (MeetsBlocked place s.me.0.number mode)
+
+-- why there was no room for its ticket: memory ran out, or a step shows that the book was full
+abbrev pub LacksRoom : ℕ → BookError → SeatState → SeatState → Type 0
+LacksRoom place cause s s′ = (cause ≡ fault.OutOfMemory) ⊎ ((cause ≡ fault.Full) × HasStep s s′ (MeetsFull place))
+
+-- it came and went with nothing done, for want of room
+abbrev pub WasRefused : ℕ → BookError → SeatState → SeatState → Type 0
+WasRefused place cause s s′ = AtItsTable s s′ (Visits place []) × LacksRoom place cause s s′
+
 -- at the step the session's wish wasn't grantable: whichever fast tickets of other sessions the word counted, by the book it clashed with a
 -- granted ticket or had to wait behind a waiting one
 abbrev pub WasNotGrantable : ℕ → ℕ → Mode → Met → Type 0
@@ -181,9 +245,3 @@ BlockedWishesWerentGrantable = (place who : ℕ) (mode : Mode) (e : Met) → Mee
 
 abbrev pub GrantedWishesWereGrantable : Type 0
 GrantedWishesWereGrantable = (place who : ℕ) (mode : Mode) (deed : Deed) (e : Met) → MeetsGrantable place who mode deed e → WasGrantable place who mode deed e
-
--- ---- what a session knows
-
--- the session has looked up a key whose place this is, of this kind
-abbrev pub KnowsKind : View → ℕ → Kind → Type 0
-KnowsKind v place kind = (i : ℕ) × (k : Known) × (get_elem? v.known i ≡ some k) × (k.place ≡ place) × (kind_of k.key.namespace ≡ kind)

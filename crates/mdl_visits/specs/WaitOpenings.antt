@@ -2,7 +2,6 @@
 use Rattle.std.specs.Prelude.{◌≡◌, ℕ, ◌+◌, true, List, [], ◌∷◌, ◌++◌, Some, None}
 use Rattle.mdl_key.specs.declared.mode.Mode.{Mode}
 use Rattle.mdl_book.specs.declared.ticket.Ticket.{Ticket}
-use Rattle.mdl_book.specs.Books.{enqueueing}
 use Rattle.mdl_steps.specs.declared.step_kind.StepKind.TheVariants.{OpenWait}
 use Rattle.mdl_steps.specs.declared.view.LatchRecord.{LatchRecord}
 use Rattle.mdl_steps.specs.declared.view.Met.{Met}
@@ -10,12 +9,10 @@ use Rattle.mdl_steps.specs.declared.view.View.{View}
 use Rattle.mdl_steps.specs.Cells.{held_at}
 use Rattle.mdl_steps.specs.Layout.{wait_word}
 use Rattle.mdl_steps.specs.Plays.{Mine}
-use Rattle.mdl_steps.specs.Rule.{Flagged, TellsLists}
-use Rattle.mdl_steps.specs.Seats.{Holds}
-use Rattle.mdl_steps.specs.WaitPlays.{asked_ticket, asking}
-use Rattle.mdl_steps.specs.WaitSeats.{MayOpen}
+use Rattle.mdl_steps.specs.SeatStates.{AtItsTable, SeatState}
+use Rattle.mdl_steps.specs.WaitPlays.{asking}
 use Rattle.mdl_steps.specs.WaitStates.{idle_state, wait_in}
-use Rattle.mdl_visits.specs.Visits.{and_made, deeds_of}
+use Rattle.mdl_visits.specs.Visits.{AreStepsOf, MeetsBlocked, and_made, deeds_of}
 
 -- a session that waits from then on for a mode at a place, and has yet to search for a deadlock
 abbrev pub awaiting : ℕ → Mode → View → View
@@ -38,10 +35,9 @@ pub record MeetsOpening (slots place session waits number : ℕ) (mode : Mode) (
   pub before : List Ticket
   pub last : latch.book.waiting ≡ before ++ record { session = session; number = number; mode = mode } ∷ []
 
--- under a latch with its book in hand, the session may open a wait for a mode, and the flags tell the lists exactly once it has. Until then
--- they tell of each ticket
-pub record MayQueue (place : ℕ) (mode : Mode) (h : LatchRecord) (m : Mine) : Type 0 where
-  pub holds : Holds place h h.book m
-  pub may : MayOpen place mode h m
-  pub exact : TellsLists (enqueueing (asked_ticket mode m.0) h.book) h.slow h.obtrusive
-  pub flagged : Flagged h.book h.slow h.obtrusive
+-- the session began to wait for a mode at a place, with a ticket of this number: a step shows that its wish couldn't be granted, and the next
+-- opened the wait
+abbrev pub BeginsWait : ℕ → Mode → ℕ → SeatState → SeatState → Type 0
+BeginsWait place mode number s s′ =
+    AtItsTable s s′ (Opens place mode)
+    × ((e f : Met) × AreStepsOf s.me s′.me e f × MeetsBlocked place s.me.0.number mode e × MeetsOpening s.table.slots place s.me.0.number s.me.0.waits number mode f)

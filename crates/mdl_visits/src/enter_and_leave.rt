@@ -1,60 +1,79 @@
 //! A session takes the latch of a place for a wish, and gives it back. Before it does, it lowers the flags of the lock's word that the lists
 //! don't need.
-ghost use Rattle.std.specs.Prelude.{◌≡◌, []};
-ghost use Rattle.mdl_steps.specs.declared.view.LatchRecord.{LatchRecord};
-ghost use Rattle.mdl_steps.specs.declared.view.Met.{Met};
-ghost use Rattle.mdl_steps.specs.Deeds.{all_booked};
-ghost use Rattle.mdl_steps.specs.Layout.{lock_word};
-ghost use Rattle.mdl_steps.specs.Plays.{Mine};
-ghost use Rattle.mdl_steps.specs.Rule.{Flagged};
-ghost use Rattle.mdl_steps.specs.SeatStates.{AtItsTable};
-ghost use Rattle.mdl_steps.specs.Seats.{IsPlace, IsRising, HasDone};
-ghost use Rattle.mdl_visits.specs.Leavings.{Leaves};
-ghost use Rattle.mdl_visits.specs.Visits.{Enters, GoesOn, IsInside, IsStepOf, MayLeave, Visits};
+ghost use Rattle.std.specs.Prelude.{◌≡◌, ℕ, MatchResult, true};
+ghost use Rattle.mdl_key.specs.declared.namespace.Kind.{Kind};
+ghost use Rattle.mdl_key.specs.Words.{is_obtrusive};
+ghost use Rattle.mdl_steps.specs.declared.deed.Deed.TheVariants.{Gain};
+ghost use Rattle.mdl_steps.specs.SeatStates.{AtItsTable, SeatState};
+ghost use Rattle.mdl_visits.specs.Grantings.{IsLowered, IsOrderly};
+ghost use Rattle.mdl_visits.specs.Leavings.{DidUnder, HasWorked};
+ghost use Rattle.mdl_visits.specs.Visits.{HasEntered, HasLatched, HasStep, HasWish, IsInside, MayVisit, Visits, WasGranted, WasRefused};
 
 use crate::latches::await_latch;
+use mdl_book::BookError;
+use mdl_key::Mode;
 use mdl_steps::{Deed, Latched, TableSeat};
 use mdl_word::Word;
 use std::sync::Wait;
 
-/// Takes the latch of a place for a wish, raises the flags that close the fast path, and reads the lock's word.
+/// Takes the latch of a place for a wish, raises the flags that close the fast path, reads the lock's word, and tells whether the wish can
+/// be granted by it.
 pub(crate) fn enter<R: Wait>(
     rt: &R,
     seat: &mut TableSeat,
     place: usize,
+    mode: Mode,
     obtrusive: bool,
-) -> (Latched, Word)
-    requires place { IsPlace seat.old.table place }
-    requires rising { IsRising place seat.old.me }
-    ensures place { result.0.place ≡ place }
-    ensures entered { AtItsTable seat.old seat.new (Enters place obtrusive result.1.0) }
+) -> (Latched, Word, bool)
+    requires at { MayVisit place seat.old }
+    requires wish { (kind : Kind) × HasWish place kind mode seat.old.me.0 × (obtrusive ≡ is_obtrusive kind mode) }
+    ensures entered { HasEntered place result.0.place result.1.0 mode result.2 seat.old seat.new }
 {
     let latch = await_latch(rt, seat, place);
     seat.raise_flags(&latch, true, obtrusive);
     let word = seat.read_word(&latch);
-    (latch, word)
+    let can = seat.can_grant(&latch, mode, word);
+    (latch, word, can)
 }
 
-/// Gives the latch back with nothing done, and with just those flags up that the book in hand needs.
-pub(crate) fn leave(seat: &mut TableSeat, latch: Latched)
-    requires place { IsPlace seat.old.table latch.place }
-    requires left { MayLeave latch.place seat.old.me }
-    ensures visited { (m : Mine) → IsInside latch.place m seat.old.me → Visits latch.place [] m seat.new.me }
-    ensures steps { AtItsTable seat.old seat.new GoesOn }
+/// Gives the session a ticket at the place that it entered with a wish that can be granted, and gives the latch back. If there is no room,
+/// all stays as it was.
+pub(crate) fn gain(
+    seat: &mut TableSeat,
+    latch: Latched,
+    number: u64,
+    mode: Mode,
+    word: Word,
+) -> Result<(), BookError>
+    requires entered { (place : ℕ) × (s : SeatState) × HasEntered place latch.place word.0 mode true s seat.old }
+    requires number { number ≡ seat.old.me.0.next }
+    ensures done { (place : ℕ) (s : SeatState) → HasEntered place latch.place word.0 mode true s seat.old
+        → MatchResult result (λ _. WasGranted place mode (Gain number mode) s seat.new) (λ cause. WasRefused place cause s seat.new) }
 {
-    lower_flags_and_put(seat, latch, &[]);
+    if let Err(cause) = seat.write_gain(&latch, number, mode, word) {
+        lower_flags_and_put(seat, latch, &[]);
+        return Err(cause);
+    }
+    seat.put_latch(latch, &[Deed::Gain(number, mode)]);
+    Ok(())
 }
 
 /// Gives the latch back after some deeds, with just those flags up that the book in hand needs.
 pub(crate) fn lower_flags_and_put(seat: &mut TableSeat, latch: Latched, deeds: &[Deed])
-    requires place { IsPlace seat.old.table latch.place }
-    requires done { (h : LatchRecord) × HasDone latch.place deeds.now h seat.old.me
-        × Flagged (all_booked seat.old.me.0.number deeds.now h.book) h.slow h.obtrusive }
-    ensures left { AtItsTable seat.old seat.new (Leaves latch.place deeds.now) }
-    ensures step { (e : Met) × IsStepOf seat.old.me seat.new.me e × (e.word ≡ lock_word latch.place)
-        × (e.held ≡ seat.old.me.0.latches) × (e.deeds ≡ deeds.now) }
+    requires worked { HasWorked latch.place deeds.now seat.old }
+    ensures visited { (s : SeatState) → AtItsTable s seat.old (IsInside latch.place) → AtItsTable s seat.new (Visits latch.place deeds.now) }
+    ensures step { HasStep seat.old seat.new (DidUnder latch.place deeds.now seat.old) }
 {
-    let needs = seat.needs(&latch);
-    seat.lower_flags(&latch, needs.slow, needs.obtrusive, deeds);
+    lower_flags(seat, &latch, deeds);
     seat.put_latch(latch, &[]);
+}
+
+/// Leaves just those flags up that the book in hand needs, after some deeds.
+pub(crate) fn lower_flags(seat: &mut TableSeat, latch: &Latched, deeds: &[Deed])
+    requires worked { HasWorked latch.now.place deeds.now seat.old }
+    ensures lowered { AtItsTable seat.old seat.new (IsLowered latch.now.place deeds.now) }
+    ensures orderly { HasLatched latch.now.place seat.new IsOrderly }
+{
+    let needs = seat.needs(latch);
+    seat.lower_flags(latch, needs.slow, needs.obtrusive, deeds);
 }

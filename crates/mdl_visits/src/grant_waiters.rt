@@ -2,10 +2,11 @@
 ghost use Rattle.std.specs.Prelude.{◌≡◌};
 ghost use Rattle.mdl_steps.specs.declared.view.LatchRecord.{LatchRecord};
 ghost use Rattle.mdl_steps.specs.SeatStates.{AtItsTable};
-ghost use Rattle.mdl_steps.specs.Seats.{IsPlace, Holds};
+ghost use Rattle.mdl_steps.specs.Seats.{Holds};
 ghost use Rattle.mdl_steps.specs.WaitSeats.{IsSession};
 ghost use Rattle.mdl_steps.specs.WaitStates.{unsettled_state, wait_state};
-ghost use Rattle.mdl_visits.specs.Grantings.{ForgetsNobody, HasJustMet, IsGrantedFrom, IsOrderly, IsReady, IsTriedOrGranted, Reschedules, ReschedulesInTurn};
+ghost use Rattle.mdl_visits.specs.Grantings.{ForgetsNobody, HasJustMet, IsGrantedFrom, IsOrderly, IsGrantableTicket, IsTriedOrGranted, Reschedules, ReschedulesInTurn};
+ghost use Rattle.mdl_visits.specs.Visits.{HasLatched};
 
 use mdl_book::Sessions;
 use mdl_steps::{Latched, TableSeat, WaitWord};
@@ -13,11 +14,9 @@ use mdl_steps::{Latched, TableSeat, WaitWord};
 /// Reads the lock's word, and grants the waits of tickets at the latched place, the first in order of arrival first, as long as there is one
 /// that can be granted. A wait that was settled before isn't granted. It takes no memory. After `MDL_lock::reschedule_waiters`.
 pub(crate) fn grant_waiters(seat: &mut TableSeat, latch: &Latched)
-    requires place { IsPlace seat.old.table latch.now.place }
-    requires held { (h : LatchRecord) × Holds latch.now.place h h.book seat.old.me × IsOrderly h }
-    ensures served { (h : LatchRecord) × Holds latch.now.place h h.book seat.new.me × IsOrderly h
-        × ForgetsNobody seat.old.table latch.now.place h seat.old.me seat.new.me }
-    ensures way { AtItsTable seat.old seat.new (Reschedules seat.old.table latch.now.place seat.old.me) }
+    requires here { HasLatched latch.now.place seat.old IsOrderly }
+    ensures none { HasLatched latch.now.place seat.new (λ h. IsOrderly h × ForgetsNobody seat.old.table latch.now.place h seat.old.me seat.new.me) }
+    ensures granted { AtItsTable seat.old seat.new (Reschedules seat.old.table latch.now.place seat.old.me) }
 {
     let word = seat.read_word(latch);
     let mut untried = Sessions::all();
@@ -29,26 +28,14 @@ pub(crate) fn grant_waiters(seat: &mut TableSeat, latch: &Latched)
 
 // Grants the wait of a session, whose ticket can be granted, if the table has the session and the wait is unsettled.
 fn grant_waiter(seat: &mut TableSeat, latch: &Latched, session: u16, number: u64)
-    requires place { IsPlace seat.old.table latch.now.place }
-    requires ready { (h : LatchRecord) × Holds latch.now.place h h.book seat.old.me × IsReady session number h }
-    ensures served { (h : LatchRecord) → Holds latch.now.place h h.book seat.old.me
+    requires here { HasLatched latch.now.place seat.old (IsGrantableTicket session number) }
+    ensures tried { (h : LatchRecord) → Holds latch.now.place h h.book seat.old.me
         → IsTriedOrGranted seat.old.table latch.now.place session number h seat.old.me seat.new.me }
-    ensures way { AtItsTable seat.old seat.new (ReschedulesInTurn seat.old.table latch.now.place session number) }
+    ensures in_turn { AtItsTable seat.old seat.new (ReschedulesInTurn seat.old.table latch.now.place session number) }
 {
-    if seat.has_session(session) {
-        grant_if_unsettled(seat, latch, session, number);
+    if !seat.has_session(session) {
+        return;
     }
-}
-
-// The same for a session of the table.
-fn grant_if_unsettled(seat: &mut TableSeat, latch: &Latched, session: u16, number: u64)
-    requires place { IsPlace seat.old.table latch.now.place }
-    requires session { IsSession seat.old.table session }
-    requires ready { (h : LatchRecord) × Holds latch.now.place h h.book seat.old.me × IsReady session number h }
-    ensures served { (h : LatchRecord) → Holds latch.now.place h h.book seat.old.me
-        → IsTriedOrGranted seat.old.table latch.now.place session number h seat.old.me seat.new.me }
-    ensures way { AtItsTable seat.old seat.new (ReschedulesInTurn seat.old.table latch.now.place session number) }
-{
     let wait = seat.read_wait(session);
     if wait.state() == WaitWord::UNSETTLED {
         grant_unsettled(seat, latch, session, number, wait);
@@ -57,14 +44,12 @@ fn grant_if_unsettled(seat: &mut TableSeat, latch: &Latched, session: u16, numbe
 
 // Grants a wait that was met unsettled just before, if it is so still.
 fn grant_unsettled(seat: &mut TableSeat, latch: &Latched, session: u16, number: u64, wait: WaitWord)
-    requires place { IsPlace seat.old.table latch.now.place }
     requires session { IsSession seat.old.table session }
-    requires ready { (h : LatchRecord) × Holds latch.now.place h h.book seat.old.me × IsReady session number h
-        × HasJustMet seat.old.table.slots latch.now.place session h seat.old.me }
+    requires here { HasLatched latch.now.place seat.old (λ h. IsGrantableTicket session number h × HasJustMet seat.old.table.slots latch.now.place session h seat.old.me) }
     requires unsettled { wait_state wait.0 ≡ unsettled_state }
     ensures granted { (h : LatchRecord) → Holds latch.now.place h h.book seat.old.me
         → IsGrantedFrom seat.old.table.slots latch.now.place session number wait.0 h seat.old.me seat.new.me }
-    ensures way { AtItsTable seat.old seat.new (ReschedulesInTurn seat.old.table latch.now.place session number) }
+    ensures in_turn { AtItsTable seat.old seat.new (ReschedulesInTurn seat.old.table latch.now.place session number) }
 {
     let met = seat.grant_wait(latch, session, number, wait.number());
     if met == wait {

@@ -5,8 +5,8 @@ ghost use Rattle.mdl_steps.specs.declared.view.Keys.{Keys};
 ghost use Rattle.mdl_steps.specs.declared.view.Met.{Met};
 ghost use Rattle.mdl_steps.specs.Plays.{IsDirectory, IsFresh, consulted, latched};
 ghost use Rattle.mdl_steps.specs.SeatStates.{AtItsTable};
-ghost use Rattle.mdl_steps.specs.Seats.{IsPlace, IsRising, Holds};
-ghost use Rattle.mdl_visits.specs.Visits.{AllQuiet, IsInside, StaysOn, and_made, deeds_of};
+ghost use Rattle.mdl_steps.specs.Seats.{Holds};
+ghost use Rattle.mdl_visits.specs.Visits.{AllQuiet, IsInside, MayVisit, StaysOn, and_made, deeds_of};
 
 use mdl_steps::{Latched, LatchedDirectory, TableSeat};
 use std::sync::Wait;
@@ -14,8 +14,7 @@ use std::thread;
 
 /// Takes the latch of a place, and waits for it as long as another session holds it.
 pub(crate) fn await_latch<R: Wait>(rt: &R, seat: &mut TableSeat, place: usize) -> Latched
-    requires place { IsPlace seat.old.table place }
-    requires rising { IsRising place seat.old.me }
+    requires at { MayVisit place seat.old }
     ensures place { result.place ≡ place }
     ensures taken { (h : LatchRecord) × IsFresh place h seat.old.me × Holds place h h.book seat.new.me
         × ((made : List Met) × (seat.new.me ≡ latched place h (and_made made seat.old.me)) × AllQuiet seat.old.me.0.directory made

@@ -2,7 +2,7 @@
 ghost use Rattle.std.specs.Prelude.{◌≡◌, ℕ, true, List, All, IfOk};
 ghost use Rattle.std.specs.FinSet as set;
 ghost use Rattle.mdl_book.specs.SessionSets.{is_session};
-ghost use Rattle.mdl_graph.specs.Graphs.{IsGraphOf, victim_in};
+ghost use Rattle.mdl_graph.specs.Graphs.{victim_in};
 ghost use Rattle.mdl_visits.specs.declared.audited.Audited.{Audited};
 ghost use Rattle.mdl_visits.specs.declared.waits_read.WaitRead.{WaitRead};
 ghost use Rattle.mdl_visits.specs.Searches.{AreQueuesOf, books_of, settled_by};
@@ -15,13 +15,13 @@ use std::alloc::{AllocError, Global};
 
 // The sessions that have no open wait by these words.
 fn settled_of(words: &[WaitRead]) -> Sessions
-    requires { All (λ (h : WaitRead). is_session h.session ≡ true) words.now }
+    requires { All (λ (r : WaitRead). is_session r.session ≡ true) words.now }
     ensures { (session : ℕ) → set.contains result session ≡ settled_by words.now session }
 {
     let mut settled = Sessions::new();
-    for heard in words {
-        if heard.word.state() != WaitWord::UNSETTLED {
-            settled.insert(heard.session);
+    for read in words {
+        if read.word.state() != WaitWord::UNSETTLED {
+            settled.insert(read.session);
         }
     }
     settled
@@ -34,27 +34,17 @@ pub(crate) fn find_victim(
     words: &[WaitRead],
     from: u16,
 ) -> Result<Option<u16>, AllocError>
-    requires { All (λ (h : WaitRead). is_session h.session ≡ true) words.now }
+    requires { All (λ (r : WaitRead). is_session r.session ≡ true) words.now }
     ensures { IfOk result (λ found. (audited : List Audited) → AreQueuesOf audited lists.now
         → found ≡ victim_in (settled_by words.now) (books_of audited) from) }
-{
-    let graph = graph_of(alloc, lists, words)?;
-    match graph.find_cycle(from)? {
-        Some(cycle) => Ok(Some(victim(&cycle))),
-        None => Ok(None),
-    }
-}
-
-// Who waits for whom by these lists and words.
-fn graph_of(alloc: Global, lists: &ListCopies, words: &[WaitRead]) -> Result<WaitGraph, AllocError>
-    requires { All (λ (h : WaitRead). is_session h.session ≡ true) words.now }
-    ensures { IfOk result (λ graph. (audited : List Audited) → AreQueuesOf audited lists.now
-        → IsGraphOf (settled_by words.now) (books_of audited) graph) }
 {
     let mut graph = WaitGraph::new(alloc, settled_of(words));
     for at in 0..lists.count() {
         let (namespace, granted, waiting) = lists.lock(at);
         graph.add_lists(namespace, granted, waiting)?;
     }
-    Ok(graph)
+    match graph.find_cycle(from)? {
+        Some(cycle) => Ok(Some(victim(&cycle))),
+        None => Ok(None),
+    }
 }

@@ -1,9 +1,7 @@
 //! A session reads the words of all sessions' waits.
-ghost use Rattle.std.specs.Prelude.{◌≡◌, ◌+◌, ◌<◌, ◌++◌, ◌∷◌, [], All, OnOk};
-ghost use Rattle.mdl_steps.specs.SeatStates.{AtItsTable};
+ghost use Rattle.std.specs.Prelude.{◌≡◌, ◌++◌, ◌∷◌, [], OnOk};
 ghost use Rattle.mdl_steps.specs.WaitSeats.{IsSession};
-ghost use Rattle.mdl_visits.specs.Polls.{SettlesNothing};
-ghost use Rattle.mdl_visits.specs.Searches.{AreOfAll, Hears, WasHeard};
+ghost use Rattle.mdl_visits.specs.Searches.{AreRead, OnlyReadsWaits, WasRead};
 
 use mdl_steps::{TableSeat, WaitWord};
 use std::alloc::AllocError;
@@ -23,10 +21,8 @@ pub struct WaitRead {
 /// Reads the words of all sessions' waits into an empty list.
 pub(crate) fn read_waits(seat: &mut TableSeat, words: &mut Vec<WaitRead>) -> Result<(), AllocError>
     requires empty { words.old.items ≡ [] }
-    ensures hears { AtItsTable seat.old seat.new Hears }
-    ensures settles { SettlesNothing seat.old.me seat.new.me }
-    ensures all { OnOk result (AreOfAll seat.old.table words.new.items) }
-    ensures heard { OnOk result (All (WasHeard seat.old.table.slots seat.old.me.0.latches seat.old.me seat.new.me) words.new.items) }
+    ensures reads { OnlyReadsWaits seat.old seat.new }
+    ensures all { OnOk result (AreRead words.new.items seat.old seat.new) }
 {
     let sessions = seat.session_count();
     words.reserve(usize::from(MOST_SESSIONS).min(sessions))?;
@@ -43,10 +39,9 @@ pub(crate) fn read_waits(seat: &mut TableSeat, words: &mut Vec<WaitRead>) -> Res
 // Reads the word of a session's wait.
 fn add_wait(seat: &mut TableSeat, session: u16, words: &mut Vec<WaitRead>) -> Result<(), AllocError>
     requires session { IsSession seat.old.table session }
-    ensures hears { AtItsTable seat.old seat.new Hears }
-    ensures settles { SettlesNothing seat.old.me seat.new.me }
-    ensures heard { OnOk result ((h : WaitRead) × (h.session ≡ session) × (words.new.items ≡ words.old.items ++ h ∷ [])
-        × WasHeard seat.old.table.slots seat.old.me.0.latches seat.old.me seat.new.me h) }
+    ensures reads { OnlyReadsWaits seat.old seat.new }
+    ensures added { OnOk result ((r : WaitRead) × (r.session ≡ session) × (words.new.items ≡ words.old.items ++ r ∷ [])
+        × WasRead seat.old.table.slots seat.old.me.0.latches seat.old.me seat.new.me r) }
 {
     let word = seat.read_wait(session);
     words.push(WaitRead { session, word })?;

@@ -1,14 +1,14 @@
 //! An audit of all places that have a key: their latches are taken one after the other, and given back once all are taken.
-ghost use Rattle.std.specs.Prelude.{◌≡◌, ◌+◌, ◌<◌, ◌≤◌, [], ◌∷◌, ◌++◌, OnOk};
+ghost use Rattle.std.specs.Prelude.{◌≡◌, ◌<◌, ◌≤◌, [], ◌∷◌, ◌++◌, OnOk};
 ghost use Rattle.mdl_book.specs.declared.book_view.BookView.{BookView};
 ghost use Rattle.mdl_steps.specs.declared.slot.Slot.TheVariants as slot;
 ghost use Rattle.mdl_steps.specs.declared.view.Keys.{Keys};
 ghost use Rattle.mdl_steps.specs.SeatStates.{AtItsTable};
-ghost use Rattle.mdl_steps.specs.Seats.{IsRising, rest};
-ghost use Rattle.mdl_visits.specs.Audits.{Audits, Gathers};
+ghost use Rattle.mdl_steps.specs.Seats.{rest};
+ghost use Rattle.mdl_visits.specs.Audits.{Audits, Gathers, MayTakeAll};
 ghost use Rattle.mdl_visits.specs.Idle.{IsIdle};
 ghost use Rattle.mdl_visits.specs.Lookups.{TookDirectory};
-ghost use Rattle.mdl_visits.specs.Visits.{MakesSteps, StaysQuiet};
+ghost use Rattle.mdl_visits.specs.Visits.{MakesQuietSteps, MakesSteps};
 
 use crate::Audited;
 use crate::latches::{await_directory, await_latch};
@@ -46,10 +46,8 @@ fn audit_from<R: Wait>(
     last: usize,
     audited: &mut Vec<Audited>,
 ) -> Result<(), AllocError>
-    requires places { (0 < place) × (place ≤ last + 1) × (last < seat.old.table.slots) × (last < 65536) }
-    requires rising { IsRising place seat.old.me }
-    ensures steps { AtItsTable seat.old seat.new MakesSteps }
-    ensures directory { StaysQuiet seat.old.me seat.new.me }
+    requires through { MayTakeAll place last seat.old }
+    ensures steps { AtItsTable seat.old seat.new MakesQuietSteps }
     ensures gathered { OnOk result (Gathers place last audited.old.items audited.new.items seat.old.me seat.new.me) }
 {
     if place > last {

@@ -1,10 +1,10 @@
 //! The places of keys.
-ghost use Rattle.std.specs.Prelude.{◌≡◌, ◌+◌, ◌<◌, [], length, None, IfOk, OnOk, OnErr};
+ghost use Rattle.std.specs.Prelude.{◌≡◌, ◌<◌, IfOk, OnOk, OnErr};
 ghost use Rattle.mdl_steps.specs.declared.view.Keys.{Keys};
 ghost use Rattle.mdl_steps.specs.SeatStates.{AtItsTable};
-ghost use Rattle.mdl_steps.specs.Seats.{IsPlace, HasDirectory, place_among};
+ghost use Rattle.mdl_steps.specs.Seats.{HasDirectory};
 ghost use Rattle.mdl_visits.specs.Idle.{IsIdle};
-ghost use Rattle.mdl_visits.specs.Lookups.{TookDirectory, IsAnswer, IsListed, HasLooked, HasNamed, knowing};
+ghost use Rattle.mdl_visits.specs.Lookups.{HasLooked, HasNamed, HoldsKeys, IsAnswer, IsNext, TookDirectory, knowing};
 ghost use Rattle.mdl_visits.specs.Visits.{MakesSteps};
 
 use crate::latches::{await_directory, await_latch};
@@ -50,8 +50,7 @@ fn place_for<R: Wait>(
     alloc: Global,
     key: &Key,
 ) -> Result<usize, ResolveError>
-    requires held { (k : Keys) × HasDirectory k seat.old.me × (length k.keys < seat.old.table.slots) }
-    requires alone { seat.old.me.0.latches ≡ [] }
+    requires held { (k : Keys) × HoldsKeys k seat.old }
     ensures looked { (k : Keys) → HasDirectory k seat.old.me → AtItsTable seat.old seat.new (HasLooked seat.old.table.slots key.now k result) }
     ensures refused { OnErr result (seat.new ≡ seat.old) }
 {
@@ -69,7 +68,7 @@ fn place_for<R: Wait>(
     }
 }
 
-// Gives a place to a key that has none. All that takes memory is done before another latch is taken.
+// Gives the next place to a key that has none. All that takes memory is done before another latch is taken.
 fn name_key<R: Wait>(
     rt: &R,
     seat: &mut TableSeat,
@@ -78,34 +77,15 @@ fn name_key<R: Wait>(
     key: &Key,
     place: usize,
 ) -> Result<(), AllocError>
-    requires place { IsPlace seat.old.table place }
-    requires new { (k : Keys) × HasDirectory k seat.old.me × (place_among key.now k.keys ≡ None) × (place ≡ length k.keys + 1) }
-    requires alone { seat.old.me.0.latches ≡ [] }
+    requires new { (k : Keys) × IsNext place key.now k seat.old }
     ensures named { OnOk result ((k : Keys) → HasDirectory k seat.old.me → AtItsTable seat.old seat.new (HasNamed key.now k)) }
     ensures unchanged { OnErr result (seat.new ≡ seat.old) }
 {
     let listed = key.clone()?;
     let named = key.clone()?;
     seat.list_key(directory, listed)?;
-    name_place(rt, seat, directory, alloc, named, place);
-    Ok(())
-}
-
-// Gives the next place to the key that was listed last.
-fn name_place<R: Wait>(
-    rt: &R,
-    seat: &mut TableSeat,
-    directory: &LatchedDirectory,
-    alloc: Global,
-    key: Key,
-    place: usize,
-)
-    requires place { IsPlace seat.old.table place }
-    requires listed { (k : Keys) × IsListed place key k seat.old.me }
-    requires alone { seat.old.me.0.latches ≡ [] }
-    ensures named { (k : Keys) → IsListed place key k seat.old.me → AtItsTable seat.old seat.new (HasNamed key k) }
-{
     let latch = await_latch(rt, seat, place);
-    seat.name_book(&latch, alloc, key);
+    seat.name_book(&latch, alloc, named);
     seat.put_latch_naming(latch, directory);
+    Ok(())
 }

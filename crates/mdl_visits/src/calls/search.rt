@@ -1,16 +1,17 @@
 //! A search for a deadlock: the latches of all places that have a key are taken one after the other, and the deadlock is looked for in their
 //! books once all are taken. Only the lists of locks where somebody waits are copied: by the others nobody waits for anybody.
-ghost use Rattle.std.specs.Prelude.{◌≡◌, ◌+◌, ◌<◌, ◌≤◌, List, ◌∷◌, ◌++◌, IfOk, OnErr, OnOk};
+ghost use Rattle.std.specs.Prelude.{◌≡◌, ◌≤◌, List, ◌∷◌, ◌++◌, IfOk, OnErr, OnOk};
 ghost use Rattle.mdl_book.specs.declared.book_view.BookView.{BookView};
 ghost use Rattle.mdl_steps.specs.declared.slot.Slot.TheVariants as slot;
 ghost use Rattle.mdl_steps.specs.declared.view.Keys.{Keys};
 ghost use Rattle.mdl_steps.specs.SeatStates.{AtItsTable};
-ghost use Rattle.mdl_steps.specs.Seats.{IsRising, rest};
+ghost use Rattle.mdl_steps.specs.Seats.{rest};
 ghost use Rattle.mdl_visits.specs.declared.audited.Audited.{Audited};
+ghost use Rattle.mdl_visits.specs.Audits.{MayTakeAll};
 ghost use Rattle.mdl_visits.specs.Idle.{IsIdle};
 ghost use Rattle.mdl_visits.specs.Lookups.{TookDirectory};
 ghost use Rattle.mdl_visits.specs.Polls.{SettlesNothing};
-ghost use Rattle.mdl_visits.specs.Searches.{AreQueuesOf, Hears, KnowsVictim, Listens, Searched, Searches, if_waited};
+ghost use Rattle.mdl_visits.specs.Searches.{AreQueuesOf, EndsSearch, FindsFrom, KnowsVictim, ReadsWaits, Searched, if_waited};
 
 use crate::latches::{await_directory, await_latch};
 use crate::settle_victim::settle_victim;
@@ -28,7 +29,7 @@ pub fn search_deadlock<R: Wait>(
 ) -> Result<Search, AllocError>
     requires slots { seat.old.table.slots ≤ 65536 }
     requires idle { IsIdle seat.old.me }
-    ensures hears { AtItsTable seat.old seat.new Listens }
+    ensures reads { AtItsTable seat.old seat.new ReadsWaits }
     ensures searched { (k : Keys) × TookDirectory seat.old.table.slots k k seat.old.me seat.new.me
         × IfOk result (λ found. Searched seat.old.table seat.old.me.0.number k found seat.old.me seat.new.me) }
     ensures own { IfOk result (λ found. KnowsVictim seat.old.me.0.number found seat.new.me) }
@@ -52,13 +53,8 @@ fn search_from<R: Wait>(
     last: usize,
     lists: &mut ListCopies,
 ) -> Result<Search, AllocError>
-    requires places { (0 < place) × (place ≤ last + 1) × (last < seat.old.table.slots) × (last < 65536) }
-    requires rising { IsRising place seat.old.me }
-    ensures hears { AtItsTable seat.old seat.new Hears }
-    ensures searched { IfOk result (λ found. (copied : List Audited) → AreQueuesOf copied lists.old
-        → Searches seat.old.table seat.old.me.0.number place last copied found seat.old.me seat.new.me) }
-    ensures own { IfOk result (λ found. KnowsVictim seat.old.me.0.number found seat.new.me) }
-    ensures nothing { OnErr result (SettlesNothing seat.old.me seat.new.me) }
+    requires through { MayTakeAll place last seat.old }
+    ensures { EndsSearch result (FindsFrom place last lists.old seat.old seat.new) seat.old seat.new }
 {
     if place > last {
         return settle_victim(rt, seat, alloc, lists);

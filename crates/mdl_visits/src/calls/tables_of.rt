@@ -1,22 +1,18 @@
 //! The tables of a schema that have a definition: the directory has the tables, and the place of each has its definition.
-ghost use Rattle.std.specs.Prelude.{◌≡◌, ◌+◌, ◌<◌, ◌≤◌, ◌++◌, ◌∷◌, [], Bool, is_some, length, if◌then◌else◌, IfOk, OnErr};
+ghost use Rattle.std.specs.Prelude.{◌≡◌, ◌+◌, ◌<◌, ◌≤◌, ◌++◌, ◌∷◌, [], Bool, length, if◌then◌else◌, IfOk, OnErr};
 ghost use Rattle.std.specs.List.Sorted.{IsPermutation};
 ghost use Rattle.std.specs.Vec.{vec_capacity, vec_len};
-ghost use Rattle.mdl_steps.specs.declared.view.LatchRecord.{LatchRecord};
 ghost use Rattle.mdl_steps.specs.declared.view.Keys.{Keys};
-ghost use Rattle.mdl_steps.specs.declared.view.Met.{Met};
-ghost use Rattle.mdl_steps.specs.Plays.{unlatched};
-ghost use Rattle.mdl_steps.specs.Rule.{TellsLists};
 ghost use Rattle.mdl_steps.specs.SeatStates.{AtItsTable};
-ghost use Rattle.mdl_steps.specs.Seats.{IsPlace, IsRising, HasDirectory, Holds};
+ghost use Rattle.mdl_steps.specs.Seats.{HasDirectory};
 ghost use Rattle.mdl_visits.specs.Idle.{IsIdle};
 ghost use Rattle.mdl_visits.specs.Lookups.{TookDirectory};
 ghost use Rattle.mdl_visits.specs.Tables.{AreListed, AreSorted, AreTables, AreWithin, HasAsked, MeetsDefinition, WasAsked, knowing_all};
-ghost use Rattle.mdl_visits.specs.Visits.{IsStepOf, MakesSteps, StaysQuiet};
+ghost use Rattle.mdl_visits.specs.Visits.{HasStep, MakesQuietSteps, MakesSteps, MayVisit, StaysQuiet};
 
 use crate::latches::{await_directory, await_latch};
 use mdl_calls::Place;
-use mdl_steps::{Known, Latched, LatchedDirectory, TableSeat};
+use mdl_steps::{Known, LatchedDirectory, TableSeat};
 use std::alloc::{AllocError, Global};
 use std::sync::Wait;
 
@@ -80,25 +76,13 @@ fn sort_by_key(tables: &mut Vec<Known>)
     tables.sort_unstable_by(|one, other| one.key.cmp(&other.key));
 }
 
-/// Whether a place has a definition. It takes no memory.
+// Whether a place has a definition. It takes no memory.
 fn is_defined<R: Wait>(rt: &R, seat: &mut TableSeat, place: usize) -> bool
-    requires place { IsPlace seat.old.table place }
-    requires rising { IsRising place seat.old.me }
-    ensures steps { AtItsTable seat.old seat.new MakesSteps }
-    ensures directory { StaysQuiet seat.old.me seat.new.me }
-    ensures met { (e : Met) × IsStepOf seat.old.me seat.new.me e × MeetsDefinition place seat.old.me.0.number result e }
+    requires at { MayVisit place seat.old }
+    ensures steps { AtItsTable seat.old seat.new MakesQuietSteps }
+    ensures met { HasStep seat.old seat.new (MeetsDefinition place seat.old.me.0.number result) }
 {
     let latch = await_latch(rt, seat, place);
-    is_defined_latched(seat, latch)
-}
-
-// The same at the latched place, and the latch is given back.
-fn is_defined_latched(seat: &mut TableSeat, latch: Latched) -> bool
-    requires place { IsPlace seat.old.table latch.place }
-    requires held { (h : LatchRecord) × Holds latch.place h h.book seat.old.me × TellsLists h.book h.slow h.obtrusive }
-    ensures put { seat.new ≡ record seat.old { me = unlatched latch.place [] seat.old.me } }
-    ensures told { (h : LatchRecord) → Holds latch.place h h.book seat.old.me → result ≡ is_some h.book.standing.definition }
-{
     let defined = seat.has_definition(&latch);
     seat.put_latch(latch, &[]);
     defined
@@ -106,12 +90,9 @@ fn is_defined_latched(seat: &mut TableSeat, latch: Latched) -> bool
 
 // Looks at the place of one table, and lists it if it has a definition.
 fn add_if_defined<R: Wait>(rt: &R, seat: &mut TableSeat, table: &Known, places: &mut Vec<Place>)
-    requires place { IsPlace seat.old.table table.now.place × (seat.old.table.slots ≤ 65536) }
-    requires idle { IsIdle seat.old.me }
+    requires at { MayVisit table.now.place seat.old × (seat.old.table.slots ≤ 65536) }
     requires room { vec_len places.old < vec_capacity places.old }
-    ensures idle { IsIdle seat.new.me }
-    ensures steps { AtItsTable seat.old seat.new MakesSteps }
-    ensures directory { StaysQuiet seat.old.me seat.new.me }
+    ensures steps { AtItsTable seat.old seat.new MakesQuietSteps }
     ensures asked { (defined : Bool) × WasAsked seat.old.me.0.number seat.old.me seat.new.me (record { table = table.now; defined = defined })
         × (places.new.items ≡ places.old.items ++ (if defined then table.now.place ∷ [] else [])) }
     ensures room { (vec_capacity places.new ≡ vec_capacity places.old) × (vec_len places.new ≤ vec_len places.old + 1) }

@@ -1,18 +1,14 @@
 //! A wish for a lock is granted at once, or not at all.
-ghost use Rattle.std.specs.Prelude.{◌≡◌, ◌⊎◌, [], ◌∷◌, Ok, OnErr, IfErr, None, true};
-ghost use Rattle.mdl_key.specs.Words.{is_mode_of, is_obtrusive};
-ghost use Rattle.mdl_book.specs.declared.book_error.BookError.TheVariants as fault;
+ghost use Rattle.std.specs.Prelude.{◌≡◌, [], Ok, OnErr, IfErr};
 ghost use Rattle.mdl_steps.specs.declared.deed.Deed.TheVariants.{Gain};
-ghost use Rattle.mdl_steps.specs.declared.view.Met.{Met};
 ghost use Rattle.mdl_steps.specs.SeatStates.{AtItsTable};
-ghost use Rattle.mdl_steps.specs.Seats.{IsPlace, IsRising};
 ghost use Rattle.mdl_visits.specs.declared.calls.try_now.Tried.TheVariants.{Granted, Blocked};
-ghost use Rattle.mdl_visits.specs.Visits.{IsStepOf, KnowsKind, MeetsBlocked, MeetsFull, MeetsGrantable, Visits};
+ghost use Rattle.mdl_visits.specs.Visits.{HasWish, LacksRoom, MayVisit, Visits, WasBlocked, WasGranted};
 
-use crate::enter_and_leave::{enter, leave};
+use crate::enter_and_leave::{enter, gain, lower_flags_and_put};
 use mdl_book::BookError;
 use mdl_key::{Kind, Mode, is_obtrusive};
-use mdl_steps::{Deed, TableSeat};
+use mdl_steps::TableSeat;
 use std::sync::Wait;
 
 /// What came of trying for a lock.
@@ -35,29 +31,21 @@ pub fn try_now<R: Wait>(
     number: u64,
     mode: Mode,
 ) -> Result<Tried, BookError>
-    requires place { IsPlace seat.old.table place }
-    requires rising { IsRising place seat.old.me }
-    requires idle { seat.old.me.0.asks ≡ None }
-    requires kind { KnowsKind seat.old.me.0 place kind }
-    requires mode { is_mode_of kind mode ≡ true }
+    requires at { MayVisit place seat.old }
+    requires wish { HasWish place kind mode seat.old.me.0 }
     requires number { number ≡ seat.old.me.0.next }
-    ensures granted { result ≡ Ok Granted → AtItsTable seat.old seat.new (Visits place (Gain number mode ∷ []))
-        × ((e : Met) × IsStepOf seat.old.me seat.new.me e × MeetsGrantable place seat.old.me.0.number mode (Gain number mode) e) }
-    ensures blocked { result ≡ Ok Blocked → AtItsTable seat.old seat.new (Visits place [])
-        × ((e : Met) × IsStepOf seat.old.me seat.new.me e × MeetsBlocked place seat.old.me.0.number mode e) }
+    ensures granted { result ≡ Ok Granted → WasGranted place mode (Gain number mode) seat.old seat.new }
+    ensures blocked { result ≡ Ok Blocked → WasBlocked place mode seat.old seat.new }
     ensures unchanged { OnErr result (AtItsTable seat.old seat.new (Visits place [])) }
-    ensures refused { IfErr result (λ cause. (cause ≡ fault.OutOfMemory)
-        ⊎ ((cause ≡ fault.Full) × ((e : Met) × IsStepOf seat.old.me seat.new.me e × MeetsFull place e))) }
+    ensures refused { IfErr result (λ cause. LacksRoom place cause seat.old seat.new) }
 {
-    let (latch, word) = enter(rt, seat, place, is_obtrusive(kind, mode));
-    if !seat.can_grant(&latch, mode, word) {
-        leave(seat, latch);
+    let (latch, word, can) = enter(rt, seat, place, mode, is_obtrusive(kind, mode));
+    if !can {
+        lower_flags_and_put(seat, latch, &[]);
         return Ok(Tried::Blocked);
     }
-    if let Err(cause) = seat.write_gain(&latch, number, mode, word) {
-        leave(seat, latch);
+    if let Err(cause) = gain(seat, latch, number, mode, word) {
         return Err(cause);
     }
-    seat.put_latch(latch, &[Deed::Gain(number, mode)]);
     Ok(Tried::Granted)
 }

@@ -1,17 +1,14 @@
 //! A ticket gets a stronger mode at once, or stays as it is.
-ghost use Rattle.std.specs.Prelude.{◌≡◌, [], ◌∷◌, None, true};
+ghost use Rattle.std.specs.Prelude.{◌≡◌, true};
 ghost use Rattle.mdl_key.specs.declared.namespace.Kind.{Kind};
-ghost use Rattle.mdl_key.specs.Words.{is_mode_of, is_obtrusive};
+ghost use Rattle.mdl_key.specs.Words.{is_obtrusive};
 ghost use Rattle.mdl_steps.specs.declared.deed.Deed.TheVariants.{Alter};
-ghost use Rattle.mdl_steps.specs.declared.view.Met.{Met};
-ghost use Rattle.mdl_steps.specs.SeatStates.{AtItsTable};
-ghost use Rattle.mdl_steps.specs.Seats.{IsPlace, IsRising};
 ghost use Rattle.mdl_visits.specs.declared.calls.try_now.Tried.TheVariants.{Granted, Blocked};
 ghost use Rattle.mdl_visits.specs.Leavings.{HasTicket};
-ghost use Rattle.mdl_visits.specs.Visits.{IsStepOf, KnowsKind, MeetsBlocked, MeetsGrantable, Visits};
+ghost use Rattle.mdl_visits.specs.Visits.{HasWish, MayVisit, WasBlocked, WasGranted};
 
 use crate::calls::try_now::Tried;
-use crate::enter_and_leave::{enter, leave};
+use crate::enter_and_leave::{enter, lower_flags_and_put};
 use mdl_key::Mode;
 use mdl_steps::{Deed, TableSeat};
 use std::sync::Wait;
@@ -26,19 +23,15 @@ pub fn upgrade_now<R: Wait>(
     number: u64,
     mode: Mode,
 ) -> Tried
-    requires place { IsPlace seat.old.table place }
-    requires rising { IsRising place seat.old.me }
-    requires mode { (kind : Kind) × KnowsKind seat.old.me.0 place kind × (is_mode_of kind mode ≡ true) × (is_obtrusive kind mode ≡ true) }
-    requires idle { seat.old.me.0.asks ≡ None }
+    requires at { MayVisit place seat.old }
+    requires wish { (kind : Kind) × HasWish place kind mode seat.old.me.0 × (is_obtrusive kind mode ≡ true) }
     requires held { HasTicket place number seat.old.me.0.slow }
-    ensures granted { result ≡ Granted → AtItsTable seat.old seat.new (Visits place (Alter number mode ∷ []))
-        × ((e : Met) × IsStepOf seat.old.me seat.new.me e × MeetsGrantable place seat.old.me.0.number mode (Alter number mode) e) }
-    ensures blocked { result ≡ Blocked → AtItsTable seat.old seat.new (Visits place [])
-        × ((e : Met) × IsStepOf seat.old.me seat.new.me e × MeetsBlocked place seat.old.me.0.number mode e) }
+    ensures granted { result ≡ Granted → WasGranted place mode (Alter number mode) seat.old seat.new }
+    ensures blocked { result ≡ Blocked → WasBlocked place mode seat.old seat.new }
 {
-    let (latch, word) = enter(rt, seat, place, true);
-    if !seat.can_grant(&latch, mode, word) {
-        leave(seat, latch);
+    let (latch, word, can) = enter(rt, seat, place, mode, true);
+    if !can {
+        lower_flags_and_put(seat, latch, &[]);
         return Tried::Blocked;
     }
     let _altered = seat.write_mode(&latch, number, mode, word);

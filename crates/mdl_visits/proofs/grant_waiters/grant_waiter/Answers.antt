@@ -1,7 +1,79 @@
--- Nothing is done for a session that the table doesn't have.
-use Rattle.std.proofs.Common.{refl}
+-- The wait was read unsettled and its grant tried, or it was read settled. Nothing is done for a session that the table doesn't have.
+use Rattle.std.proofs.Common.{inl, refl, sym, ◌∙◌, subst}
+use Rattle.atomic_table.specs.Seated.{TableId}
+use Rattle.mdl_steps.specs.declared.step_kind.StepKind.TheVariants.{ReadWait}
+use Rattle.mdl_steps.specs.declared.view.LatchRecord.{LatchRecord}
+use Rattle.mdl_steps.specs.Plays.{Mine}
+use Rattle.mdl_steps.specs.Seats.{Holds}
+use Rattle.mdl_visits.specs.Grantings.{HasJustMet, IsGrantedFrom, ReschedulesInTurn}
+use Rattle.mdl_visits.proofs.Seats.{mine, place_there, table_of}
+use Rattle.mdl_visits.proofs.Serving.{holds_met, is_settled, is_tried, just_met, rescheduling_missed, rescheduled_tried}
 use Rattle.mdl_visits.proofs.Way.{rescheduled_none}
 use Rattle.mdl_visits.proofs.grant_waiters.grant_waiter.Goals as goal
 
-pub returns-else-has_session-clause-way : goal.returns-else-has_session-clause-way
-returns-else-has_session-clause-way c = (refl, λ start h has looked. rescheduled_none c.args.seat.now.table c.args.latch.now.place start h.book c.args.seat.now.me has.carried)
+pub grant_unsettled-requires-clause-here : goal.grant_unsettled-requires-clause-here
+grant_unsettled-requires-clause-here c =
+    let id = c.args.seat.now.table in
+    let place = c.args.latch.now.place in
+    let session = c.args.session in
+    let m : Mine = c.args.seat.now.me in
+    let a : Mine = c.read_wait-wait.new.self.me in
+    let word = c.read_wait-wait.result.0 in
+    let read = mine c.read_wait-wait.ensures.made in
+    let here = c.requires.here in
+    record {
+      is_place = place_there place (table_of c.read_wait-wait.ensures.made) here.is_place;
+      latch = here.latch;
+      holds = holds_met ReadWait id.slots place session word here.latch m a read here.holds;
+      is_so = (
+        here.is_so,
+        subst (λ (t : TableId). HasJustMet t.slots place session here.latch a) (sym (table_of c.read_wait-wait.ensures.made))
+            (just_met ReadWait (inl refl) id place session c.args.number word here.latch m a here.holds here.is_so read refl),
+      );
+    }
+
+pub returns-then-state-eq-UNSETTLED-clause-tried : goal.returns-then-state-eq-UNSETTLED-clause-tried
+returns-then-state-eq-UNSETTLED-clause-tried c =
+    let id = c.args.seat.now.table in
+    let place = c.args.latch.now.place in
+    let session = c.args.session in
+    let number = c.args.number in
+    let a : Mine = c.read_wait-wait.new.self.me in
+    let b : Mine = c.grant_unsettled.new.seat.me in
+    let word = c.read_wait-wait.result.0 in
+    let here = c.requires.here in
+    let tried = subst (λ (t : TableId). (g : LatchRecord) → Holds place g g.book a → IsGrantedFrom t.slots place session number word g a b) (table_of c.read_wait-wait.ensures.made) c.grant_unsettled.ensures.granted in
+    is_tried ReadWait (inl refl) id place session number word here.latch c.args.seat.now.me a here.holds here.is_so (mine c.read_wait-wait.ensures.made) b (sym c.state.ensures ∙ c.if-state-eq-UNSETTLED.true) tried
+
+pub returns-then-state-eq-UNSETTLED-clause-in_turn : goal.returns-then-state-eq-UNSETTLED-clause-in_turn
+returns-then-state-eq-UNSETTLED-clause-in_turn c =
+    let id = c.args.seat.now.table in
+    let place = c.args.latch.now.place in
+    let session = c.args.session in
+    let number = c.args.number in
+    let a : Mine = c.read_wait-wait.new.self.me in
+    let b : Mine = c.grant_unsettled.new.seat.me in
+    let here = c.requires.here in
+    let made = c.read_wait-wait.ensures.made in
+    let in_turn = subst (λ (t : TableId). ReschedulesInTurn t place session number a b) (table_of made) c.grant_unsettled.ensures.in_turn.1 in (
+      c.grant_unsettled.ensures.in_turn.0 ∙ table_of made,
+      rescheduled_tried ReadWait (inl refl) id place session number c.read_wait-wait.result.0 here.latch c.args.seat.now.me a here.holds here.is_so (mine made) b c.read_wait-wait.ensures.own in_turn,
+    )
+
+pub returns-else-state-eq-UNSETTLED-clause-tried : goal.returns-else-state-eq-UNSETTLED-clause-tried
+returns-else-state-eq-UNSETTLED-clause-tried c =
+    let here = c.requires.here in
+    is_settled ReadWait (inl refl) c.args.seat.now.table c.args.latch.now.place c.args.session c.args.number c.read_wait-wait.result.0 here.latch c.args.seat.now.me c.read_wait-wait.new.self.me here.holds here.is_so
+    (mine c.read_wait-wait.ensures.made) (λ open_. c.if-state-eq-UNSETTLED.false (c.state.ensures ∙ open_))
+
+pub returns-else-state-eq-UNSETTLED-clause-in_turn : goal.returns-else-state-eq-UNSETTLED-clause-in_turn
+returns-else-state-eq-UNSETTLED-clause-in_turn c =
+    let here = c.requires.here in
+    let made = c.read_wait-wait.ensures.made in (
+      table_of made,
+      rescheduling_missed ReadWait (inl refl) c.args.seat.now.table c.args.latch.now.place c.args.session c.args.number c.read_wait-wait.result.0 here.latch c.args.seat.now.me c.read_wait-wait.new.self.me here.holds here.is_so (mine made) c.read_wait-wait.ensures.own,
+    )
+
+pub returns-then-not-has_session-clause-in_turn : goal.returns-then-not-has_session-clause-in_turn
+returns-then-not-has_session-clause-in_turn c =
+    (refl, λ start h has looked. rescheduled_none c.args.seat.now.table c.args.latch.now.place start h.book c.args.seat.now.me has.carried)

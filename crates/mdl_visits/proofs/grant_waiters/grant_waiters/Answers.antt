@@ -3,10 +3,9 @@ use Rattle.std.proofs.Common.{◌≡◌, ◌<◌, sym, ◌∙◌, subst}
 use Rattle.std.specs.FinSet as set
 use Rattle.std.specs.Ordering.{nat_cmp}
 use Rattle.atomic_table.specs.Seated.{TableId}
-use Rattle.mdl_steps.specs.declared.view.LatchRecord.{LatchRecord}
 use Rattle.mdl_steps.specs.Plays.{Mine, noting}
 use Rattle.mdl_steps.specs.Seats.{Holds}
-use Rattle.mdl_visits.specs.Grantings.{AreTried, ForgetsNobody, IsOrderly, IsTriedOrGranted, Reschedules, ReschedulesInTurn}
+use Rattle.mdl_visits.specs.Grantings.{AreTried, ForgetsNobody, IsTriedOrGranted, Reschedules, ReschedulesInTurn}
 use Rattle.mdl_visits.proofs.Seats.{mine, place_there, table_of}
 use Rattle.mdl_visits.proofs.Serving.{WasRead, fewer_untried, forgets_nobody, looks_ahead, read_before, read_first, tried_first, turn_done}
 use Rattle.mdl_visits.proofs.Waiting.{is_next, grants_read}
@@ -15,8 +14,8 @@ use Rattle.mdl_visits.proofs.grant_waiters.grant_waiters.Goals as goal
 
 pub loop-session-init : goal.loop-session-init
 loop-session-init c =
-    let held = c.requires.held in
-    let h = held.0 in
+    let here = c.requires.here in
+    let h = here.latch in
     let m : Mine = c.args.seat.now.me in
     let a : Mine = c.read_word-word.new.self.me in
     let id = c.args.seat.now.table in
@@ -25,25 +24,28 @@ loop-session-init c =
     let made = mine c.read_word-word.ensures.made in
     record {
       table = table_of c.read_word-word.ensures.made;
-      held = (noting word h, c.read_word-word.ensures.keeps h h.book held.1, grants_read word h held.2, tried_first id place c.all-untried.result (noting word h) m a c.all-untried.ensures);
+      held = (noting word h, c.read_word-word.ensures.keeps h h.book here.holds, grants_read word h here.is_so, tried_first id place c.all-untried.result (noting word h) m a c.all-untried.ensures);
       read = read_first place word m a made;
-      way = rescheduled_read id place m word h.book m a held.1.carried made;
+      way = rescheduled_read id place m word h.book m a here.holds.carried made;
     }
 
 pub next_grantable-requires : goal.next_grantable-requires
 next_grantable-requires c = let held = c.loop-session.invariant.held in record { carried = (held.0.book, held.1.carried) }
 
-pub grant_waiter-requires-clause-place : goal.grant_waiter-requires-clause-place
-grant_waiter-requires-clause-place c = place_there c.args.latch.now.place (table_of c.next_grantable.ensures.same ∙ c.loop-session.invariant.table) c.requires.place
-
-pub grant_waiter-requires-clause-ready : goal.grant_waiter-requires-clause-ready
-grant_waiter-requires-clause-ready c =
+pub grant_waiter-requires : goal.grant_waiter-requires
+grant_waiter-requires c =
+    let place = c.args.latch.now.place in
+    let same = c.next_grantable.ensures.same in
     let held = c.loop-session.invariant.held in
-    let h = held.0 in (
-      h,
-      subst (λ (x : Mine). Holds c.args.latch.now.place h h.book x) (sym {A = Mine} (mine c.next_grantable.ensures.same)) held.1,
-      (is_next c.read_word-word.result.0 c.in-Some.session c.in-Some.number c.loop-session.untried h held.2 (c.in-Some.ensures.told h.book held.1.carried)).0,
-    )
+    let h = held.0 in
+    record {
+      here = record {
+        is_place = place_there place (table_of same ∙ c.loop-session.invariant.table) c.requires.here.is_place;
+        latch = h;
+        holds = subst (λ (x : Mine). Holds place h h.book x) (sym {A = Mine} (mine same)) held.1;
+        is_so = (is_next c.read_word-word.result.0 c.in-Some.session c.in-Some.number c.loop-session.untried h held.2 (c.in-Some.ensures.told h.book held.1.carried)).0;
+      };
+    }
 
 pub loop-session-smaller : goal.loop-session-smaller
 loop-session-smaller c =
@@ -73,34 +75,34 @@ loop-session-preserved c =
     let tried = subst (λ (x : Mine). AreTried id place untried h m x) (sym same) held.3 in
     let told = c.in-Some.ensures.told h.book held.1.carried in
     let ready = (is_next word session number untried h held.2 told).0 in
-    let in_turn : ReschedulesInTurn id place session number a b = subst (λ (t : TableId). ReschedulesInTurn t place session number a b) table c.grant_waiter.ensures.way.1 in
+    let in_turn : ReschedulesInTurn id place session number a b = subst (λ (t : TableId). ReschedulesInTurn t place session number a b) table c.grant_waiter.ensures.in_turn.1 in
     let more = in_turn m h has (looks_ahead id place word untried h m a held.2 read tried session number told) in
     let goes = steps_of id place m a b more in
-    let served : IsTriedOrGranted id place session number h a b = subst (λ (t : TableId). IsTriedOrGranted t place session number h a b) table (c.grant_waiter.ensures.served h has) in
+    let served : IsTriedOrGranted id place session number h a b = subst (λ (t : TableId). IsTriedOrGranted t place session number h a b) table (c.grant_waiter.ensures.tried h has) in
     let done = turn_done id place session number word h m a b untried (steps_of id place m m a way) goes has held.2 ready served tried in
     record {
-      table = c.grant_waiter.ensures.way.0 ∙ table;
+      table = c.grant_waiter.ensures.in_turn.0 ∙ table;
       held = (done.0, done.1, done.2, subst (λ (s : set.FinSet nat_cmp). AreTried id place s done.0 m b) (sym c.remove.ensures) done.3);
       read = read_before place word m a b goes read;
       way = rescheduled_then id place m m a b way more;
     }
 
-pub returns-clause-served : goal.returns-clause-served
-returns-clause-served c =
+pub returns : goal.returns
+returns c =
     let id = c.args.seat.now.table in
     let place = c.args.latch.now.place in
-    let word = c.read_word-word.result.0 in
     let m : Mine = c.args.seat.now.me in
-    let held = c.loop-session.invariant.held in
-    let h = held.0 in
-    let none = c.in_default.ensures.told h.book held.1.carried in
-    subst (λ (x : Mine). (g : LatchRecord) × Holds place g g.book x × IsOrderly g × ForgetsNobody id place g m x) (sym {A = Mine} (mine c.next_grantable.ensures.same))
-    (h, held.1, held.2.0, forgets_nobody id place word c.loop-session.untried h m c.loop-session.seat.me held.2 c.loop-session.invariant.read held.3 none)
-
-pub returns-clause-way : goal.returns-clause-way
-returns-clause-way c =
-    let m : Mine = c.args.seat.now.me in
-    let same = c.next_grantable.ensures.same in (
-      table_of same ∙ c.loop-session.invariant.table,
-      subst (Reschedules c.args.seat.now.table c.args.latch.now.place m m) (sym {A = Mine} (mine same)) c.loop-session.invariant.way,
-    )
+    let same = c.next_grantable.ensures.same in
+    let inv = c.loop-session.invariant in
+    let h = inv.held.0 in
+    let none = c.in_default.ensures.told h.book inv.held.1.carried in
+    let forgets = forgets_nobody id place c.read_word-word.result.0 c.loop-session.untried h m c.loop-session.seat.me inv.held.2 inv.read inv.held.3 none in
+    record {
+      none = record {
+        is_place = place_there place (table_of same ∙ inv.table) c.requires.here.is_place;
+        latch = h;
+        holds = subst (λ (x : Mine). Holds place h h.book x) (sym {A = Mine} (mine same)) inv.held.1;
+        is_so = (inv.held.2.0, subst (ForgetsNobody id place h m) (sym {A = Mine} (mine same)) forgets);
+      };
+      granted = (table_of same ∙ inv.table, subst (Reschedules id place m m) (sym {A = Mine} (mine same)) inv.way);
+    }

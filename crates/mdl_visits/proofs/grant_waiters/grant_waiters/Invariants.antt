@@ -1,4 +1,4 @@
--- The word was read, each session that is left out was tried, and way was made so far.
+-- The word was read, each session that is left out was tried, and waits were granted so far.
 use Rattle.std.proofs.Common.{◌≡◌}
 use Rattle.std.specs.FinSet as set
 use Rattle.mdl_steps.specs.declared.view.LatchRecord.{LatchRecord}

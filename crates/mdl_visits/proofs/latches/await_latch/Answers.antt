@@ -6,14 +6,14 @@ use Rattle.mdl_visits.proofs.Visiting.{fresh_before, inside_taken, lingers_one, 
 use Rattle.mdl_visits.proofs.latches.await_latch.Goals as goal
 
 pub take_latch-requires-clause-place : goal.take_latch-requires-clause-place
-take_latch-requires-clause-place g c = place_there c.args.place c.loop.invariant.table c.requires.place
+take_latch-requires-clause-place g c = place_there c.args.place c.loop.invariant.table c.requires.at.is_place
 
 pub returns-in-Some-take_latch-clause-inside : goal.returns-in-Some-take_latch-clause-inside
 returns-in-Some-take_latch-clause-inside g c =
     let place = c.args.place in
     let told = c.in-Some-take_latch.ensures.taken.1 in
     let steps = c.loop.invariant.steps in
-    (table_of told.3 ∙ c.loop.invariant.table, inside_taken place told.0 c.args.seat.now.me c.take_latch.new.self.me steps.0 c.requires.rising told.1.here (◌∙◌ {A = Mine} (mine told.3) (ap (latched place told.0) steps.1)) steps.3)
+    (table_of told.3 ∙ c.loop.invariant.table, inside_taken place told.0 c.args.seat.now.me c.take_latch.new.self.me steps.0 c.requires.at.rising told.1.here (◌∙◌ {A = Mine} (mine told.3) (ap (latched place told.0) steps.1)) steps.3)
 
 pub returns-in-Some-take_latch-clause-taken : goal.returns-in-Some-take_latch-clause-taken
 returns-in-Some-take_latch-clause-taken g c =

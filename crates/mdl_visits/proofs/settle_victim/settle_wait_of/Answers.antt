@@ -1,38 +1,33 @@
 -- Where it stands among none of the words, nothing was done.
-use Rattle.std.proofs.Common.{List, get_or, refl, sym, subst}
-use Rattle.std.specs.Prelude.{IfSome, Option}
-use Rattle.mdl_steps.specs.Plays.{Mine}
-use Rattle.mdl_steps.specs.SeatStates.{AtItsTable, SeatState}
+use Rattle.std.proofs.Common.{◌≡◌, ℕ, ◌≤◌, false, List, get_or, length, None, Option, Some, sym, ap, ◌∙◌, subst, arith}
+use Rattle.std.proofs.lemmas.List.{take_all}
+use Rattle.mdl_steps.specs.SeatStates.{SeatState}
 use Rattle.mdl_visits.specs.declared.waits_read.WaitRead.{WaitRead}
-use Rattle.mdl_visits.specs.Polls.{SettlesNothing}
-use Rattle.mdl_visits.specs.Searches.{Hears, WasOther}
-use Rattle.mdl_visits.proofs.Outcomes.{heard_first, none_still}
-use Rattle.mdl_visits.proofs.Words.{hears_none}
+use Rattle.mdl_visits.specs.Searches.{TriesToSettle, read_of}
+use Rattle.mdl_visits.proofs.Outcomes.{none_still, read_first, tries_nothing}
 use Rattle.mdl_visits.proofs.settle_victim.settle_wait_of.Goals as goal
 
-pub returns-clause-hears : goal.returns-clause-hears
-returns-clause-hears c =
-    subst (λ (s : SeatState). AtItsTable c.args.seat.now s Hears) (sym c.loop-heard.invariant.same) (refl, hears_none c.args.seat.now.me)
+pub returns : goal.returns
+returns c =
+    let read : Option WaitRead = read_of c.args.victim c.args.words.now in
+    let all : length c.args.words.now ≤ c.loop-read.read-index = omega (arith, c.loop-read-test.false) in
+    let none : read ≡ None = ap (read_of c.args.victim) (sym (take_all c.loop-read.read-index c.args.words.now all)) ∙ c.loop-read.invariant.none in
+    subst (λ (s : SeatState). TriesToSettle c.args.victim read false c.args.seat.now s) (sym c.loop-read.invariant.same) (tries_nothing c.args.victim read c.args.seat.now (rw none tt))
 
-pub loop-heard-preserved : goal.loop-heard-preserved
-loop-heard-preserved c =
+pub loop-read-preserved : goal.loop-read-preserved
+loop-read-preserved c =
     let none : WaitRead = record { session = 0; word = record { 0 = 0 } } in
     record {
-      same = c.loop-heard.invariant.same;
-      none = none_still c.args.victim c.args.words.now c.loop-heard.heard-index none c.loop-heard-test.true c.loop-heard.invariant.none c.if-heard-victim.false;
+      same = c.loop-read.invariant.same;
+      none = none_still c.args.victim c.args.words.now c.loop-read.read-index none c.loop-read-test.true c.loop-read.invariant.none c.if-read-victim.false;
     }
 
-pub returns-then-heard-victim-clause-missed : goal.returns-then-heard-victim-clause-missed
-returns-then-heard-victim-clause-missed c = λ no.
-    let words : List WaitRead = c.args.words.now in
-    let victim = c.args.victim in
-    let slots = c.args.seat.now.table.slots in
+pub returns-then-read-victim : goal.returns-then-read-victim
+returns-then-read-victim c =
     let none : WaitRead = record { session = 0; word = record { 0 = 0 } } in
-    let h : WaitRead = get_or words c.loop-heard.heard-index none in
-    let went : Mine = c.settle_by_word.new.seat.me in
-    let same = c.loop-heard.invariant.same in
-    let missed : SettlesNothing c.loop-heard.seat.me went × WasOther c.loop-heard.seat.table.slots c.loop-heard.seat.me went h = c.settle_by_word.ensures.missed no in
-    let first = heard_first victim words c.loop-heard.heard-index none c.loop-heard-test.true c.loop-heard.invariant.none c.if-heard-victim.true in (
-      subst (λ (s : SeatState). SettlesNothing s.me went) same missed.0,
-      subst (λ (o : Option WaitRead). IfSome o (WasOther slots c.args.seat.now.me went)) (sym first) (subst (λ (s : SeatState). WasOther s.table.slots s.me went h) same missed.1),
-    )
+    let words : List WaitRead = c.args.words.now in
+    let r : WaitRead = get_or words c.loop-read.read-index none in
+    let first = read_first c.args.victim words c.loop-read.read-index none c.loop-read-test.true c.loop-read.invariant.none c.if-read-victim.true in
+    subst (λ (read : Option WaitRead). TriesToSettle c.args.victim read c.settle_by_word.result c.args.seat.now c.settle_by_word.new.seat) (sym first)
+    (subst (λ (s : SeatState). TriesToSettle c.args.victim (Some r) c.settle_by_word.result s c.settle_by_word.new.seat) c.loop-read.invariant.same
+    (subst (λ (n : ℕ). TriesToSettle n (Some r) c.settle_by_word.result c.loop-read.seat c.settle_by_word.new.seat) c.if-read-victim.true c.settle_by_word.ensures))

@@ -4,5 +4,5 @@ use Rattle.std.specs.FinSet as set
 use Rattle.mdl_visits.specs.Searches.{settled_by}
 use Rattle.mdl_visits.proofs.victim.settled_of.Given as goal
 
-abbrev pub invariant-loop-heard : goal.invariant-loop-heard
-invariant-loop-heard l = (session : ℕ) → set.contains l.settled session ≡ settled_by (take l.heard-index l.words) session
+abbrev pub invariant-loop-read : goal.invariant-loop-read
+invariant-loop-read l = (session : ℕ) → set.contains l.settled session ≡ settled_by (take l.read-index l.words) session

@@ -1,20 +1,52 @@
--- The flags tell the lists exactly, with the ticket that waits.
-use Rattle.std.proofs.Common.{◌≡◌, ℕ, subst}
-use Rattle.mdl_book.specs.Books.{enqueueing}
-use Rattle.mdl_steps.specs.Plays.{Mine}
-use Rattle.mdl_steps.specs.Seats.{written}
-use Rattle.mdl_visits.proofs.Seats.{mine}
-use Rattle.mdl_visits.proofs.WaitOpenings.{holds_wish, may_put}
+-- The ticket is written, the wait opened and the latch given back, or there was no room.
+use Rattle.std.proofs.Common.{◌+◌, [], sym, ap, subst, ◌∙◌}
+use Rattle.mdl_steps.specs.SeatStates.{SeatState}
+use Rattle.mdl_visits.specs.Leavings.{HasWorked}
+use Rattle.mdl_visits.proofs.Seats.{place_there, table_of}
+use Rattle.mdl_visits.proofs.Trying.{entered_holds, full, refused, rested}
+use Rattle.mdl_visits.proofs.WaitOpenings.{begins, wish_opens, wish_puts}
 use Rattle.mdl_visits.proofs.calls.begin_wait.enqueue.Goals as goal
 
-pub put_latch-requires-clause-put : goal.put_latch-requires-clause-put
-put_latch-requires-clause-put c =
-    let place = c.args.latch.place in
-    let mode = c.args.mode in
-    let m : Mine = c.args.seat.now.me in
-    let m₁ : Mine = c.write_wish.new.self.me in
-    let h = c.requires.queue.0 in
-    let may = c.requires.queue.1 in
-    let wrote = subst (λ (n : ℕ). m₁ ≡ written place (enqueueing (record { session = m.0.number; number = n; mode = mode }) h.book) m) c.requires.number
-    (mine (c.in_default.ensures.written h.book may.holds.carried)) in
-    may_put place mode h m m₁ may wrote c.open_wait.new.self.me (c.open_wait.ensures.keeps h _ (holds_wish place mode h m m₁ may wrote))
+pub write_wish-requires : goal.write_wish-requires
+write_wish-requires c =
+    let has = c.requires.entered in
+    record { carried = (has.3.entered.1.found.book, (entered_holds has.3).carried) }
+
+pub lower_flags_and_put-requires : goal.lower_flags_and_put-requires
+lower_flags_and_put-requires c =
+    let has = c.requires.entered in
+    record { worked = subst (HasWorked c.args.latch.place []) (sym c.in-Err.ensures.unchanged) (rested has.3) }
+
+pub open_wait-requires : goal.open_wait-requires
+open_wait-requires c =
+    let has = c.requires.entered in
+    let wrote = c.in_default.ensures.written has.3.entered.1.found.book (entered_holds has.3).carried in
+    record {
+      place = place_there c.args.latch.place (table_of wrote) has.3.is_place;
+      opened = (_, wish_opens has.3 c.args.number c.requires.number c.write_wish.new.self wrote c.requires.unfast);
+      wait = (c.requires.wait.0 ∙ sym (ap (λ (x : SeatState). x.me.0.waits + 1) wrote), c.requires.wait.1);
+    }
+
+pub put_latch-requires : goal.put_latch-requires
+put_latch-requires c =
+    let has = c.requires.entered in
+    let wrote = c.in_default.ensures.written has.3.entered.1.found.book (entered_holds has.3).carried in
+    record {
+      place = place_there c.args.latch.place (table_of c.open_wait.ensures.made ∙ table_of wrote) has.3.is_place;
+      put = wish_puts has.3 c.args.number c.requires.number c.write_wish.new.self wrote c.requires.unfast c.open_wait.new.self.me c.open_wait.ensures.keeps;
+    }
+
+pub returns-in-Err : goal.returns-in-Err
+returns-in-Err c = record {
+  done = λ place word s has.
+      refused has c.in-Err.cause c.write_wish.new.self _ c.in-Err.ensures.unchanged
+      (full _ _ c.in-Err.cause (c.in-Err.ensures.refused has.entered.1.found.book (entered_holds has).carried))
+      c.lower_flags_and_put.ensures.visited c.lower_flags_and_put.ensures.step;
+}
+
+pub returns : goal.returns
+returns c = record {
+  done = λ place word s has.
+      begins has c.args.number c.requires.number c.write_wish.new.self (c.in_default.ensures.written has.entered.1.found.book (entered_holds has).carried)
+      c.open_wait.new.self _ c.open_wait.ensures.made c.put_latch.ensures.made;
+}

@@ -1,67 +1,90 @@
 -- What was changed stood in the book that was met under the latch.
-use Rattle.std.proofs.Common.{◌≡◌, ℕ, ◌+◌, [], refl, sym, ◌∙◌, subst}
-use Rattle.std.proofs.lemmas.Result.{IfOk-weaker}
-use Rattle.std.specs.Prelude.{IfOk, OnErr}
-use Rattle.mdl_defs.specs.declared.standing.Standing.{Standing}
-use Rattle.mdl_defs.specs.Standings.{standing_after}
-use Rattle.mdl_steps.specs.Plays.{Mine, unlatched}
-use Rattle.mdl_steps.specs.Seats.{Holds, HasExclusive}
-use Rattle.mdl_visits.specs.Redefinitions.{redefined_and_put}
-use Rattle.mdl_visits.proofs.Changing.{exclusive_there, on_refusal, redefines, refused}
-use Rattle.mdl_visits.proofs.Reading.{follows}
-use Rattle.mdl_visits.proofs.Seats.{both_ok, mine, table_of}
-use Rattle.mdl_visits.proofs.Visiting.{visits_put}
+use Rattle.std.proofs.Common.{refl, sym, ◌∙◌, subst}
+use Rattle.mdl_defs.specs.Standings.{standing_fault}
+use Rattle.mdl_book.specs.Books.{redefining}
+use Rattle.mdl_steps.specs.SeatStates.{SeatState}
+use Rattle.mdl_steps.specs.Seats.{IsPlace}
+use Rattle.mdl_visits.proofs.Changing.{changed, has_redefined, may_put_changed, no_fault, refused}
+use Rattle.mdl_visits.proofs.Gathering.{as_reads, back_steps, carried_there, no_steps}
+use Rattle.mdl_visits.proofs.Seats.{place_there, table_of}
 use Rattle.mdl_visits.proofs.calls.change_definition.change_definition.Goals as goal
 
-pub change_latched-requires-clause-held : goal.change_latched-requires-clause-held
-change_latched-requires-clause-held g c =
-    let latch = c.await_latch-latch in
-    let taken = latch.ensures.taken in
-    let h = taken.0 in
-    let came : Mine = latch.new.seat.me in
-    let exclusive = exclusive_there c.args.place h c.args.seat.now.me taken.1 c.requires.apart c.requires.held in (
-      h,
-      subst (λ (q : ℕ). Holds q h h.book came) (sym latch.ensures.place) taken.2,
-      taken.1.exact,
-      subst (λ (x : Mine). HasExclusive h x) (sym taken.3.1) exclusive,
-    )
+pub write_change-requires : goal.write_change-requires
+write_change-requires g c =
+    let latch = c.await_latch-latch in record {
+      carried = (
+        latch.ensures.taken.0.book,
+        carried_there c.args.place latch.result.place c.args.seat.now latch.new.seat latch.new.seat latch.ensures.place latch.ensures.taken latch.ensures.inside.0 refl,
+      );
+    }
 
-pub returns-clause-changed : goal.returns-clause-changed
-returns-clause-changed g c =
+pub write_version-requires : goal.write_version-requires
+write_version-requires g c =
     let place = c.args.place in
     let change = c.args.change.now in
+    let a : SeatState = c.args.seat.now in
     let latch = c.await_latch-latch in
+    let b : SeatState = latch.new.seat in
+    let wrote : SeatState = c.write_change.new.self in
     let taken = latch.ensures.taken in
-    let h = taken.0 in
-    let came : Mine = latch.new.seat.me in
-    let went : Mine = c.change_latched.new.seat.me in
-    let has = subst (λ (q : ℕ). Holds q h h.book came) (sym latch.ensures.place) taken.2 in
-    let standing : Standing = standing_after change h.book.standing in
-    let whole = c.change_latched.ensures.changed h has in
-    let done = subst (λ (q : ℕ). IfOk c.change_latched.result (λ version. (version ≡ h.book.standing.version + 1) × (went ≡ redefined_and_put q standing came))) latch.ensures.place
-    (IfOk-weaker c.change_latched.result _ (λ version. (version ≡ h.book.standing.version + 1) × (went ≡ redefined_and_put latch.result.place standing came)) (λ version e. (e.0, mine e.1)) whole) in
-    let table = IfOk-weaker c.change_latched.result _ (λ version. c.change_latched.new.seat.table ≡ c.args.seat.now.table) (λ version e. table_of e.1 ∙ latch.ensures.inside.0) whole in
-    let told = redefines place change h c.args.seat.now.me came went latch.ensures.inside.1 taken.2 (follows taken.1) taken.1.named taken.3.0 c.change_latched.result taken.1.here taken.3.1 done (c.change_latched.ensures.refused h has) in
-    IfOk-weaker c.change_latched.result _ _ (λ version e. ((e.0, e.1.0), e.1.1)) (both_ok c.change_latched.result _ _ table told)
+    let carried = carried_there place latch.result.place a b b latch.ensures.place taken latch.ensures.inside.0 refl in
+    let done = c.in-Ok.ensures.written taken.0.book carried in
+    let allowed = no_fault (standing_fault taken.0.book.key.namespace change taken.0.book.standing) c.in-Ok.version (c.in-Ok.ensures.refused taken.0.book carried) in
+    record {
+      place = subst (IsPlace wrote.table) (sym latch.ensures.place) (place_there place (table_of done.0 ∙ latch.ensures.inside.0) c.requires.at.is_place);
+      written = (taken.0, change, has_redefined place latch.result.place change a b wrote latch.ensures.place taken latch.ensures.inside.0 done.0 allowed c.requires.apart c.requires.held);
+    }
 
-pub returns-clause-unchanged : goal.returns-clause-unchanged
-returns-clause-unchanged g c =
-    let latch = c.await_latch-latch in
-    let came : Mine = latch.new.seat.me in
-    let went : Mine = c.change_latched.new.seat.me in
-    on_refusal c.change_latched.result (λ e.
-    let put = subst (λ (q : ℕ). went ≡ unlatched q [] came) latch.ensures.place (mine e) in
-    (table_of e ∙ latch.ensures.inside.0, visits_put c.args.place [] c.args.seat.now.me came went latch.ensures.inside.1 put)) c.change_latched.ensures.unchanged
-
-pub returns-clause-refused : goal.returns-clause-refused
-returns-clause-refused g c =
+pub put_latch-requires : goal.put_latch-requires
+put_latch-requires g c =
     let place = c.args.place in
-    let seat = c.args.seat.now in
+    let change = c.args.change.now in
+    let a : SeatState = c.args.seat.now in
     let latch = c.await_latch-latch in
+    let b : SeatState = latch.new.seat in
+    let wrote : SeatState = c.write_change.new.self in
     let taken = latch.ensures.taken in
-    let h = taken.0 in
-    let came : Mine = latch.new.seat.me in
-    let went : Mine = c.change_latched.new.seat.me in
-    let has = subst (λ (q : ℕ). Holds q h h.book came) (sym latch.ensures.place) taken.2 in
-    let put = subst (λ (q : ℕ). OnErr c.change_latched.result (went ≡ unlatched q [] came)) latch.ensures.place (on_refusal c.change_latched.result (λ e. mine e) c.change_latched.ensures.unchanged) in
-    refused place c.args.change.now h seat.me came went latch.ensures.inside.1 taken.2 (follows taken.1) taken.1.named seat.me.0.number c.change_latched.result refl put (c.change_latched.ensures.refused h has) (c.change_latched.ensures.drop h has)
+    let carried = carried_there place latch.result.place a b b latch.ensures.place taken latch.ensures.inside.0 refl in
+    let done = c.in-Ok.ensures.written taken.0.book carried in
+    let allowed = no_fault (standing_fault taken.0.book.key.namespace change taken.0.book.standing) c.in-Ok.version (c.in-Ok.ensures.refused taken.0.book carried) in
+    let has = has_redefined place latch.result.place change a b wrote latch.ensures.place taken latch.ensures.inside.0 done.0 allowed c.requires.apart c.requires.held in
+    let published = c.write_version.ensures.made (redefining change taken.0.book) has.holds.carried in
+    record {
+      place = subst (IsPlace c.write_version.new.self.table) (sym latch.ensures.place) (place_there place (table_of published ∙ table_of done.0 ∙ latch.ensures.inside.0) c.requires.at.is_place);
+      put = may_put_changed place latch.result.place change a b wrote latch.ensures.place taken latch.ensures.inside.0 done.0 allowed c.requires.apart c.requires.held
+          c.write_version.new.self c.write_version.ensures.keeps;
+    }
+
+pub returns-in-Ok-clause-changed : goal.returns-in-Ok-clause-changed
+returns-in-Ok-clause-changed g c =
+    let place = c.args.place in
+    let change = c.args.change.now in
+    let a : SeatState = c.args.seat.now in
+    let latch = c.await_latch-latch in
+    let b : SeatState = latch.new.seat in
+    let wrote : SeatState = c.write_change.new.self in
+    let taken = latch.ensures.taken in
+    let carried = carried_there place latch.result.place a b b latch.ensures.place taken latch.ensures.inside.0 refl in
+    let done = c.in-Ok.ensures.written taken.0.book carried in
+    let allowed = no_fault (standing_fault taken.0.book.key.namespace change taken.0.book.standing) c.in-Ok.version (c.in-Ok.ensures.refused taken.0.book carried) in
+    let has = has_redefined place latch.result.place change a b wrote latch.ensures.place taken latch.ensures.inside.0 done.0 allowed c.requires.apart c.requires.held in
+    changed place latch.result.place change a b wrote latch.ensures.place taken latch.ensures.inside.0 done.0 allowed c.requires.apart c.requires.held
+    c.write_version.new.self c.put_latch.new.self (c.write_version.ensures.made (redefining change taken.0.book) has.holds.carried) c.put_latch.ensures.made latch.ensures.inside.1 c.in-Ok.version done.1
+
+pub returns-in-Err-clause-unchanged : goal.returns-in-Err-clause-unchanged
+returns-in-Err-clause-unchanged g c =
+    let latch = c.await_latch-latch in
+    let wrote : SeatState = c.write_change.new.self in
+    let steps = back_steps c.args.place latch.result.place c.args.seat.now latch.new.seat wrote latch.ensures.place latch.ensures.taken latch.ensures.inside.0 c.in-Err.ensures.unchanged
+    wrote (as_reads wrote wrote (refl, no_steps wrote.me)) c.put_latch-in-Err.new.self c.put_latch-in-Err.ensures.made c.requires.at.rising refl refl in
+    (steps.0, record { made = steps.1.0; now = steps.1.1; did = steps.1.2 })
+
+pub returns-in-Err-clause-refused : goal.returns-in-Err-clause-refused
+returns-in-Err-clause-refused g c =
+    let latch = c.await_latch-latch in
+    let a : SeatState = c.args.seat.now in
+    let b : SeatState = latch.new.seat in
+    let book = latch.ensures.taken.0.book in
+    let carried = carried_there c.args.place latch.result.place a b b latch.ensures.place latch.ensures.taken latch.ensures.inside.0 refl in
+    refused c.args.place latch.result.place c.args.change.now a b c.write_change.new.self latch.ensures.place latch.ensures.taken c.put_latch-in-Err.new.self latch.ensures.inside.0
+    c.in-Err.ensures.unchanged c.put_latch-in-Err.ensures.made c.requires.at.rising c.in-Err.why (c.in-Err.ensures.refused book carried) (c.in-Err.ensures.drop book carried)

@@ -1,91 +1,80 @@
--- The book that is met under the latch has the session's ticket, which covers the mode.
-use Rattle.std.proofs.Common.{◌≡◌, inl, inr, ℕ, None, refl, sym, ap, ◌∙◌, subst, [], ◌∷◌}
-use Rattle.std.proofs.lemmas.Result.{IfErr-weaker, on_err_weaker, on_ok_weaker}
-use Rattle.std.specs.Prelude.{is_some, OnOk}
+-- The book that is met under the latch has the session's ticket, which covers the mode, so only want of room keeps the second one out.
+use Rattle.std.proofs.Common.{ℕ, [], ◌∷◌, ap, sym, subst, ◌∙◌}
+use Rattle.std.specs.Prelude.{is_some}
 use Rattle.mdl_steps.specs.declared.deed.Deed.TheVariants.{Gain}
-use Rattle.mdl_steps.specs.declared.view.Met.{Met}
-use Rattle.mdl_steps.specs.Deeds.{KnowsPlace}
-use Rattle.mdl_steps.specs.Layout.{lock_word}
-use Rattle.mdl_steps.specs.Plays.{Mine}
-use Rattle.mdl_steps.specs.Seats.{Holds}
-use Rattle.mdl_visits.specs.Leavings.{Leaves}
-use Rattle.mdl_visits.specs.Visits.{IsStepOf, MeetsFull}
-use Rattle.mdl_visits.proofs.Covered.{covered_by, fits_lock, own_there}
-use Rattle.mdl_visits.proofs.Leaving.{step_later, visits_left}
-use Rattle.mdl_visits.proofs.Meeting.{StepUnder, met_there}
+use Rattle.mdl_steps.specs.Cells.{held_at}
+use Rattle.mdl_steps.specs.Deeds.{booked}
+use Rattle.mdl_steps.specs.SeatStates.{AtItsTable, SeatState}
+use Rattle.mdl_visits.specs.Leavings.{HasWorked}
+use Rattle.mdl_visits.specs.Visits.{CameTo, Visits}
+use Rattle.mdl_visits.proofs.Arriving.{arrived, came_written, has_rested, met_full, met_own}
 use Rattle.mdl_visits.proofs.Numbers.{idle_waits_not}
+use Rattle.mdl_visits.proofs.Weaker.{has_gained, no_room, there}
 use Rattle.mdl_visits.proofs.calls.clone_ticket.clone_ticket.Goals as goal
 
-pub clone_latched-requires-clause-covered : goal.clone_latched-requires-clause-covered
-clone_latched-requires-clause-covered g c =
-    let seat = c.args.seat.now in
+pub lower_flags_and_put-requires : goal.lower_flags_and_put-requires
+lower_flags_and_put-requires g c =
     let held = c.args.held in
-    let mode = c.args.mode in
-    let taken = c.await_latch-latch.ensures.taken in
-    let h = taken.0 in
-    let who = c.await_latch-latch.new.seat.me.0.number in
-    let own = sym (ap (λ (x : Mine). x.0.number) c.await_latch-latch.ensures.inside.1.now) in
-    let there = own_there who held.number held h seat.me own taken.1 (idle_waits_not seat.me.0 held.number c.requires.idle) c.requires.held in (
-      h,
-      subst (λ (q : ℕ). Holds q h h.book c.await_latch-latch.new.seat.me) (sym c.await_latch-latch.ensures.place) taken.2,
-      covered_by held.place who held.number held mode h seat.me taken.1 there c.requires.covers (fits_lock held.place mode h seat.me taken.1 c.requires.fits),
-    )
+    let s = c.args.seat.now in
+    let latch = c.await_latch-latch in
+    let told = latch.ensures in
+    let q = latch.result.place in
+    let r = c.requires in
+    let a = arrived held.place s r.at q latch.new.seat told.place told.taken.0 told.taken.1 told.taken.2 told.inside told.stays in
+    record {
+      worked = has_gained held a (idle_waits_not s.me.0 held.number r.idle) r.held c.args.mode r.fits r.covers c.args.number c.write_gain.new.self r.idle r.number
+          (c.in-Ok.ensures.written a.latch.book a.holds.carried);
+    }
 
-pub returns-clause-step : goal.returns-clause-step
-returns-clause-step g c =
-    let seat = c.args.seat.now in
+pub lower_flags_and_put-requires-in-Err : goal.lower_flags_and_put-requires-in-Err
+lower_flags_and_put-requires-in-Err g c =
+    let latch = c.await_latch-latch in
+    let told = latch.ensures in
+    let q = latch.result.place in
+    let a = arrived c.args.held.place c.args.seat.now c.requires.at q latch.new.seat told.place told.taken.0 told.taken.1 told.taken.2 told.inside told.stays in
+    record { worked = subst (HasWorked q []) (sym c.in-Err.ensures.unchanged) (has_rested a) }
+
+pub returns-in-Ok : goal.returns-in-Ok
+returns-in-Ok g c =
     let held = c.args.held in
-    let taken = c.await_latch-latch.ensures.taken in
-    let h = taken.0 in
-    let came : Mine = c.await_latch-latch.new.seat.me in
-    let went : Mine = c.clone_latched.new.seat.me in
-    let there = own_there seat.me.0.number held.number held h seat.me refl taken.1 (idle_waits_not seat.me.0 held.number c.requires.idle) c.requires.held in
-    let step = subst (λ (q : ℕ). (e : Met) × IsStepOf came went e × (e.word ≡ lock_word q) × (e.held ≡ came.0.latches) × OnOk c.clone_latched.result (e.deeds ≡ Gain c.args.number c.args.mode ∷ []))
-    c.await_latch-latch.ensures.place c.clone_latched.ensures.step in
-    let under : StepUnder held.place step.0.deeds came went = (step.0, step.1, step.2, step.3, refl) in
-    let met = met_there held.place step.0.deeds h came went taken.2.recorded under seat.me.0.number held.number (ap is_some there) in (
-      met.0,
-      step_later held.place seat.me came went c.await_latch-latch.ensures.inside.1 met.0 met.1,
-      met.2,
-      on_ok_weaker c.clone_latched.result (λ did. met.3 ∙ did) step.4,
-    )
-
-pub clone_latched-requires-clause-known : goal.clone_latched-requires-clause-known
-clone_latched-requires-clause-known g c =
-    let fits = c.requires.fits in
-    let known = subst (λ (x : Mine). KnowsPlace x.0 c.args.held.place) (sym c.await_latch-latch.ensures.inside.1.now) (fits.0, fits.1, fits.2, fits.3) in
-    subst (KnowsPlace c.await_latch-latch.new.seat.me.0) (sym c.await_latch-latch.ensures.place) known
-
-pub returns-clause-cloned : goal.returns-clause-cloned
-returns-clause-cloned g c =
+    let s = c.args.seat.now in
     let latch = c.await_latch-latch in
-    let came : Mine = latch.new.seat.me in
-    let went : Mine = c.clone_latched.new.seat.me in
-    on_ok_weaker c.clone_latched.result (λ left. (left.0 ∙ latch.ensures.inside.0, visits_left c.args.held.place c.args.seat.now.me came went latch.ensures.inside.1 (Gain c.args.number c.args.mode ∷ []) (subst (λ (q : ℕ). Leaves q (Gain c.args.number c.args.mode ∷ []) came went) latch.ensures.place left.1))) c.clone_latched.ensures.cloned
+    let told = latch.ensures in
+    let q = latch.result.place in
+    let r = c.requires in
+    let w = c.write_gain.new.self in
+    let n = c.lower_flags_and_put.new.seat in
+    let a = arrived held.place s r.at q latch.new.seat told.place told.taken.0 told.taken.1 told.taken.2 told.inside told.stays in
+    let out = c.in-Ok.ensures.written a.latch.book a.holds.carried in
+    let came = came_written a (booked latch.new.seat.me.0.number (Gain c.args.number c.args.mode) a.latch.book) w out in
+    record {
+      cloned = subst (λ (p : ℕ). AtItsTable s n (Visits p (Gain c.args.number c.args.mode ∷ []))) a.at (c.lower_flags_and_put.ensures.visited s (came.0, came.1));
+      unchanged = tt;
+      step = met_own a held.number (Gain c.args.number c.args.mode ∷ []) w n (ap is_some (there held a (idle_waits_not s.me.0 held.number r.idle) r.held))
+          came (ap (λ (x : SeatState). x.me.0.latches) out) c.lower_flags_and_put.ensures.step;
+      refused = tt;
+    }
 
-pub returns-clause-unchanged : goal.returns-clause-unchanged
-returns-clause-unchanged g c =
+pub returns-in-Err : goal.returns-in-Err
+returns-in-Err g c =
+    let held = c.args.held in
+    let s = c.args.seat.now in
     let latch = c.await_latch-latch in
-    let came : Mine = latch.new.seat.me in
-    let went : Mine = c.clone_latched.new.seat.me in
-    on_err_weaker c.clone_latched.result (λ left. (left.0 ∙ latch.ensures.inside.0, visits_left c.args.held.place c.args.seat.now.me came went latch.ensures.inside.1 [] (subst (λ (q : ℕ). Leaves q [] came went) latch.ensures.place left.1))) c.clone_latched.ensures.unchanged
-
-pub clone_latched-requires-clause-idle : goal.clone_latched-requires-clause-idle
-clone_latched-requires-clause-idle g c = subst (λ (x : Mine). x.0.asks ≡ None) (sym c.await_latch-latch.ensures.inside.1.now) c.requires.idle
-
-pub clone_latched-requires-clause-number : goal.clone_latched-requires-clause-number
-clone_latched-requires-clause-number g c = subst (λ (x : Mine). c.args.number ≡ x.0.next) (sym c.await_latch-latch.ensures.inside.1.now) c.requires.number
-
-pub returns-clause-refused : goal.returns-clause-refused
-returns-clause-refused g c =
-    let place = c.args.held.place in
-    let m = c.args.seat.now.me in
-    let latch = c.await_latch-latch in
-    let came : Mine = latch.new.seat.me in
-    let went : Mine = c.clone_latched.new.seat.me in
-    IfErr-weaker c.clone_latched.result _ _ (λ cause refused. elim refused [
-      | inl memory ↦ inl memory
-      | inr full ↦
-          let met = full.1 in
-          inr (full.0, (met.0, step_later place m came went latch.ensures.inside.1 met.0 met.1, subst (λ (q : ℕ). MeetsFull q met.0) latch.ensures.place met.2))
-    ]) c.clone_latched.ensures.refused
+    let told = latch.ensures in
+    let q = latch.result.place in
+    let r = c.requires in
+    let w = c.write_gain.new.self in
+    let n = c.lower_flags_and_put-in-Err.new.seat in
+    let a = arrived held.place s r.at q latch.new.seat told.place told.taken.0 told.taken.1 told.taken.2 told.inside told.stays in
+    let same = c.in-Err.ensures.unchanged in
+    let came = subst (CameTo q s) (sym same) a.came in
+    let latches = ap (λ (x : SeatState). x.me.0.latches) same in
+    let unwaited = idle_waits_not s.me.0 held.number r.idle in
+    let met = met_own a held.number [] w n (ap is_some (there held a unwaited r.held)) came latches c.lower_flags_and_put-in-Err.ensures.step in
+    record {
+      cloned = tt;
+      unchanged = subst (λ (p : ℕ). AtItsTable s n (Visits p [])) a.at (c.lower_flags_and_put-in-Err.ensures.visited s (came.0, came.1));
+      step = (met.0, met.1, met.2, tt);
+      refused = met_full held.place s q w n a.at came.1 a.latch (ap (held_at q) latches ∙ a.holds.recorded) [] c.lower_flags_and_put-in-Err.ensures.step c.in-Err.cause
+          (no_room held a unwaited r.held c.args.mode r.fits r.covers _ c.args.number c.in-Err.cause (c.in-Err.ensures.refused a.latch.book a.holds.carried));
+    }

@@ -1,52 +1,72 @@
--- The book that is met under the latch has both tickets.
-use Rattle.std.proofs.Common.{◌≡◌, ℕ, List, [], ◌∷◌, None, refl, sym, ap, ◌∙◌, subst}
-use Rattle.mdl_book.specs.Books.{lock_kind}
+-- The book that is met under the latch has both tickets, so the one is written in the mode of the other, and this is taken out.
+use Rattle.std.proofs.Common.{ℕ, List, [], ◌∷◌, ap, subst}
+use Rattle.std.specs.Prelude.{is_some}
 use Rattle.mdl_steps.specs.declared.deed.Deed.{Deed}
 use Rattle.mdl_steps.specs.declared.deed.Deed.TheVariants.{Alter, Lose}
-use Rattle.mdl_steps.specs.Cells.{ticket_by}
-use Rattle.mdl_steps.specs.Plays.{IsFresh, Mine}
-use Rattle.mdl_steps.specs.Seats.{Holds}
-use Rattle.mdl_visits.specs.Leavings.{Leaves}
-use Rattle.mdl_system.proofs.StrengthLemmas.{covers-at_least}
-use Rattle.mdl_visits.proofs.Covered.{covered_by_own, own_mode, own_there}
-use Rattle.mdl_visits.proofs.Leaving.{visits_left}
-use Rattle.mdl_visits.proofs.Numbers.{idle_waits_not}
+use Rattle.mdl_steps.specs.Deeds.{booked}
+use Rattle.mdl_steps.specs.SeatStates.{AtItsTable, SeatState}
+use Rattle.mdl_visits.specs.Visits.{Visits}
+use Rattle.mdl_visits.proofs.Arriving.{arrived, came_written, meets_own, met_here}
+use Rattle.mdl_visits.proofs.Uniting.{carries_changed, changed, first, has_united, second, united}
 use Rattle.mdl_visits.proofs.calls.merge.merge.Goals as goal
 
-pub merge_latched-requires-clause-covered : goal.merge_latched-requires-clause-covered
-merge_latched-requires-clause-covered g c =
-    let seat = c.args.seat.now in
+pub write_loss-gone-requires : goal.write_loss-gone-requires
+write_loss-gone-requires g c =
     let kept = c.args.kept in
     let gone = c.args.gone in
-    let taken = c.await_latch-latch.ensures.taken in
-    let h = taken.0 in
-    let who = c.await_latch-latch.new.seat.me.0.number in
-    let own = sym (ap (λ (x : Mine). x.0.number) c.await_latch-latch.ensures.inside.1.now) in
-    let fresh_there = subst (λ (q : ℕ). IsFresh q h seat.me) c.requires.here taken.1 in
-    let first = own_there who kept.number kept h seat.me own taken.1 (idle_waits_not seat.me.0 kept.number c.requires.idle) c.requires.held.0 in
-    let second = own_there who gone.number gone h seat.me own fresh_there (idle_waits_not seat.me.0 gone.number c.requires.idle) c.requires.held.1 in (
-      h,
-      subst (λ (q : ℕ). Holds q h h.book c.await_latch-latch.new.seat.me) (sym c.await_latch-latch.ensures.place) taken.2,
-      covered_by_own kept.place who gone.number gone h seat.me taken.1 second,
-      (
-        ticket_by who kept,
-        first,
-        covers-at_least (lock_kind h.book) gone.mode kept.mode (own_mode kept.place who gone.number gone h seat.me taken.1 second)
-            (own_mode kept.place who kept.number kept h seat.me taken.1 first) c.requires.covers,
-      ),
-      (ticket_by who gone, second, refl),
-    )
-
-pub returns-clause-merged : goal.returns-clause-merged
-returns-clause-merged g c =
-    let place = c.args.kept.place in
-    let ds : List Deed = Alter c.args.kept.number c.args.gone.mode ∷ Lose c.args.gone.number ∷ [] in
+    let s = c.args.seat.now in
     let latch = c.await_latch-latch in
-    let came : Mine = latch.new.seat.me in
-    let went : Mine = c.merge_latched.new.seat.me in (
-      c.merge_latched.ensures.left.0 ∙ latch.ensures.inside.0,
-      visits_left place c.args.seat.now.me came went latch.ensures.inside.1 ds (subst (λ (q : ℕ). Leaves q ds came went) latch.ensures.place c.merge_latched.ensures.left.1),
-    )
+    let told = latch.ensures in
+    let q = latch.result.place in
+    let came = latch.new.seat in
+    let r = c.requires in
+    let wrote = c.write_mode-altered in
+    let a = arrived kept.place s r.at q came told.place told.taken.0 told.taken.1 told.taken.2 told.inside told.stays in
+    let refused = wrote.ensures.refused a.latch.book a.holds.carried in
+    let written = wrote.ensures.written a.latch.book a.holds.carried in
+    record { carried = (changed kept gone a r.here r.idle r.two r.held, carries_changed kept gone a r.here r.idle r.two r.held wrote.new.self wrote.result refused written) }
 
-pub merge_latched-requires-clause-idle : goal.merge_latched-requires-clause-idle
-merge_latched-requires-clause-idle g c = subst (λ (x : Mine). x.0.asks ≡ None) (sym c.await_latch-latch.ensures.inside.1.now) c.requires.idle
+pub lower_flags_and_put-requires : goal.lower_flags_and_put-requires
+lower_flags_and_put-requires g c =
+    let kept = c.args.kept in
+    let gone = c.args.gone in
+    let s = c.args.seat.now in
+    let latch = c.await_latch-latch in
+    let told = latch.ensures in
+    let q = latch.result.place in
+    let came = latch.new.seat in
+    let r = c.requires in
+    let wrote = c.write_mode-altered in
+    let a = arrived kept.place s r.at q came told.place told.taken.0 told.taken.1 told.taken.2 told.inside told.stays in
+    let refused = wrote.ensures.refused a.latch.book a.holds.carried in
+    let written = wrote.ensures.written a.latch.book a.holds.carried in
+    let w = c.write_loss-gone.new.self in
+    let out = united kept gone a r.here r.idle r.two r.held wrote.new.self wrote.result refused written w c.write_loss-gone.result c.write_loss-gone.ensures.refused c.write_loss-gone.ensures.written in
+    record { worked = has_united kept gone a r.here r.idle r.two r.held w r.known r.covers out }
+
+pub returns : goal.returns
+returns g c =
+    let kept = c.args.kept in
+    let gone = c.args.gone in
+    let s = c.args.seat.now in
+    let latch = c.await_latch-latch in
+    let told = latch.ensures in
+    let q = latch.result.place in
+    let came = latch.new.seat in
+    let r = c.requires in
+    let wrote = c.write_mode-altered in
+    let a = arrived kept.place s r.at q came told.place told.taken.0 told.taken.1 told.taken.2 told.inside told.stays in
+    let refused = wrote.ensures.refused a.latch.book a.holds.carried in
+    let written = wrote.ensures.written a.latch.book a.holds.carried in
+    let w = c.write_loss-gone.new.self in
+    let out = united kept gone a r.here r.idle r.two r.held wrote.new.self wrote.result refused written w c.write_loss-gone.result c.write_loss-gone.ensures.refused c.write_loss-gone.ensures.written in
+    let n = c.lower_flags_and_put.new.seat in
+    let ds : List Deed = Alter kept.number gone.mode ∷ Lose gone.number ∷ [] in
+    let there = came_written a (booked came.me.0.number (Lose gone.number) (changed kept gone a r.here r.idle r.two r.held)) w out in
+    let met = met_here a ds w n there (ap (λ (x : SeatState). x.me.0.latches) out) c.lower_flags_and_put.ensures.step in
+    let old = meets_own a kept.number met.0 (ap is_some (first kept gone a r.here r.idle r.two r.held)) met.2 met.3 in
+    let new = meets_own a gone.number met.0 (ap is_some (second kept gone a r.here r.idle r.two r.held)) met.2 met.3 in
+    record {
+      merged = subst (λ (p : ℕ). AtItsTable s n (Visits p ds)) a.at (c.lower_flags_and_put.ensures.visited s (there.0, there.1));
+      step = (met.0, met.1, old, new, met.4);
+    }

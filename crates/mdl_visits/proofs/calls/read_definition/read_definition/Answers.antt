@@ -1,55 +1,72 @@
 -- What was read stood in the book that was met under the latch.
-use Rattle.std.proofs.Common.{◌≡◌, ℕ, refl, sym, ap, ◌∙◌, subst, []}
-use Rattle.std.proofs.lemmas.Result.{on_err_weaker}
+use Rattle.std.proofs.Common.{◌≡◌, ℕ, refl, sym, ap, ◌∙◌, subst}
 use Rattle.mdl_defs.specs.declared.standing.Standing.{Standing}
 use Rattle.mdl_steps.specs.Plays.{Mine, read_and_put}
-use Rattle.mdl_steps.specs.Seats.{Holds}
-use Rattle.mdl_visits.specs.Leavings.{Leaves}
-use Rattle.mdl_visits.proofs.Leaving.{visits_left}
+use Rattle.mdl_steps.specs.SeatStates.{SeatState}
 use Rattle.mdl_visits.specs.Readings.{Follows}
-use Rattle.mdl_visits.proofs.Steps.{quiet_on, quiet_taken}
-use Rattle.mdl_visits.proofs.Reading.{follows, learns, meets_standing, ok_told}
+use Rattle.mdl_visits.proofs.Gathering.{as_reads, back_steps, carried_there, may_put, no_steps}
+use Rattle.mdl_visits.proofs.Reading.{follows, learns, meets_standing, quiet_read}
+use Rattle.mdl_visits.proofs.Seats.{mine, table_of}
 use Rattle.mdl_visits.proofs.calls.read_definition.read_definition.Goals as goal
 
-pub returns-clause-learnt : goal.returns-clause-learnt
-returns-clause-learnt g c =
+pub standing-requires : goal.standing-requires
+standing-requires g c =
+    let latch = c.await_latch-latch in record {
+      carried = (
+        latch.ensures.taken.0.book,
+        carried_there c.args.place latch.result.place c.args.seat.now latch.new.seat latch.new.seat latch.ensures.place latch.ensures.taken latch.ensures.inside.0 refl,
+      );
+    }
+
+pub put_latch_reading-requires-clause-put : goal.put_latch_reading-requires-clause-put
+put_latch_reading-requires-clause-put g c =
+    let latch = c.await_latch-latch in
+    let asked : SeatState = c.standing.new.self in
+    may_put c.args.place latch.result.place c.args.seat.now latch.new.seat asked latch.ensures.place latch.ensures.taken latch.ensures.inside.0 c.standing.ensures.same
+    asked (as_reads asked asked (refl, no_steps asked.me))
+
+pub put_latch-requires-clause-put : goal.put_latch-requires-clause-put
+put_latch-requires-clause-put g c =
+    let latch = c.await_latch-latch in
+    let asked : SeatState = c.standing.new.self in
+    may_put c.args.place latch.result.place c.args.seat.now latch.new.seat asked latch.ensures.place latch.ensures.taken latch.ensures.inside.0 c.standing.ensures.same
+    asked (as_reads asked asked (refl, no_steps asked.me))
+
+pub returns-in-Ok : goal.returns-in-Ok
+returns-in-Ok g c =
     let place = c.args.place in
-    let seat = c.args.seat.now in
+    let a : SeatState = c.args.seat.now in
     let latch = c.await_latch-latch in
+    let b : SeatState = latch.new.seat in
+    let asked : SeatState = c.standing.new.self in
+    let went : SeatState = c.put_latch_reading.new.self in
     let taken = latch.ensures.taken in
     let h = taken.0 in
-    let came : Mine = latch.new.seat.me in
-    let went : Mine = c.read_latched.new.seat.me in
-    let has = subst (λ (q : ℕ). Holds q h h.book came) (sym latch.ensures.place) taken.2 in
-    ok_told c.read_latched.result (λ standing e.
-    let read : went ≡ read_and_put place standing came = e.1 ∙ ap (λ (q : ℕ). read_and_put q standing came) latch.ensures.place in (
-      learns place standing seat.me came went latch.ensures.inside.1 read,
-      meets_standing place standing seat.me came went latch.ensures.inside.1 read h seat.me.0.number refl taken.1 taken.2.recorded e.0,
-    )) (c.read_latched.ensures.told h has)
+    let same = c.standing.ensures.same in
+    let carried = carried_there place latch.result.place a b b latch.ensures.place taken latch.ensures.inside.0 refl in
+    let told : c.in-Ok.standing ≡ h.book.standing = c.in-Ok.ensures.told h.book carried in
+    let put = c.put_latch_reading.ensures.made h.book (carried_there place latch.result.place a b asked latch.ensures.place taken latch.ensures.inside.0 same) in
+    let read : went.me ≡ read_and_put place c.in-Ok.standing b.me =
+    mine put ∙ ap (λ (m : Mine). read_and_put latch.result.place h.book.standing m) (mine same)
+    ∙ ap (λ (q : ℕ). read_and_put q h.book.standing b.me) latch.ensures.place ∙ ap (λ (s : Standing). read_and_put place s b.me) (sym told) in record {
+      learnt = (
+        learns place c.in-Ok.standing a.me b.me went.me latch.ensures.inside.1 read,
+        meets_standing place c.in-Ok.standing a.me b.me went.me latch.ensures.inside.1 read h a.me.0.number refl taken.1 taken.2.recorded told,
+      );
+      follows = subst (λ (s : Standing). Follows place s a.me) (sym told) (follows taken.1);
+      unchanged = tt;
+      quiet = (table_of put ∙ table_of same ∙ latch.ensures.inside.0, quiet_read place c.in-Ok.standing a.me b.me went.me latch.ensures.inside.1 read h taken.3.0 taken.3.2 taken.3.1);
+    }
 
-pub returns-clause-unchanged : goal.returns-clause-unchanged
-returns-clause-unchanged g c =
+pub returns-in-Err : goal.returns-in-Err
+returns-in-Err g c =
     let latch = c.await_latch-latch in
-    let came : Mine = latch.new.seat.me in
-    let went : Mine = c.read_latched.new.seat.me in
-    on_err_weaker c.read_latched.result (λ left. visits_left c.args.place c.args.seat.now.me came went latch.ensures.inside.1 [] (subst (λ (q : ℕ). Leaves q [] came went) latch.ensures.place left)) c.read_latched.ensures.unchanged
-
-pub returns-clause-follows : goal.returns-clause-follows
-returns-clause-follows g c =
-    let latch = c.await_latch-latch in
-    let taken = latch.ensures.taken in
-    let h = taken.0 in
-    let came : Mine = latch.new.seat.me in
-    let has = subst (λ (q : ℕ). Holds q h h.book came) (sym latch.ensures.place) taken.2 in
-    ok_told c.read_latched.result (λ standing e. subst (λ (s : Standing). Follows c.args.place s c.args.seat.now.me) (sym e.0) (follows taken.1)) (c.read_latched.ensures.told h has)
-
-pub returns-clause-quiet : goal.returns-clause-quiet
-returns-clause-quiet g c =
-    let m : Mine = c.args.seat.now.me in
-    let latch = c.await_latch-latch in
-    let taken = latch.ensures.taken in
-    let came : Mine = latch.new.seat.me in
-    let went : Mine = c.read_latched.new.seat.me in (
-      c.read_latched.ensures.quiet.0 ∙ latch.ensures.inside.0,
-      quiet_on m came went (quiet_taken c.args.place taken.0 taken.3.0 m came taken.3.2 taken.3.1) (ap (λ (x : Mine). x.0.directory) taken.3.1) c.read_latched.ensures.quiet.1,
-    )
+    let asked : SeatState = c.standing.new.self in
+    let steps = back_steps c.args.place latch.result.place c.args.seat.now latch.new.seat asked latch.ensures.place latch.ensures.taken latch.ensures.inside.0 c.standing.ensures.same
+    asked (as_reads asked asked (refl, no_steps asked.me)) c.put_latch.new.self c.put_latch.ensures.made c.requires.at.rising refl refl in
+    record {
+      learnt = tt;
+      follows = tt;
+      unchanged = record { made = steps.1.0; now = steps.1.1; did = steps.1.2 };
+      quiet = (steps.0, (steps.1.0, ap (λ (m : Mine). m.0.log) steps.1.1, steps.1.3));
+    }

@@ -1,4 +1,4 @@
--- The session came, made way and went.
+-- The session came, granted waits and went.
 use Rattle.std.proofs.Common.{ℕ, [], ◌∙◌, subst}
 use Rattle.atomic_table.specs.Seated.{TableId}
 use Rattle.mdl_steps.specs.Plays.{Mine}

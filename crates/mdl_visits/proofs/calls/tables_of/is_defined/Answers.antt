@@ -1,41 +1,47 @@
 -- What was found stood in the book that was met under the latch.
-use Rattle.std.proofs.Common.{◌≡◌, ℕ, [], refl, sym, ap, ◌∙◌, subst}
-use Rattle.mdl_steps.specs.Plays.{Mine, unlatched}
-use Rattle.mdl_steps.specs.Seats.{Holds}
-use Rattle.mdl_visits.proofs.Asking.{looked, meets_definition}
-use Rattle.mdl_visits.proofs.Seats.{mine, table_of}
-use Rattle.mdl_visits.proofs.Steps.{quiet_none, quiet_there}
+use Rattle.std.proofs.Common.{refl, sym}
+use Rattle.mdl_steps.specs.SeatStates.{SeatState}
+use Rattle.mdl_steps.proofs.Views.{held_at-first}
+use Rattle.mdl_visits.specs.Tables.{MeetsDefinition}
+use Rattle.mdl_visits.proofs.Gathering.{as_reads, back_steps, carried_there, gives_back, may_put, no_steps}
 use Rattle.mdl_visits.proofs.calls.tables_of.is_defined.Goals as goal
+
+pub has_definition-defined-requires : goal.has_definition-defined-requires
+has_definition-defined-requires g c =
+    let latch = c.await_latch-latch in record {
+      carried = (
+        latch.ensures.taken.0.book,
+        carried_there c.args.place latch.result.place c.args.seat.now latch.new.seat latch.new.seat latch.ensures.place latch.ensures.taken latch.ensures.inside.0 refl,
+      );
+    }
+
+pub put_latch-requires-clause-put : goal.put_latch-requires-clause-put
+put_latch-requires-clause-put g c =
+    let latch = c.await_latch-latch in
+    let asked : SeatState = c.has_definition-defined.new.self in
+    may_put c.args.place latch.result.place c.args.seat.now latch.new.seat asked latch.ensures.place latch.ensures.taken latch.ensures.inside.0 c.has_definition-defined.ensures.same
+    asked (as_reads asked asked (refl, no_steps asked.me))
 
 pub returns-clause-steps : goal.returns-clause-steps
 returns-clause-steps g c =
-    let place = c.args.place in
     let latch = c.await_latch-latch in
-    let came : Mine = latch.new.seat.me in
-    let went : Mine = c.is_defined_latched.new.seat.me in
-    let put : went ≡ unlatched place [] came = mine c.is_defined_latched.ensures.put ∙ ap (λ (q : ℕ). unlatched q [] came) latch.ensures.place in
-    (table_of c.is_defined_latched.ensures.put ∙ latch.ensures.inside.0, looked place c.args.seat.now.me came went latch.ensures.inside.1 put)
+    let asked : SeatState = c.has_definition-defined.new.self in
+    back_steps c.args.place latch.result.place c.args.seat.now latch.new.seat asked latch.ensures.place latch.ensures.taken latch.ensures.inside.0 c.has_definition-defined.ensures.same
+    asked (as_reads asked asked (refl, no_steps asked.me)) c.put_latch.new.self c.put_latch.ensures.made c.requires.at.rising refl refl
 
 pub returns-clause-met : goal.returns-clause-met
 returns-clause-met g c =
-    let place = c.args.place in
-    let seat = c.args.seat.now in
     let latch = c.await_latch-latch in
     let taken = latch.ensures.taken in
-    let h = taken.0 in
-    let came : Mine = latch.new.seat.me in
-    let went : Mine = c.is_defined_latched.new.seat.me in
-    let has = subst (λ (q : ℕ). Holds q h h.book came) (sym latch.ensures.place) taken.2 in
-    let put : went ≡ unlatched place [] came = mine c.is_defined_latched.ensures.put ∙ ap (λ (q : ℕ). unlatched q [] came) latch.ensures.place in
-    meets_definition place seat.me came went latch.ensures.inside.1 put h seat.me.0.number c.is_defined_latched.result refl taken.2.recorded (c.is_defined_latched.ensures.told h has)
-
-pub returns-clause-directory : goal.returns-clause-directory
-returns-clause-directory g c =
-    let place = c.args.place in
-    let latch = c.await_latch-latch in
-    let taken = latch.ensures.taken in
-    let m : Mine = c.args.seat.now.me in
-    let came : Mine = latch.new.seat.me in
-    let went : Mine = c.is_defined_latched.new.seat.me in
-    let put : went ≡ unlatched place [] came = mine c.is_defined_latched.ensures.put ∙ ap (λ (q : ℕ). unlatched q [] came) latch.ensures.place in
-    quiet_there place taken.0 taken.3.0 m came came went taken.3.2 taken.3.1 (quiet_none came came refl) refl put
+    let asked : SeatState = c.has_definition-defined.new.self in
+    let carried = carried_there c.args.place latch.result.place c.args.seat.now latch.new.seat latch.new.seat latch.ensures.place taken latch.ensures.inside.0 refl in
+    gives_back c.args.place latch.result.place c.args.seat.now latch.new.seat asked latch.ensures.place taken latch.ensures.inside.0 c.has_definition-defined.ensures.same
+    asked (as_reads asked asked (refl, no_steps asked.me)) c.put_latch.new.self c.put_latch.ensures.made c.requires.at.rising
+    (MeetsDefinition c.args.place c.args.seat.now.me.0.number c.has_definition-defined.result) (record {
+      kind = refl;
+      word = refl;
+      freed = refl;
+      latch = taken.0;
+      held = held_at-first c.args.place taken.0 c.args.seat.now.me.0.latches taken.1.here;
+      stands = sym (c.has_definition-defined.ensures.told taken.0.book carried);
+    })

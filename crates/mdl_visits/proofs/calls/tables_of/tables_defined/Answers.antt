@@ -4,8 +4,8 @@ use Rattle.std.proofs.lemmas.List.{take_more}
 use Rattle.mdl_steps.specs.declared.view.Known.{Known}
 use Rattle.mdl_steps.specs.Plays.{Mine}
 use Rattle.mdl_visits.specs.Tables.{Asked, HasAsked, WasAsked}
-use Rattle.mdl_visits.proofs.Asking.{asked_more, steps_then}
-use Rattle.mdl_visits.proofs.Steps.{quiet_on}
+use Rattle.mdl_visits.proofs.Asking.{asked_more}
+use Rattle.mdl_visits.proofs.Gathering.{quiet_steps_on}
 use Rattle.mdl_visits.proofs.calls.tables_of.tables_defined.Goals as goal
 
 pub loop-table-preserved : goal.loop-table-preserved
@@ -25,11 +25,12 @@ loop-table-preserved g c =
     let more : take i tables ++ table ∷ [] ≡ take (i + 1) tables =
     ap (λ (t : Known). take i tables ++ t ∷ []) c.table-item.is ∙ sym (take_more tables i table inside) in
     let room = c.add_if_defined.ensures.room in
-    let before = inv.room in record {
-      idle = c.add_if_defined.ensures.idle;
-      steps = (c.add_if_defined.ensures.steps.0 ∙ inv.steps.0, steps_then first came went inv.steps.1 c.add_if_defined.ensures.steps.1);
-      directory = quiet_on first came went inv.directory (ap (λ (m : Mine). m.0.directory) inv.steps.1.1) c.add_if_defined.ensures.directory;
+    let before = inv.room in
+    let now = c.add_if_defined.ensures.steps in
+    record {
+      steps = quiet_steps_on c.args.seat.now c.loop-table.seat c.add_if_defined.new.seat inv.steps now;
       asked = subst (λ (ts : List Known). HasAsked who ts c.add_if_defined.new.places.items first went) more
-          (asked_more who (take i tables) table c.loop-table.places.items c.add_if_defined.new.places.items asked.0 first came went inv.asked inv.steps.1 c.add_if_defined.ensures.steps.1 was asked.2);
+          (asked_more who (take i tables) table c.loop-table.places.items c.add_if_defined.new.places.items asked.0 first came went inv.asked
+          (inv.steps.1.0, inv.steps.1.1, inv.steps.1.2) (now.1.0, now.1.1, now.1.2) was asked.2);
       room = omega (arith, inside, room, before);
     }

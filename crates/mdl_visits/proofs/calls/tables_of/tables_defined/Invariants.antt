@@ -2,16 +2,13 @@
 use Rattle.std.proofs.Common.{◌+◌, ◌-◌, ◌≤◌, length, take}
 use Rattle.std.specs.Vec.{vec_capacity, vec_len}
 use Rattle.mdl_steps.specs.SeatStates.{AtItsTable}
-use Rattle.mdl_visits.specs.Idle.{IsIdle}
 use Rattle.mdl_visits.specs.Tables.{HasAsked}
-use Rattle.mdl_visits.specs.Visits.{MakesSteps, StaysQuiet}
+use Rattle.mdl_visits.specs.Visits.{MakesQuietSteps}
 use Rattle.mdl_visits.proofs.calls.tables_of.tables_defined.Given as goal
 
 abbrev pub invariant-loop-table : goal.invariant-loop-table
 invariant-loop-table g l = record {
-  idle : IsIdle l.seat.me;
-  steps : AtItsTable l.fn.seat l.seat MakesSteps;
-  directory : StaysQuiet l.fn.seat.me l.seat.me;
+  steps : AtItsTable l.fn.seat l.seat MakesQuietSteps;
   asked : HasAsked l.fn.seat.me.0.number (take l.table-index l.tables) l.places.items l.fn.seat.me l.seat.me;
   room : vec_len l.places + (length l.tables - l.table-index) ≤ vec_capacity l.places;
 }

@@ -1,0 +1,124 @@
+-- A session that came to a place has its latch, and does its deeds there.
+use Rattle.std.proofs.Common.{◌≡◌, ℕ, true, List, [], Some, refl, sym, ap, ◌∙◌, subst, inl, inr}
+use Rattle.std.specs.Prelude.{◌⊎◌, ◌≤◌, is_some}
+use Rattle.mdl_book.specs.declared.book_error.BookError.{BookError}
+use Rattle.mdl_book.specs.declared.book_error.BookError.TheVariants as fault
+use Rattle.mdl_book.specs.declared.book_view.BookView.{BookView}
+use Rattle.mdl_book.specs.Books.{ticket_count}
+use Rattle.mdl_book.specs.Tickets.{ticket_of}
+use Rattle.mdl_steps.specs.declared.deed.Deed.{Deed}
+use Rattle.mdl_steps.specs.declared.view.LatchRecord.{LatchRecord}
+use Rattle.mdl_steps.specs.declared.view.Met.{Met}
+use Rattle.mdl_steps.specs.Cells.{held_at}
+use Rattle.mdl_steps.specs.Deeds.{KnowsPlace, MayDo, NotWaited, all_booked}
+use Rattle.mdl_steps.specs.Layout.{lock_word}
+use Rattle.mdl_steps.specs.Plays.{IsFresh, Mine}
+use Rattle.mdl_steps.specs.Rule.{Flagged}
+use Rattle.mdl_steps.specs.SeatStates.{AtItsTable, SeatState}
+use Rattle.mdl_steps.specs.Seats.{Holds, IsPlace, written}
+use Rattle.mdl_steps.proofs.Hands.{holds_written}
+use Rattle.mdl_visits.specs.Leavings.{DidUnder, DoesToOwn, HasWorked, MeetsOwn}
+use Rattle.mdl_visits.specs.Visits.{CameTo, HasStep, IsInside, IsStepOf, LacksRoom, MayVisit, StaysOn}
+use Rattle.mdl_visits.proofs.Leaving.{step_later}
+use Rattle.mdl_visits.proofs.Seats.{mine, place_there, table_of}
+use Rattle.mdl_visits.proofs.Visiting.{inside_written}
+
+-- the latch of a place was taken just now, and its record is fresh
+pub record Arrives (place : ℕ) (s : SeatState) (q : ℕ) (c : SeatState) : Type 0 where
+  pub at : q ≡ place
+  pub is_place : IsPlace c.table q
+  pub latch : LatchRecord
+  pub fresh : IsFresh place latch s.me
+  pub holds : Holds q latch latch.book c.me
+  pub came : CameTo q s c
+
+-- by what the wait for the latch promises
+pub arrived : (place : ℕ) (s : SeatState) → MayVisit place s → (q : ℕ) (c : SeatState) → q ≡ place → (h : LatchRecord) → IsFresh place h s.me → Holds place h h.book c.me
+    → AtItsTable s c (IsInside place) → StaysOn s.me c.me → Arrives place s q c
+arrived place s may q c at h fresh holds inside stays = record {
+  at = at;
+  is_place = place_there q inside.0 (subst (IsPlace s.table) (sym at) may.is_place);
+  latch = h;
+  fresh = fresh;
+  holds = subst (λ (p : ℕ). Holds p h h.book c.me) (sym at) holds;
+  came = (inside.0, subst (λ (p : ℕ). IsInside p s.me c.me) (sym at) inside.1, stays);
+}
+
+-- the step on the word that did its deeds met the record of the latch
+module _ (place : ℕ) (s : SeatState) (q : ℕ) (w n : SeatState) (at : q ≡ place) (inside : IsInside q s.me w.me) (h : LatchRecord) (recorded : held_at q w.me.0.latches ≡ Some h)
+    (ds : List Deed) (step : HasStep w n (DidUnder q ds w)) where
+  pub met : (e : Met) × IsStepOf s.me n.me e × (e.word ≡ lock_word place) × (held_at place e.held ≡ Some h) × (e.deeds ≡ ds)
+  met =
+      let told = step.2 in (
+        step.0,
+        step_later q s.me w.me n.me inside step.0 step.1,
+        told.0 ∙ ap lock_word at,
+        subst (λ (p : ℕ). held_at p step.0.held ≡ Some h) at (ap (held_at q) told.1 ∙ recorded),
+        told.2,
+      )
+
+  -- which was full, where the book was
+  pub met_full : (cause : BookError) → (cause ≡ fault.OutOfMemory) ⊎ ((cause ≡ fault.Full) × (65535 ≤ ticket_count h.book)) → LacksRoom place cause s n
+  met_full cause (inl memory) = inl memory
+  met_full cause (inr full) = let m = met in inr (full.0, (m.0, m.1, record { word = m.2; latch = h; held = m.3; full = full.1 }))
+
+module _ {place : ℕ} {s : SeatState} {q : ℕ} {c : SeatState} (a : Arrives place s q c) where
+  pub number_kept : s.me.0.number ≡ c.me.0.number
+  number_kept = sym (ap (λ (x : Mine). x.0.number) a.came.1.now)
+
+  pub unwaited_there : (number : ℕ) → NotWaited s.me.0 number → NotWaited c.me.0 number
+  unwaited_there number unwaited = subst (λ (x : Mine). NotWaited x.0 number) (sym a.came.1.now) unwaited
+
+  -- another book was written
+  pub came_written : (book : BookView) (w : SeatState) → w ≡ record c { me = written q book c.me } → CameTo q s w
+  came_written book w is = (
+    table_of is ∙ a.came.0,
+    inside_written q book s.me c.me w.me a.came.1 (mine is),
+    subst (λ (x : SeatState). StaysOn s.me x.me) (sym is) a.came.2,
+  )
+
+  -- what it may do and has written it has done
+  pub has_worked : (ds : List Deed) (w : SeatState) → KnowsPlace s.me.0 place → MayDo c.me.0 a.latch.book a.latch.noted ds
+      → Flagged (all_booked c.me.0.number ds a.latch.book) a.latch.slow a.latch.obtrusive
+      → w ≡ record c { me = written q (all_booked c.me.0.number ds a.latch.book) c.me } → HasWorked q ds w
+  has_worked ds w known may flagged is =
+      let here = subst (λ (x : Mine). KnowsPlace x.0 place) (sym a.came.1.now) known in
+      subst (HasWorked q ds) (sym is) (record {
+        is_place = a.is_place;
+        latch = a.latch;
+        done = record {
+          holds = holds_written q a.latch a.latch.book (all_booked c.me.0.number ds a.latch.book) c.me a.holds;
+          act = inl (subst (KnowsPlace c.me.0) (sym a.at) here);
+          may = may;
+        };
+        flagged = flagged;
+        once = record { once = a.fresh.once; single = a.fresh.single };
+      })
+
+  -- or it has done nothing
+  pub has_rested : HasWorked q [] c
+  has_rested = record {
+    is_place = a.is_place;
+    latch = a.latch;
+    done = record { holds = a.holds; act = inr refl; may = tt };
+    flagged = ((λ e. a.fresh.exact.0 ∙ e), λ e. a.fresh.exact.1 ∙ e);
+    once = record { once = a.fresh.once; single = a.fresh.single };
+  }
+
+  -- and so the session's ticket
+  pub meets_own : (number : ℕ) (e : Met) → is_some (ticket_of c.me.0.number number a.latch.book.granted) ≡ true → e.word ≡ lock_word place → held_at place e.held ≡ Some a.latch
+      → MeetsOwn place s.me.0.number number e
+  meets_own number e there word held = record {
+    word = word;
+    latch = a.latch;
+    held = held;
+    there = subst (λ (who : ℕ). is_some (ticket_of who number a.latch.book.granted) ≡ true) (sym number_kept) there;
+  }
+
+  pub met_here : (ds : List Deed) (w n : SeatState) → CameTo q s w → w.me.0.latches ≡ c.me.0.latches → HasStep w n (DidUnder q ds w)
+      → (e : Met) × IsStepOf s.me n.me e × (e.word ≡ lock_word place) × (held_at place e.held ≡ Some a.latch) × (e.deeds ≡ ds)
+  met_here ds w n came same step = met place s q w n a.at came.1 a.latch (ap (held_at q) same ∙ a.holds.recorded) ds step
+
+  pub met_own : (number : ℕ) (ds : List Deed) (w n : SeatState) → is_some (ticket_of c.me.0.number number a.latch.book.granted) ≡ true
+      → CameTo q s w → w.me.0.latches ≡ c.me.0.latches → HasStep w n (DidUnder q ds w) → DoesToOwn place number ds s n
+  met_own number ds w n there came same step = let m = met_here ds w n came same step in (m.0, m.1, meets_own number m.0 there m.2 m.3, m.4)
