@@ -5,9 +5,8 @@ use Rattle.std.proofs.lemmas.Bool.{eq-eqb, eqb-true, false≢true}
 use Rattle.mdl_steps.specs.declared.view.Own.{Own}
 use Rattle.mdl_steps.specs.Lists.{Each}
 use Rattle.mdl_steps.proofs.Views.{by_bool}
-use Rattle.mdl_shared.specs.declared.member.Member.{Member}
 use Rattle.mdl_shared.specs.Rememberings.{AreAlike}
-use Rattle.mdl_shared.specs.SessionViews.{note_of}
+use Rattle.mdl_shared.specs.SessionViews.{SessionView, note_of}
 use Rattle.mdl_shared.proofs.Props.{remembered}
 use Rattle.mdl_shared.proofs.SpaceNotes.{AllNoted, and_note, note-here, note-there, noted-in, noted_under}
 
@@ -46,5 +45,5 @@ alike-noted place (t ∷ ts) alike =
     ((λ e. absurd (false≢true (sym there ∙ eq-eqb t.place place e))), alike-noted place ts alike.1))
 
 -- each has the one that is noted there
-pub one-note : (m : Member) (place : ℕ) → AllNoted place (noted_under place m.tickets.items) m.tickets.items
-one-note m place = alike-noted place m.tickets.items (remembered m.remembers).alike
+pub one-note : (m : SessionView) (place : ℕ) → AllNoted place (noted_under place m.me.0.slow) m.me.0.slow
+one-note m place = alike-noted place m.me.0.slow (remembered m.remembers).alike

@@ -18,11 +18,10 @@ use Rattle.mdl_steps.specs.Lists.{Each}
 use Rattle.mdl_steps.proofs.Views.{by_bool}
 use Rattle.mdl_session_laws.specs.SessionSpaces.{IsSound, Reading, are_below as are_below_told, are_placed as are_placed_told, first_free, is_known as is_known_in, is_newest as is_newest_in, last_read as last_read_in}
 use Rattle.mdl_visits.specs.Numbers.{all_numbers, is_ask_apart, is_no_number}
-use Rattle.mdl_shared.specs.declared.member.Member.{Member}
 use Rattle.mdl_shared.specs.Members.{are_placed, is_known_place}
 use Rattle.mdl_shared.specs.OwnLists.{told_of}
 use Rattle.mdl_shared.specs.Rememberings.{IsOfLast, Remembers, is_newest, last_read}
-use Rattle.mdl_shared.specs.SessionViews.{settled_told, space_of_member}
+use Rattle.mdl_shared.specs.SessionViews.{SessionView, settled_told, space_of}
 use Rattle.mdl_shared.specs.Waitings.{are_below, are_rising, is_ask_placed}
 use Rattle.mdl_shared.proofs.KeyCalls.{apart-told, known-told}
 use Rattle.mdl_shared.proofs.MemberFacts.{ask-last, nothing-told}
@@ -53,30 +52,30 @@ placed-told known (t ∷ ts) =
     ∙ ap (λ b. is_known_place known t.place && b) (placed-told known ts)
 
 -- the tickets have numbers below the first that is free
-below-free : (m : Member) (asks : Option Ask) → m.asks ≡ asks
-    → are_below_told (first_free (is_some (wait_by m.waits asks)) (numbers_by m.next m.waits)) (map told_of m.tickets.items) ≡ true
+below-free : (m : SessionView) (asks : Option Ask) → m.me.0.asks ≡ asks
+    → are_below_told (first_free (is_some (wait_by m.me.0.waits asks)) (numbers_by m.me.0.next m.me.0.waits)) (map told_of m.me.0.slow) ≡ true
 below-free m None asks =
     let fewer = m.fewer.0 in
-    let all : (m.next - 1) + 1 ≡ m.next = omega arith in
-    ap (λ (n : ℕ). are_below_told n (map told_of m.tickets.items)) all ∙ below-told m.next m.tickets.items ∙ m.below
+    let all : (m.me.0.next - 1) + 1 ≡ m.me.0.next = omega arith in
+    ap (λ (n : ℕ). are_below_told n (map told_of m.me.0.slow)) all ∙ below-told m.me.0.next m.me.0.slow ∙ m.below
 below-free m (Some a) asks =
     let last = ask-last m a asks in
-    let number : m.next - 1 ≡ a.number = omega arith in
-    let apart = subst (λ (o : Option Ask). is_ask_apart m.next m.tickets.items o ≡ true) asks m.apart in
-    let none = (and_parts (nat_lt a.number m.next) (is_no_number a.number m.tickets.items) apart).1 in
-    ap (λ (n : ℕ). are_below_told n (map told_of m.tickets.items)) number ∙ below-told a.number m.tickets.items
-    ∙ below_asked m.next a.number m.tickets.items last none m.below
+    let number : m.me.0.next - 1 ≡ a.number = omega arith in
+    let apart = subst (λ (o : Option Ask). is_ask_apart m.me.0.next m.me.0.slow o ≡ true) asks m.apart in
+    let none = (and_parts (nat_lt a.number m.me.0.next) (is_no_number a.number m.me.0.slow) apart).1 in
+    ap (λ (n : ℕ). are_below_told n (map told_of m.me.0.slow)) number ∙ below-told a.number m.me.0.slow
+    ∙ below_asked m.me.0.next a.number m.me.0.slow last none m.below
 
 -- the place that is waited for is known
-awaited-told : (m : Member) (asks : Option Ask) → is_ask_placed m.known.items asks ≡ true
-    → IfSome (wait_by m.waits asks) (λ (w : Wait). is_known_in w.place (map known_of m.known.items) ≡ true)
+awaited-told : (m : SessionView) (asks : Option Ask) → is_ask_placed m.me.0.known asks ≡ true
+    → IfSome (wait_by m.me.0.waits asks) (λ (w : Wait). is_known_in w.place (map known_of m.me.0.known) ≡ true)
 awaited-told m None at = tt
-awaited-told m (Some a) at = known-told a.place m.known.items ∙ at
+awaited-told m (Some a) at = known-told a.place m.me.0.known ∙ at
 
 -- only a wait is settled
-settled-waits : (m : Member) (asks : Option Ask) → m.asks ≡ asks → is_some (settled_told m.seat.me.0.told) ≡ true → is_some (wait_by m.waits asks) ≡ true
+settled-waits : (m : SessionView) (asks : Option Ask) → m.me.0.asks ≡ asks → is_some (settled_told m.me.0.told) ≡ true → is_some (wait_by m.me.0.waits asks) ≡ true
 settled-waits m None asks settled =
-    let nothing : is_some (settled_told m.seat.me.0.told) ≡ false = ap (λ o. is_some (settled_told o)) (nothing-told m asks) in
+    let nothing : is_some (settled_told m.me.0.told) ≡ false = ap (λ o. is_some (settled_told o)) (nothing-told m asks) in
     let both = sym settled ∙ nothing in cc
 settled-waits m (Some a) asks settled = refl
 
@@ -105,26 +104,26 @@ each-at place reads (t ∷ ts) each =
 -- ---- the whole
 
 -- by what it remembers
-sound-so : (m : Member) → Remembers m.known.items m.tickets.items m.seat.me.0.reads → IsSound (space_of_member m)
+sound-so : (m : SessionView) → Remembers m.me.0.known m.me.0.slow m.me.0.reads → IsSound (space_of m)
 sound-so m remembers = record {
-  rising = rising-told m.tickets.items ∙ m.rising;
-  below = below-free m m.asks refl;
-  placed = placed-told m.known.items m.tickets.items ∙ m.placed;
-  awaited = awaited-told m m.asks m.awaited;
-  apart = apart-told m.known.items ∙ m.keys_apart;
-  settled = settled-waits m m.asks refl;
+  rising = rising-told m.me.0.slow ∙ m.rising;
+  below = below-free m m.me.0.asks refl;
+  placed = placed-told m.me.0.known m.me.0.slow ∙ m.placed;
+  awaited = awaited-told m m.me.0.asks m.awaited;
+  apart = apart-told m.me.0.known ∙ m.keys_apart;
+  settled = settled-waits m m.me.0.asks refl;
   noted = λ place version noted.
-      ap (option_map (λ (s : Standing). s.version)) (last-told place m.seat.me.0.reads)
-      ∙ noted-each (λ v. option_map (λ (s : Standing). s.version) (last_read place m.seat.me.0.reads) ≡ Some v) place version m.tickets.items
-      (each-at place m.seat.me.0.reads m.tickets.items remembers.noted) noted;
+      ap (option_map (λ (s : Standing). s.version)) (last-told place m.me.0.reads)
+      ∙ noted-each (λ v. option_map (λ (s : Standing). s.version) (last_read place m.me.0.reads) ≡ Some v) place version m.me.0.slow
+      (each-at place m.me.0.reads m.me.0.slow remembers.noted) noted;
   newest = λ place standing last.
-      newest-told place standing.version m.seat.me.0.reads
-      ∙ remembers.newest place standing (sym (last-told place m.seat.me.0.reads) ∙ last);
+      newest-told place standing.version m.me.0.reads
+      ∙ remembers.newest place standing (sym (last-told place m.me.0.reads) ∙ last);
   fits = λ place standing last.
-      subst (λ (o : Option KeyName). MatchOption o ⊥ (λ (key : KeyName). MayStand key.namespace standing)) (sym (key-told place m.known.items))
-      (remembers.fits place standing (sym (last-told place m.seat.me.0.reads) ∙ last));
+      subst (λ (o : Option KeyName). MatchOption o ⊥ (λ (key : KeyName). MayStand key.namespace standing)) (sym (key-told place m.me.0.known))
+      (remembers.fits place standing (sym (last-told place m.me.0.reads) ∙ last));
 }
 
 -- a session is sound
-pub sound : (m : Member) → IsSound (space_of_member m)
+pub sound : (m : SessionView) → IsSound (space_of m)
 sound m = sound-so m (remembered m.remembers)

@@ -17,7 +17,6 @@ pub use Rattle.mdl_visits.specs.WaitOpenings
 pub mod Beginnings
 pub mod Doings
 pub mod Endings
-pub mod Keepings
 pub mod Members
 pub mod Modes
 pub mod OwnLists

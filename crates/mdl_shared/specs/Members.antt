@@ -1,7 +1,7 @@
 -- What a session keeps of its own between two calls.
-use Rattle.std.specs.Prelude.{◌≡◌, ◌++◌, ◌∷◌, [], ℕ, ◌^◌, Bool, true, false, ◌==◌, ◌&&◌, not, nat_le, nat_lt, List, All, Option, Some, None, find, filter, is_some, if◌then◌else◌}
+use Rattle.std.specs.Prelude.{◌≡◌, ◌<◌, ◌≤◌, ◌++◌, ◌∷◌, [], ℕ, ◌^◌, Bool, true, false, ◌==◌, ◌&&◌, not, nat_le, nat_lt, List, All, Option, Some, None, find, filter, is_some, if◌then◌else◌}
 use Rattle.std.specs.List.{list_all, list_any}
-use Rattle.std.specs.Option.{option_map}
+use Rattle.std.specs.Option.{option_map, option_map_or}
 use Rattle.mdl_key.specs.declared.mode.Mode.{Mode}
 use Rattle.mdl_key.specs.declared.namespace.Kind.{Kind}
 use Rattle.mdl_key.specs.Words.{KeyName, is_mode_of, key_eq, kind_of}
@@ -11,8 +11,14 @@ use Rattle.mdl_steps.specs.declared.view.Ask.{Ask}
 use Rattle.mdl_steps.specs.declared.view.Known.{Known}
 use Rattle.mdl_steps.specs.declared.view.Own.{Own}
 use Rattle.mdl_steps.specs.Deeds.{is_own}
-use Rattle.mdl_shared.specs.OwnLists.{key_known}
+use Rattle.mdl_steps.specs.Layout.{word_count}
+use Rattle.mdl_session_laws.specs.SessionSpaces.{IsSound}
+use Rattle.mdl_visits.specs.Idle.{IsIdle, HasSlowAlone}
 use Rattle.mdl_visits.specs.Numbers.{numbered}
+use Rattle.mdl_shared.specs.OwnLists.{key_known}
+use Rattle.mdl_shared.specs.Rememberings.{AreAlike}
+use Rattle.mdl_shared.specs.SessionViews.{SessionView, space_of}
+use Rattle.mdl_shared.specs.Waitings.{is_ask_last, is_ask_told}
 
 -- a session's tickets have numbers below this
 abbrev pub most_numbers : ℕ
@@ -26,9 +32,29 @@ is_known_place known place = list_any (λ k. k.place == place) known
 abbrev pub are_placed : List Known → List Own → Bool
 are_placed known tickets = list_all (λ t. is_known_place known t.place) tickets
 
+-- the ticket that is waited for is of such a place
+abbrev pub is_ask_placed : List Known → Option Ask → Bool
+is_ask_placed known asks = option_map_or (λ (a : Ask). is_known_place known a.place) asks true
+
 -- each place that it has looked up is one of the table's
 abbrev pub are_within : ℕ → List Known → Bool
 are_within slots known = list_all (λ k. nat_lt 0 k.place && nat_lt k.place slots) known
+
+-- what is always so of a session between two calls: as a lock space it is sound; it holds no latch, and each of its tickets stands in a book; the places
+-- that it has looked up are the table's; the tickets of a place have one note; the ticket that it waits for has the last number that it gave, and it was told
+-- nothing of a wait that it hasn't; it has had fewer waits than tickets; it is one of the sessions of the space, for whom the table has words
+pub record IsMember (s : SessionView) : Type 0 where
+  pub sound : IsSound (space_of s)
+  pub idle : IsIdle s.me
+  pub slow : HasSlowAlone s.me
+  pub within : are_within s.table.slots s.me.0.known ≡ true
+  pub alike : AreAlike s.me.0.slow
+  pub last : is_ask_last s.me.0.next s.me.0.asks ≡ true
+  pub told : is_ask_told s.me.0.asks s.me.0.told ≡ true
+  pub fewer : (s.me.0.waits < s.me.0.next) × (s.me.0.waits < most_numbers)
+  pub counted : (0 < s.me.0.number) × (s.me.0.number ≤ s.sessions)
+  pub narrow : (0 < s.table.slots) × (s.table.slots ≤ 65536)
+  pub words : s.table.words ≡ word_count s.table.slots s.sessions
 
 -- the tickets without that of a number at a place
 abbrev pub without_at : ℕ → ℕ → List Own → List Own
