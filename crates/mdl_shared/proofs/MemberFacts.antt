@@ -52,7 +52,7 @@ awaited-told known None waits at = refl
 awaited-told known (Some a) waits at = sym (known-told a.place known) ∙ at
 
 
-module _ (s : SessionView) (is : IsMember s) where
+module _ {s : SessionView} (is : IsMember s) where
   -- it speaks for its number
   pub speaks : SpeaksFor (space_of s) s.me.0.number
   speaks = (refl, is.sound)
@@ -136,9 +136,8 @@ module _ (s : SessionView) (is : IsMember s) where
 
   -- ---- a ticket of its
 
-  module _ (id : ℕ) (t : Own) (its : numbered id s.me.0.slow ≡ Some t) where
-    pub ticket-there : HasTicket t.place id s.me.0.slow
-    ticket-there = has_numbered t.place id s.me.0.slow (ap (option_map (λ (x : Own). x.place)) its)
+  pub ticket-there : (id : ℕ) (t : Own) → numbered id s.me.0.slow ≡ Some t → HasTicket t.place id s.me.0.slow
+  ticket-there id t its = has_numbered t.place id s.me.0.slow (ap (option_map (λ (x : Own). x.place)) its)
 
-    pub ticket-known : is_known_place s.me.0.known t.place ≡ true
-    ticket-known = placed_at s.me.0.known s.me.0.slow t.place id placed ticket-there
+  pub ticket-known : (id : ℕ) (t : Own) → numbered id s.me.0.slow ≡ Some t → is_known_place s.me.0.known t.place ≡ true
+  ticket-known id t its = placed_at s.me.0.known s.me.0.slow t.place id placed (ticket-there id t its)
