@@ -5,20 +5,30 @@ use Rattle.std.proofs.lemmas.Bool.{and_from, and_parts, eq-eqb, not-true, not_fr
 use Rattle.mdl_key.specs.declared.mode.Mode.{Mode}
 use Rattle.mdl_system.specs.Strength.{covers, may_downgrade}
 use Rattle.mdl_calls.specs.declared.answers.Held.{Held}
-use Rattle.mdl_calls.specs.Words.{Done, Upgraded, Would_wait, Release, Downgrade, Upgrade_now, Merge, MayDowngrade, is_number}
+use Rattle.mdl_calls.specs.Words.{Done, Refused, Upgraded, Would_wait, Release, Downgrade, Upgrade_now, Merge, MayDowngrade, is_number}
 use Rattle.mdl_calls.specs.Own.{merging, upgraded}
 use Rattle.mdl_steps.specs.declared.deed.Deed.{Deed}
 use Rattle.mdl_steps.specs.declared.deed.Deed.TheVariants.{Alter, Lose}
 use Rattle.mdl_steps.specs.declared.view.Own.{Own}
+use Rattle.mdl_steps.specs.declared.view.Met.{Met}
+use Rattle.mdl_steps.specs.SeatStates.{AtItsTable, SeatState}
 use Rattle.mdl_session_laws.specs.SessionJoins.{Joins, ReadsNothing}
+use Rattle.mdl_visits.specs.Grantings.{VisitsAndReschedules}
+use Rattle.mdl_visits.specs.Leavings.{MeetsOwn}
 use Rattle.mdl_visits.specs.Numbers.{numbered}
+use Rattle.mdl_visits.specs.Visits.{IsStepOf}
+use Rattle.mdl_visits.proofs.Doing.{does_reschedule}
+use Rattle.mdl_visits.proofs.Numbers.{has_number}
 use Rattle.mdl_shared.specs.Members.{IsMember}
-use Rattle.mdl_shared.specs.Modes.{is_fit, merge_fault}
+use Rattle.mdl_shared.specs.Modes.{downgrade_fault, is_fit, merge_fault}
 use Rattle.mdl_shared.specs.OwnLists.{told_of}
-use Rattle.mdl_shared.specs.SessionViews.{SessionView, space_of}
+use Rattle.mdl_shared.specs.SessionViews.{SessionView, session_at, space_of}
+use Rattle.mdl_shared.specs.Showings.{Shows}
 use Rattle.mdl_shared.specs.Upgrades.{upgrade_fault}
+use Rattle.mdl_shared.proofs.ClearCalls.{downgrade-open}
+use Rattle.mdl_shared.proofs.Faults.{if-clear}
 use Rattle.mdl_shared.proofs.MemberFacts.{speaks}
-use Rattle.mdl_shared.proofs.Members.{HasDone, done-next, done-nothing, done-reads, done-rest, done-slow}
+use Rattle.mdl_shared.proofs.Members.{HasDone, done-next, done-nothing, done-reads, done-rest, done-slow, rescheduled}
 use Rattle.mdl_shared.proofs.NotedOnce.{one-note, one-note_done}
 use Rattle.mdl_shared.proofs.SameSpace.{joins-held, joins-still, numbers-same, same-rest}
 use Rattle.mdl_shared.proofs.SpaceLists.{fit-known, ticket-told}
@@ -100,3 +110,30 @@ module _ {m : SessionView} (is : IsMember m) (id : ℕ) (t : Own) (its : numbere
       subst (AllNoted at (noted_under at m.me.0.slow)) (sym (done-slow done))
       (noted-less at (noted_under at m.me.0.slow) _ _ (noted-moded at t.place id (noted_under at m.me.0.slow) gone.mode m.me.0.slow (one-note m is at)))))
       tt
+
+-- ---- what a downgrade comes to
+
+pub downgraded : (seat seat′ : SeatState) (sessions id : ℕ) (mode : Mode) (t : Own) → IsMember (session_at seat sessions) → numbered id seat.me.0.slow ≡ Some t
+    → may_downgrade t.mode mode ≡ true → is_fit t.place mode seat.me.0.known ≡ true
+    → AtItsTable seat seat′ (VisitsAndReschedules seat.table t.place (Alter t.number mode ∷ []))
+    → ((e : Met) × IsStepOf seat.me seat′.me e × MeetsOwn t.place seat.me.0.number t.number e × (e.deeds ≡ Alter t.number mode ∷ []))
+    → Joins (space_of (session_at seat sessions)) (Downgrade seat.me.0.number id mode) Done (space_of (session_at seat′ sessions))
+    × Shows (Downgrade seat.me.0.number id mode) Done (session_at seat sessions) (session_at seat′ sessions)
+downgraded seat seat′ sessions id mode t is its may fits visit step =
+    let number = has_number id t seat.me.0.slow its in
+    let own = subst (λ (n : ℕ). numbered n seat.me.0.slow ≡ Some t) (sym number) its in
+    let clear : downgrade_fault (numbered t.number seat.me.0.slow) mode seat.me.0.known ≡ None = downgrade-open mode seat.me.0.known (numbered t.number seat.me.0.slow) t own may fits in
+    subst (λ (n : ℕ). Joins (space_of (session_at seat sessions)) (Downgrade seat.me.0.number n mode) Done (space_of (session_at seat′ sessions))
+    × Shows (Downgrade seat.me.0.number n mode) Done (session_at seat sessions) (session_at seat′ sessions)) number (
+      downgrade-joins is t.number t own mode may fits (rescheduled seat seat′ sessions visit),
+      record {
+        table = visit.0;
+        sessions = refl;
+        refused = if-clear (λ why. Done ≡ Refused why) (downgrade_fault (numbered t.number seat.me.0.slow) mode seat.me.0.known) clear;
+        did = does_reschedule seat.me seat′.me seat.table t.place (Alter t.number mode ∷ []) visit.1;
+        settled = tt;
+        told = tt;
+        steps = tt;
+        met = ((t, own, (step.0, step.1, (step.2, step.3))), (t, own, visit.1.way));
+      },
+    )

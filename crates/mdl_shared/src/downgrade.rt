@@ -26,7 +26,7 @@ impl<R: Wait> Session<R> {
         }
         let member = &mut self.member;
         downgrade(&self.rt, &mut member.seat, held, mode);
-        member.tickets.set_mode(held.place, id, mode);
+        member.tickets.set_mode(held.place, held.number, mode);
         Ok(())
     }
 }
