@@ -39,7 +39,6 @@
 
 mod downgrade;
 mod holdings;
-mod known_keys;
 mod manager;
 mod member;
 mod pass;
