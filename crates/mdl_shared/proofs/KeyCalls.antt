@@ -21,84 +21,60 @@ use Rattle.mdl_steps.specs.declared.view.Keys.{Keys}
 use Rattle.mdl_steps.specs.declared.view.Known.{Known}
 use Rattle.mdl_steps.specs.Schemas.{is_of_tables, is_table_of, unknown}
 use Rattle.mdl_session_laws.specs.SessionJoins.{Joins, LearnsPlace as LearnsAt, LearnsTables}
-use Rattle.mdl_session_laws.specs.SessionSpaces.{KnownKey, SpeaksFor, Knows, are_apart as are_apart_in, are_two as are_two_in, is_known as is_known_in, key_known as key_known_in}
+use Rattle.mdl_session_laws.specs.SessionSpaces.{KnownKey, SpeaksFor, Knows, are_apart as are_apart_in, is_known as is_known_in, key_known as key_known_in}
 use Rattle.mdl_session_laws.proofs.KeyLists.{place-of_key}
 use Rattle.mdl_session_laws.proofs.RefusedCalls.{reads-nothing}
 use Rattle.mdl_visits.specs.Readings.{ReadsNothing as ReadNothing}
 use Rattle.mdl_visits.specs.Tables.{AreTables, Asked, HasAsked, IsTable, told as asked_places}
-use Rattle.mdl_shared.specs.declared.member.Member.{Member}
-use Rattle.mdl_shared.specs.Keepings.{SeesWait}
-use Rattle.mdl_shared.specs.Members.{AreLearnt, LearnsPlace, are_apart, are_two, is_known_place, place_known}
+use Rattle.mdl_shared.specs.Members.{AreLearnt, IsMember, LearnsPlace, are_apart, is_known_place, place_known}
 use Rattle.mdl_shared.specs.OwnLists.{key_known}
-use Rattle.mdl_shared.specs.SessionViews.{note_of, space_of_member}
-use Rattle.mdl_shared.proofs.SameSpace.{keeps-settled, numbers-same, own-same, reading_of, refused}
-use Rattle.mdl_shared.proofs.SpaceLists.{key-told, known_of, place-told}
-
--- ---- look-ups
-
--- whether a place is known
-pub known-told : (place : ℕ) (known : List Known) → is_known_in place (map known_of known) ≡ is_known_place known place
-known-told place [] = refl
-known-told place (k ∷ ks) = by (k.place == place) (known-told place ks)
-  where
-    by : (b : Bool) → is_known_in place (map known_of ks) ≡ is_known_place ks place
-        → is_some (option_map (λ (x : KnownKey). x.key) (if b then Some (known_of k) else find (λ (x : KnownKey). x.place == place) (map known_of ks)))
-        ≡ (b || is_known_place ks place)
-    by true later = refl
-    by false later = later
-
--- whether keys and places differ
-pub apart-told : (known : List Known) → are_apart_in (map known_of known) ≡ are_apart known
-apart-told [] = refl
-apart-told (k ∷ ks) = ap (λ b. b && are_apart_in (map known_of ks)) (two-told ks) ∙ ap (λ b. list_all (are_two k) ks && b) (apart-told ks)
-  where
-    two-told : (later : List Known) → list_all (are_two_in (known_of k)) (map known_of later) ≡ list_all (are_two k) later
-    two-told [] = refl
-    two-told (x ∷ xs) = ap (λ b. are_two k x && b) (two-told xs)
+use Rattle.mdl_shared.specs.SessionViews.{SessionView, note_of, space_of}
+use Rattle.mdl_shared.proofs.SameSpace.{SeesWait, keeps-settled, numbers-same, own-same, reading_of, refused}
+use Rattle.mdl_shared.proofs.SpaceLists.{apart-told, key-told, known-told, known_of, place-told}
 
 -- ---- the place of a key
 
-pub resolve-joins : (m m′ : Member) (who : ℕ) (key : KeyName) (result : Result ℕ SpaceError) → m′.seat.me.0.number ≡ m.seat.me.0.number → m′.next ≡ m.next
-    → m′.tickets.items ≡ m.tickets.items → SeesWait m m′ → ReadNothing m.seat.me m′.seat.me → SpeaksFor (space_of_member m) who
-    → IfOk result (λ place. LearnsPlace key place (place_known key m.known.items) m.known.items m′.known.items)
-    → OnErr result (m′.known.items ≡ m.known.items)
-    → IfErr result (λ why. (place_known key m.known.items ≡ None) × ((why ≡ NoPlace) ⊎ (why ≡ OutOfMemory)))
-    → Joins (space_of_member m) (Resolve who key) (placed result) (space_of_member m′)
+pub resolve-joins : (m m′ : SessionView) (who : ℕ) (key : KeyName) (result : Result ℕ SpaceError) → m′.me.0.number ≡ m.me.0.number → m′.me.0.next ≡ m.me.0.next
+    → m′.me.0.slow ≡ m.me.0.slow → SeesWait m m′ → ReadNothing m.me m′.me → SpeaksFor (space_of m) who
+    → IfOk result (λ place. LearnsPlace key place (place_known key m.me.0.known) m.me.0.known m′.me.0.known)
+    → OnErr result (m′.me.0.known ≡ m.me.0.known)
+    → IfErr result (λ why. (place_known key m.me.0.known ≡ None) × ((why ≡ NoPlace) ⊎ (why ≡ OutOfMemory)))
+    → Joins (space_of m) (Resolve who key) (placed result) (space_of m′)
 resolve-joins m m′ who key (Ok place) number next tickets sees reads speaks learns unchanged causes = record {
   mine = speaks;
   has = refl;
   fits = refl;
   number = number;
-  own = own-same m.tickets.items m′.tickets.items m.asks m′.asks m.waits m′.waits tickets sees.0 sees.1;
-  numbers = numbers-same m.next m′.next m.waits m′.waits next sees.1;
+  own = own-same m.me.0.slow m′.me.0.slow m.me.0.asks m′.me.0.asks m.me.0.waits m′.me.0.waits tickets sees.asks sees.waits;
+  numbers = numbers-same m.me.0.next m′.me.0.next m.me.0.waits m′.me.0.waits next sees.waits;
   explained = tt;
   gained = tt;
-  learns = subst (λ o. LearnsAt key place o (map known_of m.known.items) (map known_of m′.known.items)) (sym (place-told key m.known.items))
-      (by (place_known key m.known.items) learns);
+  learns = subst (λ o. LearnsAt key place o (map known_of m.me.0.known) (map known_of m′.me.0.known)) (sym (place-told key m.me.0.known))
+      (by (place_known key m.me.0.known) learns);
   agreed = λ state how is. cc;
   told = λ how is. cc;
   settled = keeps-settled m m′ sees;
-  reads = reads-nothing (space_of_member m) (space_of_member m′) (ap (map reading_of) reads) (ap (filter_map note_of) tickets);
+  reads = reads-nothing (space_of m) (space_of m′) (ap (map reading_of) reads) (ap (filter_map note_of) tickets);
   truly = tt;
 }
   where
-    by : (o : Option ℕ) → LearnsPlace key place o m.known.items m′.known.items → LearnsAt key place o (map known_of m.known.items) (map known_of m′.known.items)
+    by : (o : Option ℕ) → LearnsPlace key place o m.me.0.known m′.me.0.known → LearnsAt key place o (map known_of m.me.0.known) (map known_of m′.me.0.known)
     by (Some known) h = (h.0, ap (map known_of) h.1)
     by None h = (
-      known-told place m.known.items ∙ h.0,
-      ap (map known_of) h.1 ∙ map-append known_of m.known.items (record { key = key; place = place } ∷ []),
+      known-told place m.me.0.known ∙ h.0,
+      ap (map known_of) h.1 ∙ map-append known_of m.me.0.known (record { key = key; place = place } ∷ []),
     )
 resolve-joins m m′ who key (Err why) number next tickets sees reads speaks learns unchanged causes =
     refused m m′ (Resolve who key) why (record { number = number; tickets = tickets; next = next; known = unchanged; wait = sees; reads = reads }) speaks refl refl
     (by causes.1) (λ state how is. cc) tt
   where
-    by : (why ≡ NoPlace) ⊎ (why ≡ OutOfMemory) → IsCause (Knows (space_of_member m) m.seat.me.0.number) (Resolve who key) why (space_of_member m).own
+    by : (why ≡ NoPlace) ⊎ (why ≡ OutOfMemory) → IsCause (Knows (space_of m) m.me.0.number) (Resolve who key) why (space_of m).own
     by (inl none) =
-        subst (λ w. IsCause (Knows (space_of_member m) m.seat.me.0.number) (Resolve who key) w (space_of_member m).own) (sym none)
+        subst (λ w. IsCause (Knows (space_of m) m.me.0.number) (Resolve who key) w (space_of m).own) (sym none)
         (λ place knows.
-        let there = place-of_key (space_of_member m).known place key speaks.1.apart knows in
-        let e : Some place ≡ None = sym there ∙ place-told key m.known.items ∙ causes.0 in cc)
-    by (inr memory) = subst (λ w. IsCause (Knows (space_of_member m) m.seat.me.0.number) (Resolve who key) w (space_of_member m).own) (sym memory) tt
+        let there = place-of_key (space_of m).known place key speaks.1.apart knows in
+        let e : Some place ≡ None = sym there ∙ place-told key m.me.0.known ∙ causes.0 in cc)
+    by (inr memory) = subst (λ w. IsCause (Knows (space_of m) m.me.0.number) (Resolve who key) w (space_of m).own) (sym memory) tt
 
 -- ---- tables
 
@@ -157,31 +133,31 @@ tables-learnt schema k before after tables more asked places are same those grow
 
 -- ---- the tables of a schema
 
-pub tables-joins : {Z : Type 0} (m m′ : Member) (who : ℕ) (schema : List ℕ) (result : Result (Vec ℕ Z) SpaceError) → m′.seat.me.0.number ≡ m.seat.me.0.number
-    → m′.next ≡ m.next → m′.tickets.items ≡ m.tickets.items → SeesWait m m′ → ReadNothing m.seat.me m′.seat.me → SpeaksFor (space_of_member m) who
+pub tables-joins : {Z : Type 0} (m m′ : SessionView) (who : ℕ) (schema : List ℕ) (result : Result (Vec ℕ Z) SpaceError) → m′.me.0.number ≡ m.me.0.number
+    → m′.me.0.next ≡ m.me.0.next → m′.me.0.slow ≡ m.me.0.slow → SeesWait m m′ → ReadNothing m.me m′.me → SpeaksFor (space_of m) who
     → IfOk result (λ places. (k : Keys) × (tables : List Known) × AreTables schema k tables
-    × HasAsked m.seat.me.0.number tables places.items m.seat.me m′.seat.me
-    × (m′.known.items ≡ m.known.items ++ unknown m.known.items tables) × AreLearnt tables m′.known.items)
-    → OnErr result (m′.known.items ≡ m.known.items) → IsOkUnless result OutOfMemory
-    → Joins (space_of_member m) (Tables_of who schema) (tables_told result) (space_of_member m′)
-tables-joins m m′ who schema (Ok places) number next tickets sees reads speaks learns unchanged memory = record {
+    × HasAsked m.me.0.number tables places.items m.me m′.me
+    × (m′.me.0.known ≡ m.me.0.known ++ unknown m.me.0.known tables) × AreLearnt tables m′.me.0.known)
+    → are_apart m′.me.0.known ≡ true → OnErr result (m′.me.0.known ≡ m.me.0.known) → IsOkUnless result OutOfMemory
+    → Joins (space_of m) (Tables_of who schema) (tables_told result) (space_of m′)
+tables-joins m m′ who schema (Ok places) number next tickets sees reads speaks learns apart unchanged memory = record {
   mine = speaks;
   has = refl;
   fits = refl;
   number = number;
-  own = own-same m.tickets.items m′.tickets.items m.asks m′.asks m.waits m′.waits tickets sees.0 sees.1;
-  numbers = numbers-same m.next m′.next m.waits m′.waits next sees.1;
+  own = own-same m.me.0.slow m′.me.0.slow m.me.0.asks m′.me.0.asks m.me.0.waits m′.me.0.waits tickets sees.asks sees.waits;
+  numbers = numbers-same m.me.0.next m′.me.0.next m.me.0.waits m′.me.0.waits next sees.waits;
   explained = tt;
   gained = tt;
-  learns = tables-learnt schema learns.0 m.known.items m′.known.items learns.1 (unknown m.known.items learns.1) learns.3.asked places.items learns.2
-      learns.3.same learns.3.those learns.4 learns.5 m′.keys_apart;
+  learns = tables-learnt schema learns.0 m.me.0.known m′.me.0.known learns.1 (unknown m.me.0.known learns.1) learns.3.asked places.items learns.2
+      learns.3.same learns.3.those learns.4 learns.5 apart;
   agreed = λ state how is. cc;
   told = λ how is. cc;
   settled = keeps-settled m m′ sees;
-  reads = reads-nothing (space_of_member m) (space_of_member m′) (ap (map reading_of) reads) (ap (filter_map note_of) tickets);
+  reads = reads-nothing (space_of m) (space_of m′) (ap (map reading_of) reads) (ap (filter_map note_of) tickets);
   truly = tt;
 }
-tables-joins m m′ who schema (Err why) number next tickets sees reads speaks learns unchanged memory =
+tables-joins m m′ who schema (Err why) number next tickets sees reads speaks learns apart unchanged memory =
     refused m m′ (Tables_of who schema) why (record { number = number; tickets = tickets; next = next; known = unchanged; wait = sees; reads = reads }) speaks refl refl
-    (subst (λ w. IsCause (Knows (space_of_member m) m.seat.me.0.number) (Tables_of who schema) w (space_of_member m).own) (sym memory) tt)
+    (subst (λ w. IsCause (Knows (space_of m) m.me.0.number) (Tables_of who schema) w (space_of m).own) (sym memory) tt)
     (λ state how is. cc) tt

@@ -1,18 +1,142 @@
 -- What is always so of a session between two calls, in the words that its calls need.
-use Rattle.std.proofs.Common.{◌≡◌, ℕ, ◌+◌, true, Option, Some, None, refl, subst}
-use Rattle.std.proofs.lemmas.Bool.{eqb-true}
+use Rattle.std.proofs.Common.{◌≡◌, ℕ, ◌<◌, ◌+◌, ◌-◌, true, ◌&&◌, nat_lt, List, [], ◌∷◌, length, map, is_some, Option, Some, None, refl, sym, ap, subst, ◌∙◌, arith}
+use Rattle.std.specs.Option.{IfSome, option_map}
+use Rattle.std.proofs.lemmas.Bool.{and_from, eqb-true, lt-ltb}
+use Rattle.std.proofs.lemmas.List.Folds.{list_all-map}
+use Rattle.mdl_calls.specs.declared.answers.Held.{Held}
+use Rattle.mdl_calls.specs.Words.{Wait, are_rising as are_rising_told}
 use Rattle.mdl_steps.specs.declared.view.Ask.{Ask}
-use Rattle.mdl_shared.specs.declared.member.Member.{Member}
-use Rattle.mdl_shared.specs.Waitings.{is_ask_last, is_ask_told}
+use Rattle.mdl_steps.specs.declared.view.Known.{Known}
+use Rattle.mdl_steps.specs.declared.view.LatchRecord.{LatchRecord}
+use Rattle.mdl_steps.specs.declared.view.Own.{Own}
+use Rattle.mdl_steps.specs.Deeds.{KnowsPlace, NotWaited}
+use Rattle.mdl_steps.specs.Lists.{Each}
+use Rattle.mdl_steps.specs.Seats.{IsPlace, IsRising}
+use Rattle.mdl_session_laws.specs.SessionSpaces.{SpeaksFor, are_below as are_below_told, are_placed as are_placed_told, first_free, is_known as is_known_in}
+use Rattle.mdl_visits.specs.Leavings.{HasTicket}
+use Rattle.mdl_visits.specs.Numbers.{all_numbers, is_ask_apart, numbered}
+use Rattle.mdl_visits.proofs.Numbers.{not_waited}
+use Rattle.mdl_shared.specs.Members.{IsMember, are_apart, are_placed, is_ask_placed, is_known_place}
+use Rattle.mdl_shared.specs.OwnLists.{told_of}
+use Rattle.mdl_shared.specs.SessionViews.{SessionView, space_of}
+use Rattle.mdl_shared.specs.Waitings.{are_below, are_rising, is_ask_last, is_ask_told}
+use Rattle.mdl_shared.proofs.Awaiting.{below_more, next_apart}
+use Rattle.mdl_shared.proofs.Membership.{has_numbered, known_within, placed_at, some_key}
+use Rattle.mdl_shared.proofs.SameSpace.{numbers_by, wait_by}
+use Rattle.mdl_shared.proofs.SpaceLists.{apart-told, known-told, known_of}
 
--- it was told nothing of a wait that it hasn't
-pub nothing-told : (m : Member) → m.asks ≡ None → m.seat.me.0.told ≡ None
-nothing-told m idle = by m.seat.me.0.told (subst (λ (o : Option Ask). is_ask_told o m.seat.me.0.told ≡ true) idle m.settled)
-  where
-    by : (told : Option ℕ) → is_ask_told None told ≡ true → told ≡ None
-    by None e = refl
-    by (Some state) e = cc
+-- ---- its lists, as they are told
 
--- the ticket that it asks for has the last number
-pub ask-last : (m : Member) (a : Ask) → m.asks ≡ Some a → a.number + 1 ≡ m.next
-ask-last m a asks = eqb-true (a.number + 1) m.next (subst (λ (o : Option Ask). is_ask_last m.next o ≡ true) asks m.last)
+-- numbers that rise
+rising-told : (tickets : List Own) → are_rising_told (map told_of tickets) ≡ are_rising tickets
+rising-told [] = refl
+rising-told (t ∷ ts) =
+    ap (λ b. b && are_rising_told (map told_of ts)) (list_all-map (λ (h : Held). nat_lt t.number h.id) told_of ts)
+    ∙ ap (λ b. all_numbers (λ n. nat_lt t.number n) ts && b) (rising-told ts)
+
+-- numbers below one
+below-told : (number : ℕ) (tickets : List Own) → are_below_told number (map told_of tickets) ≡ are_below number tickets
+below-told number tickets = list_all-map (λ (h : Held). nat_lt h.id number) told_of tickets
+
+-- places that are known
+placed-told : (known : List Known) (tickets : List Own) → are_placed_told (map known_of known) (map told_of tickets) ≡ are_placed known tickets
+placed-told known [] = refl
+placed-told known (t ∷ ts) =
+    ap (λ b. b && are_placed_told (map known_of known) (map told_of ts)) (known-told t.place known)
+    ∙ ap (λ b. is_known_place known t.place && b) (placed-told known ts)
+
+-- the place that is waited for
+awaited-told : (known : List Known) (asks : Option Ask) (waits : ℕ)
+    → IfSome (wait_by waits asks) (λ (w : Wait). is_known_in w.place (map known_of known) ≡ true) → is_ask_placed known asks ≡ true
+awaited-told known None waits at = refl
+awaited-told known (Some a) waits at = sym (known-told a.place known) ∙ at
+
+module _ {s : SessionView} (is : IsMember s) where
+  -- it speaks for its number
+  pub speaks : SpeaksFor (space_of s) s.me.0.number
+  speaks = (refl, is.sound)
+
+  -- ---- its wait
+
+  -- it was told nothing of a wait that it hasn't
+  pub nothing-told : s.me.0.asks ≡ None → s.me.0.told ≡ None
+  nothing-told idle = by s.me.0.told (subst (λ (o : Option Ask). is_ask_told o s.me.0.told ≡ true) idle is.told)
+    where
+      by : (told : Option ℕ) → is_ask_told None told ≡ true → told ≡ None
+      by None e = refl
+      by (Some state) e = cc
+
+  -- the ticket that it asks for has the last number
+  pub ask-last : (a : Ask) → s.me.0.asks ≡ Some a → a.number + 1 ≡ s.me.0.next
+  ask-last a asks = eqb-true (a.number + 1) s.me.0.next (subst (λ (o : Option Ask). is_ask_last s.me.0.next o ≡ true) asks is.last)
+
+  -- ---- its tickets
+
+  -- their numbers rise
+  pub rising : are_rising s.me.0.slow ≡ true
+  rising = sym (rising-told s.me.0.slow) ∙ is.sound.rising
+
+  -- and are below the next one, which is greater than 0
+  pub next-some : 0 < s.me.0.next
+  next-some = let fewer = is.fewer.0 in omega arith
+
+  below-free : (asks : Option Ask) → s.me.0.asks ≡ asks → (are_below s.me.0.next s.me.0.slow ≡ true) × (is_ask_apart s.me.0.next s.me.0.slow asks ≡ true)
+  below-free None asks =
+      let all : (s.me.0.next - 1) + 1 ≡ s.me.0.next = (let some = next-some in omega arith) in
+      let free = subst (λ (o : Option Ask). are_below_told (first_free (is_some (wait_by s.me.0.waits o)) (numbers_by s.me.0.next s.me.0.waits)) (map told_of s.me.0.slow) ≡ true) asks is.sound.below in
+      (sym (ap (λ (n : ℕ). are_below_told n (map told_of s.me.0.slow)) all ∙ below-told s.me.0.next s.me.0.slow) ∙ free, refl)
+  below-free (Some a) asks =
+      let last = ask-last a asks in
+      let number : s.me.0.next - 1 ≡ a.number = omega arith in
+      let free = subst (λ (o : Option Ask). are_below_told (first_free (is_some (wait_by s.me.0.waits o)) (numbers_by s.me.0.next s.me.0.waits)) (map told_of s.me.0.slow) ≡ true) asks is.sound.below in
+      let below : are_below a.number s.me.0.slow ≡ true = sym (ap (λ (n : ℕ). are_below_told n (map told_of s.me.0.slow)) number ∙ below-told a.number s.me.0.slow) ∙ free in (
+        subst (λ (n : ℕ). are_below n s.me.0.slow ≡ true) last (below_more a.number s.me.0.slow below),
+        and_from _ _ (lt-ltb a.number s.me.0.next (omega arith)) (next_apart a.number s.me.0.slow below),
+      )
+
+  pub below : are_below s.me.0.next s.me.0.slow ≡ true
+  below = (below-free s.me.0.asks refl).0
+
+  -- none of them is waited for
+  pub apart : is_ask_apart s.me.0.next s.me.0.slow s.me.0.asks ≡ true
+  apart = (below-free s.me.0.asks refl).1
+
+  pub unwaited : (id : ℕ) → is_some (numbered id s.me.0.slow) ≡ true → NotWaited s.me.0 id
+  unwaited id there = not_waited s.me.0 id there apart
+
+  -- they are at places that it knows
+  pub placed : are_placed s.me.0.known s.me.0.slow ≡ true
+  placed = sym (placed-told s.me.0.known s.me.0.slow) ∙ is.sound.placed
+
+  -- so is the one that it waits for
+  pub awaited : is_ask_placed s.me.0.known s.me.0.asks ≡ true
+  awaited = awaited-told s.me.0.known s.me.0.asks s.me.0.waits is.sound.awaited
+
+  -- ---- its places
+
+  -- no key is known twice, and no place
+  pub keys-apart : are_apart s.me.0.known ≡ true
+  keys-apart = sym (apart-told s.me.0.known) ∙ is.sound.apart
+
+  -- a known place is one of the table's, and that of a key
+  pub place-within : (place : ℕ) → is_known_place s.me.0.known place ≡ true → IsPlace s.table place
+  place-within place known = known_within s.table.slots place s.me.0.known is.within known
+
+  pub place-known : (place : ℕ) → is_known_place s.me.0.known place ≡ true → KnowsPlace s.me.0 place
+  place-known place known = some_key place s.me.0.known known
+
+  -- its latch may be taken
+  pub may-latch : (place : ℕ) → IsRising place s.me
+  may-latch place = by s.me.0.latches is.idle.0
+    where
+      by : (latches : List LatchRecord) → ◌≡◌ {A = ℕ} (length latches) 0 → Each (λ (h : LatchRecord). h.place < place) latches
+      by [] none = tt
+      by (h ∷ hs) none = absurd (omega arith)
+
+  -- ---- a ticket of its
+
+  pub ticket-there : (id : ℕ) (t : Own) → numbered id s.me.0.slow ≡ Some t → HasTicket t.place id s.me.0.slow
+  ticket-there id t its = has_numbered t.place id s.me.0.slow (ap (option_map (λ (x : Own). x.place)) its)
+
+  pub ticket-known : (id : ℕ) (t : Own) → numbered id s.me.0.slow ≡ Some t → is_known_place s.me.0.known t.place ≡ true
+  ticket-known id t its = placed_at s.me.0.known s.me.0.slow t.place id placed (ticket-there id t its)

@@ -13,14 +13,12 @@ use Rattle.mdl_steps.specs.declared.view.Read.{Read}
 use Rattle.mdl_session_laws.specs.SessionJoins.{Joins, KeepsSettled, Learns, LetsRead, ReadsNothing, TellsTruly, ends_wait, gained_at, has_call, met}
 use Rattle.mdl_session_laws.specs.SessionSpaces.{Reading, SpeaksFor, Knows, is_known}
 use Rattle.mdl_session_laws.proofs.RefusedCalls.{KeepsAll, reads-nothing, refused-joins}
+use Rattle.mdl_visits.specs.Grantings.{StaysTold}
 use Rattle.mdl_visits.specs.Polls.{state_of}
 use Rattle.mdl_visits.specs.Readings.{ReadsNothing as ReadNothing}
-use Rattle.mdl_shared.specs.declared.member.Member.{Member}
-use Rattle.mdl_shared.specs.Keepings.{KeepsWait, SeesWait}
 use Rattle.mdl_shared.specs.OwnLists.{told_of}
-use Rattle.mdl_shared.specs.SessionViews.{note_of, settled_of, settled_told, space_of_member}
+use Rattle.mdl_shared.specs.SessionViews.{SessionView, note_of, settled_of, settled_told, space_of}
 use Rattle.mdl_shared.proofs.SpaceLists.{known_of}
-use Rattle.mdl_shared.proofs.MemberFacts.{nothing-told}
 
 -- ---- what a session has
 
@@ -83,28 +81,42 @@ settled-stays told told′ how stays is = let h = settled-told told how is in ap
 
 -- ---- the same session
 
+-- the session has the same wait, or none as before. What it was told of that stays so, and it may have been told now, but not of none
+pub record SeesWait (m m′ : SessionView) : Type 0 where
+  pub asks : m′.me.0.asks ≡ m.me.0.asks
+  pub waits : m′.me.0.waits ≡ m.me.0.waits
+  pub stays : StaysTold m.me.0.told m′.me.0.told
+  pub unasked : m.me.0.asks ≡ None → m′.me.0.told ≡ m.me.0.told
+
 -- its tickets may have changed, and the number of the next one, and nothing else than that
-pub record KeepsRest (m m′ : Member) : Type 0 where
-  pub number : m′.seat.me.0.number ≡ m.seat.me.0.number
-  pub known : m′.known.items ≡ m.known.items
+pub record KeepsRest (m m′ : SessionView) : Type 0 where
+  pub number : m′.me.0.number ≡ m.me.0.number
+  pub known : m′.me.0.known ≡ m.me.0.known
   pub wait : SeesWait m m′
 
 -- nothing else than that has changed
-pub record Stays (m m′ : Member) : Type 0 where
-  pub number : m′.seat.me.0.number ≡ m.seat.me.0.number
-  pub tickets : m′.tickets.items ≡ m.tickets.items
-  pub next : m′.next ≡ m.next
-  pub known : m′.known.items ≡ m.known.items
+pub record Stays (m m′ : SessionView) : Type 0 where
+  pub number : m′.me.0.number ≡ m.me.0.number
+  pub tickets : m′.me.0.slow ≡ m.me.0.slow
+  pub next : m′.me.0.next ≡ m.me.0.next
+  pub known : m′.me.0.known ≡ m.me.0.known
   pub wait : SeesWait m m′
-  pub reads : ReadNothing m.seat.me m′.seat.me
+  pub reads : ReadNothing m.me m′.me
 
 pub numbers-same : (next next′ waits waits′ : ℕ) → next′ ≡ next → waits′ ≡ waits
     → numbers_by next′ waits′ ≡ numbers_by next waits
 numbers-same next next′ waits waits′ n w = ap (λ x. numbers_by x waits′) n ∙ ap (λ x. numbers_by next x) w
 
--- who keeps its wait sees it
-pub keeps-sees : (m m′ : Member) → KeepsWait m m′ → SeesWait m m′
-keeps-sees m m′ keeps = (keeps.0, keeps.1, keeps.2, λ state told. keeps.3 ∙ told)
+-- who knows the same of its wait sees it
+pub sees-same : (m m′ : SessionView) → m′.me.0.asks ≡ m.me.0.asks → m′.me.0.waits ≡ m.me.0.waits → m′.me.0.told ≡ m.me.0.told → SeesWait m m′
+sees-same m m′ asks waits told = record { asks = asks; waits = waits; stays = λ state is. told ∙ is; unasked = λ none. told }
+
+-- a session that hasn't changed
+pub same-rest : (m : SessionView) → KeepsRest m m
+same-rest m = record { number = refl; known = refl; wait = sees-same m m refl refl refl }
+
+pub same-stays : (m : SessionView) → Stays m m
+same-stays m = record { number = refl; tickets = refl; next = refl; known = refl; wait = sees-same m m refl refl refl; reads = refl }
 
 -- ---- what it is as a lock space
 
@@ -113,20 +125,18 @@ no-asks None waits idle = refl
 no-asks (Some a) waits idle = cc
 
 -- it knows of its wait what it knew, and may know more, where it waits
-pub keeps-settled : (m m′ : Member) → SeesWait m m′ → KeepsSettled false (space_of_member m) (space_of_member m′)
+pub keeps-settled : (m m′ : SessionView) → SeesWait m m′ → KeepsSettled false (space_of m) (space_of m′)
 keeps-settled m m′ sees = (
-  λ how is. settled-stays m.seat.me.0.told m′.seat.me.0.told how sees.3 is,
-  λ idle.
-      let none = no-asks m.asks m.waits idle in
-      ap settled_told (nothing-told m′ (sees.0 ∙ none) ∙ sym (nothing-told m none)),
+  λ how is. settled-stays m.me.0.told m′.me.0.told how sees.stays is,
+  λ idle. ap settled_told (sees.unasked (no-asks m.me.0.asks m.me.0.waits idle)),
 )
 
 -- it is the same space but for that
-pub keeps-all : (m m′ : Member) → Stays m m′ → KeepsAll (space_of_member m) (space_of_member m′)
+pub keeps-all : (m m′ : SessionView) → Stays m m′ → KeepsAll (space_of m) (space_of m′)
 keeps-all m m′ stays = record {
   number = stays.number;
-  own = own-same m.tickets.items m′.tickets.items m.asks m′.asks m.waits m′.waits stays.tickets stays.wait.0 stays.wait.1;
-  numbers = numbers-same m.next m′.next m.waits m′.waits stays.next stays.wait.1;
+  own = own-same m.me.0.slow m′.me.0.slow m.me.0.asks m′.me.0.asks m.me.0.waits m′.me.0.waits stays.tickets stays.wait.asks stays.wait.waits;
+  numbers = numbers-same m.me.0.next m′.me.0.next m.me.0.waits m′.me.0.waits stays.next stays.wait.waits;
   known = ap (map known_of) stays.known;
   settled = keeps-settled m m′ stays.wait;
   notes = ap (filter_map note_of) stays.tickets;
@@ -134,28 +144,28 @@ keeps-all m m′ stays = record {
 }
 
 -- a refused call joins the two
-pub refused : (m m′ : Member) (call : Call) (why : SpaceError) → Stays m m′ → IfSome (caller call) (SpeaksFor (space_of_member m)) → has_call call ≡ true
-    → is_answer_of call (Refused why) ≡ true → IsCause (Knows (space_of_member m) m.seat.me.0.number) call why (space_of_member m).own
-    → ((state : Option Settled) (how : Settled) → met call (Refused why) ≡ Some state → (space_of_member m).settled ≡ Some how → state ≡ Some how)
-    → TellsTruly call (Refused why) (space_of_member m) (space_of_member m′) → Joins (space_of_member m) call (Refused why) (space_of_member m′)
+pub refused : (m m′ : SessionView) (call : Call) (why : SpaceError) → Stays m m′ → IfSome (caller call) (SpeaksFor (space_of m)) → has_call call ≡ true
+    → is_answer_of call (Refused why) ≡ true → IsCause (Knows (space_of m) m.me.0.number) call why (space_of m).own
+    → ((state : Option Settled) (how : Settled) → met call (Refused why) ≡ Some state → (space_of m).settled ≡ Some how → state ≡ Some how)
+    → TellsTruly call (Refused why) (space_of m) (space_of m′) → Joins (space_of m) call (Refused why) (space_of m′)
 refused m m′ call why stays mine has fits cause agreed truly =
-    refused-joins (space_of_member m) (space_of_member m′) call why mine has fits (keeps-all m m′ stays) cause agreed truly
+    refused-joins (space_of m) (space_of m′) call why mine has fits (keeps-all m m′ stays) cause agreed truly
 
 -- and so does any that leaves its caller what it has
-pub joins-still : (m m′ : Member) (call : Call) (answer : Answer) → Stays m m′ → IfSome (caller call) (SpeaksFor (space_of_member m)) → has_call call ≡ true
-    → is_answer_of call answer ≡ true → own_after call answer (space_of_member m).own ≡ (space_of_member m).own
-    → Draws call answer (space_of_member m).numbers (space_of_member m).numbers
-    → IsExplained (Knows (space_of_member m) m.seat.me.0.number) call answer (space_of_member m).own
-    → IfSome (gained_at call answer) (λ place. is_known place (space_of_member m).known ≡ true)
-    → Learns call answer (space_of_member m).known (space_of_member m).known
-    → ((state : Option Settled) (how : Settled) → met call answer ≡ Some state → (space_of_member m).settled ≡ Some how → state ≡ Some how)
-    → ((how : Settled) → told call answer ≡ Some how → (space_of_member m′).settled ≡ Some how)
+pub joins-still : (m m′ : SessionView) (call : Call) (answer : Answer) → Stays m m′ → IfSome (caller call) (SpeaksFor (space_of m)) → has_call call ≡ true
+    → is_answer_of call answer ≡ true → own_after call answer (space_of m).own ≡ (space_of m).own
+    → Draws call answer (space_of m).numbers (space_of m).numbers
+    → IsExplained (Knows (space_of m) m.me.0.number) call answer (space_of m).own
+    → IfSome (gained_at call answer) (λ place. is_known place (space_of m).known ≡ true)
+    → Learns call answer (space_of m).known (space_of m).known
+    → ((state : Option Settled) (how : Settled) → met call answer ≡ Some state → (space_of m).settled ≡ Some how → state ≡ Some how)
+    → ((how : Settled) → told call answer ≡ Some how → (space_of m′).settled ≡ Some how)
     → ends_wait call answer ≡ false
-    → (ReadsNothing (space_of_member m) (space_of_member m′) → LetsRead call answer (space_of_member m) (space_of_member m′))
-    → TellsTruly call answer (space_of_member m) (space_of_member m′) → Joins (space_of_member m) call answer (space_of_member m′)
+    → (ReadsNothing (space_of m) (space_of m′) → LetsRead call answer (space_of m) (space_of m′))
+    → TellsTruly call answer (space_of m) (space_of m′) → Joins (space_of m) call answer (space_of m′)
 joins-still m m′ call answer stays mine has fits own draws explained gained learns agreed tells ends reads truly =
-    let a = space_of_member m in
-    let b = space_of_member m′ in
+    let a = space_of m in
+    let b = space_of m′ in
     let same = keeps-all m m′ stays in record {
       mine = mine;
       has = has;
@@ -174,30 +184,30 @@ joins-still m m′ call answer stays mine has fits own draws explained gained le
     }
 
 -- and one that leaves it other tickets, and the wait as it is
-pub joins-held : (m m′ : Member) (call : Call) (answer : Answer) (held : List Held) → KeepsRest m m′ → IfSome (caller call) (SpeaksFor (space_of_member m))
-    → has_call call ≡ true → is_answer_of call answer ≡ true → map told_of m′.tickets.items ≡ held
-    → own_after call answer (space_of_member m).own ≡ own_of held (wait_by m.waits m.asks)
-    → Draws call answer (space_of_member m).numbers (space_of_member m′).numbers
-    → IsExplained (Knows (space_of_member m) m.seat.me.0.number) call answer (space_of_member m).own
-    → IfSome (gained_at call answer) (λ place. is_known place (space_of_member m).known ≡ true)
-    → Learns call answer (space_of_member m).known (space_of_member m).known
-    → ((state : Option Settled) (how : Settled) → met call answer ≡ Some state → (space_of_member m).settled ≡ Some how → state ≡ Some how)
-    → ((how : Settled) → told call answer ≡ Some how → (space_of_member m′).settled ≡ Some how)
-    → ends_wait call answer ≡ false → LetsRead call answer (space_of_member m) (space_of_member m′)
-    → TellsTruly call answer (space_of_member m) (space_of_member m′) → Joins (space_of_member m) call answer (space_of_member m′)
+pub joins-held : (m m′ : SessionView) (call : Call) (answer : Answer) (held : List Held) → KeepsRest m m′ → IfSome (caller call) (SpeaksFor (space_of m))
+    → has_call call ≡ true → is_answer_of call answer ≡ true → map told_of m′.me.0.slow ≡ held
+    → own_after call answer (space_of m).own ≡ own_of held (wait_by m.me.0.waits m.me.0.asks)
+    → Draws call answer (space_of m).numbers (space_of m′).numbers
+    → IsExplained (Knows (space_of m) m.me.0.number) call answer (space_of m).own
+    → IfSome (gained_at call answer) (λ place. is_known place (space_of m).known ≡ true)
+    → Learns call answer (space_of m).known (space_of m).known
+    → ((state : Option Settled) (how : Settled) → met call answer ≡ Some state → (space_of m).settled ≡ Some how → state ≡ Some how)
+    → ((how : Settled) → told call answer ≡ Some how → (space_of m′).settled ≡ Some how)
+    → ends_wait call answer ≡ false → LetsRead call answer (space_of m) (space_of m′)
+    → TellsTruly call answer (space_of m) (space_of m′) → Joins (space_of m) call answer (space_of m′)
 joins-held m m′ call answer held rest mine has fits its own draws explained gained learns agreed tells ends reads truly = record {
   mine = mine;
   has = has;
   fits = fits;
   number = rest.number;
-  own = own-with held (map told_of m′.tickets.items) m.asks m′.asks m.waits m′.waits its rest.wait.0 rest.wait.1 ∙ sym own;
+  own = own-with held (map told_of m′.me.0.slow) m.me.0.asks m′.me.0.asks m.me.0.waits m′.me.0.waits its rest.wait.asks rest.wait.waits ∙ sym own;
   numbers = draws;
   explained = explained;
   gained = gained;
-  learns = subst (Learns call answer (space_of_member m).known) (sym (ap (map known_of) rest.known)) learns;
+  learns = subst (Learns call answer (space_of m).known) (sym (ap (map known_of) rest.known)) learns;
   agreed = agreed;
   told = tells;
-  settled = subst (λ (e : Bool). KeepsSettled e (space_of_member m) (space_of_member m′)) (sym ends) (keeps-settled m m′ rest.wait);
+  settled = subst (λ (e : Bool). KeepsSettled e (space_of m) (space_of m′)) (sym ends) (keeps-settled m m′ rest.wait);
   reads = reads;
   truly = truly;
 }

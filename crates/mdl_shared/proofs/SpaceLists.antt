@@ -1,5 +1,6 @@
 -- What a session keeps of its own is found in the space that it is as a lock space: its tickets by their numbers, the keys by their places.
-use Rattle.std.proofs.Common.{◌≡◌, ℕ, Bool, true, false, ◌==◌, List, [], ◌∷◌, map, find, is_some, Option, Some, None, refl, sym, ap, ◌∙◌}
+use Rattle.std.proofs.Common.{◌≡◌, ℕ, Bool, true, false, ◌&&◌, ◌||◌, ◌==◌, if◌then◌else◌, List, [], ◌∷◌, map, find, is_some, Option, Some, None, refl, sym, ap, ◌∙◌}
+use Rattle.std.specs.List.{list_all}
 use Rattle.std.specs.Option.{option_map, option_map_or}
 use Rattle.mdl_key.specs.declared.mode.Mode.{Mode}
 use Rattle.mdl_key.specs.declared.namespace.Kind.{Kind}
@@ -7,10 +8,10 @@ use Rattle.mdl_key.specs.Words.{KeyName, is_mode_of, key_eq, kind_of}
 use Rattle.mdl_calls.specs.Words.{is_number}
 use Rattle.mdl_steps.specs.declared.view.Known.{Known}
 use Rattle.mdl_steps.specs.declared.view.Own.{Own}
-use Rattle.mdl_session_laws.specs.SessionSpaces.{KnownKey, is_known as is_known_in, key_known as key_known_in, place_known as place_known_in}
+use Rattle.mdl_session_laws.specs.SessionSpaces.{KnownKey, are_apart as are_apart_in, are_two as are_two_in, is_known as is_known_in, key_known as key_known_in, place_known as place_known_in}
 use Rattle.mdl_steps.proofs.Views.{by_bool}
 use Rattle.mdl_visits.specs.Numbers.{numbered}
-use Rattle.mdl_shared.specs.Members.{kind_known, place_known}
+use Rattle.mdl_shared.specs.Members.{are_apart, are_two, is_known_place, kind_known, place_known}
 use Rattle.mdl_shared.specs.Modes.{is_fit}
 use Rattle.mdl_shared.specs.OwnLists.{told_of, key_known}
 
@@ -86,3 +87,24 @@ pub of-kind : (place : ℕ) (known : List Known) (kind : Kind) (mode : Mode) (b 
 of-kind place known kind mode b is fits key knows =
     let same : kind_of key.namespace ≡ kind = (let e = sym (kind-of_key place known key knows) ∙ is in cc) in
     ap (λ k. is_mode_of k mode) same ∙ fits
+
+-- ---- whether a place is known, and whether keys and places differ
+
+pub known-told : (place : ℕ) (known : List Known) → is_known_in place (map known_of known) ≡ is_known_place known place
+known-told place [] = refl
+known-told place (k ∷ ks) = by (k.place == place) (known-told place ks)
+  where
+    by : (b : Bool) → is_known_in place (map known_of ks) ≡ is_known_place ks place
+        → is_some (option_map (λ (x : KnownKey). x.key) (if b then Some (known_of k) else find (λ (x : KnownKey). x.place == place) (map known_of ks)))
+        ≡ (b || is_known_place ks place)
+    by true later = refl
+    by false later = later
+
+-- whether keys and places differ
+pub apart-told : (known : List Known) → are_apart_in (map known_of known) ≡ are_apart known
+apart-told [] = refl
+apart-told (k ∷ ks) = ap (λ b. b && are_apart_in (map known_of ks)) (two-told ks) ∙ ap (λ b. list_all (are_two k) ks && b) (apart-told ks)
+  where
+    two-told : (later : List Known) → list_all (are_two_in (known_of k)) (map known_of later) ≡ list_all (are_two k) later
+    two-told [] = refl
+    two-told (x ∷ xs) = ap (λ b. are_two k x && b) (two-told xs)

@@ -23,9 +23,8 @@ use Rattle.mdl_session_laws.specs.SessionJoins.{Meets, NotesThere}
 use Rattle.mdl_session_laws.specs.SessionSpaces.{Note, is_newest, last_read, noted_at}
 use Rattle.mdl_visits.specs.Numbers.{numbered}
 use Rattle.mdl_visits.specs.Readings.{Follows, ReadsThere}
-use Rattle.mdl_shared.specs.declared.member.Member.{Member}
 use Rattle.mdl_shared.specs.OwnLists.{key_known, told_of}
-use Rattle.mdl_shared.specs.SessionViews.{note_of, space_of_member}
+use Rattle.mdl_shared.specs.SessionViews.{SessionView, note_of, space_of}
 use Rattle.mdl_shared.proofs.SameSpace.{reading_of}
 use Rattle.mdl_shared.proofs.SpaceLists.{key-told}
 use Rattle.mdl_shared.proofs.SpaceNotes.{and_note, note-here, note-there, noted_under, noting-elsewhere, noting-placed}
@@ -109,25 +108,24 @@ last-each place standing last (r ∷ rs) each e same =
 
 -- ---- what is met at a place
 
-pub meets-there : (m : Member) (place : ℕ) (standing : Standing) → Follows place standing m.seat.me → Meets place standing (space_of_member m)
+pub meets-there : (m : SessionView) (place : ℕ) (standing : Standing) → Follows place standing m.me → Meets place standing (space_of m)
 meets-there m place standing follows = record {
   fits = λ key knows.
-      let there = known-there place key m.known.items (sym (key-told place m.known.items) ∙ knows) in
+      let there = known-there place key m.me.0.known (sym (key-told place m.me.0.known) ∙ knows) in
       subst (λ (k : KeyName). MayStand k.namespace standing) there.4
-      (follows.fits there.0 there.1 (ap (λ ks. get_elem? ks there.0) (sym m.known_is) ∙ there.2) there.3);
+      (follows.fits there.0 there.1 there.2 there.3);
   noted = λ version is.
-      noted-each (λ v. v ≡ standing.version) place version m.tickets.items
-      (subst (λ ts. Each (λ (t : Own). (v : ℕ) → t.noted ≡ Some v → v ≡ standing.version) (own_at place ts)) (sym m.listed) follows.noted) is;
-  newest = newest-each place standing m.seat.me.0.reads follows.reads;
-  same = λ last is same. last-each place standing last m.seat.me.0.reads follows.reads is same;
+      noted-each (λ v. v ≡ standing.version) place version m.me.0.slow follows.noted is;
+  newest = newest-each place standing m.me.0.reads follows.reads;
+  same = λ last is same. last-each place standing last m.me.0.reads follows.reads is same;
 }
 
 -- it has been read, and is noted there
-pub notes-there : (m m′ : Member) (id place : ℕ) (t : Own) (standing : Standing) → numbered id m.tickets.items ≡ Some t → t.place ≡ place
-    → m′.tickets.items ≡ noting_version place standing.version m.tickets.items → ReadsThere place standing m.seat.me m′.seat.me
-    → NotesThere place standing (space_of_member m) (space_of_member m′)
+pub notes-there : (m m′ : SessionView) (id place : ℕ) (t : Own) (standing : Standing) → numbered id m.me.0.slow ≡ Some t → t.place ≡ place
+    → m′.me.0.slow ≡ noting_version place standing.version m.me.0.slow → ReadsThere place standing m.me m′.me
+    → NotesThere place standing (space_of m) (space_of m′)
 notes-there m m′ id place t standing its here noted reads = record {
-  last = inl (ap (map reading_of) reads ∙ map-append reading_of m.seat.me.0.reads (record { place = place; standing = standing } ∷ []));
-  here = ap (noted_under place) noted ∙ noting-placed place standing.version m.tickets.items (placed-some place id m.tickets.items t its here);
-  elsewhere = λ other apart. ap (noted_under other) noted ∙ noting-elsewhere place standing.version other m.tickets.items apart;
+  last = inl (ap (map reading_of) reads ∙ map-append reading_of m.me.0.reads (record { place = place; standing = standing } ∷ []));
+  here = ap (noted_under place) noted ∙ noting-placed place standing.version m.me.0.slow (placed-some place id m.me.0.slow t its here);
+  elsewhere = λ other apart. ap (noted_under other) noted ∙ noting-elsewhere place standing.version other m.me.0.slow apart;
 }

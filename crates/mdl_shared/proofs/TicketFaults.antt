@@ -12,11 +12,10 @@ use Rattle.mdl_steps.specs.declared.view.Ask.{Ask}
 use Rattle.mdl_steps.specs.declared.view.Own.{Own}
 use Rattle.mdl_session_laws.specs.SessionSpaces.{Knows}
 use Rattle.mdl_visits.specs.Numbers.{numbered}
-use Rattle.mdl_shared.specs.declared.member.Member.{Member}
 use Rattle.mdl_shared.specs.Members.{holding_fault, kind_known}
 use Rattle.mdl_shared.specs.Modes.{downgrade_fault, is_fit, may_merge, merge_fault}
 use Rattle.mdl_shared.specs.OwnLists.{told_of}
-use Rattle.mdl_shared.specs.SessionViews.{space_of_member}
+use Rattle.mdl_shared.specs.SessionViews.{SessionView, space_of}
 use Rattle.mdl_shared.specs.Upgrades.{can_have, upgrade_fault}
 use Rattle.mdl_shared.proofs.Faults.{test-failed, test-passed}
 use Rattle.mdl_shared.proofs.SameSpace.{waits-asks}
@@ -65,108 +64,108 @@ merge-here kept gone asks e = by (is_some asks) e
         let same = eqb-true kept.place gone.place (and_parts (kept.place == gone.place) (covers gone.mode kept.mode) rest).0 in
         eq-eqb gone.place kept.place (sym same)
 
-module _ (m : Member) where
+module _ (m : SessionView) where
   abbrev pub knows : Knowledge
-  knows = Knows (space_of_member m) m.seat.me.0.number
+  knows = Knows (space_of m) m.me.0.number
 
   abbrev pub own : Mine
-  own = (space_of_member m).own
+  own = (space_of m).own
 
   -- a downgrade
-  pub downgrade-clear : (id : ℕ) (mode : Mode) (t : Own) → numbered id m.tickets.items ≡ Some t → downgrade_fault (Some t) mode m.known.items ≡ None
+  pub downgrade-clear : (id : ℕ) (mode : Mode) (t : Own) → numbered id m.me.0.slow ≡ Some t → downgrade_fault (Some t) mode m.me.0.known ≡ None
       → OfHeld id own (MayDowngrade knows mode)
   downgrade-clear id mode t its e =
-      let b = test-passed (may_downgrade t.mode mode && is_fit t.place mode m.known.items) NotUpgradable e in
-      let parts = and_parts (may_downgrade t.mode mode) (is_fit t.place mode m.known.items) b in
-      of-held id m.tickets.items t (MayDowngrade knows mode) its (parts.0, fit-known t.place mode m.known.items true parts.1)
+      let b = test-passed (may_downgrade t.mode mode && is_fit t.place mode m.me.0.known) NotUpgradable e in
+      let parts = and_parts (may_downgrade t.mode mode) (is_fit t.place mode m.me.0.known) b in
+      of-held id m.me.0.slow t (MayDowngrade knows mode) its (parts.0, fit-known t.place mode m.me.0.known true parts.1)
 
-  pub downgrade-cause : (who id : ℕ) (mode : Mode) (why : SpaceError) (o : Option Own) → numbered id m.tickets.items ≡ o → downgrade_fault o mode m.known.items ≡ Some why
+  pub downgrade-cause : (who id : ℕ) (mode : Mode) (why : SpaceError) (o : Option Own) → numbered id m.me.0.slow ≡ o → downgrade_fault o mode m.me.0.known ≡ Some why
       → IsCause knows (Downgrade who id mode) why own
   downgrade-cause who id mode why None its e =
       let is : why ≡ NotHeld = cc in
-      subst (λ w. IsCause knows (Downgrade who id mode) w own) (sym is) (holds-told id m.tickets.items false (ap is_some its))
+      subst (λ w. IsCause knows (Downgrade who id mode) w own) (sym is) (holds-told id m.me.0.slow false (ap is_some its))
   downgrade-cause who id mode why (Some t) its e =
-      let b = test-failed (may_downgrade t.mode mode && is_fit t.place mode m.known.items) NotUpgradable why e in
+      let b = test-failed (may_downgrade t.mode mode && is_fit t.place mode m.me.0.known) NotUpgradable why e in
       subst (λ w. IsCause knows (Downgrade who id mode) w own) (sym b.1)
-      (of-held id m.tickets.items t (MayNotDowngrade knows mode) its (λ may.
-      fit-known t.place mode m.known.items false (other-false (may_downgrade t.mode mode) (is_fit t.place mode m.known.items) b.0 may)))
+      (of-held id m.me.0.slow t (MayNotDowngrade knows mode) its (λ may.
+      fit-known t.place mode m.me.0.known false (other-false (may_downgrade t.mode mode) (is_fit t.place mode m.me.0.known) b.0 may)))
 
   -- an upgrade
-  may-have : (mode : Mode) (t : Own) → can_have mode t (kind_known t.place m.known.items) ≡ true → MayUpgrade knows mode (told_of t)
+  may-have : (mode : Mode) (t : Own) → can_have mode t (kind_known t.place m.me.0.known) ≡ true → MayUpgrade knows mode (told_of t)
   may-have mode t can = (
-    some-kind (kind_known t.place m.known.items) can,
+    some-kind (kind_known t.place m.me.0.known) can,
     λ key is. (and_parts (covers t.mode mode || may_upgrade t.mode mode) (is_mode_of (kind_of key.namespace) mode)
-        (subst (λ o. can_have mode t o ≡ true) (kind-of_key t.place m.known.items key is) can)).1,
+        (subst (λ o. can_have mode t o ≡ true) (kind-of_key t.place m.me.0.known key is) can)).1,
   )
     where
       some-kind : (o : Option Kind) → can_have mode t o ≡ true → (covers t.mode mode || may_upgrade t.mode mode) ≡ true
       some-kind None e = cc
       some-kind (Some kind) e = (and_parts (covers t.mode mode || may_upgrade t.mode mode) (is_mode_of kind mode) e).0
 
-  may-not_have : (mode : Mode) (t : Own) → can_have mode t (kind_known t.place m.known.items) ≡ false → MayNotUpgrade knows mode (told_of t)
+  may-not_have : (mode : Mode) (t : Own) → can_have mode t (kind_known t.place m.me.0.known) ≡ false → MayNotUpgrade knows mode (told_of t)
   may-not_have mode t can = λ may key is.
       other-false (covers t.mode mode || may_upgrade t.mode mode) (is_mode_of (kind_of key.namespace) mode)
-      (subst (λ o. can_have mode t o ≡ false) (kind-of_key t.place m.known.items key is) can) may
+      (subst (λ o. can_have mode t o ≡ false) (kind-of_key t.place m.me.0.known key is) can) may
 
-  pub upgrade-clear : (id : ℕ) (mode : Mode) (t : Own) → numbered id m.tickets.items ≡ Some t → upgrade_fault mode m.known.items m.asks (Some t) ≡ None
+  pub upgrade-clear : (id : ℕ) (mode : Mode) (t : Own) → numbered id m.me.0.slow ≡ Some t → upgrade_fault mode m.me.0.known m.me.0.asks (Some t) ≡ None
       → (is_waiting own ≡ false) × OfHeld id own (MayUpgrade knows mode)
   upgrade-clear id mode t its e =
-      let parts = two-clear (can_have mode t (kind_known t.place m.known.items)) (is_some m.asks) NotUpgradable AlreadyWaiting e in (
-        waits-asks m.asks m.waits ∙ parts.1,
-        of-held id m.tickets.items t (MayUpgrade knows mode) its (may-have mode t parts.0),
+      let parts = two-clear (can_have mode t (kind_known t.place m.me.0.known)) (is_some m.me.0.asks) NotUpgradable AlreadyWaiting e in (
+        waits-asks m.me.0.asks m.me.0.waits ∙ parts.1,
+        of-held id m.me.0.slow t (MayUpgrade knows mode) its (may-have mode t parts.0),
       )
 
-  pub upgrade-cause : (who id : ℕ) (mode : Mode) (why : SpaceError) (o : Option Own) → numbered id m.tickets.items ≡ o
-      → upgrade_fault mode m.known.items m.asks o ≡ Some why → IsCause knows (Upgrade_now who id mode) why own
+  pub upgrade-cause : (who id : ℕ) (mode : Mode) (why : SpaceError) (o : Option Own) → numbered id m.me.0.slow ≡ o
+      → upgrade_fault mode m.me.0.known m.me.0.asks o ≡ Some why → IsCause knows (Upgrade_now who id mode) why own
   upgrade-cause who id mode why None its e =
       let is : why ≡ NotHeld = cc in
-      subst (λ w. IsCause knows (Upgrade_now who id mode) w own) (sym is) (holds-told id m.tickets.items false (ap is_some its))
-  upgrade-cause who id mode why (Some t) its e = by (can_have mode t (kind_known t.place m.known.items)) refl (is_some m.asks) refl e
+      subst (λ w. IsCause knows (Upgrade_now who id mode) w own) (sym is) (holds-told id m.me.0.slow false (ap is_some its))
+  upgrade-cause who id mode why (Some t) its e = by (can_have mode t (kind_known t.place m.me.0.known)) refl (is_some m.me.0.asks) refl e
     where
-      by : (can : Bool) → can_have mode t (kind_known t.place m.known.items) ≡ can → (waits : Bool) → is_some m.asks ≡ waits
+      by : (can : Bool) → can_have mode t (kind_known t.place m.me.0.known) ≡ can → (waits : Bool) → is_some m.me.0.asks ≡ waits
           → (if not can then Some NotUpgradable else (if waits then Some AlreadyWaiting else None)) ≡ Some why → IsCause knows (Upgrade_now who id mode) why own
       by false can waits asks e =
           let is : why ≡ NotUpgradable = cc in
-          subst (λ w. IsCause knows (Upgrade_now who id mode) w own) (sym is) (of-held id m.tickets.items t (MayNotUpgrade knows mode) its (may-not_have mode t can))
+          subst (λ w. IsCause knows (Upgrade_now who id mode) w own) (sym is) (of-held id m.me.0.slow t (MayNotUpgrade knows mode) its (may-not_have mode t can))
       by true can true asks e =
           let is : why ≡ AlreadyWaiting = cc in
           subst (λ w. IsCause knows (Upgrade_now who id mode) w own) (sym is)
-          (waits-asks m.asks m.waits ∙ asks, of-held id m.tickets.items t (MayUpgrade knows mode) its (may-have mode t can))
+          (waits-asks m.me.0.asks m.me.0.waits ∙ asks, of-held id m.me.0.slow t (MayUpgrade knows mode) its (may-have mode t can))
       by true can false asks e = cc
 
   -- a merge
-  mergeable : (old new : ℕ) (kept gone : Own) (b : Bool) → numbered old m.tickets.items ≡ Some kept → numbered new m.tickets.items ≡ Some gone
+  mergeable : (old new : ℕ) (kept gone : Own) (b : Bool) → numbered old m.me.0.slow ≡ Some kept → numbered new m.me.0.slow ≡ Some gone
       → may_merge kept gone ≡ b → Mergeable b old new own
   mergeable old new kept gone b one other may =
-      of-held old m.tickets.items kept (λ k. OfHeld new own (λ g. may_merge_told k g ≡ b)) one
-      (of-held new m.tickets.items gone (λ g. may_merge_told (told_of kept) g ≡ b) other (merge-told kept gone ∙ may))
+      of-held old m.me.0.slow kept (λ k. OfHeld new own (λ g. may_merge_told k g ≡ b)) one
+      (of-held new m.me.0.slow gone (λ g. may_merge_told (told_of kept) g ≡ b) other (merge-told kept gone ∙ may))
 
-  pub merge-clear : (old new : ℕ) (kept gone : Own) → numbered old m.tickets.items ≡ Some kept → numbered new m.tickets.items ≡ Some gone
-      → merge_fault (Some kept) (Some gone) m.asks ≡ None → (is_waiting own ≡ false) × Mergeable true old new own
-  merge-clear old new kept gone one other e = by (is_some m.asks) refl e
+  pub merge-clear : (old new : ℕ) (kept gone : Own) → numbered old m.me.0.slow ≡ Some kept → numbered new m.me.0.slow ≡ Some gone
+      → merge_fault (Some kept) (Some gone) m.me.0.asks ≡ None → (is_waiting own ≡ false) × Mergeable true old new own
+  merge-clear old new kept gone one other e = by (is_some m.me.0.asks) refl e
     where
-      by : (waits : Bool) → is_some m.asks ≡ waits → (if waits then Some AlreadyWaiting else (if may_merge kept gone then None else Some BadMode)) ≡ None
+      by : (waits : Bool) → is_some m.me.0.asks ≡ waits → (if waits then Some AlreadyWaiting else (if may_merge kept gone then None else Some BadMode)) ≡ None
           → (is_waiting own ≡ false) × Mergeable true old new own
       by true asks e = cc
-      by false asks e = (waits-asks m.asks m.waits ∙ asks, mergeable old new kept gone true one other (test-passed (may_merge kept gone) BadMode e))
+      by false asks e = (waits-asks m.me.0.asks m.me.0.waits ∙ asks, mergeable old new kept gone true one other (test-passed (may_merge kept gone) BadMode e))
 
-  pub merge-cause : (who old new : ℕ) (why : SpaceError) (o p : Option Own) → numbered old m.tickets.items ≡ o → numbered new m.tickets.items ≡ p
-      → merge_fault o p m.asks ≡ Some why → IsCause knows (Merge who old new) why own
+  pub merge-cause : (who old new : ℕ) (why : SpaceError) (o p : Option Own) → numbered old m.me.0.slow ≡ o → numbered new m.me.0.slow ≡ p
+      → merge_fault o p m.me.0.asks ≡ Some why → IsCause knows (Merge who old new) why own
   merge-cause who old new why None p one other e =
       let is : why ≡ NotHeld = cc in
-      subst (λ w. IsCause knows (Merge who old new) w own) (sym is) (and_left _ (holds new own) (holds-told old m.tickets.items false (ap is_some one)))
+      subst (λ w. IsCause knows (Merge who old new) w own) (sym is) (and_left _ (holds new own) (holds-told old m.me.0.slow false (ap is_some one)))
   merge-cause who old new why (Some kept) None one other e =
       let is : why ≡ NotHeld = cc in
-      subst (λ w. IsCause knows (Merge who old new) w own) (sym is) (and_right (holds old own) _ (holds-told new m.tickets.items false (ap is_some other)))
-  merge-cause who old new why (Some kept) (Some gone) one other e = by (is_some m.asks) refl e
+      subst (λ w. IsCause knows (Merge who old new) w own) (sym is) (and_right (holds old own) _ (holds-told new m.me.0.slow false (ap is_some other)))
+  merge-cause who old new why (Some kept) (Some gone) one other e = by (is_some m.me.0.asks) refl e
     where
-      by : (waits : Bool) → is_some m.asks ≡ waits → (if waits then Some AlreadyWaiting else (if may_merge kept gone then None else Some BadMode)) ≡ Some why
+      by : (waits : Bool) → is_some m.me.0.asks ≡ waits → (if waits then Some AlreadyWaiting else (if may_merge kept gone then None else Some BadMode)) ≡ Some why
           → IsCause knows (Merge who old new) why own
       by true asks e =
           let is : why ≡ AlreadyWaiting = cc in
           subst (λ w. IsCause knows (Merge who old new) w own) (sym is)
-          (and_from _ _ (holds-told old m.tickets.items true (ap is_some one)) (holds-told new m.tickets.items true (ap is_some other)), waits-asks m.asks m.waits ∙ asks)
+          (and_from _ _ (holds-told old m.me.0.slow true (ap is_some one)) (holds-told new m.me.0.slow true (ap is_some other)), waits-asks m.me.0.asks m.me.0.waits ∙ asks)
       by false asks e =
           let b = test-failed (may_merge kept gone) BadMode why e in
           subst (λ w. IsCause knows (Merge who old new) w own) (sym b.1)
-          (waits-asks m.asks m.waits ∙ asks, mergeable old new kept gone false one other b.0)
+          (waits-asks m.me.0.asks m.me.0.waits ∙ asks, mergeable old new kept gone false one other b.0)

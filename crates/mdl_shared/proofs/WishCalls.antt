@@ -18,13 +18,12 @@ use Rattle.mdl_session_laws.specs.SessionJoins.{Joins, Learns, LetsRead, ReadsNo
 use Rattle.mdl_session_laws.specs.SessionSpaces.{SpeaksFor, Knows, is_known}
 use Rattle.mdl_visits.specs.Numbers.{numbered}
 use Rattle.mdl_visits.specs.Readings.{ReadsNothing as ReadNothing}
-use Rattle.mdl_shared.specs.declared.member.Member.{Member}
 use Rattle.mdl_shared.specs.Beginnings.{Begins}
 use Rattle.mdl_shared.specs.Keepings.{KeepsWait, SeesWait}
 use Rattle.mdl_shared.specs.Members.{kind_known, wish_fault}
 use Rattle.mdl_shared.specs.Modes.{clone_fault}
 use Rattle.mdl_shared.specs.OwnLists.{told_of}
-use Rattle.mdl_shared.specs.SessionViews.{settled_told, space_of_member}
+use Rattle.mdl_shared.specs.SessionViews.{SessionView, settled_told, space_of}
 use Rattle.mdl_shared.proofs.MemberFacts.{nothing-told}
 use Rattle.mdl_shared.proofs.NotedOnce.{one-note}
 use Rattle.mdl_shared.proofs.SameSpace.{KeepsRest, Stays, joins-held, joins-still, keeps-sees, no-asks, numbers_by, own_by, refused, waits-asks}
@@ -48,7 +47,7 @@ numbers-waited next next′ waits waits′ some n w =
     ap (λ x. record { last_ticket = x; last_wait = waits′ }) e ∙ ap (λ x. record { last_ticket = (next - 1) + 1; last_wait = x }) w
 
 -- the next one is greater than 0
-next-some : (m : Member) → 0 < m.next
+next-some : (m : SessionView) → 0 < m.me.0.next
 next-some m = let fewer = m.fewer.0 in omega arith
 
 -- ---- one ticket more
@@ -56,105 +55,105 @@ next-some m = let fewer = m.fewer.0 in omega arith
 abbrev pub gained : ℕ → ℕ → Mode → List Own → Own
 gained id place mode tickets = record { number = id; place = place; mode = mode; noted = note_at place tickets }
 
-module _ (m m′ : Member) (sees : SeesWait m m′) (number : m′.seat.me.0.number ≡ m.seat.me.0.number) (known : m′.known.items ≡ m.known.items)
-    (reads : ReadNothing m.seat.me m′.seat.me) where
+module _ (m m′ : SessionView) (sees : SeesWait m m′) (number : m′.me.0.number ≡ m.me.0.number) (known : m′.me.0.known ≡ m.me.0.known)
+    (reads : ReadNothing m.me m′.me) where
   rest : KeepsRest m m′
   rest = record { number = number; known = known; wait = sees }
 
-  still : m′.tickets.items ≡ m.tickets.items → m′.next ≡ m.next → Stays m m′
+  still : m′.me.0.slow ≡ m.me.0.slow → m′.me.0.next ≡ m.me.0.next → Stays m m′
   still same next = record { number = number; tickets = same; next = next; known = known; wait = sees; reads = reads }
 
-  gain-joins : (call : Call) (id place : ℕ) (mode : Mode) → IfSome (caller call) (SpeaksFor (space_of_member m)) → has_call call ≡ true
-      → is_answer_of call (Granted id) ≡ true → id ≡ m.next → m′.next ≡ id + 1 → m′.tickets.items ≡ m.tickets.items ++ gained id place mode m.tickets.items ∷ []
-      → own_after call (Granted id) (space_of_member m).own ≡ gaining id place mode (space_of_member m).own
-      → (DrawsTicket id (space_of_member m).numbers (space_of_member m′).numbers → Draws call (Granted id) (space_of_member m).numbers (space_of_member m′).numbers)
-      → IsExplained (Knows (space_of_member m) m.seat.me.0.number) call (Granted id) (space_of_member m).own
-      → IfSome (gained_at call (Granted id)) (λ place. is_known place (space_of_member m).known ≡ true)
-      → Learns call (Granted id) (space_of_member m).known (space_of_member m).known
-      → ((state : Option Settled) (how : Settled) → met call (Granted id) ≡ Some state → (space_of_member m).settled ≡ Some how → state ≡ Some how)
-      → ((how : Settled) → told call (Granted id) ≡ Some how → (space_of_member m′).settled ≡ Some how)
+  gain-joins : (call : Call) (id place : ℕ) (mode : Mode) → IfSome (caller call) (SpeaksFor (space_of m)) → has_call call ≡ true
+      → is_answer_of call (Granted id) ≡ true → id ≡ m.me.0.next → m′.me.0.next ≡ id + 1 → m′.me.0.slow ≡ m.me.0.slow ++ gained id place mode m.me.0.slow ∷ []
+      → own_after call (Granted id) (space_of m).own ≡ gaining id place mode (space_of m).own
+      → (DrawsTicket id (space_of m).numbers (space_of m′).numbers → Draws call (Granted id) (space_of m).numbers (space_of m′).numbers)
+      → IsExplained (Knows (space_of m) m.me.0.number) call (Granted id) (space_of m).own
+      → IfSome (gained_at call (Granted id)) (λ place. is_known place (space_of m).known ≡ true)
+      → Learns call (Granted id) (space_of m).known (space_of m).known
+      → ((state : Option Settled) (how : Settled) → met call (Granted id) ≡ Some state → (space_of m).settled ≡ Some how → state ≡ Some how)
+      → ((how : Settled) → told call (Granted id) ≡ Some how → (space_of m′).settled ≡ Some how)
       → ends_wait call (Granted id) ≡ false
-      → (ReadsNothing (space_of_member m) (space_of_member m′) → LetsRead call (Granted id) (space_of_member m) (space_of_member m′))
-      → TellsTruly call (Granted id) (space_of_member m) (space_of_member m′) → Joins (space_of_member m) call (Granted id) (space_of_member m′)
+      → (ReadsNothing (space_of m) (space_of m′) → LetsRead call (Granted id) (space_of m) (space_of m′))
+      → TellsTruly call (Granted id) (space_of m) (space_of m′) → Joins (space_of m) call (Granted id) (space_of m′)
   gain-joins call id place mode mine has fits is next more own draws explained at learns agreed tells ends lets truly =
       let some = next-some m in
-      let first : id ≡ (m.next - 1) + 1 = omega arith in
-      joins-held m m′ call (Granted id) (map told_of m.tickets.items ++ record { id = id; place = place; mode = mode } ∷ []) rest mine has fits
-      (ap (map told_of) more ∙ told-last m.tickets.items (gained id place mode m.tickets.items)) own
-      (draws (first, numbers-drawn m.next m′.next m.waits m′.waits some (next ∙ ap (λ (n : ℕ). n + 1) is) sees.1))
+      let first : id ≡ (m.me.0.next - 1) + 1 = omega arith in
+      joins-held m m′ call (Granted id) (map told_of m.me.0.slow ++ record { id = id; place = place; mode = mode } ∷ []) rest mine has fits
+      (ap (map told_of) more ∙ told-last m.me.0.slow (gained id place mode m.me.0.slow)) own
+      (draws (first, numbers-drawn m.me.0.next m′.me.0.next m.me.0.waits m′.me.0.waits some (next ∙ ap (λ (n : ℕ). n + 1) is) sees.1))
       explained at learns agreed tells ends
       (lets (nothing-read m m′ reads (λ at.
-      subst (AllNoted at (noted_under at m.tickets.items)) (sym more)
-      (noted-gained at id place mode m.tickets.items (one-note m at)))))
+      subst (AllNoted at (noted_under at m.me.0.slow)) (sym more)
+      (noted-gained at id place mode m.me.0.slow (one-note m at)))))
       truly
 
   -- ---- wishes
 
-  pub try-joins : (who place : ℕ) (mode : Mode) (result : Result Attempt SpaceError) → SpeaksFor (space_of_member m) who
-      → ((id : ℕ) → result ≡ Ok (attempt_at.Granted id) → (id ≡ m.next) × (m′.tickets.items ≡ m.tickets.items ++ gained id place mode m.tickets.items ∷ []))
-      → ((id : ℕ) → result ≡ Ok (attempt_at.Granted id) → m′.next ≡ id + 1)
-      → (result ≡ Ok attempt_at.WouldWait → (m′.tickets.items ≡ m.tickets.items) × (m′.next ≡ m.next))
-      → OnErr result ((m′.tickets.items ≡ m.tickets.items) × (m′.next ≡ m.next))
-      → IfSome (wish_fault (kind_known place m.known.items) m.asks mode m.next) (λ why. result ≡ Err why)
-      → IfErr result (λ why. (wish_fault (kind_known place m.known.items) m.asks mode m.next ≡ Some why) ⊎ ((why ≡ OutOfMemory) ⊎ (why ≡ Full)))
-      → Joins (space_of_member m) (Try_now who place mode) (attempted result) (space_of_member m′)
+  pub try-joins : (who place : ℕ) (mode : Mode) (result : Result Attempt SpaceError) → SpeaksFor (space_of m) who
+      → ((id : ℕ) → result ≡ Ok (attempt_at.Granted id) → (id ≡ m.me.0.next) × (m′.me.0.slow ≡ m.me.0.slow ++ gained id place mode m.me.0.slow ∷ []))
+      → ((id : ℕ) → result ≡ Ok (attempt_at.Granted id) → m′.me.0.next ≡ id + 1)
+      → (result ≡ Ok attempt_at.WouldWait → (m′.me.0.slow ≡ m.me.0.slow) × (m′.me.0.next ≡ m.me.0.next))
+      → OnErr result ((m′.me.0.slow ≡ m.me.0.slow) × (m′.me.0.next ≡ m.me.0.next))
+      → IfSome (wish_fault (kind_known place m.me.0.known) m.me.0.asks mode m.me.0.next) (λ why. result ≡ Err why)
+      → IfErr result (λ why. (wish_fault (kind_known place m.me.0.known) m.me.0.asks mode m.me.0.next ≡ Some why) ⊎ ((why ≡ OutOfMemory) ⊎ (why ≡ Full)))
+      → Joins (space_of m) (Try_now who place mode) (attempted result) (space_of m′)
   try-joins who place mode (Ok (attempt_at.Granted id)) speaks granted next blocked unchanged unfit why =
-      let clear = wish-clear m place mode (unfit-clear (wish_fault (kind_known place m.known.items) m.asks mode m.next) (attempt_at.Granted id) unfit) in
+      let clear = wish-clear m place mode (unfit-clear (wish_fault (kind_known place m.me.0.known) m.me.0.asks mode m.me.0.next) (attempt_at.Granted id) unfit) in
       let more = granted id refl in
       gain-joins (Try_now who place mode) id place mode speaks refl refl more.0 (next id refl) more.1 refl (λ d. d)
-      (waits-asks m.asks m.waits ∙ clear.0, clear.1) clear.2 refl (λ state how is. cc) (λ how is. cc) refl (λ r. r) tt
+      (waits-asks m.me.0.asks m.me.0.waits ∙ clear.0, clear.1) clear.2 refl (λ state how is. cc) (λ how is. cc) refl (λ r. r) tt
   try-joins who place mode (Ok attempt_at.WouldWait) speaks granted next blocked unchanged unfit why =
-      let clear = wish-clear m place mode (unfit-clear (wish_fault (kind_known place m.known.items) m.asks mode m.next) attempt_at.WouldWait unfit) in
+      let clear = wish-clear m place mode (unfit-clear (wish_fault (kind_known place m.me.0.known) m.me.0.asks mode m.me.0.next) attempt_at.WouldWait unfit) in
       let same = blocked refl in
       joins-still m m′ (Try_now who place mode) Would_wait (still same.0 same.1) speaks refl refl refl refl
-      (waits-asks m.asks m.waits ∙ clear.0, clear.1) tt refl (λ state how is. cc) (λ how is. cc) refl (λ r. r) tt
+      (waits-asks m.me.0.asks m.me.0.waits ∙ clear.0, clear.1) tt refl (λ state how is. cc) (λ how is. cc) refl (λ r. r) tt
   try-joins who place mode (Err why) speaks granted next blocked unchanged unfit causes =
       refused m m′ (Try_now who place mode) why (still unchanged.0 unchanged.1) speaks refl refl
-      (wish-why m Attempt (λ w. IsCause (Knows (space_of_member m) m.seat.me.0.number) (Try_now who place mode) w (space_of_member m).own) place mode why
+      (wish-why m Attempt (λ w. IsCause (Knows (space_of m) m.me.0.number) (Try_now who place mode) w (space_of m).own) place mode why
       (λ h. h) (λ h. h) (λ h. h) (λ h. h) tt (λ h. h) unfit causes)
       (λ state how is. cc) tt
 
   -- ---- clones
 
-  pub clone-joins : (who id : ℕ) (mode : Mode) (result : Result ℕ SpaceError) → SpeaksFor (space_of_member m) who
-      → IfOk result (λ new. (new ≡ m.next) × (m′.next ≡ new + 1)
-      × ((t : Own) × (numbered id m.tickets.items ≡ Some t) × (m′.tickets.items ≡ m.tickets.items ++ gained new t.place mode m.tickets.items ∷ [])))
-      → OnErr result ((m′.tickets.items ≡ m.tickets.items) × (m′.next ≡ m.next))
-      → IfSome (clone_fault (numbered id m.tickets.items) m.asks mode m.known.items m.next) (λ why. result ≡ Err why)
-      → IfErr result (λ why. (clone_fault (numbered id m.tickets.items) m.asks mode m.known.items m.next ≡ Some why) ⊎ ((why ≡ OutOfMemory) ⊎ (why ≡ Full)))
-      → Joins (space_of_member m) (Clone_ticket who id mode) (cloned result) (space_of_member m′)
+  pub clone-joins : (who id : ℕ) (mode : Mode) (result : Result ℕ SpaceError) → SpeaksFor (space_of m) who
+      → IfOk result (λ new. (new ≡ m.me.0.next) × (m′.me.0.next ≡ new + 1)
+      × ((t : Own) × (numbered id m.me.0.slow ≡ Some t) × (m′.me.0.slow ≡ m.me.0.slow ++ gained new t.place mode m.me.0.slow ∷ [])))
+      → OnErr result ((m′.me.0.slow ≡ m.me.0.slow) × (m′.me.0.next ≡ m.me.0.next))
+      → IfSome (clone_fault (numbered id m.me.0.slow) m.me.0.asks mode m.me.0.known m.me.0.next) (λ why. result ≡ Err why)
+      → IfErr result (λ why. (clone_fault (numbered id m.me.0.slow) m.me.0.asks mode m.me.0.known m.me.0.next ≡ Some why) ⊎ ((why ≡ OutOfMemory) ⊎ (why ≡ Full)))
+      → Joins (space_of m) (Clone_ticket who id mode) (cloned result) (space_of m′)
   clone-joins who id mode (Ok new) speaks doubled unchanged unfit why =
-      let clear = clone-clear m id mode (numbered id m.tickets.items) refl
-      (unfit-clear (clone_fault (numbered id m.tickets.items) m.asks mode m.known.items m.next) new unfit) in
+      let clear = clone-clear m id mode (numbered id m.me.0.slow) refl
+      (unfit-clear (clone_fault (numbered id m.me.0.slow) m.me.0.asks mode m.me.0.known m.me.0.next) new unfit) in
       let t = doubled.2.0 in
       gain-joins (Clone_ticket who id mode) new t.place mode speaks refl refl doubled.0 doubled.1 doubled.2.2
-      (ap (λ o. cloning new mode o (space_of_member m).own) (ticket-told id m.tickets.items ∙ ap (option_map told_of) doubled.2.1)) (λ d. d)
-      (waits-asks m.asks m.waits ∙ clear.0, clear.1) tt refl (λ state how is. cc) (λ how is. cc) refl (λ r. r) tt
+      (ap (λ o. cloning new mode o (space_of m).own) (ticket-told id m.me.0.slow ∙ ap (option_map told_of) doubled.2.1)) (λ d. d)
+      (waits-asks m.me.0.asks m.me.0.waits ∙ clear.0, clear.1) tt refl (λ state how is. cc) (λ how is. cc) refl (λ r. r) tt
   clone-joins who id mode (Err why) speaks doubled unchanged unfit causes =
       refused m m′ (Clone_ticket who id mode) why (still unchanged.0 unchanged.1) speaks refl refl
-      (clone-why m ℕ (λ w. IsCause (Knows (space_of_member m) m.seat.me.0.number) (Clone_ticket who id mode) w (space_of_member m).own) id mode why
+      (clone-why m ℕ (λ w. IsCause (Knows (space_of m) m.me.0.number) (Clone_ticket who id mode) w (space_of m).own) id mode why
       (λ h. h) (λ h. h) (λ h. h) (λ h. h) tt (λ h. h) unfit causes)
       (λ state how is. cc) tt
 
 -- ---- waits that begin
 
-module _ (m m′ : Member) (who place : ℕ) (mode : Mode) (number : m′.seat.me.0.number ≡ m.seat.me.0.number) (known : m′.known.items ≡ m.known.items)
-    (reads : ReadNothing m.seat.me m′.seat.me) (speaks : SpeaksFor (space_of_member m) who) where
-  waits-joins : (waits : ℕ) → waits ≡ m.waits + 1 → Begins place mode m m′ → wish_fault (kind_known place m.known.items) m.asks mode m.next ≡ None
-      → Joins (space_of_member m) (Begin_wait who place mode) (Waits waits) (space_of_member m′)
+module _ (m m′ : SessionView) (who place : ℕ) (mode : Mode) (number : m′.me.0.number ≡ m.me.0.number) (known : m′.me.0.known ≡ m.me.0.known)
+    (reads : ReadNothing m.me m′.me) (speaks : SpeaksFor (space_of m) who) where
+  waits-joins : (waits : ℕ) → waits ≡ m.me.0.waits + 1 → Begins place mode m m′ → wish_fault (kind_known place m.me.0.known) m.me.0.asks mode m.me.0.next ≡ None
+      → Joins (space_of m) (Begin_wait who place mode) (Waits waits) (space_of m′)
   waits-joins waits is begins fit =
       let clear = wish-clear m place mode fit in
       let some = next-some m in
-      let idle : m.asks ≡ None = no-asks m.asks m.waits (waits-asks m.asks m.waits ∙ clear.0) in
+      let idle : m.me.0.asks ≡ None = no-asks m.me.0.asks m.me.0.waits (waits-asks m.me.0.asks m.me.0.waits ∙ clear.0) in
       let nothing = nothing-told m idle in record {
         mine = speaks;
         has = refl;
         fits = refl;
         number = number;
-        own = ap (λ x. own_by x m′.asks m′.waits) begins.tickets ∙ ap (λ x. own_by m.tickets.items x m′.waits) begins.asks
-            ∙ ap (λ (n : ℕ). own_by m.tickets.items (Some (record { number = m.next; place = place; mode = mode })) n) (begins.waits ∙ sym is);
-        numbers = (is, numbers-waited m.next m′.next m.waits m′.waits some begins.next begins.waits);
-        explained = (waits-asks m.asks m.waits ∙ clear.0, clear.1);
+        own = ap (λ x. own_by x m′.me.0.asks m′.me.0.waits) begins.tickets ∙ ap (λ x. own_by m.me.0.slow x m′.me.0.waits) begins.asks
+            ∙ ap (λ (n : ℕ). own_by m.me.0.slow (Some (record { number = m.me.0.next; place = place; mode = mode })) n) (begins.waits ∙ sym is);
+        numbers = (is, numbers-waited m.me.0.next m′.me.0.next m.me.0.waits m′.me.0.waits some begins.next begins.waits);
+        explained = (waits-asks m.me.0.asks m.me.0.waits ∙ clear.0, clear.1);
         gained = clear.2;
         learns = ap (map known_of) known;
         agreed = λ state how met. cc;
@@ -164,28 +163,28 @@ module _ (m m′ : Member) (who place : ℕ) (mode : Mode) (number : m′.seat.m
           λ idle. ap settled_told (begins.unsettled ∙ sym nothing),
         );
         reads = nothing-read m m′ reads (λ at.
-            subst (AllNoted at (noted_under at m.tickets.items)) (sym begins.tickets) (one-note m at));
+            subst (AllNoted at (noted_under at m.me.0.slow)) (sym begins.tickets) (one-note m at));
         truly = tt;
       }
 
   pub begin-joins : (result : Result Begun SpaceError)
-      → ((id : ℕ) → result ≡ Ok (begun_as.Granted id) → KeepsWait m m′ × (id ≡ m.next) × (m′.tickets.items ≡ m.tickets.items ++ gained id place mode m.tickets.items ∷ []))
-      → ((id : ℕ) → result ≡ Ok (begun_as.Granted id) → m′.next ≡ id + 1)
-      → ((waits : ℕ) → result ≡ Ok (begun_as.Waiting waits) → (waits ≡ m.waits + 1) × Begins place mode m m′)
-      → OnErr result (KeepsWait m m′ × (m′.tickets.items ≡ m.tickets.items) × (m′.next ≡ m.next))
-      → IfSome (wish_fault (kind_known place m.known.items) m.asks mode m.next) (λ why. result ≡ Err why)
-      → IfErr result (λ why. (wish_fault (kind_known place m.known.items) m.asks mode m.next ≡ Some why) ⊎ ((why ≡ OutOfMemory) ⊎ (why ≡ Full)))
-      → Joins (space_of_member m) (Begin_wait who place mode) (begun result) (space_of_member m′)
+      → ((id : ℕ) → result ≡ Ok (begun_as.Granted id) → KeepsWait m m′ × (id ≡ m.me.0.next) × (m′.me.0.slow ≡ m.me.0.slow ++ gained id place mode m.me.0.slow ∷ []))
+      → ((id : ℕ) → result ≡ Ok (begun_as.Granted id) → m′.me.0.next ≡ id + 1)
+      → ((waits : ℕ) → result ≡ Ok (begun_as.Waiting waits) → (waits ≡ m.me.0.waits + 1) × Begins place mode m m′)
+      → OnErr result (KeepsWait m m′ × (m′.me.0.slow ≡ m.me.0.slow) × (m′.me.0.next ≡ m.me.0.next))
+      → IfSome (wish_fault (kind_known place m.me.0.known) m.me.0.asks mode m.me.0.next) (λ why. result ≡ Err why)
+      → IfErr result (λ why. (wish_fault (kind_known place m.me.0.known) m.me.0.asks mode m.me.0.next ≡ Some why) ⊎ ((why ≡ OutOfMemory) ⊎ (why ≡ Full)))
+      → Joins (space_of m) (Begin_wait who place mode) (begun result) (space_of m′)
   begin-joins (Ok (begun_as.Granted id)) granted next waiting unchanged unfit why =
-      let clear = wish-clear m place mode (unfit-clear (wish_fault (kind_known place m.known.items) m.asks mode m.next) (begun_as.Granted id) unfit) in
+      let clear = wish-clear m place mode (unfit-clear (wish_fault (kind_known place m.me.0.known) m.me.0.asks mode m.me.0.next) (begun_as.Granted id) unfit) in
       let more = granted id refl in
       gain-joins m m′ (keeps-sees m m′ more.0) number known reads (Begin_wait who place mode) id place mode speaks refl refl more.1 (next id refl) more.2 refl (λ d. d)
-      (waits-asks m.asks m.waits ∙ clear.0, clear.1) clear.2 refl (λ state how is. cc) (λ how is. cc) refl (λ r. r) tt
+      (waits-asks m.me.0.asks m.me.0.waits ∙ clear.0, clear.1) clear.2 refl (λ state how is. cc) (λ how is. cc) refl (λ r. r) tt
   begin-joins (Ok (begun_as.Waiting waits)) granted next waiting unchanged unfit why =
       let begun = waiting waits refl in
-      waits-joins waits begun.0 begun.1 (unfit-clear (wish_fault (kind_known place m.known.items) m.asks mode m.next) (begun_as.Waiting waits) unfit)
+      waits-joins waits begun.0 begun.1 (unfit-clear (wish_fault (kind_known place m.me.0.known) m.me.0.asks mode m.me.0.next) (begun_as.Waiting waits) unfit)
   begin-joins (Err why) granted next waiting unchanged unfit causes =
       refused m m′ (Begin_wait who place mode) why (still m m′ (keeps-sees m m′ unchanged.0) number known reads unchanged.1 unchanged.2) speaks refl refl
-      (wish-why m Begun (λ w. IsCause (Knows (space_of_member m) m.seat.me.0.number) (Begin_wait who place mode) w (space_of_member m).own) place mode why
+      (wish-why m Begun (λ w. IsCause (Knows (space_of m) m.me.0.number) (Begin_wait who place mode) w (space_of m).own) place mode why
       (λ h. h) (λ h. h) (λ h. h) (λ h. h) tt (λ h. h) unfit causes)
       (λ state how is. cc) tt

@@ -12,10 +12,9 @@ use Rattle.mdl_calls.specs.Words.{IsFit, IsUnfit, IsUnknown, Knowledge, MayClone
 use Rattle.mdl_steps.specs.declared.view.Own.{Own}
 use Rattle.mdl_session_laws.specs.SessionSpaces.{Knows, is_known}
 use Rattle.mdl_visits.specs.Numbers.{numbered}
-use Rattle.mdl_shared.specs.declared.member.Member.{Member}
 use Rattle.mdl_shared.specs.Members.{kind_known, most_numbers, wish_fault}
 use Rattle.mdl_shared.specs.Modes.{clone_fault, is_fit}
-use Rattle.mdl_shared.specs.SessionViews.{space_of_member}
+use Rattle.mdl_shared.specs.SessionViews.{SessionView, space_of}
 use Rattle.mdl_shared.proofs.SameSpace.{waits-asks}
 use Rattle.mdl_shared.proofs.SpaceLists.{fit-known, kind-is_known, no-kind, of-kind}
 use Rattle.mdl_shared.proofs.SpaceTickets.{holds-told, of-held}
@@ -54,35 +53,35 @@ chain-full false false full e = cc
 chain-full false true true e = cc
 chain-full false true false e = cc
 
-module _ (m : Member) where
+module _ (m : SessionView) where
   abbrev knows : Knowledge
-  knows = Knows (space_of_member m) m.seat.me.0.number
+  knows = Knows (space_of m) m.me.0.number
 
   abbrev own : Mine
-  own = (space_of_member m).own
+  own = (space_of m).own
 
-  waits-not : is_some m.asks ≡ false → is_waiting own ≡ false
-  waits-not e = waits-asks m.asks m.waits ∙ e
+  waits-not : is_some m.me.0.asks ≡ false → is_waiting own ≡ false
+  waits-not e = waits-asks m.me.0.asks m.me.0.waits ∙ e
 
   -- ---- wishes
 
   -- there is no fault, and so the place is known, and the mode is of its kind
-  pub wish-clear : (place : ℕ) (mode : Mode) → wish_fault (kind_known place m.known.items) m.asks mode m.next ≡ None
-      → (is_some m.asks ≡ false) × IsFit knows place mode × (is_known place (space_of_member m).known ≡ true)
-  wish-clear place mode e = by (kind_known place m.known.items) refl e
+  pub wish-clear : (place : ℕ) (mode : Mode) → wish_fault (kind_known place m.me.0.known) m.me.0.asks mode m.me.0.next ≡ None
+      → (is_some m.me.0.asks ≡ false) × IsFit knows place mode × (is_known place (space_of m).known ≡ true)
+  wish-clear place mode e = by (kind_known place m.me.0.known) refl e
     where
-      by : (o : Option Kind) → kind_known place m.known.items ≡ o → wish_fault o m.asks mode m.next ≡ None
-          → (is_some m.asks ≡ false) × IsFit knows place mode × (is_known place (space_of_member m).known ≡ true)
+      by : (o : Option Kind) → kind_known place m.me.0.known ≡ o → wish_fault o m.me.0.asks mode m.me.0.next ≡ None
+          → (is_some m.me.0.asks ≡ false) × IsFit knows place mode × (is_known place (space_of m).known ≡ true)
       by None is e = cc
       by (Some kind) is e =
-          let clear = chain-clear (is_some m.asks) (is_mode_of kind mode) (nat_le most_numbers m.next) AlreadyWaiting BadMode CounterFull e in
-          (clear.0, of-kind place m.known.items kind mode true is clear.1, kind-is_known place kind m.known.items is)
+          let clear = chain-clear (is_some m.me.0.asks) (is_mode_of kind mode) (nat_le most_numbers m.me.0.next) AlreadyWaiting BadMode CounterFull e in
+          (clear.0, of-kind place m.me.0.known kind mode true is clear.1, kind-is_known place kind m.me.0.known is)
 
   -- by the tests that are made one after another
-  pub wish-open : (place : ℕ) (kind : Kind) (mode : Mode) → kind_known place m.known.items ≡ Some kind → is_some m.asks ≡ false → is_mode_of kind mode ≡ true
-      → m.next < most_numbers → wish_fault (kind_known place m.known.items) m.asks mode m.next ≡ None
+  pub wish-open : (place : ℕ) (kind : Kind) (mode : Mode) → kind_known place m.me.0.known ≡ Some kind → is_some m.me.0.asks ≡ false → is_mode_of kind mode ≡ true
+      → m.me.0.next < most_numbers → wish_fault (kind_known place m.me.0.known) m.me.0.asks mode m.me.0.next ≡ None
   wish-open place kind mode known asks fits below =
-      ap (λ (o : Option Kind). wish_fault o m.asks mode m.next) known ∙ by (is_some m.asks) (is_mode_of kind mode) (nat_le most_numbers m.next) asks fits (lt-leb most_numbers m.next below)
+      ap (λ (o : Option Kind). wish_fault o m.me.0.asks mode m.me.0.next) known ∙ by (is_some m.me.0.asks) (is_mode_of kind mode) (nat_le most_numbers m.me.0.next) asks fits (lt-leb most_numbers m.me.0.next below)
     where
       by : (waits fits full : Bool) → waits ≡ false → fits ≡ true → full ≡ false
           → (if waits then Some AlreadyWaiting else (if not fits then Some BadMode else (if full then Some CounterFull else None))) ≡ None
@@ -94,68 +93,68 @@ module _ (m : Member) where
   -- the causes of faults
   pub wish-cause : (P : SpaceError → Type 0) (place : ℕ) (mode : Mode) (why : SpaceError) → (IsUnknown knows place → P NoPlace) → (is_waiting own ≡ true → P AlreadyWaiting)
       → ((is_waiting own ≡ false) × IsUnfit knows place mode → P BadMode) → ((is_waiting own ≡ false) × IsFit knows place mode → P CounterFull)
-      → wish_fault (kind_known place m.known.items) m.asks mode m.next ≡ Some why → P why
-  wish-cause P place mode why unknown waits unfit full e = by (kind_known place m.known.items) refl e
+      → wish_fault (kind_known place m.me.0.known) m.me.0.asks mode m.me.0.next ≡ Some why → P why
+  wish-cause P place mode why unknown waits unfit full e = by (kind_known place m.me.0.known) refl e
     where
-      by : (o : Option Kind) → kind_known place m.known.items ≡ o → wish_fault o m.asks mode m.next ≡ Some why → P why
-      by None is e = let same : NoPlace ≡ why = cc in subst P same (unknown (no-kind place m.known.items is))
+      by : (o : Option Kind) → kind_known place m.me.0.known ≡ o → wish_fault o m.me.0.asks mode m.me.0.next ≡ Some why → P why
+      by None is e = let same : NoPlace ≡ why = cc in subst P same (unknown (no-kind place m.me.0.known is))
       by (Some kind) is e =
-          chain-fault P (is_some m.asks) (is_mode_of kind mode) (nat_le most_numbers m.next) AlreadyWaiting BadMode CounterFull why
-          (λ asks. waits (waits-asks m.asks m.waits ∙ asks))
-          (λ asks fits. unfit (waits-not asks, of-kind place m.known.items kind mode false is fits))
-          (λ asks fits. full (waits-not asks, of-kind place m.known.items kind mode true is fits)) e
+          chain-fault P (is_some m.me.0.asks) (is_mode_of kind mode) (nat_le most_numbers m.me.0.next) AlreadyWaiting BadMode CounterFull why
+          (λ asks. waits (waits-asks m.me.0.asks m.me.0.waits ∙ asks))
+          (λ asks fits. unfit (waits-not asks, of-kind place m.me.0.known kind mode false is fits))
+          (λ asks fits. full (waits-not asks, of-kind place m.me.0.known kind mode true is fits)) e
 
   -- the causes of all refusals
   pub wish-why : (T : Type 0) (P : SpaceError → Type 0) (place : ℕ) (mode : Mode) (why : SpaceError) → (IsUnknown knows place → P NoPlace)
       → (is_waiting own ≡ true → P AlreadyWaiting) → ((is_waiting own ≡ false) × IsUnfit knows place mode → P BadMode)
       → ((is_waiting own ≡ false) × IsFit knows place mode → P CounterFull) → P OutOfMemory → ((is_waiting own ≡ false) × IsFit knows place mode → P Full)
-      → IfSome (wish_fault (kind_known place m.known.items) m.asks mode m.next) (λ w. refusal T why ≡ Err w)
-      → (wish_fault (kind_known place m.known.items) m.asks mode m.next ≡ Some why) ⊎ ((why ≡ OutOfMemory) ⊎ (why ≡ Full)) → P why
+      → IfSome (wish_fault (kind_known place m.me.0.known) m.me.0.asks mode m.me.0.next) (λ w. refusal T why ≡ Err w)
+      → (wish_fault (kind_known place m.me.0.known) m.me.0.asks mode m.me.0.next ≡ Some why) ⊎ ((why ≡ OutOfMemory) ⊎ (why ≡ Full)) → P why
   wish-why T P place mode why unknown waits unfit counter memory full given (inl fault) = wish-cause P place mode why unknown waits unfit counter fault
   wish-why T P place mode why unknown waits unfit counter memory full given (inr (inl out)) = subst P (sym out) memory
   wish-why T P place mode why unknown waits unfit counter memory full given (inr (inr is)) =
-      subst P (sym is) (full (let clear = wish-clear place mode (by (wish_fault (kind_known place m.known.items) m.asks mode m.next) refl given) in (waits-not clear.0, clear.1)))
+      subst P (sym is) (full (let clear = wish-clear place mode (by (wish_fault (kind_known place m.me.0.known) m.me.0.asks mode m.me.0.next) refl given) in (waits-not clear.0, clear.1)))
     where
-      none : (o : Option Kind) → wish_fault o m.asks mode m.next ≡ Some Full → ⊥
+      none : (o : Option Kind) → wish_fault o m.me.0.asks mode m.me.0.next ≡ Some Full → ⊥
       none None e = cc
-      none (Some kind) e = chain-full (is_some m.asks) (is_mode_of kind mode) (nat_le most_numbers m.next) e
+      none (Some kind) e = chain-full (is_some m.me.0.asks) (is_mode_of kind mode) (nat_le most_numbers m.me.0.next) e
 
-      by : (o : Option SpaceError) → wish_fault (kind_known place m.known.items) m.asks mode m.next ≡ o → IfSome o (λ w. refusal T why ≡ Err w) → o ≡ None
+      by : (o : Option SpaceError) → wish_fault (kind_known place m.me.0.known) m.me.0.asks mode m.me.0.next ≡ o → IfSome o (λ w. refusal T why ≡ Err w) → o ≡ None
       by None e given = refl
       by (Some w) e given =
-          let same : w ≡ Full = cc in absurd (none (kind_known place m.known.items) (e ∙ ap (λ w. Some w) same))
+          let same : w ≡ Full = cc in absurd (none (kind_known place m.me.0.known) (e ∙ ap (λ w. Some w) same))
 
   -- ---- clones
 
-  may-clone : (id : ℕ) (mode : Mode) (t : Own) → numbered id m.tickets.items ≡ Some t → (covers t.mode mode && is_fit t.place mode m.known.items) ≡ true
+  may-clone : (id : ℕ) (mode : Mode) (t : Own) → numbered id m.me.0.slow ≡ Some t → (covers t.mode mode && is_fit t.place mode m.me.0.known) ≡ true
       → OfHeld id own (MayClone knows mode)
   may-clone id mode t its can =
-      let parts = and_parts (covers t.mode mode) (is_fit t.place mode m.known.items) can in
-      of-held id m.tickets.items t (MayClone knows mode) its (parts.0, fit-known t.place mode m.known.items true parts.1)
+      let parts = and_parts (covers t.mode mode) (is_fit t.place mode m.me.0.known) can in
+      of-held id m.me.0.slow t (MayClone knows mode) its (parts.0, fit-known t.place mode m.me.0.known true parts.1)
 
-  may-not_clone : (id : ℕ) (mode : Mode) (t : Own) → numbered id m.tickets.items ≡ Some t → (covers t.mode mode && is_fit t.place mode m.known.items) ≡ false
+  may-not_clone : (id : ℕ) (mode : Mode) (t : Own) → numbered id m.me.0.slow ≡ Some t → (covers t.mode mode && is_fit t.place mode m.me.0.known) ≡ false
       → OfHeld id own (MayNotClone knows mode)
   may-not_clone id mode t its can =
-      of-held id m.tickets.items t (MayNotClone knows mode) its (λ covered.
-      fit-known t.place mode m.known.items false (other-false (covers t.mode mode) (is_fit t.place mode m.known.items) can covered))
+      of-held id m.me.0.slow t (MayNotClone knows mode) its (λ covered.
+      fit-known t.place mode m.me.0.known false (other-false (covers t.mode mode) (is_fit t.place mode m.me.0.known) can covered))
 
-  pub clone-clear : (id : ℕ) (mode : Mode) (o : Option Own) → numbered id m.tickets.items ≡ o → clone_fault o m.asks mode m.known.items m.next ≡ None
-      → (is_some m.asks ≡ false) × OfHeld id own (MayClone knows mode)
+  pub clone-clear : (id : ℕ) (mode : Mode) (o : Option Own) → numbered id m.me.0.slow ≡ o → clone_fault o m.me.0.asks mode m.me.0.known m.me.0.next ≡ None
+      → (is_some m.me.0.asks ≡ false) × OfHeld id own (MayClone knows mode)
   clone-clear id mode None its e = cc
   clone-clear id mode (Some t) its e =
-      let clear = chain-clear (is_some m.asks) (covers t.mode mode && is_fit t.place mode m.known.items) (nat_le most_numbers m.next) AlreadyWaiting BadMode CounterFull e in
+      let clear = chain-clear (is_some m.me.0.asks) (covers t.mode mode && is_fit t.place mode m.me.0.known) (nat_le most_numbers m.me.0.next) AlreadyWaiting BadMode CounterFull e in
       (clear.0, may-clone id mode t its clear.1)
 
-  pub clone-cause : (P : SpaceError → Type 0) (id : ℕ) (mode : Mode) (why : SpaceError) (o : Option Own) → numbered id m.tickets.items ≡ o
+  pub clone-cause : (P : SpaceError → Type 0) (id : ℕ) (mode : Mode) (why : SpaceError) (o : Option Own) → numbered id m.me.0.slow ≡ o
       → (holds id own ≡ false → P NotHeld) → ((holds id own ≡ true) × (is_waiting own ≡ true) → P AlreadyWaiting)
       → ((is_waiting own ≡ false) × OfHeld id own (MayNotClone knows mode) → P BadMode)
       → ((is_waiting own ≡ false) × OfHeld id own (MayClone knows mode) → P CounterFull)
-      → clone_fault o m.asks mode m.known.items m.next ≡ Some why → P why
+      → clone_fault o m.me.0.asks mode m.me.0.known m.me.0.next ≡ Some why → P why
   clone-cause P id mode why None its none waits unfit full e =
-      let same : NotHeld ≡ why = cc in subst P same (none (holds-told id m.tickets.items false (ap is_some its)))
+      let same : NotHeld ≡ why = cc in subst P same (none (holds-told id m.me.0.slow false (ap is_some its)))
   clone-cause P id mode why (Some t) its none waits unfit full e =
-      chain-fault P (is_some m.asks) (covers t.mode mode && is_fit t.place mode m.known.items) (nat_le most_numbers m.next) AlreadyWaiting BadMode CounterFull why
-      (λ asks. waits (holds-told id m.tickets.items true (ap is_some its), waits-asks m.asks m.waits ∙ asks))
+      chain-fault P (is_some m.me.0.asks) (covers t.mode mode && is_fit t.place mode m.me.0.known) (nat_le most_numbers m.me.0.next) AlreadyWaiting BadMode CounterFull why
+      (λ asks. waits (holds-told id m.me.0.slow true (ap is_some its), waits-asks m.me.0.asks m.me.0.waits ∙ asks))
       (λ asks can. unfit (waits-not asks, may-not_clone id mode t its can))
       (λ asks can. full (waits-not asks, may-clone id mode t its can)) e
 
@@ -164,22 +163,22 @@ module _ (m : Member) where
       → ((holds id own ≡ true) × (is_waiting own ≡ true) → P AlreadyWaiting) → ((is_waiting own ≡ false) × OfHeld id own (MayNotClone knows mode) → P BadMode)
       → ((is_waiting own ≡ false) × OfHeld id own (MayClone knows mode) → P CounterFull) → P OutOfMemory
       → ((is_waiting own ≡ false) × OfHeld id own (MayClone knows mode) → P Full)
-      → IfSome (clone_fault (numbered id m.tickets.items) m.asks mode m.known.items m.next) (λ w. refusal T why ≡ Err w)
-      → (clone_fault (numbered id m.tickets.items) m.asks mode m.known.items m.next ≡ Some why) ⊎ ((why ≡ OutOfMemory) ⊎ (why ≡ Full)) → P why
+      → IfSome (clone_fault (numbered id m.me.0.slow) m.me.0.asks mode m.me.0.known m.me.0.next) (λ w. refusal T why ≡ Err w)
+      → (clone_fault (numbered id m.me.0.slow) m.me.0.asks mode m.me.0.known m.me.0.next ≡ Some why) ⊎ ((why ≡ OutOfMemory) ⊎ (why ≡ Full)) → P why
   clone-why T P id mode why unheld waits unfit counter memory full given (inl fault) =
-      clone-cause P id mode why (numbered id m.tickets.items) refl unheld waits unfit counter fault
+      clone-cause P id mode why (numbered id m.me.0.slow) refl unheld waits unfit counter fault
   clone-why T P id mode why unheld waits unfit counter memory full given (inr (inl out)) = subst P (sym out) memory
   clone-why T P id mode why unheld waits unfit counter memory full given (inr (inr is)) =
       subst P (sym is) (full (
-      let clear = clone-clear id mode (numbered id m.tickets.items) refl
-      (by (clone_fault (numbered id m.tickets.items) m.asks mode m.known.items m.next) refl given) in
+      let clear = clone-clear id mode (numbered id m.me.0.slow) refl
+      (by (clone_fault (numbered id m.me.0.slow) m.me.0.asks mode m.me.0.known m.me.0.next) refl given) in
       (waits-not clear.0, clear.1)))
     where
-      none : (o : Option Own) → clone_fault o m.asks mode m.known.items m.next ≡ Some Full → ⊥
+      none : (o : Option Own) → clone_fault o m.me.0.asks mode m.me.0.known m.me.0.next ≡ Some Full → ⊥
       none None e = cc
-      none (Some t) e = chain-full (is_some m.asks) (covers t.mode mode && is_fit t.place mode m.known.items) (nat_le most_numbers m.next) e
+      none (Some t) e = chain-full (is_some m.me.0.asks) (covers t.mode mode && is_fit t.place mode m.me.0.known) (nat_le most_numbers m.me.0.next) e
 
-      by : (o : Option SpaceError) → clone_fault (numbered id m.tickets.items) m.asks mode m.known.items m.next ≡ o → IfSome o (λ w. refusal T why ≡ Err w) → o ≡ None
+      by : (o : Option SpaceError) → clone_fault (numbered id m.me.0.slow) m.me.0.asks mode m.me.0.known m.me.0.next ≡ o → IfSome o (λ w. refusal T why ≡ Err w) → o ≡ None
       by None e given = refl
       by (Some w) e given =
-          let same : w ≡ Full = cc in absurd (none (numbered id m.tickets.items) (e ∙ ap (λ w. Some w) same))
+          let same : w ≡ Full = cc in absurd (none (numbered id m.me.0.slow) (e ∙ ap (λ w. Some w) same))

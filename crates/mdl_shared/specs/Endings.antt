@@ -9,21 +9,21 @@ use Rattle.mdl_steps.specs.declared.view.Ask.{Ask}
 use Rattle.mdl_steps.specs.declared.view.Own.{Own}
 use Rattle.mdl_steps.specs.Cells.{note_at}
 use Rattle.mdl_steps.specs.Plays.{Mine}
-use Rattle.mdl_shared.specs.declared.member.Member.{Member}
 use Rattle.mdl_visits.specs.Grantings.{HasRescheduled}
 use Rattle.mdl_visits.specs.Polls.{SettlesNothing}
 use Rattle.mdl_visits.specs.WaitEndings.{without_wait}
+use Rattle.mdl_shared.specs.SessionViews.{SessionView}
 
 -- the ticket that was waited for, as the session has it beside these tickets
 abbrev pub ticket_asked : Ask → List Own → Own
 ticket_asked a tickets = record { number = a.number; place = a.place; mode = a.mode; noted = note_at a.place tickets }
 
 -- it has no wait from then on, and holds these tickets
-pub record EndsWith (tickets : List Own) (m m′ : Member) : Type 0 where
-  pub asks : m′.asks ≡ None
-  pub waits : m′.waits ≡ m.waits
-  pub held : m′.tickets.items ≡ tickets
-  pub unsettled : m′.seat.me.0.told ≡ None
+pub record EndsWith (tickets : List Own) (m m′ : SessionView) : Type 0 where
+  pub asks : m′.me.0.asks ≡ None
+  pub waits : m′.me.0.waits ≡ m.me.0.waits
+  pub held : m′.me.0.slow ≡ tickets
+  pub unsettled : m′.me.0.told ≡ None
 
 -- how a wait has ended that was lost so
 abbrev pub lost_end : Settled → Option Ended

@@ -1,7 +1,8 @@
 -- What a session keeps of its own between two calls.
-use Rattle.std.specs.Prelude.{◌≡◌, ◌++◌, ◌∷◌, [], ℕ, ◌^◌, Bool, true, false, ◌==◌, ◌&&◌, not, nat_le, nat_lt, List, All, Option, Some, None, find, filter, is_some, if◌then◌else◌}
+pub use Rattle.mdl_visits.specs.KnownLists.{are_apart, are_two, is_known_place, kind_known, place_known}
+use Rattle.std.specs.Prelude.{◌≡◌, ◌<◌, ◌≤◌, ◌++◌, ◌∷◌, [], ℕ, ◌^◌, Bool, true, false, ◌==◌, ◌&&◌, not, nat_le, nat_lt, List, All, Option, Some, None, find, filter, is_some, if◌then◌else◌}
 use Rattle.std.specs.List.{list_all, list_any}
-use Rattle.std.specs.Option.{option_map}
+use Rattle.std.specs.Option.{option_map, option_map_or}
 use Rattle.mdl_key.specs.declared.mode.Mode.{Mode}
 use Rattle.mdl_key.specs.declared.namespace.Kind.{Kind}
 use Rattle.mdl_key.specs.Words.{KeyName, is_mode_of, key_eq, kind_of}
@@ -11,24 +12,46 @@ use Rattle.mdl_steps.specs.declared.view.Ask.{Ask}
 use Rattle.mdl_steps.specs.declared.view.Known.{Known}
 use Rattle.mdl_steps.specs.declared.view.Own.{Own}
 use Rattle.mdl_steps.specs.Deeds.{is_own}
-use Rattle.mdl_shared.specs.OwnLists.{key_known}
+use Rattle.mdl_steps.specs.Layout.{word_count}
+use Rattle.mdl_session_laws.specs.SessionSpaces.{IsSound}
+use Rattle.mdl_visits.specs.Idle.{IsIdle, HasSlowAlone}
 use Rattle.mdl_visits.specs.Numbers.{numbered}
+use Rattle.mdl_shared.specs.OwnLists.{key_known}
+use Rattle.mdl_shared.specs.Rememberings.{AreAlike}
+use Rattle.mdl_shared.specs.SessionViews.{SessionView, space_of}
+use Rattle.mdl_shared.specs.Waitings.{is_ask_last, is_ask_told}
 
 -- a session's tickets have numbers below this
 abbrev pub most_numbers : ℕ
 most_numbers = 2 ^ 60
 
--- whether a session has looked up a key of the place
-abbrev pub is_known_place : List Known → ℕ → Bool
-is_known_place known place = list_any (λ k. k.place == place) known
-
 -- each ticket is of a place whose key the session has looked up
 abbrev pub are_placed : List Known → List Own → Bool
 are_placed known tickets = list_all (λ t. is_known_place known t.place) tickets
 
+-- the ticket that is waited for is of such a place
+abbrev pub is_ask_placed : List Known → Option Ask → Bool
+is_ask_placed known asks = option_map_or (λ (a : Ask). is_known_place known a.place) asks true
+
 -- each place that it has looked up is one of the table's
 abbrev pub are_within : ℕ → List Known → Bool
 are_within slots known = list_all (λ k. nat_lt 0 k.place && nat_lt k.place slots) known
+
+-- what is always so of a session between two calls: as a lock space it is sound; it holds no latch, and each of its tickets stands in a book; the places
+-- that it has looked up are the table's; the tickets of a place have one note; the ticket that it waits for has the last number that it gave, and it was told
+-- nothing of a wait that it hasn't; it has had fewer waits than tickets; it is one of the sessions of the space, for whom the table has words
+pub record IsMember (s : SessionView) : Type 0 where
+  pub sound : IsSound (space_of s)
+  pub idle : IsIdle s.me
+  pub slow : HasSlowAlone s.me
+  pub within : are_within s.table.slots s.me.0.known ≡ true
+  pub alike : AreAlike s.me.0.slow
+  pub last : is_ask_last s.me.0.next s.me.0.asks ≡ true
+  pub told : is_ask_told s.me.0.asks s.me.0.told ≡ true
+  pub fewer : (s.me.0.waits < s.me.0.next) × (s.me.0.waits < most_numbers)
+  pub counted : (0 < s.me.0.number) × (s.me.0.number ≤ s.sessions)
+  pub narrow : (0 < s.table.slots) × (s.table.slots ≤ 65536)
+  pub words : s.table.words ≡ word_count s.table.slots s.sessions
 
 -- the tickets without that of a number at a place
 abbrev pub without_at : ℕ → ℕ → List Own → List Own
@@ -38,10 +61,6 @@ without_at place number tickets = filter (λ t. not (is_own place number t)) tic
 abbrev pub holding_fault : ℕ → List Own → Option SpaceError
 holding_fault number tickets = if is_some (numbered number tickets) then None else Some NotHeld
 
--- the kind of the key at a place that the session has looked up
-abbrev pub kind_known : ℕ → List Known → Option Kind
-kind_known place known = option_map (λ (k : Known). kind_of k.key.namespace) (find (λ (k : Known). k.place == place) known)
-
 -- why a wish for a mode isn't even tried, at a place whose key is of this kind, or isn't known, by a session with this wait, or none, whose next
 -- ticket has this number
 abbrev pub wish_fault : Option Kind → Option Ask → Mode → ℕ → Option SpaceError
@@ -50,28 +69,11 @@ wish_fault (Some kind) asks mode next =
     if is_some asks then Some AlreadyWaiting
     else (if not (is_mode_of kind mode) then Some BadMode else (if nat_le most_numbers next then Some CounterFull else None))
 
--- the place of a key that the session has looked up
-abbrev pub place_known : KeyName → List Known → Option ℕ
-place_known key known = option_map (λ (k : Known). k.place) (find (λ (k : Known). key_eq k.key key) known)
-
 -- a key is at this place by what the session knew of it, or was looked up and is the last that it knows, at a place that it didn't know
 abbrev pub LearnsPlace : KeyName → ℕ → Option ℕ → List Known → List Known → Type 0
 LearnsPlace key place (Some known) before after = (place ≡ known) × (after ≡ before)
 LearnsPlace key place None before after = (is_known_place before place ≡ false) × (after ≡ before ++ record { key = key; place = place } ∷ [])
 
--- whether two keys differ, and their places
-abbrev pub are_two : Known → Known → Bool
-are_two one other = not (key_eq one.key other.key) && not (one.place == other.place)
-
--- whether no key is looked up twice, and no place
-abbrev pub are_apart : List Known → Bool
-are_apart [] = true
-are_apart (k ∷ later) = list_all (are_two k) later && are_apart later
-
 -- each of these keys is known at its place
 abbrev pub AreLearnt : List Known → List Known → Type 0
 AreLearnt tables known = All (λ (t : Known). key_known t.place known ≡ Some t.key) tables
-
--- a ticket with a version noted under it, where it is at the place
-abbrev pub noting_at : ℕ → ℕ → Own → Own
-noting_at place version t = if t.place == place then record t { noted = Some version } else t

@@ -10,10 +10,10 @@ use Rattle.mdl_steps.specs.declared.view.Own.{Own}
 use Rattle.mdl_steps.specs.declared.view.Read.{Read}
 use Rattle.mdl_steps.specs.declared.view.View.{View}
 use Rattle.mdl_steps.specs.Plays.{Mine}
+use Rattle.mdl_steps.specs.SeatStates.{SeatState}
 use Rattle.mdl_steps.specs.declared.wait_word.Loss.TheVariants as loss
 use Rattle.mdl_steps.specs.WaitStates.{granted_state, lost_state}
 use Rattle.mdl_session_laws.specs.SessionSpaces.{Space, Note}
-use Rattle.mdl_shared.specs.declared.member.Member.{Member}
 use Rattle.mdl_shared.specs.OwnLists.{told_of}
 
 -- how a wait is settled whose word is in this state
@@ -40,9 +40,9 @@ pub record SessionView : Type 0 where
   pub sessions : ℕ
   pub me : Mine
 
--- what a session, open or not, is at the table
-abbrev pub view_of : Member → SessionView
-view_of m = record { table = m.seat.table; sessions = m.sessions; me = m.seat.me }
+-- the session of a seat, in a space of so many sessions
+abbrev pub session_at : SeatState → ℕ → SessionView
+session_at seat sessions = record { table = seat.table; sessions = sessions; me = seat.me }
 
 -- ---- its lists
 
@@ -57,10 +57,6 @@ pub record Lists : Type 0 where
 -- by what it knows and has at the table
 abbrev pub lists_seen : View → Lists
 lists_seen me = record { tickets = me.slow; known = me.known; next = me.next; asks = me.asks; waits = me.waits }
-
--- as it keeps them of its own
-abbrev pub lists_of : Member → Lists
-lists_of m = record { tickets = m.tickets.items; known = m.known.items; next = m.next; asks = m.asks; waits = m.waits }
 
 -- ---- as a lock space
 
@@ -82,7 +78,3 @@ space_by number lists told reads = record {
 -- what a session has of the space, as plain data
 abbrev pub space_of : SessionView → Space
 space_of s = space_by s.me.0.number (lists_seen s.me.0) s.me.0.told s.me.0.reads
-
--- the same by the lists that it keeps of its own
-abbrev pub space_of_member : Member → Space
-space_of_member m = space_by m.seat.me.0.number (lists_of m) m.seat.me.0.told m.seat.me.0.reads

@@ -4,9 +4,7 @@ use Rattle.std.specs.Option.{option_map, option_map_or}
 use Rattle.mdl_calls.specs.declared.space_error.SpaceError.{SpaceError}
 use Rattle.mdl_calls.specs.declared.space_error.SpaceError.TheVariants.{NoWait}
 use Rattle.mdl_steps.specs.declared.view.Ask.{Ask}
-use Rattle.mdl_steps.specs.declared.view.Known.{Known}
 use Rattle.mdl_steps.specs.declared.view.Own.{Own}
-use Rattle.mdl_shared.specs.Members.{is_known_place}
 use Rattle.mdl_visits.specs.Numbers.{all_numbers}
 
 -- whether all have numbers below the next one
@@ -26,10 +24,6 @@ is_ask_last next asks = option_map_or (λ (a : Ask). a.number + 1 == next) asks 
 abbrev pub is_ask_told : Option Ask → Option ℕ → Bool
 is_ask_told None told = not (is_some told)
 is_ask_told (Some a) told = true
-
--- whether it is of a place whose key the session has looked up
-abbrev pub is_ask_placed : List Known → Option Ask → Bool
-is_ask_placed known asks = option_map_or (λ (a : Ask). is_known_place known a.place) asks true
 
 -- why a call on the session's own wait is refused
 abbrev pub wait_fault : Option Ask → Option SpaceError

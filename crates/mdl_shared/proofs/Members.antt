@@ -1,0 +1,184 @@
+-- What is always so of a session between two calls is so after each call.
+use Rattle.std.proofs.Common.{◌≡◌, ◌⊎◌, inl, inr, ℕ, ◌+◌, ◌≤◌, ◌<◌, true, List, [], ◌∷◌, Option, Some, None, refl, sym, ap, subst, ◌∙◌, arith}
+use Rattle.atomic_table.specs.Seated.{TableId}
+use Rattle.mdl_calls.specs.Words.{Answer, Call}
+use Rattle.mdl_steps.specs.declared.deed.Deed.{Deed}
+use Rattle.mdl_steps.specs.declared.deed.Deed.TheVariants.{Gain, Alter, Lose}
+use Rattle.mdl_steps.specs.declared.view.Ask.{Ask}
+use Rattle.mdl_steps.specs.declared.view.Met.{Met}
+use Rattle.mdl_steps.specs.declared.view.Own.{Own}
+use Rattle.mdl_steps.specs.declared.view.Settlement.{Settlement}
+use Rattle.mdl_steps.specs.Deeds.{all_done, all_next, all_owned}
+use Rattle.mdl_steps.specs.Layout.{word_count}
+use Rattle.mdl_steps.specs.Plays.{Mine}
+use Rattle.mdl_steps.specs.SeatStates.{AtItsTable, SeatState}
+use Rattle.mdl_session_laws.specs.SessionJoins.{Joins}
+use Rattle.mdl_session_laws.proofs.KeptSound.{keeps-sound}
+use Rattle.mdl_visits.specs.Grantings.{StaysTold, VisitsAndReschedules}
+use Rattle.mdl_visits.specs.Idle.{IsIdle, HasSlowAlone}
+use Rattle.mdl_visits.specs.Visits.{Visits}
+use Rattle.mdl_visits.specs.Numbers.{numbered}
+use Rattle.mdl_shared.specs.declared.member.Member.{Member}
+use Rattle.mdl_shared.specs.Members.{IsMember, are_within, most_numbers}
+use Rattle.mdl_shared.specs.Passes.{view_of}
+use Rattle.mdl_shared.specs.Rememberings.{AreAlike}
+use Rattle.mdl_shared.specs.SessionViews.{Lists, SessionView, lists_seen, session_at, space_of}
+use Rattle.mdl_shared.specs.TicketLists.{HasRoom, TicketList}
+use Rattle.mdl_shared.specs.Waitings.{is_ask_last, is_ask_told}
+use Rattle.mdl_shared.proofs.Alike.{alike_done}
+use Rattle.mdl_shared.proofs.SameSpace.{KeepsRest, Stays}
+
+-- a call left the session at the same table of the same space, without a latch or a fast ticket, and in order but for what its joining tells
+pub record StaysInOrder (s s′ : SessionView) : Type 0 where
+  pub table : s′.table ≡ s.table
+  pub sessions : s′.sessions ≡ s.sessions
+  pub idle : IsIdle s′.me
+  pub slow : HasSlowAlone s′.me
+  pub within : are_within s.table.slots s′.me.0.known ≡ true
+  pub alike : AreAlike s′.me.0.slow
+  pub last : is_ask_last s′.me.0.next s′.me.0.asks ≡ true
+  pub told : is_ask_told s′.me.0.asks s′.me.0.told ≡ true
+  pub fewer : (s′.me.0.waits < s′.me.0.next) × (s′.me.0.waits < most_numbers)
+
+pub kept : {s s′ : SessionView} {call : Call} {answer : Answer} → IsMember s → StaysInOrder s s′ → Joins (space_of s) call answer (space_of s′) → IsMember s′
+kept {s} {s′} {call} {answer} is order joins = record {
+  sound = keeps-sound (space_of s) (space_of s′) call answer is.sound joins;
+  idle = order.idle;
+  slow = order.slow;
+  within = ap (λ (t : TableId). are_within t.slots s′.me.0.known) order.table ∙ order.within;
+  alike = order.alike;
+  last = order.last;
+  told = order.told;
+  fewer = order.fewer;
+  counted = subst (λ (n : ℕ). (0 < n) × (n ≤ s′.sessions)) (sym joins.number)
+      (subst (λ (n : ℕ). (0 < s.me.0.number) × (s.me.0.number ≤ n)) (sym order.sessions) is.counted);
+  narrow = subst (λ (t : TableId). (0 < t.slots) × (t.slots ≤ 65536)) (sym order.table) is.narrow;
+  words = subst (λ (t : TableId). t.words ≡ word_count t.slots s′.sessions) (sym order.table)
+      (is.words ∙ ap (word_count s.table.slots) (sym order.sessions));
+}
+
+-- ---- calls that do deeds at a place, or none
+
+-- the session did these deeds at a place, and made steps; it may have been told of its wait; nothing else changed
+pub record HasDone (place : ℕ) (ds : List Deed) (s s′ : SessionView) : Type 0 where
+  pub told : Option ℕ
+  pub settles : List Settlement
+  pub log : List Met
+  pub now : s′ ≡ record s { me = (record (all_done place ds s.me.0) { told = told; settles = settles; log = log }, s.me.1) }
+  pub stays : StaysTold s.me.0.told told
+  pub unasked : s.me.0.asks ≡ None → told ≡ s.me.0.told
+
+-- what its seat's visit tells
+seat-changed : (seat seat′ : SeatState) (sessions : ℕ) → seat′.table ≡ seat.table → (m : Mine) → seat′.me ≡ m → session_at seat′ sessions ≡ record (session_at seat sessions) { me = m }
+seat-changed seat seat′ sessions table m me = λ i. record { table = table i; sessions = sessions; me = me i }
+
+pub visited : {place : ℕ} {ds : List Deed} (seat seat′ : SeatState) (sessions : ℕ) → AtItsTable seat seat′ (Visits place ds)
+    → HasDone place ds (session_at seat sessions) (session_at seat′ sessions)
+visited seat seat′ sessions visits = record {
+  told = seat.me.0.told;
+  settles = seat.me.0.settles;
+  log = _;
+  now = seat-changed seat seat′ sessions visits.0 _ visits.1.now;
+  stays = λ state told. told;
+  unasked = λ none. refl;
+}
+
+pub rescheduled : {place : ℕ} {ds : List Deed} (seat seat′ : SeatState) (sessions : ℕ) → AtItsTable seat seat′ (VisitsAndReschedules seat.table place ds)
+    → HasDone place ds (session_at seat sessions) (session_at seat′ sessions)
+rescheduled seat seat′ sessions visits =
+    let told : seat′.me.0.told ≡ visits.1.told = ap (λ (m : Mine). m.0.told) visits.1.now in
+    record {
+      told = visits.1.told;
+      settles = visits.1.settles;
+      log = _;
+      now = seat-changed seat seat′ sessions visits.0 _ visits.1.now;
+      stays = subst (λ (o : Option ℕ). StaysTold seat.me.0.told o) told visits.1.way.stays;
+      unasked = λ none. sym told ∙ visits.1.way.unasked none;
+    }
+
+-- numbers are given out, and none is taken back
+next-more : (ds : List Deed) (next : ℕ) → next ≤ all_next ds next
+next-more [] next = omega arith
+next-more (Gain number mode ∷ ds) next = let more = next-more ds (next + 1) in omega arith
+next-more (Alter number mode ∷ ds) next = next-more ds next
+next-more (Lose number ∷ ds) next = next-more ds next
+
+-- what is told of a wait stays so where nothing is told of none
+told-stays : (asks : Option Ask) (told told′ : Option ℕ) → (asks ≡ None → told′ ≡ told) → is_ask_told asks told ≡ true → is_ask_told asks told′ ≡ true
+told-stays None told told′ stays all = ap (is_ask_told None) (stays refl) ∙ all
+told-stays (Some a) told told′ stays all = refl
+
+last-none : (next next′ : ℕ) (asks : Option Ask) → (asks ≡ None) ⊎ (next′ ≡ next) → is_ask_last next asks ≡ true → is_ask_last next′ asks ≡ true
+last-none next next′ None which last = refl
+last-none next next′ (Some a) (inl none) last = cc
+last-none next next′ (Some a) (inr same) last = ap (λ (n : ℕ). is_ask_last n (Some a)) same ∙ last
+
+module _ {place : ℕ} {ds : List Deed} {s s′ : SessionView} (done : HasDone place ds s s′) where
+  -- where it waits it was given no number
+  pub done-order : IsMember s → (s.me.0.asks ≡ None) ⊎ (all_next ds s.me.0.next ≡ s.me.0.next) → StaysInOrder s s′
+  done-order is which =
+      let more = next-more ds s.me.0.next in
+      let fewer = is.fewer in
+      subst (λ (x : SessionView). StaysInOrder s x) (sym done.now) (record {
+        table = refl;
+        sessions = refl;
+        idle = is.idle;
+        slow = is.slow;
+        within = is.within;
+        alike = alike_done place ds s.me.0.slow is.alike;
+        last = last-none s.me.0.next (all_next ds s.me.0.next) s.me.0.asks which is.last;
+        told = told-stays s.me.0.asks s.me.0.told done.told done.unasked is.told;
+        fewer = (omega (arith, more, fewer.0), fewer.1);
+      })
+
+  pub done-rest : KeepsRest s s′
+  done-rest = subst (λ (x : SessionView). KeepsRest s x) (sym done.now) (record {
+    number = refl;
+    known = refl;
+    wait = record { asks = refl; waits = refl; stays = done.stays; unasked = done.unasked };
+  })
+
+  pub done-slow : s′.me.0.slow ≡ all_owned place ds s.me.0.slow
+  done-slow = ap (λ (x : SessionView). x.me.0.slow) done.now
+
+  pub done-next : s′.me.0.next ≡ all_next ds s.me.0.next
+  done-next = ap (λ (x : SessionView). x.me.0.next) done.now
+
+  pub done-reads : s′.me.0.reads ≡ s.me.0.reads
+  done-reads = ap (λ (x : SessionView). x.me.0.reads) done.now
+
+  -- of its lists, too
+  pub done-lists : lists_seen s′.me.0 ≡ record (lists_seen s.me.0) { tickets = all_owned place ds s.me.0.slow; next = all_next ds s.me.0.next }
+  done-lists = ap (λ (x : SessionView). lists_seen x.me.0) done.now
+
+-- without a deed all else stays
+pub done-nothing : {place : ℕ} {s s′ : SessionView} → HasDone place [] s s′ → Stays s s′
+done-nothing done =
+    let rest = done-rest done in record {
+      number = rest.number;
+      tickets = done-slow done;
+      next = done-next done;
+      known = rest.known;
+      wait = rest.wait;
+      reads = done-reads done;
+    }
+
+-- ---- a session's own lists
+
+-- they are those of its view still, where the same was done to them
+pub lists-done : (m : Member) {place : ℕ} {ds : List Deed} {s : SessionView} {tickets : List Own} → HasDone place ds (view_of m) s → tickets ≡ all_owned place ds m.tickets.own
+    → record { tickets = tickets; known = m.known.known; next = all_next ds m.next; asks = m.asks; waits = m.waits } ≡ lists_seen s.me.0
+lists-done m {place} {ds} done same =
+    ap (λ (ts : List Own). record { tickets = ts; known = m.known.known; next = all_next ds m.next; asks = m.asks; waits = m.waits }) same
+    ∙ ap (λ (l : Lists). record l { tickets = all_owned place ds l.tickets; next = all_next ds l.next }) m.lists ∙ sym (done-lists done)
+
+-- and have the room that they had
+pub room-kept : {place : ℕ} (list list′ : TicketList) → (list.spare ≤ list′.spare) × (list′.reach ≡ list.reach) → HasRoom place list → HasRoom place list′
+room-kept {place} list list′ more room =
+    let some = more.0 in
+    let same = more.1 in
+    (omega (arith, some, room.0), subst (λ (n : ℕ). place < n) (sym same) room.1)
+
+-- a ticket of its own list is one of its view
+pub held-seen : (m : Member) (id : ℕ) (o : Option Own) → o ≡ numbered id m.tickets.own → numbered id m.seat.me.0.slow ≡ o
+held-seen m id o found = ap (λ (l : Lists). numbered id l.tickets) (sym m.lists) ∙ sym found
