@@ -62,7 +62,7 @@ module _ (place : ℕ) (s : SeatState) (q : ℕ) (w n : SeatState) (at : q ≡ p
   met_full cause (inl memory) = inl memory
   met_full cause (inr full) = let m = met in inr (full.0, (m.0, m.1, record { word = m.2; latch = h; held = m.3; full = full.1 }))
 
-module _ (place : ℕ) (s : SeatState) (q : ℕ) (c : SeatState) (a : Arrives place s q c) where
+module _ {place : ℕ} {s : SeatState} {q : ℕ} {c : SeatState} (a : Arrives place s q c) where
   pub number_kept : s.me.0.number ≡ c.me.0.number
   number_kept = sym (ap (λ (x : Mine). x.0.number) a.came.1.now)
 

@@ -80,11 +80,11 @@ pub found_one : (found : Option Ticket) → is_some found ≡ true → (t : Tick
 found_one (Some t) there = (t, refl)
 found_one None there = absurd (cc)
 
-module _ (place number : ℕ) (s : SeatState) (q : ℕ) (c : SeatState) (a : Arrives place s q c) (unwaited : NotWaited s.me.0 number) (held : HasTicket place number s.me.0.slow) where
+module _ {place : ℕ} {s : SeatState} {q : ℕ} {c : SeatState} (a : Arrives place s q c) (number : ℕ) (unwaited : NotWaited s.me.0 number) (held : HasTicket place number s.me.0.slow) where
   -- the session's ticket stands in the book that is met
   pub there : is_some (ticket_of c.me.0.number number a.latch.book.granted) ≡ true
   there =
-      subst (λ (who : ℕ). is_some (ticket_of who number a.latch.book.granted) ≡ true) (number_kept place s q c a)
+      subst (λ (who : ℕ). is_some (ticket_of who number a.latch.book.granted) ≡ true) (number_kept a)
       (ap is_some (a.fresh.own number unwaited) ∙ own_found s.me.0.number place number s.me.0.slow held)
 
   -- so it is taken out
@@ -98,6 +98,6 @@ module _ (place number : ℕ) (s : SeatState) (q : ℕ) (c : SeatState) (a : Arr
   pub has_lost : (w : SeatState) → KnowsPlace s.me.0 place → w ≡ record c { me = written q (booked c.me.0.number (Lose number) a.latch.book) c.me } → HasWorked q (Lose number ∷ []) w
   has_lost w known is =
       let ticket = found_one (ticket_of c.me.0.number number a.latch.book.granted) there in
-      has_worked place s q c a (Lose number ∷ []) w known (ticket.0, (ticket.1, unwaited_there place s q c a number unwaited))
+      has_worked a (Lose number ∷ []) w known (ticket.0, (ticket.1, unwaited_there a number unwaited))
       (still_flagged c.me.0.number number a.latch.book a.latch.slow a.latch.obtrusive ((λ e. a.fresh.exact.0 ∙ e), λ e. a.fresh.exact.1 ∙ e))
       is

@@ -86,7 +86,7 @@ refusal T ticket word book cause stands refuses =
 
 -- ---- as the place was entered
 
-module _ (place q word : ℕ) (mode : Mode) (can : Bool) (s c : SeatState) (has : HasEntered place q word mode can s c) where
+module _ {place q word : ℕ} {mode : Mode} {can : Bool} {s c : SeatState} (has : HasEntered place q word mode can s c) where
   abbrev entered : Enters place has.obtrusive word mode can s.me c.me
   entered = has.entered.1
 
@@ -151,14 +151,14 @@ as_told {place} {q} {word} {mode} {can} {known} {s} {c} is has = subst (λ (b : 
 
 -- ---- where the wish can't be granted
 
-module _ (place q word : ℕ) (mode : Mode) (s c : SeatState) (has : HasEntered place q word mode false s c) where
+module _ {place q word : ℕ} {mode : Mode} {s c : SeatState} (has : HasEntered place q word mode false s c) where
   -- the step that read the word shows it
   pub blocked : (n : SeatState) → ((b : SeatState) → AtItsTable b c (IsInside q) → AtItsTable b n (Visits q [])) → HasStep c n (DidUnder q [] c) → WasBlocked place mode s n
   blocked n visited step =
       let entered = has.entered.1 in
       let read : Met = record { kind = ReadWord; deeds = []; word = lock_word place; found = word; held = c.me.0.latches; directory = c.me.0.directory } in
       let after : List Met = step.1.0 ++ step.0 ∷ step.1.1 in (
-        subst (λ (p : ℕ). AtItsTable s n (Visits p [])) has.at (visited s (has.entered.0, entered_inside place q word mode false s c has)),
+        subst (λ (p : ℕ). AtItsTable s n (Visits p [])) has.at (visited s (has.entered.0, entered_inside has)),
         (
           read,
           (
@@ -166,28 +166,28 @@ module _ (place q word : ℕ) (mode : Mode) (s c : SeatState) (has : HasEntered 
             after,
             step.1.2 ∙ append_assoc c.me.0.log step.1.0 (step.0 ∷ step.1.1) ∙ ap (λ (log : List Met). log ++ after) entered.read.1 ∙ append_assoc (s.me.0.log ++ entered.read.0) (read ∷ []) after,
           ),
-          record { kind = refl; word = refl; latch = entered_latch place q word mode false s c has; held = entered.holds.recorded; blocked = entered.told },
+          record { kind = refl; word = refl; latch = entered_latch has; held = entered.holds.recorded; blocked = entered.told },
         ),
       )
 
 -- ---- where it can
 
-module _ (place q word : ℕ) (mode : Mode) (s c : SeatState) (has : HasEntered place q word mode true s c) where
+module _ {place q word : ℕ} {mode : Mode} {s c : SeatState} (has : HasEntered place q word mode true s c) where
   abbrev found : LatchRecord
   found = has.entered.1.found
 
   abbrev latch : LatchRecord
-  latch = entered_latch place q word mode true s c has
+  latch = entered_latch has
 
   joins : (session : ℕ) → can_be_granted (lock_kind found.book) found.book.granted found.book.waiting word session mode ≡ true → MayJoin session found.book latch.noted mode
-  joins session can = may_join found.book word session mode has.obtrusive found.obtrusive found.noted (asks_here place q word mode true s c has) (and_parts _ _ can).0
+  joins session can = may_join found.book word session mode has.obtrusive found.obtrusive found.noted (asks_here has) (and_parts _ _ can).0
 
   granted_here : MayBeGranted c.me.0 found.book latch.noted mode
   granted_here =
-      let can = told_here place q word mode true s c has in
+      let can = told_here has in
       record {
-        idle = entered_idle place q word mode true s c has;
-        is_mode = is_mode_here place q word mode true s c has;
+        idle = entered_idle has;
+        is_mode = is_mode_here has;
         joins = joins c.me.0.number can;
         first = (and_parts _ _ can).1;
       }
@@ -199,8 +199,8 @@ module _ (place q word : ℕ) (mode : Mode) (s c : SeatState) (has : HasEntered 
       subst (λ (x : SeatState). MayPut q (d ∷ []) x.me) (sym wrote) (
         latch,
         record {
-          holds = holds_written q latch found.book (booked c.me.0.number d found.book) c.me (entered_holds place q word mode true s c has);
-          act = inl (entered_known place q word mode true s c has);
+          holds = holds_written q latch found.book (booked c.me.0.number d found.book) c.me (entered_holds has);
+          act = inl (entered_known has);
           may = may;
         },
         told,
@@ -212,7 +212,7 @@ module _ (place q word : ℕ) (mode : Mode) (s c : SeatState) (has : HasEntered 
       may_put (Gain number mode) w
       (next, inl granted_here)
       (granted_exactly (record { session = c.me.0.number; number = number; mode = mode }) found.book found.slow found.obtrusive has.obtrusive has.entered.1.fresh.exact
-      (asks_here place q word mode true s c has))
+      (asks_here has))
       wrote
 
   -- why the ticket wasn't written
@@ -220,16 +220,16 @@ module _ (place q word : ℕ) (mode : Mode) (s c : SeatState) (has : HasEntered 
       → Refuses {T = T} (grant_fault (record { session = c.me.0.number; number = number; mode = mode }) word found.book) fault.OutOfMemory (Err cause)
       → (cause ≡ fault.OutOfMemory) ⊎ ((cause ≡ fault.Full) × (65535 ≤ ticket_count found.book))
   why_not T number cause refuses =
-      refusal T (record { session = c.me.0.number; number = number; mode = mode }) word found.book cause (and_parts _ _ (told_here place q word mode true s c has)).0 refuses
+      refusal T (record { session = c.me.0.number; number = number; mode = mode }) word found.book cause (and_parts _ _ (told_here has)).0 refuses
 
   -- or the other mode of a ticket that it has there, an obtrusive one
   module _ (number : ℕ) (kind : Kind) (knows : KnowsKind s.me.0 place kind) (loud : is_obtrusive kind mode ≡ true) (held : HasTicket place number s.me.0.slow) where
     up : has.obtrusive ≡ true
-    up = asks_here place q word mode true s c has ∙ ap (λ k. is_obtrusive k mode) (kind_known place q word mode true s c has kind knows) ∙ loud
+    up = asks_here has ∙ ap (λ k. is_obtrusive k mode) (kind_known has kind knows) ∙ loud
 
     stands : is_some (ticket_of c.me.0.number number found.book.granted) ≡ true
     stands =
-        subst (λ (who : ℕ). is_some (ticket_of who number found.book.granted) ≡ true) (me place q word mode true s c has)
+        subst (λ (who : ℕ). is_some (ticket_of who number found.book.granted) ≡ true) (me has)
         (ap is_some (has.entered.1.fresh.own number (idle_waits_not s.me.0 number has.wish.idle)) ∙ own_found s.me.0.number place number s.me.0.slow held)
 
     pub ready_altered : (w : SeatState) → w ≡ record c { me = written q (booked c.me.0.number (Alter number mode) found.book) c.me } → MayPut q (Alter number mode ∷ []) w.me
@@ -237,7 +237,7 @@ module _ (place q word : ℕ) (mode : Mode) (s c : SeatState) (has : HasEntered 
         let ticket = found_one (ticket_of c.me.0.number number found.book.granted) stands in
         may_put (Alter number mode) w
         (inl ((ticket.0, (ticket.1, idle_waits_not c.me.0 number granted_here.idle)), granted_here))
-        (altered_exactly c.me.0.number number mode found.book has.obtrusive found.obtrusive up (sym (asks_here place q word mode true s c has) ∙ up) stands)
+        (altered_exactly c.me.0.number number mode found.book has.obtrusive found.obtrusive up (sym (asks_here has) ∙ up) stands)
         wrote
 
     -- which was written
@@ -246,13 +246,13 @@ module _ (place q word : ℕ) (mode : Mode) (s c : SeatState) (has : HasEntered 
         → w ≡ record c { me = written q (booked c.me.0.number (Alter number mode) found.book) c.me }
     altered w result refuses wrote =
         just_done (change_fault c.me.0.number number mode word found.book) result
-        (none_clashes c.me.0.number number mode word found.book stands (and_parts _ _ (told_here place q word mode true s c has)).0) refuses wrote
+        (none_clashes c.me.0.number number mode word found.book stands (and_parts _ _ (told_here has)).0) refuses wrote
 
   -- the step that gave the latch back, with the deed, shows that the wish could be granted
   pub granted : (d : Deed) (w n : SeatState) → w ≡ record c { me = written q (booked c.me.0.number d found.book) c.me } → n ≡ record w { me = unlatched q (d ∷ []) w.me } → WasGranted place mode d s n
   granted d w n writes puts =
       let entered = has.entered.1 in
-      let inside = entered_inside place q word mode true s c has in
+      let inside = entered_inside has in
       let e : Met = record { kind = PutLatch; deeds = d ∷ []; word = latch_word q; found = c.me.0.number; held = c.me.0.latches; directory = c.me.0.directory } in (
         (
           table_of puts ∙ table_of writes ∙ has.entered.0,

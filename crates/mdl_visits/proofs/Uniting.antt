@@ -34,15 +34,15 @@ other_there : (who number other : ℕ) (mode : Mode) (ts : List Ticket) → numb
 other_there who number other mode ts two there =
     ap is_some (of-mode_other who number who other (λ t is. of_other_number who other t (λ e. two (sym (is_passed who number t is).1 ∙ e))) mode ts) ∙ there
 
-module _ (kept gone : Own) (s : SeatState) (q : ℕ) (c : SeatState) (a : Arrives kept.place s q c) (here : kept.place ≡ gone.place) (idle : s.me.0.asks ≡ None) (two : kept.number ≢ gone.number)
+module _ (kept gone : Own) {s : SeatState} {q : ℕ} {c : SeatState} (a : Arrives kept.place s q c) (here : kept.place ≡ gone.place) (idle : s.me.0.asks ≡ None) (two : kept.number ≢ gone.number)
     (held : (numbered kept.number s.me.0.slow ≡ Some kept) × (numbered gone.number s.me.0.slow ≡ Some gone)) where
   -- both tickets stand in the book that is met
   pub first : ticket_of c.me.0.number kept.number a.latch.book.granted ≡ Some (ticket_by c.me.0.number kept)
-  first = own_there c.me.0.number kept.number kept a.latch s.me (number_kept kept.place s q c a) a.fresh (idle_waits_not s.me.0 kept.number idle) held.0
+  first = own_there c.me.0.number kept.number kept a.latch s.me (number_kept a) a.fresh (idle_waits_not s.me.0 kept.number idle) held.0
 
   pub second : ticket_of c.me.0.number gone.number a.latch.book.granted ≡ Some (ticket_by c.me.0.number gone)
   second =
-      own_there c.me.0.number gone.number gone a.latch s.me (number_kept kept.place s q c a) (subst (λ (p : ℕ). IsFresh p a.latch s.me) here a.fresh)
+      own_there c.me.0.number gone.number gone a.latch s.me (number_kept a) (subst (λ (p : ℕ). IsFresh p a.latch s.me) here a.fresh)
       (idle_waits_not s.me.0 gone.number idle) held.1
 
   covered : IsCovered c.me.0.number gone.mode a.latch
@@ -76,7 +76,7 @@ module _ (kept gone : Own) (s : SeatState) (q : ℕ) (c : SeatState) (a : Arrive
   has_united w known strong is =
       let idle_there = ap (λ (x : Mine). x.0.asks) a.came.1.now ∙ idle in
       let kind = lock_kind a.latch.book in
-      has_worked kept.place s q c a (Alter kept.number gone.mode ∷ Lose gone.number ∷ []) w known
+      has_worked a (Alter kept.number gone.mode ∷ Lose gone.number ∷ []) w known
       (record {
         idle = idle_there;
         two = two;

@@ -86,7 +86,7 @@ stands_less session number ts stands = record {
 
 -- ---- the visit
 
-module _ (ask : Ask) (s : SeatState) (q : ℕ) (c : SeatState) (a : Arrives ask.place s q c) where
+module _ (ask : Ask) {s : SeatState} {q : ℕ} {c : SeatState} (a : Arrives ask.place s q c) where
   -- the book without the ticket
   abbrev less : BookView
   less = cancelling c.me.0.number ask.number a.latch.book

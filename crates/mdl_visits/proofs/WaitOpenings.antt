@@ -62,19 +62,19 @@ record MayQueue (place : ℕ) (mode : Mode) (h : LatchRecord) (m : Mine) : Type 
   pub may : MayOpen place mode h m
   pub exact : TellsLists (enqueueing (asked_ticket mode m.0) h.book) h.slow h.obtrusive
 
-may_queue : (place q word : ℕ) (mode : Mode) (s c : SeatState) (has : HasEntered place q word mode false s c) → c.me.0.fast ≡ [] → MayQueue q mode (entered_latch place q word mode false s c has) c.me
-may_queue place q word mode s c has unfast =
+may_queue : {place q word : ℕ} {mode : Mode} {s c : SeatState} (has : HasEntered place q word mode false s c) → c.me.0.fast ≡ [] → MayQueue q mode (entered_latch has) c.me
+may_queue {mode = mode} {c = c} has unfast =
     let found = has.entered.1.found in
-    let holds = entered_holds place q word mode false s c has in
-    let exact = waits_exactly (asked_ticket mode c.me.0) found.book found.slow found.obtrusive has.obtrusive has.entered.1.fresh.exact (asks_here place q word mode false s c has) in
+    let holds = entered_holds has in
+    let exact = waits_exactly (asked_ticket mode c.me.0) found.book found.slow found.obtrusive has.obtrusive has.entered.1.fresh.exact (asks_here has) in
     record {
       holds = holds;
       may = record {
         recorded = holds.recorded;
-        idle = entered_idle place q word mode false s c has;
+        idle = entered_idle has;
         unfast = unfast;
-        known = entered_known place q word mode false s c has;
-        mode_is = is_mode_here place q word mode false s c has;
+        known = entered_known has;
+        mode_is = is_mode_here has;
         flagged = ((λ some. exact.0 ∙ some), λ some. exact.1 ∙ some);
       };
       exact = exact;
@@ -173,20 +173,20 @@ module _ (slots place : ℕ) (mode : Mode) (m m′ m″ : Mine) (inside : IsInsi
 
 -- ---- the call
 
-module _ (place q word : ℕ) (mode : Mode) (s c : SeatState) (has : HasEntered place q word mode false s c) (number : ℕ) (next : number ≡ c.me.0.next) (w : SeatState)
+module _ {place q word : ℕ} {mode : Mode} {s c : SeatState} (has : HasEntered place q word mode false s c) (number : ℕ) (next : number ≡ c.me.0.next) (w : SeatState)
     (wrote : w ≡ record c { me = written q (enqueueing (record { session = c.me.0.number; number = number; mode = mode }) has.entered.1.found.book) c.me }) where
   abbrev latch : LatchRecord
-  latch = entered_latch place q word mode false s c has
+  latch = entered_latch has
 
   wished : w.me ≡ written q (enqueueing (asked_ticket mode c.me.0) latch.book) c.me
   wished = subst (λ (n : ℕ). w.me ≡ written q (enqueueing (record { session = c.me.0.number; number = n; mode = mode }) latch.book) c.me) next (mine wrote)
 
   pub wish_opens : c.me.0.fast ≡ [] → MayOpen q mode latch w.me
-  wish_opens unfast = may_open q mode latch c.me w.me (may_queue place q word mode s c has unfast) wished
+  wish_opens unfast = may_open q mode latch c.me w.me (may_queue has unfast) wished
 
   pub wish_puts : c.me.0.fast ≡ [] → (m : Mine) → ((h : LatchRecord) (book : BookView) → Holds q h book w.me → Holds q (with_waiting (asked_ticket mode w.me.0) h) book m) → MayPut q [] m
   wish_puts unfast m keeps =
-      let may = may_queue place q word mode s c has unfast in
+      let may = may_queue has unfast in
       may_put q mode latch c.me w.me may wished m (keeps latch _ (holds_wish q mode latch c.me w.me may wished))
 
   pub begins : (v n : SeatState) → v ≡ record w { me = opened w.table.slots q mode w.me } → n ≡ record v { me = unlatched q [] v.me } → BeginsWait place mode number s n

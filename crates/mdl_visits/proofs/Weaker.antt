@@ -23,10 +23,10 @@ use Rattle.mdl_visits.proofs.Arriving.{Arrives, has_worked, number_kept, unwaite
 use Rattle.mdl_visits.proofs.Covered.{altered, altered_flagged, covered_by, fits_lock, gained_flagged, own_there, stands}
 use Rattle.mdl_visits.proofs.Trying.{refusal}
 
-module _ (held : Own) (s : SeatState) (q : ℕ) (c : SeatState) (a : Arrives held.place s q c) (unwaited : NotWaited s.me.0 held.number) (found : numbered held.number s.me.0.slow ≡ Some held) where
+module _ (held : Own) {s : SeatState} {q : ℕ} {c : SeatState} (a : Arrives held.place s q c) (unwaited : NotWaited s.me.0 held.number) (found : numbered held.number s.me.0.slow ≡ Some held) where
   -- the session's ticket stands in the book that is met
   pub there : ticket_of c.me.0.number held.number a.latch.book.granted ≡ Some (ticket_by c.me.0.number held)
-  there = own_there c.me.0.number held.number held a.latch s.me (number_kept held.place s q c a) a.fresh unwaited found
+  there = own_there c.me.0.number held.number held a.latch s.me (number_kept a) a.fresh unwaited found
 
   module _ (mode : Mode) (fits : FitsAt s.me.0 held.place mode) (strong : covers held.mode mode ≡ true) where
     covered : IsCovered c.me.0.number mode a.latch
@@ -41,11 +41,11 @@ module _ (held : Own) (s : SeatState) (q : ℕ) (c : SeatState) (a : Arrives hel
     pub has_altered : (w : SeatState) → may_downgrade held.mode mode ≡ true → w ≡ record c { me = written q (booked c.me.0.number (Alter held.number mode) a.latch.book) c.me }
         → HasWorked q (Alter held.number mode ∷ []) w
     has_altered w weaker is =
-        has_worked held.place s q c a (Alter held.number mode ∷ []) w
+        has_worked a (Alter held.number mode ∷ []) w
         (fits.0, fits.1, fits.2, fits.3)
         (inr (record {
           ticket = ticket_by c.me.0.number held;
-          held = (there, unwaited_there held.place s q c a held.number unwaited);
+          held = (there, unwaited_there a held.number unwaited);
           is_mode = covered.is_mode;
           weaker = downgrade-listed held.mode mode weaker;
         }))
@@ -56,8 +56,9 @@ module _ (held : Own) (s : SeatState) (q : ℕ) (c : SeatState) (a : Arrives hel
     pub has_gained : (number : ℕ) (w : SeatState) → s.me.0.asks ≡ None → number ≡ s.me.0.next
         → w ≡ record c { me = written q (booked c.me.0.number (Gain number mode) a.latch.book) c.me } → HasWorked q (Gain number mode ∷ []) w
     has_gained number w idle next is =
-        has_worked held.place s q c a (Gain number mode ∷ []) w
-        (fits.0, fits.1, fits.2, fits.3) (
+        has_worked a (Gain number mode ∷ []) w
+        (fits.0, fits.1, fits.2, fits.3)
+        (
           next ∙ sym (ap (λ (x : Mine). x.0.next) a.came.1.now),
           inr (record {
             idle = ap (λ (x : Mine). x.0.asks) a.came.1.now ∙ idle;

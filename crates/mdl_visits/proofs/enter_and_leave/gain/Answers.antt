@@ -9,32 +9,32 @@ use Rattle.mdl_visits.proofs.enter_and_leave.gain.Goals as goal
 pub write_gain-requires : goal.write_gain-requires
 write_gain-requires c =
     let has = c.requires.entered in
-    record { carried = (has.2.entered.1.found.book, (entered_holds has.0 _ _ _ _ has.1 _ has.2).carried) }
+    record { carried = (has.2.entered.1.found.book, (entered_holds has.2).carried) }
 
 pub lower_flags_and_put-requires : goal.lower_flags_and_put-requires
 lower_flags_and_put-requires c =
     let has = c.requires.entered in
-    record { worked = subst (HasWorked c.args.latch.place []) (sym c.in-Err.ensures.unchanged) (rested has.0 _ _ _ _ has.1 _ has.2) }
+    record { worked = subst (HasWorked c.args.latch.place []) (sym c.in-Err.ensures.unchanged) (rested has.2) }
 
 pub put_latch-requires : goal.put_latch-requires
 put_latch-requires c =
     let has = c.requires.entered in
-    let wrote = c.in_default.ensures.written has.2.entered.1.found.book (entered_holds has.0 _ _ _ _ has.1 _ has.2).carried in
+    let wrote = c.in_default.ensures.written has.2.entered.1.found.book (entered_holds has.2).carried in
     record {
       place = place_there c.args.latch.place (table_of wrote) has.2.is_place;
-      put = ready has.0 _ _ _ has.1 _ has.2 c.args.number c.write_gain.new.self c.requires.number wrote;
+      put = ready has.2 c.args.number c.write_gain.new.self c.requires.number wrote;
     }
 
 pub returns-in-Err : goal.returns-in-Err
 returns-in-Err c = record {
   done = λ place s has.
-      refused place _ _ _ _ s _ has c.in-Err.cause c.write_gain.new.self _ c.in-Err.ensures.unchanged
-      (why_not place _ _ _ s _ has _ c.args.number c.in-Err.cause (c.in-Err.ensures.refused has.entered.1.found.book (entered_holds place _ _ _ _ s _ has).carried))
+      refused has c.in-Err.cause c.write_gain.new.self _ c.in-Err.ensures.unchanged
+      (why_not has _ c.args.number c.in-Err.cause (c.in-Err.ensures.refused has.entered.1.found.book (entered_holds has).carried))
       c.lower_flags_and_put.ensures.visited c.lower_flags_and_put.ensures.step;
 }
 
 pub returns : goal.returns
 returns c = record {
   done = λ place s has.
-      granted place _ _ _ s _ has _ c.write_gain.new.self _ (c.in_default.ensures.written has.entered.1.found.book (entered_holds place _ _ _ _ s _ has).carried) c.put_latch.ensures.made;
+      granted has _ c.write_gain.new.self _ (c.in_default.ensures.written has.entered.1.found.book (entered_holds has).carried) c.put_latch.ensures.made;
 }

@@ -10,43 +10,43 @@ use Rattle.mdl_visits.proofs.calls.begin_wait.enqueue.Goals as goal
 pub write_wish-requires : goal.write_wish-requires
 write_wish-requires c =
     let has = c.requires.entered in
-    record { carried = (has.3.entered.1.found.book, (entered_holds has.0 _ _ _ _ has.2 _ has.3).carried) }
+    record { carried = (has.3.entered.1.found.book, (entered_holds has.3).carried) }
 
 pub lower_flags_and_put-requires : goal.lower_flags_and_put-requires
 lower_flags_and_put-requires c =
     let has = c.requires.entered in
-    record { worked = subst (HasWorked c.args.latch.place []) (sym c.in-Err.ensures.unchanged) (rested has.0 _ _ _ _ has.2 _ has.3) }
+    record { worked = subst (HasWorked c.args.latch.place []) (sym c.in-Err.ensures.unchanged) (rested has.3) }
 
 pub open_wait-requires : goal.open_wait-requires
 open_wait-requires c =
     let has = c.requires.entered in
-    let wrote = c.in_default.ensures.written has.3.entered.1.found.book (entered_holds has.0 _ _ _ _ has.2 _ has.3).carried in
+    let wrote = c.in_default.ensures.written has.3.entered.1.found.book (entered_holds has.3).carried in
     record {
       place = place_there c.args.latch.place (table_of wrote) has.3.is_place;
-      opened = (_, wish_opens has.0 _ _ _ has.2 _ has.3 c.args.number c.requires.number c.write_wish.new.self wrote c.requires.unfast);
+      opened = (_, wish_opens has.3 c.args.number c.requires.number c.write_wish.new.self wrote c.requires.unfast);
       wait = (c.requires.wait.0 ∙ sym (ap (λ (x : SeatState). x.me.0.waits + 1) wrote), c.requires.wait.1);
     }
 
 pub put_latch-requires : goal.put_latch-requires
 put_latch-requires c =
     let has = c.requires.entered in
-    let wrote = c.in_default.ensures.written has.3.entered.1.found.book (entered_holds has.0 _ _ _ _ has.2 _ has.3).carried in
+    let wrote = c.in_default.ensures.written has.3.entered.1.found.book (entered_holds has.3).carried in
     record {
       place = place_there c.args.latch.place (table_of c.open_wait.ensures.made ∙ table_of wrote) has.3.is_place;
-      put = wish_puts has.0 _ _ _ has.2 _ has.3 c.args.number c.requires.number c.write_wish.new.self wrote c.requires.unfast c.open_wait.new.self.me c.open_wait.ensures.keeps;
+      put = wish_puts has.3 c.args.number c.requires.number c.write_wish.new.self wrote c.requires.unfast c.open_wait.new.self.me c.open_wait.ensures.keeps;
     }
 
 pub returns-in-Err : goal.returns-in-Err
 returns-in-Err c = record {
   done = λ place word s has.
-      refused place _ word _ _ s _ has c.in-Err.cause c.write_wish.new.self _ c.in-Err.ensures.unchanged
-      (full _ _ c.in-Err.cause (c.in-Err.ensures.refused has.entered.1.found.book (entered_holds place _ _ _ _ s _ has).carried))
+      refused has c.in-Err.cause c.write_wish.new.self _ c.in-Err.ensures.unchanged
+      (full _ _ c.in-Err.cause (c.in-Err.ensures.refused has.entered.1.found.book (entered_holds has).carried))
       c.lower_flags_and_put.ensures.visited c.lower_flags_and_put.ensures.step;
 }
 
 pub returns : goal.returns
 returns c = record {
   done = λ place word s has.
-      begins place _ word _ s _ has c.args.number c.requires.number c.write_wish.new.self (c.in_default.ensures.written has.entered.1.found.book (entered_holds place _ _ _ _ s _ has).carried)
+      begins has c.args.number c.requires.number c.write_wish.new.self (c.in_default.ensures.written has.entered.1.found.book (entered_holds has).carried)
       c.open_wait.new.self _ c.open_wait.ensures.made c.put_latch.ensures.made;
 }

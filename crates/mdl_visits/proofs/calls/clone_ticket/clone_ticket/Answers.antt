@@ -22,7 +22,7 @@ lower_flags_and_put-requires g c =
     let r = c.requires in
     let a = arrived held.place s r.at q latch.new.seat told.place told.taken.0 told.taken.1 told.taken.2 told.inside told.stays in
     record {
-      worked = has_gained held s q latch.new.seat a (idle_waits_not s.me.0 held.number r.idle) r.held c.args.mode r.fits r.covers c.args.number c.write_gain.new.self r.idle r.number
+      worked = has_gained held a (idle_waits_not s.me.0 held.number r.idle) r.held c.args.mode r.fits r.covers c.args.number c.write_gain.new.self r.idle r.number
           (c.in-Ok.ensures.written a.latch.book a.holds.carried);
     }
 
@@ -32,7 +32,7 @@ lower_flags_and_put-requires-in-Err g c =
     let told = latch.ensures in
     let q = latch.result.place in
     let a = arrived c.args.held.place c.args.seat.now c.requires.at q latch.new.seat told.place told.taken.0 told.taken.1 told.taken.2 told.inside told.stays in
-    record { worked = subst (HasWorked q []) (sym c.in-Err.ensures.unchanged) (has_rested c.args.held.place c.args.seat.now q latch.new.seat a) }
+    record { worked = subst (HasWorked q []) (sym c.in-Err.ensures.unchanged) (has_rested a) }
 
 pub returns-in-Ok : goal.returns-in-Ok
 returns-in-Ok g c =
@@ -46,11 +46,11 @@ returns-in-Ok g c =
     let n = c.lower_flags_and_put.new.seat in
     let a = arrived held.place s r.at q latch.new.seat told.place told.taken.0 told.taken.1 told.taken.2 told.inside told.stays in
     let out = c.in-Ok.ensures.written a.latch.book a.holds.carried in
-    let came = came_written held.place s q latch.new.seat a (booked latch.new.seat.me.0.number (Gain c.args.number c.args.mode) a.latch.book) w out in
+    let came = came_written a (booked latch.new.seat.me.0.number (Gain c.args.number c.args.mode) a.latch.book) w out in
     record {
       cloned = subst (λ (p : ℕ). AtItsTable s n (Visits p (Gain c.args.number c.args.mode ∷ []))) a.at (c.lower_flags_and_put.ensures.visited s (came.0, came.1));
       unchanged = tt;
-      step = met_own held.place s q latch.new.seat a held.number (Gain c.args.number c.args.mode ∷ []) w n (ap is_some (there held s q latch.new.seat a (idle_waits_not s.me.0 held.number r.idle) r.held))
+      step = met_own a held.number (Gain c.args.number c.args.mode ∷ []) w n (ap is_some (there held a (idle_waits_not s.me.0 held.number r.idle) r.held))
           came (ap (λ (x : SeatState). x.me.0.latches) out) c.lower_flags_and_put.ensures.step;
       refused = tt;
     }
@@ -70,11 +70,11 @@ returns-in-Err g c =
     let came = subst (CameTo q s) (sym same) a.came in
     let latches = ap (λ (x : SeatState). x.me.0.latches) same in
     let unwaited = idle_waits_not s.me.0 held.number r.idle in
-    let met = met_own held.place s q latch.new.seat a held.number [] w n (ap is_some (there held s q latch.new.seat a unwaited r.held)) came latches c.lower_flags_and_put-in-Err.ensures.step in
+    let met = met_own a held.number [] w n (ap is_some (there held a unwaited r.held)) came latches c.lower_flags_and_put-in-Err.ensures.step in
     record {
       cloned = tt;
       unchanged = subst (λ (p : ℕ). AtItsTable s n (Visits p [])) a.at (c.lower_flags_and_put-in-Err.ensures.visited s (came.0, came.1));
       step = (met.0, met.1, met.2, tt);
       refused = met_full held.place s q w n a.at came.1 a.latch (ap (held_at q) latches ∙ a.holds.recorded) [] c.lower_flags_and_put-in-Err.ensures.step c.in-Err.cause
-          (no_room held s q latch.new.seat a unwaited r.held c.args.mode r.fits r.covers _ c.args.number c.in-Err.cause (c.in-Err.ensures.refused a.latch.book a.holds.carried));
+          (no_room held a unwaited r.held c.args.mode r.fits r.covers _ c.args.number c.in-Err.cause (c.in-Err.ensures.refused a.latch.book a.holds.carried));
     }

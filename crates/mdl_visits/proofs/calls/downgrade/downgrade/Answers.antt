@@ -23,8 +23,8 @@ lower_flags_and_reschedule-requires g c =
     let r = c.requires in
     let a = arrived held.place s r.at q arrive told.place told.taken.0 told.taken.1 told.taken.2 told.inside told.stays in
     let strong = downgrade-covered held.mode mode r.weaker in
-    let out = lowered_to held s q arrive a r.unwaited r.held mode r.fits strong wrote.new.self wrote.result (wrote.ensures.refused a.latch.book a.holds.carried) (wrote.ensures.written a.latch.book a.holds.carried) in
-    record { worked = has_altered held s q arrive a r.unwaited r.held mode r.fits strong wrote.new.self r.weaker out }
+    let out = lowered_to held a r.unwaited r.held mode r.fits strong wrote.new.self wrote.result (wrote.ensures.refused a.latch.book a.holds.carried) (wrote.ensures.written a.latch.book a.holds.carried) in
+    record { worked = has_altered held a r.unwaited r.held mode r.fits strong wrote.new.self r.weaker out }
 
 pub returns : goal.returns
 returns g c =
@@ -39,11 +39,11 @@ returns g c =
     let r = c.requires in
     let a = arrived held.place s r.at q arrive told.place told.taken.0 told.taken.1 told.taken.2 told.inside told.stays in
     let strong = downgrade-covered held.mode mode r.weaker in
-    let out = lowered_to held s q arrive a r.unwaited r.held mode r.fits strong wrote.new.self wrote.result (wrote.ensures.refused a.latch.book a.holds.carried) (wrote.ensures.written a.latch.book a.holds.carried) in
-    let came = came_written held.place s q arrive a (booked arrive.me.0.number (Alter held.number mode) a.latch.book) wrote.new.self out in
+    let out = lowered_to held a r.unwaited r.held mode r.fits strong wrote.new.self wrote.result (wrote.ensures.refused a.latch.book a.holds.carried) (wrote.ensures.written a.latch.book a.holds.carried) in
+    let came = came_written a (booked arrive.me.0.number (Alter held.number mode) a.latch.book) wrote.new.self out in
     let n = c.lower_flags_and_reschedule.new.seat in
     record {
       downgraded = subst (λ (p : ℕ). AtItsTable s n (VisitsAndReschedules s.table p (Alter held.number mode ∷ []))) a.at (c.lower_flags_and_reschedule.ensures.rescheduled s came);
-      step = met_own held.place s q arrive a held.number (Alter held.number mode ∷ []) wrote.new.self n (ap is_some (there held s q arrive a r.unwaited r.held))
+      step = met_own a held.number (Alter held.number mode ∷ []) wrote.new.self n (ap is_some (there held a r.unwaited r.held))
           came (ap (λ (x : SeatState). x.me.0.latches) out) c.lower_flags_and_reschedule.ensures.step;
     }

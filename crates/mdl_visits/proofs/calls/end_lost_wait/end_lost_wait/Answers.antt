@@ -19,11 +19,11 @@ end_lost-requires g c =
     let wrote = c.write_withdrawal-withdrawn in
     let w = wrote.new.self in
     let a = arrived ask.place s r.at q came told.place told.taken.0 told.taken.1 told.taken.2 told.inside told.stays in
-    let is = withdrawn ask s q came a w wrote.result wrote.ensures.refused wrote.ensures.written wrote.ensures.unchanged in
+    let is = withdrawn ask a w wrote.result wrote.ensures.refused wrote.ensures.written wrote.ensures.unchanged in
     record {
       place = place_there q (table_of is) a.is_place;
-      cancelled = (a.latch, may_cancel ask s q came a w is r.lost.0 r.asks r.lost.1 r.lost.2);
-      wait = (r.wait.0 ∙ sym (waits_there ask s q came a w is), r.wait.1);
+      cancelled = (a.latch, may_cancel ask a w is r.lost.0 r.asks r.lost.1 r.lost.2);
+      wait = (r.wait.0 ∙ sym (waits_there ask a w is), r.wait.1);
     }
 
 pub lower_flags_and_reschedule-requires : goal.lower_flags_and_reschedule-requires
@@ -38,10 +38,10 @@ lower_flags_and_reschedule-requires g c =
     let wrote = c.write_withdrawal-withdrawn in
     let w = wrote.new.self in
     let a = arrived ask.place s r.at q came told.place told.taken.0 told.taken.1 told.taken.2 told.inside told.stays in
-    let is = withdrawn ask s q came a w wrote.result wrote.ensures.refused wrote.ensures.written wrote.ensures.unchanged in
-    let asks = asks_there ask s q came a w is r.asks in
-    let ended = c.end_lost.ensures.made ask r.lost.0 asks (told_there ask s q came a w is r.lost.0 r.lost.1) in
-    record { worked = has_ended ask s q came a w is r.lost.0 c.end_lost.new.self ended (c.end_lost.ensures.keeps ask a.latch _ asks (holds_less ask s q came a w is)) }
+    let is = withdrawn ask a w wrote.result wrote.ensures.refused wrote.ensures.written wrote.ensures.unchanged in
+    let asks = asks_there ask a w is r.asks in
+    let ended = c.end_lost.ensures.made ask r.lost.0 asks (told_there ask a w is r.lost.0 r.lost.1) in
+    record { worked = has_ended ask a w is r.lost.0 c.end_lost.new.self ended (c.end_lost.ensures.keeps ask a.latch _ asks (holds_less ask a w is)) }
 
 pub returns : goal.returns
 returns g c =
@@ -55,9 +55,9 @@ returns g c =
     let wrote = c.write_withdrawal-withdrawn in
     let w = wrote.new.self in
     let a = arrived ask.place s r.at q came told.place told.taken.0 told.taken.1 told.taken.2 told.inside told.stays in
-    let is = withdrawn ask s q came a w wrote.result wrote.ensures.refused wrote.ensures.written wrote.ensures.unchanged in
-    let asks = asks_there ask s q came a w is r.asks in
-    let ended = c.end_lost.ensures.made ask r.lost.0 asks (told_there ask s q came a w is r.lost.0 r.lost.1) in
+    let is = withdrawn ask a w wrote.result wrote.ensures.refused wrote.ensures.written wrote.ensures.unchanged in
+    let asks = asks_there ask a w is r.asks in
+    let ended = c.end_lost.ensures.made ask r.lost.0 asks (told_there ask a w is r.lost.0 r.lost.1) in
     let n = c.lower_flags_and_reschedule.new.seat in
-    let there = came_ended ask s q came a w is r.lost.0 c.end_lost.new.self ended c.end_lost.ensures.apart in
+    let there = came_ended ask a w is r.lost.0 c.end_lost.new.self ended c.end_lost.ensures.apart in
     record { ended = subst (λ (p : ℕ). AtItsTable s n (EndsLost s.table p)) a.at (c.lower_flags_and_reschedule.ensures.rescheduled (record s { me = without_wait s.me }) there) }

@@ -17,8 +17,8 @@ lower_flags_and_reschedule-requires g c =
     let told = latch.ensures in
     let q = latch.result.place in
     let a = arrived place s c.requires.at q latch.new.seat told.place told.taken.0 told.taken.1 told.taken.2 told.inside told.stays in
-    let out = lost place number s q latch.new.seat a c.requires.unwaited c.requires.held c.write_loss-gone.new.self c.write_loss-gone.result c.write_loss-gone.ensures.refused c.write_loss-gone.ensures.written in
-    record { worked = has_lost place number s q latch.new.seat a c.requires.unwaited c.requires.held c.write_loss-gone.new.self c.requires.known out }
+    let out = lost a number c.requires.unwaited c.requires.held c.write_loss-gone.new.self c.write_loss-gone.result c.write_loss-gone.ensures.refused c.write_loss-gone.ensures.written in
+    record { worked = has_lost a number c.requires.unwaited c.requires.held c.write_loss-gone.new.self c.requires.known out }
 
 pub returns : goal.returns
 returns g c =
@@ -29,13 +29,13 @@ returns g c =
     let told = latch.ensures in
     let q = latch.result.place in
     let a = arrived place s c.requires.at q latch.new.seat told.place told.taken.0 told.taken.1 told.taken.2 told.inside told.stays in
-    let out = lost place number s q latch.new.seat a c.requires.unwaited c.requires.held c.write_loss-gone.new.self c.write_loss-gone.result c.write_loss-gone.ensures.refused c.write_loss-gone.ensures.written in
+    let out = lost a number c.requires.unwaited c.requires.held c.write_loss-gone.new.self c.write_loss-gone.result c.write_loss-gone.ensures.refused c.write_loss-gone.ensures.written in
     let w = c.write_loss-gone.new.self in
     let n = c.lower_flags_and_reschedule.new.seat in
-    let came = came_written place s q latch.new.seat a (booked latch.new.seat.me.0.number (Lose number) a.latch.book) w out in
+    let came = came_written a (booked latch.new.seat.me.0.number (Lose number) a.latch.book) w out in
     record {
       released = subst (λ (p : ℕ). AtItsTable s n (VisitsAndReschedules s.table p (Lose number ∷ []))) a.at
           (c.lower_flags_and_reschedule.ensures.rescheduled s came);
-      step = met_own place s q latch.new.seat a number (Lose number ∷ []) w n (there place number s q latch.new.seat a c.requires.unwaited c.requires.held)
+      step = met_own a number (Lose number ∷ []) w n (there a number c.requires.unwaited c.requires.held)
           came (ap (λ (x : SeatState). x.me.0.latches) out) c.lower_flags_and_reschedule.ensures.step;
     }

@@ -3,12 +3,12 @@ use Rattle.mdl_visits.proofs.Trying.{as_told, blocked, rested}
 use Rattle.mdl_visits.proofs.calls.try_now.try_now.Goals as goal
 
 pub lower_flags_and_put-requires : goal.lower_flags_and_put-requires
-lower_flags_and_put-requires g c = record { worked = rested _ _ _ _ _ c.args.seat.now _ c.enter-can.ensures.entered }
+lower_flags_and_put-requires g c = record { worked = rested c.enter-can.ensures.entered }
 
 pub returns-then-not-can-clause-blocked : goal.returns-then-not-can-clause-blocked
 returns-then-not-can-clause-blocked g c =
     let has = as_told c.if-not-can.true c.enter-can.ensures.entered in
-    λ _. blocked _ _ _ _ c.args.seat.now _ has _ c.lower_flags_and_put.ensures.visited c.lower_flags_and_put.ensures.step
+    λ _. blocked has _ c.lower_flags_and_put.ensures.visited c.lower_flags_and_put.ensures.step
 
 pub returns-in-Err-clause-unchanged : goal.returns-in-Err-clause-unchanged
 returns-in-Err-clause-unchanged g c = (c.in-Err.ensures.done c.args.place c.args.seat.now (as_told c.if-not-can.false c.enter-can.ensures.entered)).0

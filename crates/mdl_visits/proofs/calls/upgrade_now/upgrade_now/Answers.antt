@@ -11,23 +11,23 @@ enter-can-requires g c =
     record { at = c.requires.at; wish = record { idle = c.requires.idle; kind = mode.0; knows = mode.1; is_mode = mode.2; asks = sym mode.3 } }
 
 pub lower_flags_and_put-requires : goal.lower_flags_and_put-requires
-lower_flags_and_put-requires g c = record { worked = rested _ _ _ _ _ c.args.seat.now _ c.enter-can.ensures.entered }
+lower_flags_and_put-requires g c = record { worked = rested c.enter-can.ensures.entered }
 
 pub returns-then-not-can-clause-blocked : goal.returns-then-not-can-clause-blocked
 returns-then-not-can-clause-blocked g c =
     let has = as_told c.if-not-can.true c.enter-can.ensures.entered in
-    λ _. blocked _ _ _ _ c.args.seat.now _ has _ c.lower_flags_and_put.ensures.visited c.lower_flags_and_put.ensures.step
+    λ _. blocked has _ c.lower_flags_and_put.ensures.visited c.lower_flags_and_put.ensures.step
 
 pub put_latch-requires : goal.put_latch-requires
 put_latch-requires g c =
     let has = as_told c.if-not-can.false c.enter-can.ensures.entered in
     let wrote = c.write_mode-altered in
     let kind = c.requires.mode in
-    let carried = (entered_holds _ _ _ _ _ c.args.seat.now _ has).carried in
-    let is = altered _ _ _ _ c.args.seat.now _ has c.args.number kind.0 kind.1 kind.3 c.requires.held wrote.new.self wrote.result (wrote.ensures.refused _ carried) (wrote.ensures.written _ carried) in
+    let carried = (entered_holds has).carried in
+    let is = altered has c.args.number kind.0 kind.1 kind.3 c.requires.held wrote.new.self wrote.result (wrote.ensures.refused _ carried) (wrote.ensures.written _ carried) in
     record {
       place = place_there c.enter-can.result.0.place (table_of is) has.is_place;
-      put = ready_altered _ _ _ _ c.args.seat.now _ has c.args.number kind.0 kind.1 kind.3 c.requires.held wrote.new.self is;
+      put = ready_altered has c.args.number kind.0 kind.1 kind.3 c.requires.held wrote.new.self is;
     }
 
 pub returns-clause-granted : goal.returns-clause-granted
@@ -35,6 +35,6 @@ returns-clause-granted g c =
     let has = as_told c.if-not-can.false c.enter-can.ensures.entered in
     let wrote = c.write_mode-altered in
     let kind = c.requires.mode in
-    let carried = (entered_holds _ _ _ _ _ c.args.seat.now _ has).carried in
-    let is = altered _ _ _ _ c.args.seat.now _ has c.args.number kind.0 kind.1 kind.3 c.requires.held wrote.new.self wrote.result (wrote.ensures.refused _ carried) (wrote.ensures.written _ carried) in
-    λ _. granted _ _ _ _ c.args.seat.now _ has (Alter c.args.number c.args.mode) wrote.new.self _ is c.put_latch.ensures.made
+    let carried = (entered_holds has).carried in
+    let is = altered has c.args.number kind.0 kind.1 kind.3 c.requires.held wrote.new.self wrote.result (wrote.ensures.refused _ carried) (wrote.ensures.written _ carried) in
+    λ _. granted has (Alter c.args.number c.args.mode) wrote.new.self _ is c.put_latch.ensures.made
