@@ -15,7 +15,7 @@ use Rattle.mdl_book.specs.declared.book_error.BookError.{BookError}
 use Rattle.mdl_book.specs.declared.ticket.Ticket.{Ticket}
 use Rattle.mdl_book.specs.Books.{any_obtrusive, change_fault, lock_kind}
 use Rattle.mdl_book.specs.FastTickets.{may_stand}
-use Rattle.mdl_book.specs.Granting.{is_compatible}
+use Rattle.mdl_book.specs.Granting.{is_compatible, is_lawful}
 use Rattle.mdl_book.specs.Tickets.{is_ticket, ticket_of, with_mode}
 use Rattle.mdl_book.proofs.FastLemmas.{may_stand-none}
 use Rattle.mdl_book.proofs.TicketLemmas.{find-contains}
@@ -25,16 +25,27 @@ use Rattle.mdl_steps.specs.declared.view.Own.{Own}
 use Rattle.mdl_steps.specs.Cells.{own_at, ticket_by}
 use Rattle.mdl_steps.specs.Deeds.{MayJoin, NotWaited, booked}
 use Rattle.mdl_steps.specs.Plays.{IsFresh, Mine}
-use Rattle.mdl_steps.specs.Rule.{Flagged}
+use Rattle.mdl_steps.specs.Rule.{Flagged, TellsLists}
 use Rattle.mdl_steps.specs.Seats.{written}
 use Rattle.mdl_steps.proofs.Deeds.{weaker_stands}
 use Rattle.mdl_steps.proofs.Tickets.{with_mode-hit, with_mode-miss}
 use Rattle.mdl_steps.proofs.Views.{by_bool}
-use Rattle.mdl_visits.specs.Coverings.{FitsAt, IsCovered}
+use Rattle.mdl_visits.specs.Coverings.{FitsAt}
 use Rattle.mdl_visits.specs.Numbers.{numbered}
 use Rattle.mdl_system.specs.Strength.{covers, may_downgrade}
 use Rattle.mdl_system.proofs.LawfulLemmas.{implied}
 use Rattle.mdl_system.proofs.StrengthLemmas.{covers-at_least}
+
+-- by the record of a latch that was just taken: the mode is one of the lock's kind, and the session has a granted ticket that is at least as
+-- strong
+pub record IsCovered (session : ℕ) (mode : Mode) (h : LatchRecord) : Type 0 where
+  pub is_mode : is_mode_of (lock_kind h.book) mode ≡ true
+  pub stronger : Ticket
+  pub there : Contains h.book.granted stronger
+  pub own : stronger.session ≡ session
+  pub at_least : IsAtLeast (lock_kind h.book) stronger.mode mode
+  pub lawful : is_lawful (lock_kind h.book) h.book.granted ≡ true
+  pub exact : TellsLists h.book h.slow h.obtrusive
 
 -- ---- the session's ticket in the book
 

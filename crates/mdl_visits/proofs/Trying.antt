@@ -101,14 +101,14 @@ module _ {place q word : ℕ} {mode : Mode} {can : Bool} {s c : SeatState} (has 
   kind_known kind knows = ap (λ (key : KeyName). kind_of key.namespace) (entered.fresh.named knows.0 knows.1 knows.2 knows.3) ∙ knows.4
 
   pub is_mode_here : is_mode_of (lock_kind book) mode ≡ true
-  is_mode_here = ap (λ k. is_mode_of k mode) (kind_known has.wish.kind has.wish.knows) ∙ has.wish.is_mode
+  is_mode_here = ap (λ k. is_mode_of k mode) (kind_known has.kind has.wish.knows) ∙ has.wish.is_mode
 
   pub asks_here : has.obtrusive ≡ is_obtrusive (lock_kind book) mode
-  asks_here = has.wish.asks ∙ ap (λ k. is_obtrusive k mode) (sym (kind_known has.wish.kind has.wish.knows))
+  asks_here = has.asks ∙ ap (λ k. is_obtrusive k mode) (sym (kind_known has.kind has.wish.knows))
 
   pub entered_known : KnowsPlace c.me.0 q
   entered_known =
-      let knows = subst (λ (x : Mine). KnowsKind x.0 place has.wish.kind) (sym entered.inside.now) has.wish.knows in
+      let knows = subst (λ (x : Mine). KnowsKind x.0 place has.kind) (sym entered.inside.now) has.wish.knows in
       subst (KnowsPlace c.me.0) (sym has.at) (knows.0, knows.1, knows.2, knows.3)
 
   pub entered_idle : c.me.0.asks ≡ None

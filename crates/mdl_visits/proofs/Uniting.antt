@@ -19,13 +19,12 @@ use Rattle.mdl_steps.specs.Plays.{IsFresh, Mine}
 use Rattle.mdl_steps.specs.SeatStates.{SeatState}
 use Rattle.mdl_steps.specs.Seats.{rest, written}
 use Rattle.mdl_steps.proofs.Tickets.{is_passed, of_other_number, of-mode_other}
-use Rattle.mdl_visits.specs.Coverings.{IsCovered}
 use Rattle.mdl_visits.specs.Leavings.{HasWorked}
 use Rattle.mdl_visits.specs.Numbers.{numbered}
 use Rattle.mdl_system.specs.Strength.{covers}
 use Rattle.mdl_system.proofs.StrengthLemmas.{covers-at_least}
 use Rattle.mdl_visits.proofs.Arriving.{Arrives, has_worked, number_kept}
-use Rattle.mdl_visits.proofs.Covered.{altered, altered_flagged, covered_by_own, own_mode, own_there}
+use Rattle.mdl_visits.proofs.Covered.{IsCovered, altered, altered_flagged, covered_by_own, own_mode, own_there}
 use Rattle.mdl_visits.proofs.Losing.{still_flagged, taken_out}
 use Rattle.mdl_visits.proofs.Numbers.{idle_waits_not}
 

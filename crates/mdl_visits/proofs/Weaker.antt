@@ -14,13 +14,13 @@ use Rattle.mdl_steps.specs.Deeds.{NotWaited, booked}
 use Rattle.mdl_steps.specs.Plays.{Mine}
 use Rattle.mdl_steps.specs.SeatStates.{SeatState}
 use Rattle.mdl_steps.specs.Seats.{written}
-use Rattle.mdl_visits.specs.Coverings.{FitsAt, IsCovered}
+use Rattle.mdl_visits.specs.Coverings.{FitsAt}
 use Rattle.mdl_visits.specs.Leavings.{HasWorked}
 use Rattle.mdl_visits.specs.Numbers.{numbered}
 use Rattle.mdl_system.specs.Strength.{covers, may_downgrade}
 use Rattle.mdl_system.proofs.StrengthLemmas.{downgrade-listed}
 use Rattle.mdl_visits.proofs.Arriving.{Arrives, has_worked, number_kept, unwaited_there}
-use Rattle.mdl_visits.proofs.Covered.{altered, altered_flagged, covered_by, fits_lock, gained_flagged, own_there, stands}
+use Rattle.mdl_visits.proofs.Covered.{IsCovered, altered, altered_flagged, covered_by, fits_lock, gained_flagged, own_there, stands}
 use Rattle.mdl_visits.proofs.Trying.{refusal}
 
 module _ (held : Own) {s : SeatState} {q : ℕ} {c : SeatState} (a : Arrives held.place s q c) (unwaited : NotWaited s.me.0 held.number) (found : numbered held.number s.me.0.slow ≡ Some held) where
@@ -57,8 +57,7 @@ module _ (held : Own) {s : SeatState} {q : ℕ} {c : SeatState} (a : Arrives hel
         → w ≡ record c { me = written q (booked c.me.0.number (Gain number mode) a.latch.book) c.me } → HasWorked q (Gain number mode ∷ []) w
     has_gained number w idle next is =
         has_worked a (Gain number mode ∷ []) w
-        (fits.0, fits.1, fits.2, fits.3)
-        (
+        (fits.0, fits.1, fits.2, fits.3) (
           next ∙ sym (ap (λ (x : Mine). x.0.next) a.came.1.now),
           inr (record {
             idle = ap (λ (x : Mine). x.0.asks) a.came.1.now ∙ idle;

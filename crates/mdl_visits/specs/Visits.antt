@@ -161,21 +161,21 @@ pub record Enters (place : ℕ) (obtrusive : Bool) (word : ℕ) (mode : Mode) (c
   pub read : (before : List Met) × (m′.0.log ≡ (m.0.log ++ before) ++ record { kind = ReadWord; deeds = []; word = lock_word place; found = word; held = m′.0.latches; directory = m′.0.directory } ∷ [])
   pub told : can_be_granted (lock_kind found.book) found.book.granted found.book.waiting word m.0.number mode ≡ can
 
--- a session that waits for nothing has a wish for a mode at a place, which is one of the kind of the place's key, and obtrusive or not
-pub record HasWish (place : ℕ) (mode : Mode) (obtrusive : Bool) (v : View) : Type 0 where
+-- a session that waits for nothing has a wish for a mode at a place, whose key it knows as one of this kind, which has the mode
+pub record HasWish (place : ℕ) (kind : Kind) (mode : Mode) (v : View) : Type 0 where
   pub idle : v.asks ≡ None
-  pub kind : Kind
   pub knows : KnowsKind v place kind
   pub is_mode : is_mode_of kind mode ≡ true
-  pub asks : obtrusive ≡ is_obtrusive kind mode
 
 -- with such a wish it entered a place, whose latch is that of the place q, and read this word of the lock there, by which the wish can be granted
 -- or can't
 pub record HasEntered (place q word : ℕ) (mode : Mode) (can : Bool) (s s′ : SeatState) : Type 0 where
   pub at : q ≡ place
   pub is_place : IsPlace s′.table q
+  pub kind : Kind
+  pub wish : HasWish place kind mode s.me.0
   pub obtrusive : Bool
-  pub wish : HasWish place mode obtrusive s.me.0
+  pub asks : obtrusive ≡ is_obtrusive kind mode
   pub entered : AtItsTable s s′ (Enters place obtrusive word mode can)
 
 -- ---- what a step met

@@ -1,6 +1,8 @@
 //! A session takes the latch of a place for a wish, and gives it back. Before it does, it lowers the flags of the lock's word that the lists
 //! don't need.
 ghost use Rattle.std.specs.Prelude.{◌≡◌, ℕ, MatchResult, true};
+ghost use Rattle.mdl_key.specs.declared.namespace.Kind.{Kind};
+ghost use Rattle.mdl_key.specs.Words.{is_obtrusive};
 ghost use Rattle.mdl_steps.specs.declared.deed.Deed.TheVariants.{Gain};
 ghost use Rattle.mdl_steps.specs.SeatStates.{AtItsTable, SeatState};
 ghost use Rattle.mdl_visits.specs.Grantings.{IsLowered, IsOrderly};
@@ -24,7 +26,7 @@ pub(crate) fn enter<R: Wait>(
     obtrusive: bool,
 ) -> (Latched, Word, bool)
     requires at { MayVisit place seat.old }
-    requires wish { HasWish place mode obtrusive seat.old.me.0 }
+    requires wish { (kind : Kind) × HasWish place kind mode seat.old.me.0 × (obtrusive ≡ is_obtrusive kind mode) }
     ensures entered { HasEntered place result.0.place result.1.0 mode result.2 seat.old seat.new }
 {
     let latch = await_latch(rt, seat, place);

@@ -1,11 +1,10 @@
 //! A wish for a lock is granted at once, or its session begins to wait.
-ghost use Rattle.std.specs.Prelude.{◌≡◌, ℕ, ◌+◌, ◌^◌, ◌<◌, [], Ok, OnErr, IfErr, MatchResult, None, true, false};
-ghost use Rattle.mdl_key.specs.Words.{is_mode_of};
+ghost use Rattle.std.specs.Prelude.{◌≡◌, ℕ, ◌+◌, ◌^◌, ◌<◌, [], Ok, OnErr, IfErr, MatchResult, false};
 ghost use Rattle.mdl_steps.specs.declared.deed.Deed.TheVariants.{Gain};
 ghost use Rattle.mdl_steps.specs.SeatStates.{AtItsTable, SeatState};
 ghost use Rattle.mdl_visits.specs.declared.calls.begin_wait.Queued.TheVariants.{Granted, Waiting};
 ghost use Rattle.mdl_visits.specs.WaitOpenings.{BeginsWait};
-ghost use Rattle.mdl_visits.specs.Visits.{HasEntered, KnowsKind, LacksRoom, MayVisit, Visits, WasGranted, WasRefused};
+ghost use Rattle.mdl_visits.specs.Visits.{HasEntered, HasWish, LacksRoom, MayVisit, Visits, WasGranted, WasRefused};
 
 use crate::enter_and_leave::{enter, gain, lower_flags_and_put};
 use mdl_book::BookError;
@@ -35,9 +34,7 @@ pub fn begin_wait<R: Wait>(
     wait: u64,
 ) -> Result<Queued, BookError>
     requires at { MayVisit place seat.old }
-    requires kind { KnowsKind seat.old.me.0 place kind }
-    requires mode { is_mode_of kind mode ≡ true }
-    requires unwaited { seat.old.me.0.asks ≡ None }
+    requires wish { HasWish place kind mode seat.old.me.0 }
     requires unfast { seat.old.me.0.fast ≡ [] }
     requires number { number ≡ seat.old.me.0.next }
     requires wait { (wait ≡ seat.old.me.0.waits + 1) × (wait < 2 ^ 60) }

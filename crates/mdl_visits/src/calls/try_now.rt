@@ -1,10 +1,9 @@
 //! A wish for a lock is granted at once, or not at all.
-ghost use Rattle.std.specs.Prelude.{◌≡◌, [], Ok, OnErr, IfErr, None, true};
-ghost use Rattle.mdl_key.specs.Words.{is_mode_of};
+ghost use Rattle.std.specs.Prelude.{◌≡◌, [], Ok, OnErr, IfErr};
 ghost use Rattle.mdl_steps.specs.declared.deed.Deed.TheVariants.{Gain};
 ghost use Rattle.mdl_steps.specs.SeatStates.{AtItsTable};
 ghost use Rattle.mdl_visits.specs.declared.calls.try_now.Tried.TheVariants.{Granted, Blocked};
-ghost use Rattle.mdl_visits.specs.Visits.{KnowsKind, LacksRoom, MayVisit, Visits, WasBlocked, WasGranted};
+ghost use Rattle.mdl_visits.specs.Visits.{HasWish, LacksRoom, MayVisit, Visits, WasBlocked, WasGranted};
 
 use crate::enter_and_leave::{enter, gain, lower_flags_and_put};
 use mdl_book::BookError;
@@ -33,9 +32,7 @@ pub fn try_now<R: Wait>(
     mode: Mode,
 ) -> Result<Tried, BookError>
     requires at { MayVisit place seat.old }
-    requires idle { seat.old.me.0.asks ≡ None }
-    requires kind { KnowsKind seat.old.me.0 place kind }
-    requires mode { is_mode_of kind mode ≡ true }
+    requires wish { HasWish place kind mode seat.old.me.0 }
     requires number { number ≡ seat.old.me.0.next }
     ensures granted { result ≡ Ok Granted → WasGranted place mode (Gain number mode) seat.old seat.new }
     ensures blocked { result ≡ Ok Blocked → WasBlocked place mode seat.old seat.new }

@@ -1,11 +1,11 @@
 //! A ticket gets a stronger mode at once, or stays as it is.
-ghost use Rattle.std.specs.Prelude.{◌≡◌, None, true};
+ghost use Rattle.std.specs.Prelude.{◌≡◌, true};
 ghost use Rattle.mdl_key.specs.declared.namespace.Kind.{Kind};
-ghost use Rattle.mdl_key.specs.Words.{is_mode_of, is_obtrusive};
+ghost use Rattle.mdl_key.specs.Words.{is_obtrusive};
 ghost use Rattle.mdl_steps.specs.declared.deed.Deed.TheVariants.{Alter};
 ghost use Rattle.mdl_visits.specs.declared.calls.try_now.Tried.TheVariants.{Granted, Blocked};
 ghost use Rattle.mdl_visits.specs.Leavings.{HasTicket};
-ghost use Rattle.mdl_visits.specs.Visits.{KnowsKind, MayVisit, WasBlocked, WasGranted};
+ghost use Rattle.mdl_visits.specs.Visits.{HasWish, MayVisit, WasBlocked, WasGranted};
 
 use crate::calls::try_now::Tried;
 use crate::enter_and_leave::{enter, lower_flags_and_put};
@@ -24,8 +24,7 @@ pub fn upgrade_now<R: Wait>(
     mode: Mode,
 ) -> Tried
     requires at { MayVisit place seat.old }
-    requires mode { (kind : Kind) × KnowsKind seat.old.me.0 place kind × (is_mode_of kind mode ≡ true) × (is_obtrusive kind mode ≡ true) }
-    requires idle { seat.old.me.0.asks ≡ None }
+    requires wish { (kind : Kind) × HasWish place kind mode seat.old.me.0 × (is_obtrusive kind mode ≡ true) }
     requires held { HasTicket place number seat.old.me.0.slow }
     ensures granted { result ≡ Granted → WasGranted place mode (Alter number mode) seat.old seat.new }
     ensures blocked { result ≡ Blocked → WasBlocked place mode seat.old seat.new }

@@ -49,8 +49,10 @@ returns g c =
       entered = record {
         at = at;
         is_place = place_there q table (subst (IsPlace seat.table) (sym at) c.requires.at.is_place);
+        kind = c.requires.wish.0;
+        wish = c.requires.wish.1;
         obtrusive = obtrusive;
-        wish = c.requires.wish;
+        asks = c.requires.wish.2;
         entered = (table, subst (λ (p : ℕ). Enters p obtrusive word.result.0 mode can.result seat.me can.new.self.me) at came);
       };
     }

@@ -6,9 +6,7 @@ use Rattle.mdl_visits.proofs.Trying.{as_told, altered, blocked, entered_holds, g
 use Rattle.mdl_visits.proofs.calls.upgrade_now.upgrade_now.Goals as goal
 
 pub enter-can-requires : goal.enter-can-requires
-enter-can-requires g c =
-    let mode = c.requires.mode in
-    record { at = c.requires.at; wish = record { idle = c.requires.idle; kind = mode.0; knows = mode.1; is_mode = mode.2; asks = sym mode.3 } }
+enter-can-requires g c = let wish = c.requires.wish in record { at = c.requires.at; wish = (wish.0, wish.1, sym wish.2) }
 
 pub lower_flags_and_put-requires : goal.lower_flags_and_put-requires
 lower_flags_and_put-requires g c = record { worked = rested c.enter-can.ensures.entered }
@@ -22,19 +20,19 @@ pub put_latch-requires : goal.put_latch-requires
 put_latch-requires g c =
     let has = as_told c.if-not-can.false c.enter-can.ensures.entered in
     let wrote = c.write_mode-altered in
-    let kind = c.requires.mode in
+    let wish = c.requires.wish in
     let carried = (entered_holds has).carried in
-    let is = altered has c.args.number kind.0 kind.1 kind.3 c.requires.held wrote.new.self wrote.result (wrote.ensures.refused _ carried) (wrote.ensures.written _ carried) in
+    let is = altered has c.args.number wish.0 wish.1.knows wish.2 c.requires.held wrote.new.self wrote.result (wrote.ensures.refused _ carried) (wrote.ensures.written _ carried) in
     record {
       place = place_there c.enter-can.result.0.place (table_of is) has.is_place;
-      put = ready_altered has c.args.number kind.0 kind.1 kind.3 c.requires.held wrote.new.self is;
+      put = ready_altered has c.args.number wish.0 wish.1.knows wish.2 c.requires.held wrote.new.self is;
     }
 
 pub returns-clause-granted : goal.returns-clause-granted
 returns-clause-granted g c =
     let has = as_told c.if-not-can.false c.enter-can.ensures.entered in
     let wrote = c.write_mode-altered in
-    let kind = c.requires.mode in
+    let wish = c.requires.wish in
     let carried = (entered_holds has).carried in
-    let is = altered has c.args.number kind.0 kind.1 kind.3 c.requires.held wrote.new.self wrote.result (wrote.ensures.refused _ carried) (wrote.ensures.written _ carried) in
+    let is = altered has c.args.number wish.0 wish.1.knows wish.2 c.requires.held wrote.new.self wrote.result (wrote.ensures.refused _ carried) (wrote.ensures.written _ carried) in
     λ _. granted has (Alter c.args.number c.args.mode) wrote.new.self _ is c.put_latch.ensures.made
