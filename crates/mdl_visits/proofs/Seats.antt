@@ -2,7 +2,6 @@
 use Rattle.std.proofs.Common.{◌≡◌, ℕ, Ok, Err, ap, subst, sym}
 use Rattle.std.specs.Prelude.{IfOk, Result}
 use Rattle.atomic_table.specs.Seated.{TableId}
-use Rattle.mdl_steps.specs.Plays.{Mine}
 use Rattle.mdl_steps.specs.SeatStates.{SeatState}
 use Rattle.mdl_steps.specs.Seats.{IsPlace}
 

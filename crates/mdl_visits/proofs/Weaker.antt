@@ -1,5 +1,5 @@
 -- A session has written into the book in hand what its own ticket covers, and may give the latch back.
-use Rattle.std.proofs.Common.{◌≡◌, ℕ, true, List, [], ◌∷◌, Some, None, Result, Err, ap, sym, ◌∙◌, inr}
+use Rattle.std.proofs.Common.{◌≡◌, ℕ, true, [], ◌∷◌, Some, None, Result, Err, ap, sym, ◌∙◌, inr}
 use Rattle.std.specs.Prelude.{◌⊎◌, ◌≤◌, is_some, OnOk}
 use Rattle.mdl_key.specs.declared.mode.Mode.{Mode}
 use Rattle.mdl_key.specs.Refusals.{Refuses, RefusesJust}

@@ -27,7 +27,7 @@ use Rattle.mdl_steps.specs.Deeds.{MayJoin, all_done}
 use Rattle.mdl_steps.specs.Layout.{latch_word, lock_word}
 use Rattle.mdl_steps.specs.Lists.{Each}
 use Rattle.mdl_steps.specs.Plays.{Mine, IsFresh, noting, raised}
-use Rattle.mdl_steps.specs.Rule.{Flagged, Lawful, NotedCounts}
+use Rattle.mdl_steps.specs.Rule.{Lawful, NotedCounts}
 use Rattle.mdl_steps.specs.SeatStates.{AtItsTable, SeatState}
 use Rattle.mdl_steps.specs.Seats.{Holds, IsPlace, IsRising}
 

@@ -1,6 +1,5 @@
 -- The ticket is written and the latch given back with it, or there was no room.
 use Rattle.std.proofs.Common.{[], sym, subst}
-use Rattle.mdl_steps.specs.SeatStates.{SeatState}
 use Rattle.mdl_visits.specs.Leavings.{HasWorked}
 use Rattle.mdl_visits.proofs.Seats.{place_there, table_of}
 use Rattle.mdl_visits.proofs.Trying.{entered_holds, granted, ready, refused, rested, why_not}

@@ -1,10 +1,9 @@
 -- The flags that stay tell the lists exactly, since those that are up tell of each ticket.
-use Rattle.std.proofs.Common.{◌≡◌, ◌∷◌, List, sym, ap, ◌∙◌, subst}
+use Rattle.std.proofs.Common.{List, sym, ap, ◌∙◌, subst}
 use Rattle.mdl_book.specs.declared.ticket.Ticket.{Ticket}
-use Rattle.mdl_steps.specs.declared.slot.Slot.TheVariants as slot
 use Rattle.mdl_steps.specs.Deeds.{all_booked}
 use Rattle.mdl_steps.specs.Plays.{Mine, lowered, flags_lowered}
-use Rattle.mdl_steps.specs.Seats.{Holds, rest}
+use Rattle.mdl_steps.specs.Seats.{Holds}
 use Rattle.mdl_visits.specs.Grantings.{StandsOnce}
 use Rattle.mdl_visits.proofs.Leaving.{needed}
 use Rattle.mdl_visits.proofs.Seats.{mine, place_there, table_of}

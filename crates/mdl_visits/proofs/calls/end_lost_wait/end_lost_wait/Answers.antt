@@ -1,5 +1,5 @@
 -- The ticket is taken out of the list, and flags that told the lists tell them still.
-use Rattle.std.proofs.Common.{ℕ, [], sym, ◌∙◌, subst}
+use Rattle.std.proofs.Common.{ℕ, sym, ◌∙◌, subst}
 use Rattle.mdl_steps.specs.SeatStates.{AtItsTable}
 use Rattle.mdl_visits.specs.WaitEndings.{EndsLost, without_wait}
 use Rattle.mdl_visits.proofs.Arriving.{arrived}

@@ -1,5 +1,5 @@
 -- The book that is met under the latch has both tickets, so the one is written in the mode of the other, and this is taken out.
-use Rattle.std.proofs.Common.{ℕ, List, [], ◌∷◌, ap, sym, ◌∙◌, subst}
+use Rattle.std.proofs.Common.{ℕ, List, [], ◌∷◌, ap, subst}
 use Rattle.std.specs.Prelude.{is_some}
 use Rattle.mdl_steps.specs.declared.deed.Deed.{Deed}
 use Rattle.mdl_steps.specs.declared.deed.Deed.TheVariants.{Alter, Lose}
