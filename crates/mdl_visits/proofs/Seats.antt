@@ -1,6 +1,5 @@
 -- What an equation of a seat's whole value tells.
-use Rattle.std.proofs.Common.{◌≡◌, ℕ, Ok, Err, ap, subst, sym}
-use Rattle.std.specs.Prelude.{IfOk, Result}
+use Rattle.std.proofs.Common.{◌≡◌, ℕ, ap, subst, sym}
 use Rattle.atomic_table.specs.Seated.{TableId}
 use Rattle.mdl_steps.specs.SeatStates.{SeatState}
 use Rattle.mdl_steps.specs.Seats.{IsPlace}
@@ -12,11 +11,6 @@ mine told = ap (λ (x : SeatState). x.me) told
 -- which table it is at
 pub table_of : {s t : SeatState} → s ≡ t → s.table ≡ t.table
 table_of told = ap (λ (x : SeatState). x.table) told
-
--- two facts of a result
-pub both_ok : {T E : Type 0} (result : Result T E) (P Q : T → Type 0) → IfOk result P → IfOk result Q → IfOk result (λ x. P x × Q x)
-both_ok (Ok x) P Q one other = (one, other)
-both_ok (Err e) P Q one other = tt
 
 -- a place of a seat's table is one of the table that it is at later
 pub place_there : (place : ℕ) {table later : TableId} → later ≡ table → IsPlace table place → IsPlace later place
