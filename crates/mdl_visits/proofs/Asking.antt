@@ -1,19 +1,13 @@
 -- A session asks whether tables have a definition, one after the other.
-use Rattle.std.proofs.Common.{◌≡◌, ℕ, Bool, true, false, cond, List, [], ◌∷◌, ◌++◌, map, Some, refl, sym, ap, ◌∙◌, append_assoc, append-nil}
-use Rattle.std.specs.Prelude.{filter, is_some}
+use Rattle.std.proofs.Common.{◌≡◌, ℕ, Bool, true, false, cond, List, [], ◌∷◌, ◌++◌, map, refl, sym, ap, ◌∙◌, append_assoc, append-nil}
+use Rattle.std.specs.Prelude.{filter}
 use Rattle.std.proofs.lemmas.List.{map-append}
 use Rattle.std.proofs.lemmas.List.Elements.{All-nil, All-push, All-weaker, filter-append}
-use Rattle.mdl_steps.specs.declared.step_kind.StepKind.TheVariants.{PutLatch}
-use Rattle.mdl_steps.specs.declared.view.LatchRecord.{LatchRecord}
 use Rattle.mdl_steps.specs.declared.view.Known.{Known}
 use Rattle.mdl_steps.specs.declared.view.Met.{Met}
-use Rattle.mdl_steps.specs.Cells.{held_at}
-use Rattle.mdl_steps.specs.Layout.{latch_word}
-use Rattle.mdl_steps.specs.Plays.{Mine, unlatched}
-use Rattle.mdl_visits.specs.Tables.{Asked, HasAsked, MeetsDefinition, WasAsked, told}
-use Rattle.mdl_visits.specs.Visits.{GoesOn, IsInside, IsStepOf, MakesSteps, and_made}
-use Rattle.mdl_visits.proofs.Steps.{none_then}
-use Rattle.mdl_visits.proofs.Visiting.{visits_put}
+use Rattle.mdl_steps.specs.Plays.{Mine}
+use Rattle.mdl_visits.specs.Tables.{Asked, HasAsked, WasAsked, told}
+use Rattle.mdl_visits.specs.Visits.{GoesOn, IsStepOf, MakesSteps}
 
 -- ---- steps of a call's parts are steps of the call
 

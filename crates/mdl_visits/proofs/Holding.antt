@@ -1,6 +1,6 @@
 -- Something is done while the directory's latch is held: the books of all keys are gathered, and a deadlock is looked for.
-use Rattle.std.proofs.Common.{◌≡◌, ℕ, ◌+◌, ◌-◌, ◌<◌, ◌≤◌, List, [], ◌∷◌, ◌++◌, length, map, Some, Option, Result, refl, sym, ap, ◌∙◌, subst, inl, inr, ⊎_elim, arith, append_assoc, append-nil, length-append}
-use Rattle.std.specs.Prelude.{IfOk, OnErr, slice_get}
+use Rattle.std.proofs.Common.{◌≡◌, ℕ, ◌+◌, ◌-◌, ◌<◌, ◌≤◌, List, [], ◌∷◌, ◌++◌, length, map, Some, Result, refl, sym, ap, ◌∙◌, subst, inl, ⊎_elim, arith, append_assoc, append-nil, length-append}
+use Rattle.std.specs.Prelude.{slice_get}
 use Rattle.std.proofs.lemmas.Result.{IfOk-weaker, on_err_weaker}
 use Rattle.atomic_table.specs.Seated.{TableId}
 use Rattle.mdl_calls.specs.declared.answers.Search.{Search}
@@ -12,8 +12,7 @@ use Rattle.mdl_steps.specs.declared.view.Met.{Met}
 use Rattle.mdl_steps.specs.Copies.{Queues}
 use Rattle.mdl_steps.specs.Layout.{latch_word}
 use Rattle.mdl_steps.specs.Lists.{Each}
-use Rattle.mdl_steps.specs.Plays.{Mine, IsDirectory, consulted, informed, latched, unlatched}
-use Rattle.mdl_steps.specs.Rule.{key_at}
+use Rattle.mdl_steps.specs.Plays.{Mine, consulted, informed, latched, unlatched}
 use Rattle.mdl_steps.specs.SeatStates.{AtItsTable, SeatState}
 use Rattle.mdl_steps.specs.Seats.{HasDirectory, IsRising, MayInform, learnt}
 use Rattle.mdl_visits.specs.declared.audited.Audited.{Audited}
@@ -21,7 +20,7 @@ use Rattle.mdl_visits.specs.Audits.{AreKeyed, AreRecorded, Audits, Gathers, HadL
 use Rattle.mdl_visits.specs.Idle.{IsIdle}
 use Rattle.mdl_visits.specs.Lookups.{HadEither, TookDirectory}
 use Rattle.mdl_visits.specs.Searches.{AreQueuesOf, EndsSearch, Finds, FindsFrom, Judges, KnowsVictim, ReadsWaits, ReadsWaitsQuietly, Searched, Searches, if_waited, with_waits_read}
-use Rattle.mdl_visits.specs.Visits.{AllQuiet, GoesOn, IsQuiet, IsStepOf, MakesSteps, and_made, deeds_of}
+use Rattle.mdl_visits.specs.Visits.{GoesOn, IsQuiet, IsStepOf, MakesSteps, and_made}
 use Rattle.mdl_visits.proofs.Asking.{step_within}
 use Rattle.mdl_visits.proofs.Gathering.{HasTaken, as_steps, back, gathers_more, gathers_none}
 use Rattle.mdl_visits.proofs.Lookups.{HasConsulted, had_none, no_latches, no_record}

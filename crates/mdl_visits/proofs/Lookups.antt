@@ -12,7 +12,6 @@ use Rattle.mdl_steps.specs.declared.view.Keys.{Keys}
 use Rattle.mdl_steps.specs.declared.view.Known.{Known}
 use Rattle.mdl_steps.specs.declared.view.Met.{Met}
 use Rattle.mdl_steps.specs.Layout.{latch_word}
-use Rattle.mdl_steps.specs.Lists.{Each}
 use Rattle.mdl_steps.specs.Plays.{Mine, IsDirectory, consulted, informed, listing}
 use Rattle.mdl_steps.specs.Rule.{key_at}
 use Rattle.mdl_steps.specs.SeatStates.{AtItsTable, SeatState}
@@ -20,7 +19,7 @@ use Rattle.mdl_steps.specs.Seats.{HasDirectory, MayInform, learnt, place_among, 
 use Rattle.mdl_steps.proofs.Looking.{there}
 use Rattle.mdl_visits.specs.declared.resolve_error.ResolveError.{ResolveError}
 use Rattle.mdl_visits.specs.Idle.{IsIdle}
-use Rattle.mdl_visits.specs.Lookups.{TookDirectory, HadEither, HasLooked, HasNamed, IsAnswer, knowing, relisted}
+use Rattle.mdl_visits.specs.Lookups.{TookDirectory, HasLooked, HasNamed, IsAnswer, knowing, relisted}
 use Rattle.mdl_visits.specs.Visits.{AllQuiet, and_made, deeds_of, MakesSteps}
 use Rattle.mdl_visits.proofs.Seats.{mine, table_of}
 use Rattle.mdl_visits.proofs.Steps.{none_then}

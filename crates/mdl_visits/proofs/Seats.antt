@@ -1,6 +1,5 @@
 -- What an equation of a seat's whole value tells.
-use Rattle.std.proofs.Common.{◌≡◌, ℕ, Ok, Err, ap, subst, sym}
-use Rattle.std.specs.Prelude.{IfOk, Result}
+use Rattle.std.proofs.Common.{◌≡◌, ℕ, ap, subst, sym}
 use Rattle.atomic_table.specs.Seated.{TableId}
 use Rattle.mdl_steps.specs.SeatStates.{SeatState}
 use Rattle.mdl_steps.specs.Seats.{IsPlace}

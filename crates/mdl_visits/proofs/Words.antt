@@ -16,7 +16,7 @@ use Rattle.mdl_steps.specs.Plays.{Mine}
 use Rattle.mdl_steps.specs.WaitPlays.{TellsOwn, meeting, met_wait_by, met_wait}
 use Rattle.mdl_steps.specs.WaitSeats.{IsSession}
 use Rattle.mdl_visits.specs.declared.waits_read.WaitRead.{WaitRead}
-use Rattle.mdl_visits.specs.Searches.{AreRead, OnlyReadsWaits, ReadsWaitsQuietly, WasRead, sessions_to, with_waits_read}
+use Rattle.mdl_visits.specs.Searches.{OnlyReadsWaits, ReadsWaitsQuietly, WasRead, sessions_to, with_waits_read}
 use Rattle.mdl_visits.specs.Visits.{AllQuiet, GoesOn, IsQuiet, raises_flags}
 use Rattle.mdl_visits.proofs.Asking.{goes_nowhere, step_within}
 use Rattle.mdl_visits.proofs.Seats.{mine, table_of}
