@@ -22,12 +22,6 @@ use Rattle.mdl_visits.proofs.Steps.{each_append, none_then}
 
 -- ---- steps
 
-pub makes_none : (m : Mine) → MakesSteps m m
-makes_none m = ([], (λ i. and_log (sym (append-nil m.0.log) i)), refl)
-  where
-    and_log : List Met → Mine
-    and_log log = (record m.0 { log = log }, m.1)
-
 -- one that only met something
 pub lingers_one : (place found : ℕ) (m m′ m″ : Mine) → Lingers m m′ → m″ ≡ missed_latch place found m′ → Lingers m m″
 lingers_one place found m m′ m″ steps met =
