@@ -1,37 +1,60 @@
--- A poll, by what the session keeps of its own, is one by its value.
-use Rattle.std.proofs.Common.{◌≡◌, not, Ok, refl, ap, ◌∙◌}
-use Rattle.mdl_calls.specs.declared.answers.Poll.TheVariants as poll
-use Rattle.mdl_calls.specs.declared.space_error.SpaceError.TheVariants.{NoWait}
-use Rattle.mdl_calls.specs.Words.{Poll_wait, polled}
-use Rattle.mdl_shared.specs.Waitings.{wait_fault}
-use Rattle.mdl_shared.proofs.Faults.{just-clear}
-use Rattle.mdl_shared.proofs.PollCalls.{asks-clear, poll-joins}
-use Rattle.mdl_shared.proofs.SameSpace.{Stays, waits-asks}
-use Rattle.mdl_shared.proofs.SessionValues.{joins-seen, refused-seen, shows-seen, speaks}
-use Rattle.mdl_shared.proofs.ShowingCalls.{poll-shows}
+-- A poll reads the word of the session's wait.
+use Rattle.std.proofs.Common.{◌≡◌, Bool, true, false, not, is_some, sym, ap, ◌∙◌}
+use Rattle.mdl_steps.specs.SeatStates.{SeatState}
+use Rattle.mdl_shared.specs.declared.member.Member.{Member}
+use Rattle.mdl_shared.specs.Passes.{view_of}
+use Rattle.mdl_shared.specs.SessionViews.{Lists, session_at, settled_of}
+use Rattle.mdl_shared.proofs.Members.{done-lists}
+use Rattle.mdl_shared.proofs.Props.{member}
+use Rattle.mdl_shared.proofs.WaitCalls.{poll-pending, poll-refused, poll-settled, polls}
+use Rattle.mdl_shared.proofs.WaitSteps.{session-there, still-member}
 use Rattle.mdl_shared.proofs.session.Session.poll_wait.Goals as goal
+use Rattle.mdl_shared.proofs.session.Session.poll_wait.Goals.{in-Some, in-None}
 
 pub returns-then-is_none-clause-joined : goal.returns-then-is_none-clause-joined
 returns-then-is_none-clause-joined g c =
     let m = c.self.inside.member in
-    rw (← c.self.view_is)
-    (refused-seen m (Poll_wait m.seat.me.0.number) NoWait (speaks m) refl refl
-    (waits-asks m.asks m.waits ∙ c.is_none.ensures ∙ ap not c.if-is_none.true) (λ state how is. cc) tt)
+    let idle = ap (λ (l : Lists). is_some l.asks) (sym m.lists) ∙ c.is_none.ensures ∙ ap not c.if-is_none.true in
+    rw (← c.self.view_is) (poll-refused (member m) idle).0
+
+pub read_wait-word-requires : goal.read_wait-word-requires
+read_wait-word-requires g c =
+    let m = c.self.inside.member in
+    let is = member m in
+    record { session = rw c.number-session.ensures (session-there (view_of m) is m.seat.me.0.number is.counted.0 is.counted.1) }
+
+-- the step on the word is one of the session's view
+waits : (m : Member) (result : Bool) → is_some m.asks ≡ not result → result ≡ false → is_some m.seat.me.0.asks ≡ true
+waits m result asks none = ap (λ (l : Lists). is_some l.asks) (sym m.lists) ∙ asks ∙ ap not none
+
+pub invariant_of-self-inside : goal.invariant_of-self-inside
+invariant_of-self-inside g c =
+    let m = c.self.inside.member in
+    let did = c.read_wait-word.ensures in
+    let now = ap (λ (x : SeatState). session_at x m.sessions) did.made in
+    let done = (polls (member m) (waits m c.is_none.result c.is_none.ensures c.if-is_none.false) c.number-session.result c.read_wait-word.result.0 c.number-session.ensures did.own now).done in
+    record {
+      lawful = ∣ still-member done (member m) ∣₁;
+      lists = m.lists ∙ sym (done-lists done);
+      room = m.room;
+    }
 
 pub returns : goal.returns
 returns g c =
     let m = c.self.inside.member in
-    let m′ = c.poll_wait.new.self in
-    let result = c.poll_wait.result in
-    let did = c.poll_wait.ensures in
-    let same = did.same in
-    let stays : Stays m m′ = record { number = same.1; tickets = same.4; next = same.2; known = same.3; wait = did.wait; reads = did.reads } in
-    let just = just-clear (wait_fault m.asks) result (asks-clear m.asks (c.is_none.ensures ∙ ap not c.if-is_none.false)) in
-    rw (← c.self.view_is) (record {
-      joined = joins-seen m m′ (Poll_wait m.seat.me.0.number) (polled (Ok result))
-          (poll-joins m m′ m.seat.me.0.number stays (speaks m) (Ok result)
-          (λ how e. let is : result ≡ poll.Settled how = cc in (did.settled how is).0) did.stays just);
-      shown = shows-seen m m′ (Poll_wait m.seat.me.0.number) (polled (Ok result))
-          (poll-shows m m′ same.0 did.wait.2 m.seat.me.0.number (Ok result) just did.settles did.did did.stayed
-          (λ e. let is : result ≡ poll.Pending = cc in did.pending is) (λ how e. let is : result ≡ poll.Settled how = cc in (did.settled how is).1));
-    })
+    let is = member m in
+    let did = c.read_wait-word.ensures in
+    let now = ap (λ (x : SeatState). session_at x m.sessions) did.made in
+    let waiting = waits m c.is_none.result c.is_none.ensures c.if-is_none.false in
+    let mine = c.number-session.ensures in
+    let state = sym (ap settled_of c.state.ensures) ∙ sym c.settled_in.ensures in
+    rw (← c.self.view_is) (elim c.match-settled_in.branch [
+      | in-Some w ↦ rw w.result-is (
+          let h = poll-settled is waiting c.number-session.result c.read_wait-word.result.0 mine did.own now w.in-Some.how (state ∙ w.in-Some.is) in
+          record { joined = h.0; shown = h.1 }
+          )
+      | in-None w ↦ rw w.result-is (
+          let h = poll-pending is waiting c.number-session.result c.read_wait-word.result.0 mine did.own now (state ∙ w.in-None.is) in
+          record { joined = h.0; shown = h.1 }
+          )
+    ])
