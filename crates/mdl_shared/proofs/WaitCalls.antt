@@ -1,5 +1,5 @@
 -- Calls on the words of waits: polls, timeouts, kills, and the number of a wait.
-use Rattle.std.proofs.Common.{◌≡◌, ◌≢◌, ℕ, ◌<◌, ◌≤◌, ◌==◌, Bool, true, false, is_some, [], ◌∷◌, ◌++◌, Option, Some, None, Ok, IfSome, inl, inr, refl, sym, ap, subst, ◌∙◌, arith}
+use Rattle.std.proofs.Common.{◌≡◌, ◌≢◌, ℕ, ◌<◌, ◌≤◌, ◌==◌, Bool, true, false, is_some, List, [], ◌∷◌, ◌++◌, Option, Some, None, Ok, IfSome, inl, inr, refl, sym, ap, subst, ◌∙◌, arith}
 use Rattle.std.proofs.lemmas.Bool.{eq-eqb, eqb-false, eqb-true, false≢true}
 use Rattle.mdl_calls.specs.declared.answers.Settled.{Settled}
 use Rattle.mdl_calls.specs.declared.answers.Settled.TheVariants.{Granted, Victim, Timeout, Killed}
@@ -172,3 +172,71 @@ module _ {s : SessionView} (is : IsMember s) (waiting : is_some s.me.0.asks ≡ 
             met = polls-own (state_of one) its;
           },
         )
+
+  -- ---- timeouts
+
+  module _ {s′ : SessionView} (wait : ℕ) (last : wait ≡ s.me.0.waits)
+      (hit : found ≡ wait_in wait 1
+          → s′ ≡ word-step SettleWait session (wait_in wait 1) (wait_in wait 4) (s.me.0.settles ++ record { session = session; wait = wait; state = 4 } ∷ []) s)
+      (miss : found ≢ wait_in wait 1 → s′ ≡ word-step MissWait session found found s.me.0.settles s) where
+    pub timeout-now : settled_of (wait_state found) ≡ None
+        → Watches s s′ × Joins (space_of s) (Settle_timeout s.me.0.number) (Timed_out ByThisCall) (space_of s′) × Shows (Settle_timeout s.me.0.number) (Timed_out ByThisCall) s s′
+    timeout-now none =
+        let is_found = unsettled none ∙ ap (λ (w : ℕ). wait_in w 1) (sym last) in
+        let now = hit is_found in
+        let odd : wait_state (wait_in wait 1) ≡ 1 = omega arith in
+        let four : wait_state (wait_in wait 4) ≡ 4 = omega arith in
+        let all : List Settlement = s.me.0.settles ++ record { session = session; wait = wait; state = 4 } ∷ [] in
+        let did = watches SettleWait session (wait_in wait 1) (wait_in wait 4) all s s′ now (subst (λ (w : ℕ). TellsOwn s.table.slots session w s.me.0) is_found own) (inr odd) refl refl in
+        let met = met-word SettleWait session (wait_in wait 1) (wait_in wait 4) all s s′ now in
+        let told = told-own SettleWait session (wait_in wait 1) (wait_in wait 4) all s s′ now mine (omega (arith, four)) ∙ ap Some four in (
+          did,
+          joins-still s s′ (Settle_timeout s.me.0.number) (Timed_out ByThisCall) (done-nothing did.done) (speaks is) refl refl refl refl
+          (waits-asks s.me.0.asks s.me.0.waits ∙ waiting) tt refl
+          (λ state how met knows. let e : None ≡ state = cc in sym e ∙ agreed None none how knows)
+          (λ how tells. let e : Timeout ≡ how = cc in told-settled s′.me.0.told how (told ∙ ap (λ (x : Settled). Some (state_of x)) e)) refl (λ r. r) tt,
+          record {
+            table = ap (λ (x : SessionView). x.table) now;
+            sessions = ap (λ (x : SessionView). x.sessions) now;
+            refused = if-clear _ (wait_fault s.me.0.asks) (clear-wait s.me.0.asks waiting);
+            did = did.did;
+            settled = ap (λ (x : SessionView). x.me.0.settles) now ∙ ap (λ (n : ℕ). s.me.0.settles ++ record { session = n; wait = wait; state = 4 } ∷ []) mine
+                ∙ ap (λ (w : ℕ). s.me.0.settles ++ record { session = s.me.0.number; wait = w; state = 4 } ∷ []) last;
+            told = tt;
+            steps = did.stayed;
+            met = (met.0, met.1, record { word = met.2.word_is ∙ ap (wait_word s.table.slots) mine; found = met.2.found ∙ ap (λ (w : ℕ). wait_in w 1) last });
+          },
+        )
+
+    pub timeout-already : (one : Settled) → settled_of (wait_state found) ≡ Some one
+        → Watches s s′ × Joins (space_of s) (Settle_timeout s.me.0.number) (Timed_out (Already one)) (space_of s′) × Shows (Settle_timeout s.me.0.number) (Timed_out (Already one)) s s′
+    timeout-already one some =
+        let its = settled-is (wait_state found) one some in
+        let more = settled-more (wait_state found) one its in
+        let now = miss (λ open_is. let odd : wait_state found ≡ 1 = (let e = open_is in omega arith) in omega (arith, more, odd)) in
+        let did = watches MissWait session found found s.me.0.settles s s′ now own (inl refl) refl refl in
+        let met = met-word MissWait session found found s.me.0.settles s s′ now in
+        let told = told-own MissWait session found found s.me.0.settles s s′ now mine more ∙ ap Some its in (
+          did,
+          joins-still s s′ (Settle_timeout s.me.0.number) (Timed_out (Already one)) (done-nothing did.done) (speaks is) refl refl refl refl
+          (waits-asks s.me.0.asks s.me.0.waits ∙ waiting) tt refl
+          (λ state how met knows. let e : Some one ≡ state = cc in sym e ∙ agreed (Some one) some how knows)
+          (λ how tells. let e : one ≡ how = cc in told-settled s′.me.0.told how (told ∙ ap (λ (x : Settled). Some (state_of x)) e)) refl (λ r. r) tt,
+          record {
+            table = ap (λ (x : SessionView). x.table) now;
+            sessions = ap (λ (x : SessionView). x.sessions) now;
+            refused = if-clear _ (wait_fault s.me.0.asks) (clear-wait s.me.0.asks waiting);
+            did = did.did;
+            settled = ap (λ (x : SessionView). x.me.0.settles) now;
+            told = tt;
+            steps = did.stayed;
+            met = (met.0, met.1, record { word = met.2.word_is ∙ ap (wait_word s.table.slots) mine; found = met.2.found ∙ in-state (state_of one) its });
+          },
+        )
+
+    pub timeouts : Watches s s′
+    timeouts = by (settled_of (wait_state found)) refl
+      where
+        by : (o : Option Settled) → settled_of (wait_state found) ≡ o → Watches s s′
+        by None none = (timeout-now none).0
+        by (Some one) some = (timeout-already one some).0

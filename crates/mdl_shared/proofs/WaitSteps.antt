@@ -1,5 +1,5 @@
 -- What becomes of a session that reads the word of a wait, or settles the wait.
-use Rattle.std.proofs.Common.{◌≡◌, ◌⊎◌, ℕ, ◌<◌, ◌≤◌, ◌==◌, ◌&&◌, true, false, List, [], ◌∷◌, ◌++◌, Option, Some, None, inl, inr, refl, sym, ap, subst, ◌∙◌, append_assoc, append-nil, arith}
+use Rattle.std.proofs.Common.{◌≡◌, ◌⊎◌, ℕ, ◌<◌, ◌≤◌, ◌==◌, ◌&&◌, Bool, true, false, is_some, List, [], ◌∷◌, ◌++◌, Option, Some, None, inl, inr, refl, sym, ap, subst, ◌∙◌, append_assoc, append-nil, arith}
 use Rattle.std.specs.Prelude.{◌%◌, nat_lt}
 use Rattle.std.proofs.lemmas.Bool.{and_parts, eq-eqb, eqb-true, lt-ltb, ltb-true}
 use Rattle.mdl_calls.specs.Words.{No_cycle, Search}
@@ -16,8 +16,9 @@ use Rattle.mdl_steps.proofs.Views.{by_bool}
 use Rattle.mdl_visits.specs.Polls.{MeetsWord}
 use Rattle.mdl_visits.specs.Visits.{Does, IsStepOf, StaysOn, StaysThere, gives_back, raises_flags}
 use Rattle.mdl_visits.proofs.Steps.{does_then, each_append}
+use Rattle.mdl_shared.specs.declared.member.Member.{Member}
 use Rattle.mdl_shared.specs.Members.{IsMember}
-use Rattle.mdl_shared.specs.SessionViews.{SessionView, space_of}
+use Rattle.mdl_shared.specs.SessionViews.{Lists, SessionView, space_of}
 use Rattle.mdl_shared.proofs.MemberFacts.{speaks}
 use Rattle.mdl_shared.proofs.Members.{HasDone, done-nothing, done-order, kept}
 use Rattle.mdl_shared.proofs.SameSpace.{joins-still}
@@ -31,6 +32,10 @@ still-member {s = s} {s′ = s′} done is =
 -- the word of a session's wait is one of the table's
 pub session-there : (s : SessionView) → IsMember s → (session : ℕ) → 0 < session → session ≤ s.sessions → IsSession s.table session
 session-there s is session some within = (some, subst (λ (n : ℕ). wait_word s.table.slots session < n) (sym is.words) (omega (arith, within)))
+
+-- whether it waits, by its own lists
+pub waits-seen : (m : Member) (b : Bool) → is_some m.asks ≡ b → is_some m.seat.me.0.asks ≡ b
+waits-seen m b asks = ap (λ (l : Lists). is_some l.asks) (sym m.lists) ∙ asks
 
 -- ---- steps at which it stays
 
