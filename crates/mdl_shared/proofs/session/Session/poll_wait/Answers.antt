@@ -5,7 +5,7 @@ use Rattle.mdl_shared.specs.Passes.{view_of}
 use Rattle.mdl_shared.specs.SessionViews.{session_at, settled_of}
 use Rattle.mdl_shared.proofs.Members.{done-lists}
 use Rattle.mdl_shared.proofs.Props.{member}
-use Rattle.mdl_shared.proofs.WaitCalls.{poll-pending, poll-refused, poll-settled, polls}
+use Rattle.mdl_shared.proofs.PollCalls.{poll-pending, poll-refused, poll-settled, polls}
 use Rattle.mdl_shared.proofs.WaitSteps.{session-there, still-member, waits-seen}
 use Rattle.mdl_shared.proofs.session.Session.poll_wait.Goals as goal
 use Rattle.mdl_shared.proofs.session.Session.poll_wait.Goals.{in-Some, in-None}

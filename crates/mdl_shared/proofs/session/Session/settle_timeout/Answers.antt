@@ -5,7 +5,7 @@ use Rattle.mdl_shared.specs.Passes.{view_of}
 use Rattle.mdl_shared.specs.SessionViews.{Lists, SessionView, session_at, settled_of}
 use Rattle.mdl_shared.proofs.Members.{done-lists}
 use Rattle.mdl_shared.proofs.Props.{member}
-use Rattle.mdl_shared.proofs.WaitCalls.{timeout-already, timeout-now, timeout-refused, timeouts}
+use Rattle.mdl_shared.proofs.PollCalls.{timeout-already, timeout-now, timeout-refused, timeouts}
 use Rattle.mdl_shared.proofs.WaitSteps.{session-there, still-member, waits-seen}
 use Rattle.mdl_shared.proofs.session.Session.settle_timeout.Goals as goal
 use Rattle.mdl_shared.proofs.session.Session.settle_timeout.Goals.{in-Some, in-None}
