@@ -12,9 +12,9 @@ use Rattle.mdl_steps.specs.Deeds.{NotWaited, is_own}
 use Rattle.mdl_steps.specs.Plays.{noting_version}
 use Rattle.mdl_steps.proofs.Views.{by_bool}
 use Rattle.mdl_visits.specs.Numbers.{numbered, all_numbers, is_ask_apart, is_no_number}
-use Rattle.mdl_shared.specs.Members.{without_at}
+use Rattle.mdl_shared.specs.Members.{is_ask_placed, without_at}
 use Rattle.mdl_shared.specs.Modes.{in_mode_at}
-use Rattle.mdl_shared.specs.Waitings.{are_below, is_ask_placed}
+use Rattle.mdl_shared.specs.Waitings.{are_below}
 use Rattle.mdl_shared.proofs.Membership.{still_known}
 use Rattle.mdl_visits.proofs.Numbers.{not_waited}
 

@@ -14,12 +14,6 @@ use Rattle.mdl_steps.specs.declared.view.Own.{Own}
 use Rattle.mdl_shared.specs.Members.{kind_known, most_numbers}
 use Rattle.mdl_shared.specs.Modes.{clone_fault, downgrade_fault, is_fit, may_merge, merge_fault}
 use Rattle.mdl_shared.specs.Upgrades.{can_have, upgrade_fault}
-use Rattle.mdl_shared.specs.SessionViews.{SessionView}
-use Rattle.mdl_shared.proofs.SameSpace.{KeepsRest}
-
--- nothing has changed
-pub same-rest : (m : SessionView) → KeepsRest m m
-same-rest m = record { number = refl; known = refl; wait = (refl, refl, refl, λ state told. told) }
 
 -- the same ticket is found
 pub one-ticket : {T : Type 0} (o : Option T) (t u : T) → o ≡ Some t → o ≡ Some u → t ≡ u

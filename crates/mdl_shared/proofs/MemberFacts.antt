@@ -14,7 +14,7 @@ use Rattle.mdl_steps.specs.Lists.{Each}
 use Rattle.mdl_steps.specs.Seats.{IsPlace, IsRising}
 use Rattle.mdl_session_laws.specs.SessionSpaces.{SpeaksFor, are_below as are_below_told, are_placed as are_placed_told, first_free, is_known as is_known_in}
 use Rattle.mdl_visits.specs.Leavings.{HasTicket}
-use Rattle.mdl_visits.specs.Numbers.{all_numbers, is_ask_apart, is_no_number, numbered}
+use Rattle.mdl_visits.specs.Numbers.{all_numbers, is_ask_apart, numbered}
 use Rattle.mdl_visits.proofs.Numbers.{not_waited}
 use Rattle.mdl_shared.specs.Members.{IsMember, are_apart, are_placed, is_ask_placed, is_known_place}
 use Rattle.mdl_shared.specs.OwnLists.{told_of}
@@ -51,8 +51,7 @@ awaited-told : (known : List Known) (asks : Option Ask) (waits : ℕ)
 awaited-told known None waits at = refl
 awaited-told known (Some a) waits at = sym (known-told a.place known) ∙ at
 
-
-module _ (s : SessionView) (is : IsMember s) where
+module _ {s : SessionView} (is : IsMember s) where
   -- it speaks for its number
   pub speaks : SpeaksFor (space_of s) s.me.0.number
   speaks = (refl, is.sound)
@@ -136,9 +135,8 @@ module _ (s : SessionView) (is : IsMember s) where
 
   -- ---- a ticket of its
 
-  module _ (id : ℕ) (t : Own) (its : numbered id s.me.0.slow ≡ Some t) where
-    pub ticket-there : HasTicket t.place id s.me.0.slow
-    ticket-there = has_numbered t.place id s.me.0.slow (ap (option_map (λ (x : Own). x.place)) its)
+  pub ticket-there : (id : ℕ) (t : Own) → numbered id s.me.0.slow ≡ Some t → HasTicket t.place id s.me.0.slow
+  ticket-there id t its = has_numbered t.place id s.me.0.slow (ap (option_map (λ (x : Own). x.place)) its)
 
-    pub ticket-known : is_known_place s.me.0.known t.place ≡ true
-    ticket-known = placed_at s.me.0.known s.me.0.slow t.place id placed ticket-there
+  pub ticket-known : (id : ℕ) (t : Own) → numbered id s.me.0.slow ≡ Some t → is_known_place s.me.0.known t.place ≡ true
+  ticket-known id t its = placed_at s.me.0.known s.me.0.slow t.place id placed (ticket-there id t its)

@@ -8,7 +8,7 @@ use Rattle.mdl_steps.specs.declared.view.Ask.{Ask}
 use Rattle.mdl_steps.specs.declared.view.Met.{Met}
 use Rattle.mdl_steps.specs.declared.view.Own.{Own}
 use Rattle.mdl_steps.specs.declared.view.Settlement.{Settlement}
-use Rattle.mdl_steps.specs.Deeds.{all_done, all_next, all_owned, next_after}
+use Rattle.mdl_steps.specs.Deeds.{all_done, all_next, all_owned}
 use Rattle.mdl_steps.specs.Layout.{word_count}
 use Rattle.mdl_steps.specs.Plays.{Mine}
 use Rattle.mdl_steps.specs.SeatStates.{AtItsTable, SeatState}
@@ -17,12 +17,16 @@ use Rattle.mdl_session_laws.proofs.KeptSound.{keeps-sound}
 use Rattle.mdl_visits.specs.Grantings.{StaysTold, VisitsAndReschedules}
 use Rattle.mdl_visits.specs.Idle.{IsIdle, HasSlowAlone}
 use Rattle.mdl_visits.specs.Visits.{Visits}
+use Rattle.mdl_visits.specs.Numbers.{numbered}
+use Rattle.mdl_shared.specs.declared.member.Member.{Member}
 use Rattle.mdl_shared.specs.Members.{IsMember, are_within, most_numbers}
+use Rattle.mdl_shared.specs.Passes.{view_of}
 use Rattle.mdl_shared.specs.Rememberings.{AreAlike}
-use Rattle.mdl_shared.specs.SessionViews.{SessionView, space_of}
+use Rattle.mdl_shared.specs.SessionViews.{Lists, SessionView, lists_seen, session_at, space_of}
+use Rattle.mdl_shared.specs.TicketLists.{HasRoom, TicketList}
 use Rattle.mdl_shared.specs.Waitings.{is_ask_last, is_ask_told}
 use Rattle.mdl_shared.proofs.Alike.{alike_done}
-use Rattle.mdl_shared.proofs.SameSpace.{KeepsRest, SeesWait, Stays}
+use Rattle.mdl_shared.proofs.SameSpace.{KeepsRest, Stays}
 
 -- a call left the session at the same table of the same space, without a latch or a fast ticket, and in order but for what its joining tells
 pub record StaysInOrder (s s′ : SessionView) : Type 0 where
@@ -36,8 +40,8 @@ pub record StaysInOrder (s s′ : SessionView) : Type 0 where
   pub told : is_ask_told s′.me.0.asks s′.me.0.told ≡ true
   pub fewer : (s′.me.0.waits < s′.me.0.next) × (s′.me.0.waits < most_numbers)
 
-pub kept : (s s′ : SessionView) (call : Call) (answer : Answer) → IsMember s → StaysInOrder s s′ → Joins (space_of s) call answer (space_of s′) → IsMember s′
-kept s s′ call answer is order joins = record {
+pub kept : {s s′ : SessionView} {call : Call} {answer : Answer} → IsMember s → StaysInOrder s s′ → Joins (space_of s) call answer (space_of s′) → IsMember s′
+kept {s} {s′} {call} {answer} is order joins = record {
   sound = keeps-sound (space_of s) (space_of s′) call answer is.sound joins;
   idle = order.idle;
   slow = order.slow;
@@ -65,30 +69,31 @@ pub record HasDone (place : ℕ) (ds : List Deed) (s s′ : SessionView) : Type 
   pub unasked : s.me.0.asks ≡ None → told ≡ s.me.0.told
 
 -- what its seat's visit tells
-view-same : (s s′ : SessionView) → s′.table ≡ s.table → s′.sessions ≡ s.sessions → (m : Mine) → s′.me ≡ m → s′ ≡ record s { me = m }
-view-same s s′ table sessions m me = λ i. record { table = table i; sessions = sessions i; me = me i }
+seat-changed : (seat seat′ : SeatState) (sessions : ℕ) → seat′.table ≡ seat.table → (m : Mine) → seat′.me ≡ m → session_at seat′ sessions ≡ record (session_at seat sessions) { me = m }
+seat-changed seat seat′ sessions table m me = λ i. record { table = table i; sessions = sessions; me = me i }
 
-pub visited : (place : ℕ) (ds : List Deed) (s s′ : SessionView) → s′.table ≡ s.table → s′.sessions ≡ s.sessions → Visits place ds s.me s′.me → HasDone place ds s s′
-visited place ds s s′ table sessions visits = record {
-  told = s.me.0.told;
-  settles = s.me.0.settles;
+pub visited : {place : ℕ} {ds : List Deed} (seat seat′ : SeatState) (sessions : ℕ) → AtItsTable seat seat′ (Visits place ds)
+    → HasDone place ds (session_at seat sessions) (session_at seat′ sessions)
+visited seat seat′ sessions visits = record {
+  told = seat.me.0.told;
+  settles = seat.me.0.settles;
   log = _;
-  now = view-same s s′ table sessions _ visits.now;
+  now = seat-changed seat seat′ sessions visits.0 _ visits.1.now;
   stays = λ state told. told;
   unasked = λ none. refl;
 }
 
-pub rescheduled : (place : ℕ) (ds : List Deed) (s s′ : SessionView) → s′.table ≡ s.table → s′.sessions ≡ s.sessions
-    → VisitsAndReschedules s.table place ds s.me s′.me → HasDone place ds s s′
-rescheduled place ds s s′ table sessions visits =
-    let told : s′.me.0.told ≡ visits.told = ap (λ (m : Mine). m.0.told) visits.now in
+pub rescheduled : {place : ℕ} {ds : List Deed} (seat seat′ : SeatState) (sessions : ℕ) → AtItsTable seat seat′ (VisitsAndReschedules seat.table place ds)
+    → HasDone place ds (session_at seat sessions) (session_at seat′ sessions)
+rescheduled seat seat′ sessions visits =
+    let told : seat′.me.0.told ≡ visits.1.told = ap (λ (m : Mine). m.0.told) visits.1.now in
     record {
-      told = visits.told;
-      settles = visits.settles;
+      told = visits.1.told;
+      settles = visits.1.settles;
       log = _;
-      now = view-same s s′ table sessions _ visits.now;
-      stays = subst (λ (o : Option ℕ). StaysTold s.me.0.told o) told visits.way.stays;
-      unasked = λ none. sym told ∙ visits.way.unasked none;
+      now = seat-changed seat seat′ sessions visits.0 _ visits.1.now;
+      stays = subst (λ (o : Option ℕ). StaysTold seat.me.0.told o) told visits.1.way.stays;
+      unasked = λ none. sym told ∙ visits.1.way.unasked none;
     }
 
 -- numbers are given out, and none is taken back
@@ -108,10 +113,7 @@ last-none next next′ None which last = refl
 last-none next next′ (Some a) (inl none) last = cc
 last-none next next′ (Some a) (inr same) last = ap (λ (n : ℕ). is_ask_last n (Some a)) same ∙ last
 
-module _ (place : ℕ) (ds : List Deed) (s s′ : SessionView) (done : HasDone place ds s s′) where
-  abbrev after : SessionView
-  after = record s { me = (record (all_done place ds s.me.0) { told = done.told; settles = done.settles; log = done.log }, s.me.1) }
-
+module _ {place : ℕ} {ds : List Deed} {s s′ : SessionView} (done : HasDone place ds s s′) where
   -- where it waits it was given no number
   pub done-order : IsMember s → (s.me.0.asks ≡ None) ⊎ (all_next ds s.me.0.next ≡ s.me.0.next) → StaysInOrder s s′
   done-order is which =
@@ -145,14 +147,38 @@ module _ (place : ℕ) (ds : List Deed) (s s′ : SessionView) (done : HasDone p
   pub done-reads : s′.me.0.reads ≡ s.me.0.reads
   done-reads = ap (λ (x : SessionView). x.me.0.reads) done.now
 
+  -- of its lists, too
+  pub done-lists : lists_seen s′.me.0 ≡ record (lists_seen s.me.0) { tickets = all_owned place ds s.me.0.slow; next = all_next ds s.me.0.next }
+  done-lists = ap (λ (x : SessionView). lists_seen x.me.0) done.now
+
 -- without a deed all else stays
-pub done-nothing : (place : ℕ) (s s′ : SessionView) → HasDone place [] s s′ → Stays s s′
-done-nothing place s s′ done =
-    let rest = done-rest place [] s s′ done in record {
+pub done-nothing : {place : ℕ} {s s′ : SessionView} → HasDone place [] s s′ → Stays s s′
+done-nothing done =
+    let rest = done-rest done in record {
       number = rest.number;
-      tickets = done-slow place [] s s′ done;
-      next = done-next place [] s s′ done;
+      tickets = done-slow done;
+      next = done-next done;
       known = rest.known;
       wait = rest.wait;
-      reads = done-reads place [] s s′ done;
+      reads = done-reads done;
     }
+
+-- ---- a session's own lists
+
+-- they are those of its view still, where the same was done to them
+pub lists-done : (m : Member) {place : ℕ} {ds : List Deed} {s : SessionView} {tickets : List Own} → HasDone place ds (view_of m) s → tickets ≡ all_owned place ds m.tickets.own
+    → record { tickets = tickets; known = m.known.known; next = all_next ds m.next; asks = m.asks; waits = m.waits } ≡ lists_seen s.me.0
+lists-done m {place} {ds} done same =
+    ap (λ (ts : List Own). record { tickets = ts; known = m.known.known; next = all_next ds m.next; asks = m.asks; waits = m.waits }) same
+    ∙ ap (λ (l : Lists). record l { tickets = all_owned place ds l.tickets; next = all_next ds l.next }) m.lists ∙ sym (done-lists done)
+
+-- and have the room that they had
+pub room-kept : {place : ℕ} (list list′ : TicketList) → (list.spare ≤ list′.spare) × (list′.reach ≡ list.reach) → HasRoom place list → HasRoom place list′
+room-kept {place} list list′ more room =
+    let some = more.0 in
+    let same = more.1 in
+    (omega (arith, some, room.0), subst (λ (n : ℕ). place < n) (sym same) room.1)
+
+-- a ticket of its own list is one of its view
+pub held-seen : (m : Member) (id : ℕ) (o : Option Own) → o ≡ numbered id m.tickets.own → numbered id m.seat.me.0.slow ≡ o
+held-seen m id o found = ap (λ (l : Lists). numbered id l.tickets) (sym m.lists) ∙ sym found

@@ -1,14 +1,17 @@
 -- The tickets of a place have one note.
-use Rattle.std.proofs.Common.{◌≡◌, ℕ, true, ◌==◌, List, [], ◌∷◌, Option, Some, None, refl, sym, subst, ◌∙◌}
+use Rattle.std.proofs.Common.{◌≡◌, ℕ, true, not, ◌==◌, List, [], ◌∷◌, Option, Some, None, refl, sym, subst, ◌∙◌}
 use Rattle.std.specs.Prelude.{filter_map}
 use Rattle.std.proofs.lemmas.Bool.{eq-eqb, eqb-true, false≢true}
+use Rattle.mdl_steps.specs.declared.deed.Deed.{Deed}
+use Rattle.mdl_steps.specs.declared.deed.Deed.TheVariants.{Gain, Alter, Lose}
 use Rattle.mdl_steps.specs.declared.view.Own.{Own}
+use Rattle.mdl_steps.specs.Deeds.{is_own, owned}
 use Rattle.mdl_steps.specs.Lists.{Each}
 use Rattle.mdl_steps.proofs.Views.{by_bool}
+use Rattle.mdl_shared.specs.Members.{IsMember}
 use Rattle.mdl_shared.specs.Rememberings.{AreAlike}
 use Rattle.mdl_shared.specs.SessionViews.{SessionView, note_of}
-use Rattle.mdl_shared.proofs.Props.{remembered}
-use Rattle.mdl_shared.proofs.SpaceNotes.{AllNoted, and_note, note-here, note-there, noted-in, noted_under}
+use Rattle.mdl_shared.proofs.SpaceNotes.{AllNoted, and_note, note-here, note-there, noted-gained, noted-in, noted-less, noted-moded, noted_under}
 
 -- where no ticket has a note, nothing is noted
 none-noted : (place : ℕ) (tickets : List Own) → AllNoted place None tickets → noted_under place tickets ≡ None
@@ -45,5 +48,11 @@ alike-noted place (t ∷ ts) alike =
     ((λ e. absurd (false≢true (sym there ∙ eq-eqb t.place place e))), alike-noted place ts alike.1))
 
 -- each has the one that is noted there
-pub one-note : (m : SessionView) (place : ℕ) → AllNoted place (noted_under place m.me.0.slow) m.me.0.slow
-one-note m place = alike-noted place m.me.0.slow (remembered m.remembers).alike
+pub one-note : (m : SessionView) → IsMember m → (place : ℕ) → AllNoted place (noted_under place m.me.0.slow) m.me.0.slow
+one-note m is place = alike-noted place m.me.0.slow is.alike
+
+-- and still has after a deed
+pub one-note_done : (m : SessionView) → IsMember m → (at place : ℕ) (d : Deed) → AllNoted at (noted_under at m.me.0.slow) (owned place d m.me.0.slow)
+one-note_done m is at place (Gain number mode) = noted-gained at number place mode m.me.0.slow (one-note m is at)
+one-note_done m is at place (Alter number mode) = noted-moded at place number (noted_under at m.me.0.slow) mode m.me.0.slow (one-note m is at)
+one-note_done m is at place (Lose number) = noted-less at (noted_under at m.me.0.slow) (λ t. not (is_own place number t)) m.me.0.slow (one-note m is at)

@@ -1,7 +1,7 @@
--- What a session remembers has one proof at most, so that it comes out of a ghost field.
-use Rattle.std.proofs.Common.{◌≡◌, ℕ, ◌≤◌, List, [], ◌∷◌, true, Option, Some, None}
+-- What is always so of a session has one proof at most, so that it comes out of a ghost field.
+use Rattle.std.proofs.Common.{◌≡◌, ℕ, ◌<◌, ◌≤◌, List, [], ◌∷◌, true, Option, Some, None, is_some}
 use Rattle.std.specs.Prelude.{MatchOption}
-use Rattle.std.specs.Option.{IfSome, option_map}
+use Rattle.std.specs.Option.{IfSome}
 use Rattle.std.specs.Coded.{Coded-set}
 use Rattle.std.proofs.Props.{props}
 use mathlib.Core.HLevel.{×_prop, Unit-prop, Π_prop}
@@ -14,12 +14,18 @@ use Rattle.mdl_defs.specs.declared.definition.Definition.TheVariants.{Schema, Ta
 use Rattle.mdl_defs.specs.declared.standing.Standing.{Standing}
 use Rattle.mdl_defs.specs.Definitions.{IsWellFormed}
 use Rattle.mdl_defs.specs.Standings.{MayStand, fits}
-use Rattle.mdl_steps.specs.declared.view.Known.{Known}
+use Rattle.mdl_calls.specs.Words.{IsRising, Wait, is_waiting}
 use Rattle.mdl_steps.specs.declared.view.Own.{Own}
-use Rattle.mdl_steps.specs.declared.view.Read.{Read}
+use Rattle.mdl_steps.specs.Layout.{word_count}
 use Rattle.mdl_steps.specs.Lists.{Each}
-use Rattle.mdl_shared.specs.OwnLists.{key_known}
-use Rattle.mdl_shared.specs.Rememberings.{AreAlike, FitsKey, IsOfLast, Remembers, is_newest, last_read}
+use Rattle.mdl_session_laws.specs.SessionSpaces.{FitsKey, IsNoted, IsSound, Space, are_apart, are_below, are_placed, first_free, is_known, is_newest, key_known, last_read, noted_at}
+use Rattle.mdl_visits.specs.Idle.{IsIdle, HasSlowAlone}
+use Rattle.mdl_shared.specs.declared.member.Member.{Member}
+use Rattle.mdl_shared.specs.Members.{IsMember, are_within, most_numbers}
+use Rattle.mdl_shared.specs.Passes.{view_of}
+use Rattle.mdl_shared.specs.Rememberings.{AreAlike}
+use Rattle.mdl_shared.specs.SessionViews.{SessionView}
+use Rattle.mdl_shared.specs.Waitings.{is_ask_last, is_ask_told}
 
 -- ---- what may stand
 
@@ -43,6 +49,13 @@ MayStand-prop namespace standing x y =
       fits = fits_prop x.fits y.fits i;
     }
 
+FitsKey-prop : (a : Space) (place : ℕ) (standing : Standing) → IsProp (FitsKey a place standing)
+FitsKey-prop a place standing = by (key_known place a.known)
+  where
+    by : (o : Option KeyName) → IsProp (MatchOption o ⊥ (λ (key : KeyName). MayStand key.namespace standing))
+    by None = λ x y. absurd x
+    by (Some key) = MayStand-prop key.namespace standing
+
 -- ---- lists
 
 Each-prop : {X : Type 0} (P : X → Type 0) → ((x : X) → IsProp (P x)) → (xs : List X) → IsProp (Each P xs)
@@ -56,28 +69,62 @@ AreAlike-prop : (tickets : List Own) → IsProp (AreAlike tickets)
 AreAlike-prop [] = Unit-prop
 AreAlike-prop (t ∷ ts) = ×_prop (Each-prop (λ (x : Own). x.place ≡ t.place → x.noted ≡ t.noted) (λ x. Π_prop (λ e. note-prop x.noted t.noted)) ts) (AreAlike-prop ts)
 
-FitsKey-prop : (known : List Known) (place : ℕ) (standing : Standing) → IsProp (FitsKey known place standing)
-FitsKey-prop known place standing = by (key_known place known)
+-- ---- what is always so
+
+awaited-prop : (a : Space) → IsProp (IfSome a.own.wait (λ (w : Wait). is_known w.place a.known ≡ true))
+awaited-prop a = by a.own.wait
   where
-    by : (o : Option KeyName) → IsProp (MatchOption o ⊥ (λ (key : KeyName). MayStand key.namespace standing))
-    by None = λ x y. absurd x
-    by (Some key) = MayStand-prop key.namespace standing
+    by : (o : Option Wait) → IsProp (IfSome o (λ (w : Wait). is_known w.place a.known ≡ true))
+    by None = Unit-prop
+    by (Some w) = hlevel props
 
--- ---- what a session remembers
-
-Remembers-prop : (known : List Known) (tickets : List Own) (reads : List Read) → IsProp (Remembers known tickets reads)
-Remembers-prop known tickets reads x y =
-    let noted_prop : IsProp (Each (IsOfLast reads) tickets) =
-    Each-prop (IsOfLast reads) (λ t. Π_prop (λ version. Π_prop (λ e. note-prop (option_map (λ (s : Standing). s.version) (last_read t.place reads)) (Some version)))) tickets in
-    let newest_prop : IsProp ((place : ℕ) (standing : Standing) → last_read place reads ≡ Some standing → is_newest place standing.version reads ≡ true) = hlevel props in
-    let fits_prop : IsProp ((place : ℕ) (standing : Standing) → last_read place reads ≡ Some standing → FitsKey known place standing) =
-    Π_prop (λ place. Π_prop (λ standing. Π_prop (λ e. FitsKey-prop known place standing))) in
+IsSound-prop : (a : Space) → IsProp (IsSound a)
+IsSound-prop a x y =
+    let rising_prop : IsProp (IsRising a.own) = hlevel props in
+    let below_prop : IsProp (are_below (first_free (is_waiting a.own) a.numbers) a.own.held ≡ true) = hlevel props in
+    let placed_prop : IsProp (are_placed a.known a.own.held ≡ true) = hlevel props in
+    let apart_prop : IsProp (are_apart a.known ≡ true) = hlevel props in
+    let settled_prop : IsProp (is_some a.settled ≡ true → is_waiting a.own ≡ true) = hlevel props in
+    let noted_prop : IsProp ((place version : ℕ) → noted_at place a.notes ≡ Some version → IsNoted a place version) = hlevel props in
+    let newest_prop : IsProp ((place : ℕ) (standing : Standing) → last_read place a.reads ≡ Some standing → is_newest place standing.version a.reads ≡ true) = hlevel props in
+    let fits_prop : IsProp ((place : ℕ) (standing : Standing) → last_read place a.reads ≡ Some standing → FitsKey a place standing) =
+    Π_prop (λ place. Π_prop (λ standing. Π_prop (λ e. FitsKey-prop a place standing))) in
     λ i. record {
-      alike = AreAlike-prop tickets x.alike y.alike i;
+      rising = rising_prop x.rising y.rising i;
+      below = below_prop x.below y.below i;
+      placed = placed_prop x.placed y.placed i;
+      awaited = awaited-prop a x.awaited y.awaited i;
+      apart = apart_prop x.apart y.apart i;
+      settled = settled_prop x.settled y.settled i;
       noted = noted_prop x.noted y.noted i;
       newest = newest_prop x.newest y.newest i;
       fits = fits_prop x.fits y.fits i;
     }
 
-pub remembered : {known : List Known} {tickets : List Own} {reads : List Read} → ∥ Remembers known tickets reads ∥₁ → Remembers known tickets reads
-remembered {known} {tickets} {reads} h = ∥∥₁_elim h (Remembers-prop known tickets reads) (λ x. x)
+IsMember-prop : (s : SessionView) → IsProp (IsMember s)
+IsMember-prop s x y =
+    let idle_prop : IsProp (IsIdle s.me) = hlevel props in
+    let slow_prop : IsProp (HasSlowAlone s.me) = hlevel props in
+    let within_prop : IsProp (are_within s.table.slots s.me.0.known ≡ true) = hlevel props in
+    let last_prop : IsProp (is_ask_last s.me.0.next s.me.0.asks ≡ true) = hlevel props in
+    let told_prop : IsProp (is_ask_told s.me.0.asks s.me.0.told ≡ true) = hlevel props in
+    let fewer_prop : IsProp ((s.me.0.waits < s.me.0.next) × (s.me.0.waits < most_numbers)) = hlevel props in
+    let counted_prop : IsProp ((0 < s.me.0.number) × (s.me.0.number ≤ s.sessions)) = hlevel props in
+    let narrow_prop : IsProp ((0 < s.table.slots) × (s.table.slots ≤ 65536)) = hlevel props in
+    let words_prop : IsProp (s.table.words ≡ word_count s.table.slots s.sessions) = hlevel props in
+    λ i. record {
+      sound = IsSound-prop _ x.sound y.sound i;
+      idle = idle_prop x.idle y.idle i;
+      slow = slow_prop x.slow y.slow i;
+      within = within_prop x.within y.within i;
+      alike = AreAlike-prop s.me.0.slow x.alike y.alike i;
+      last = last_prop x.last y.last i;
+      told = told_prop x.told y.told i;
+      fewer = fewer_prop x.fewer y.fewer i;
+      counted = counted_prop x.counted y.counted i;
+      narrow = narrow_prop x.narrow y.narrow i;
+      words = words_prop x.words y.words i;
+    }
+
+pub member : (m : Member) → IsMember (view_of m)
+member m = ∥∥₁_elim m.lawful (IsMember-prop (view_of m)) (λ x. x)

@@ -17,6 +17,7 @@ pub use Rattle.mdl_visits.specs.WaitOpenings
 pub mod Beginnings
 pub mod Doings
 pub mod Endings
+pub mod KnownLists
 pub mod Members
 pub mod Modes
 pub mod OwnLists
@@ -24,5 +25,6 @@ pub mod Passes
 pub mod Rememberings
 pub mod SessionViews
 pub mod Showings
+pub mod TicketLists
 pub mod Upgrades
 pub mod Waitings

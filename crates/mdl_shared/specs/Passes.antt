@@ -6,7 +6,7 @@ use Rattle.mdl_steps.specs.SeatStates.{enrolled_seat}
 use Rattle.mdl_shared.specs.declared.manager.Manager.{Manager}
 use Rattle.mdl_shared.specs.declared.member.Member.{Member}
 use Rattle.mdl_shared.specs.declared.pass.Pass.{Pass}
-use Rattle.mdl_shared.specs.SessionViews.{SessionView}
+use Rattle.mdl_shared.specs.SessionViews.{SessionView, session_at}
 
 -- the table of a space
 abbrev pub table_of : Manager → TableId
@@ -14,7 +14,7 @@ table_of manager = (arc_value manager.table).shared.table_id
 
 -- what a session, open or not, is at the table
 abbrev pub view_of : Member → SessionView
-view_of m = record { table = m.seat.table; sessions = m.sessions; me = m.seat.me }
+view_of m = session_at m.seat m.sessions
 
 -- the session of a pass, as it is once it is opened
 abbrev pub pass_view : Pass → SessionView

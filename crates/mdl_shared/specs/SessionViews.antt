@@ -10,6 +10,7 @@ use Rattle.mdl_steps.specs.declared.view.Own.{Own}
 use Rattle.mdl_steps.specs.declared.view.Read.{Read}
 use Rattle.mdl_steps.specs.declared.view.View.{View}
 use Rattle.mdl_steps.specs.Plays.{Mine}
+use Rattle.mdl_steps.specs.SeatStates.{SeatState}
 use Rattle.mdl_steps.specs.declared.wait_word.Loss.TheVariants as loss
 use Rattle.mdl_steps.specs.WaitStates.{granted_state, lost_state}
 use Rattle.mdl_session_laws.specs.SessionSpaces.{Space, Note}
@@ -38,6 +39,10 @@ pub record SessionView : Type 0 where
   pub table : TableId
   pub sessions : ℕ
   pub me : Mine
+
+-- the session of a seat, in a space of so many sessions
+abbrev pub session_at : SeatState → ℕ → SessionView
+session_at seat sessions = record { table = seat.table; sessions = sessions; me = seat.me }
 
 -- ---- its lists
 

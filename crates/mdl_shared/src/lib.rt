@@ -37,34 +37,15 @@
 //! ```
 #![tactic(auto)]
 
-mod audit;
-mod begin_wait;
-mod change_definition;
-mod clone_ticket;
 mod downgrade;
-mod end_wait;
-mod held;
 mod holdings;
-mod key_of;
-mod kill;
-mod lock_space;
+mod known_keys;
 mod manager;
 mod member;
-mod merge;
 mod pass;
-mod poll_wait;
-mod read_definition;
 mod release;
-mod reschedule;
-mod resolve;
-mod search;
 mod session;
-mod settle_timeout;
-mod tables_of;
-mod try_now;
-mod upgrade_now;
-mod wait_of;
-mod wait_words;
+mod tickets;
 
 pub use manager::Manager;
 pub use mdl_calls::NewError;

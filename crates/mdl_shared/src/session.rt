@@ -15,7 +15,8 @@ pub struct Session<R> {
 
 // A session's value is its seat at the table, with what it knows and has there. Its own lists are those (`Member`).
 impl<R> Model for Session<R> {
-    ghost use Rattle.mdl_shared.specs.SessionViews.{SessionView, view_of};
+    ghost use Rattle.mdl_shared.specs.Passes.{view_of};
+    ghost use Rattle.mdl_shared.specs.SessionViews.{SessionView};
 
     ghost Value = { SessionView };
 
@@ -27,6 +28,7 @@ pub struct HoldsTickets<R>(pub Session<R>);
 
 impl<R> Session<R> {
     ghost use Rattle.mdl_session_laws.specs.SessionSpaces.{SpeaksFor};
+    ghost use Rattle.mdl_shared.specs.Members.{IsMember};
     ghost use Rattle.mdl_shared.specs.Passes.{pass_table, pass_view, table_of};
     ghost use Rattle.mdl_shared.specs.SessionViews.{space_of};
 
@@ -45,6 +47,7 @@ impl<R> Session<R> {
     pub fn number(&self) -> u16
         ensures number { result ≡ self.now.me.0.number }
         ensures speaks { SpeaksFor (space_of self.now) result }
+        ensures lawful { IsMember self.now }
     {
         self.member.seat.number()
     }

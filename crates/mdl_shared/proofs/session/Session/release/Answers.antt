@@ -1,12 +1,12 @@
--- A release, by what the session keeps of its own, is one by its value.
-use Rattle.std.proofs.Common.{◌≡◌, ℕ, false, Option, Some, None, Ok, is_some, if◌then◌else◌, refl, sym, ap, ◌∙◌}
+-- The ticket goes, or there is none.
+use Rattle.std.proofs.Common.{false, inr, is_some, refl, ap, ◌∙◌}
 use Rattle.mdl_calls.specs.declared.space_error.SpaceError.TheVariants.{NotHeld}
-use Rattle.mdl_calls.specs.Words.{Done, Release}
-use Rattle.mdl_steps.specs.declared.view.Own.{Own}
-use Rattle.mdl_visits.specs.Numbers.{numbered}
-use Rattle.mdl_shared.specs.Members.{holding_fault, without_at}
-use Rattle.mdl_shared.proofs.Faults.{just-clear}
-use Rattle.mdl_shared.proofs.SessionValues.{joins-seen, none-mapped, refused-seen, some-mapped, speaks}
+use Rattle.mdl_calls.specs.Words.{Release}
+use Rattle.mdl_shared.specs.Passes.{view_of}
+use Rattle.mdl_shared.proofs.MemberFacts.{may-latch, place-known, place-within, speaks, ticket-known, ticket-there, unwaited}
+use Rattle.mdl_shared.proofs.Members.{done-order, held-seen, kept, lists-done, rescheduled, room-kept}
+use Rattle.mdl_shared.proofs.Props.{member}
+use Rattle.mdl_shared.proofs.SameSpace.{refused, same-stays}
 use Rattle.mdl_shared.proofs.SpaceTickets.{holds-told}
 use Rattle.mdl_shared.proofs.TicketCalls.{release-joins}
 use Rattle.mdl_shared.proofs.session.Session.release.Goals as goal
@@ -14,21 +14,41 @@ use Rattle.mdl_shared.proofs.session.Session.release.Goals as goal
 pub returns-in_default-clause-joined : goal.returns-in_default-clause-joined
 returns-in_default-clause-joined g c =
     let m = c.self.inside.member in
-    let none = none-mapped (λ (t : Own). t.place) (numbered c.args.id m.tickets.items) (sym c.place_held.ensures ∙ c.in_default.is) in
+    let s = view_of m in
+    let none = held-seen m c.args.id c.get.result c.get.ensures.found ∙ c.in_default.is in
     rw (← c.self.view_is)
-    (refused-seen m (Release m.seat.me.0.number c.args.id) NotHeld (speaks m) refl refl
-    (holds-told c.args.id m.tickets.items false (ap is_some none)) (λ state how is. cc) tt)
+    (refused s s (Release s.me.0.number c.args.id) NotHeld (same-stays s) (speaks (member m)) refl refl
+    (holds-told c.args.id s.me.0.slow false (ap is_some none)) (λ state how is. cc) tt)
+
+pub release-requires : goal.release-requires
+release-requires g c =
+    let m = c.self.inside.member in
+    let is = member m in
+    let id = c.args.id in
+    let t = c.in-Some.held in
+    let its = held-seen m id c.get.result c.get.ensures.found ∙ c.in-Some.is in
+    let known = ticket-known is id t its in record {
+      place = place-within is t.place known;
+      rising = may-latch is t.place;
+      known = place-known is t.place known;
+      unwaited = unwaited is id (ap is_some its);
+      held = ticket-there is id t its;
+    }
+
+pub invariant_of-member : goal.invariant_of-member
+invariant_of-member g c =
+    let m = c.self.inside.member in
+    let is = member m in
+    let its = held-seen m c.args.id c.get.result c.get.ensures.found ∙ c.in-Some.is in
+    let done = rescheduled m.seat c.release.new.seat m.sessions c.release.ensures.released in record {
+      lawful = ∣ kept is (done-order done is (inr refl)) (release-joins is c.args.id c.in-Some.held its done) ∣₁;
+      lists = lists-done m done c.strike.ensures.struck;
+      room = λ ask asks. room-kept m.tickets c.strike.new.self c.strike.ensures.room (m.room ask asks);
+    }
 
 pub returns-clause-joined : goal.returns-clause-joined
 returns-clause-joined g c =
     let m = c.self.inside.member in
-    let id = c.args.id in
-    let did = c.release.ensures in
-    let same = did.same in
-    let held = some-mapped (λ (t : Own). t.place) (numbered id m.tickets.items) c.in-Some.place (sym c.place_held.ensures ∙ c.in-Some.is) in
-    let clear : holding_fault id m.tickets.items ≡ None = ap (λ (o : Option Own). if is_some o then None else Some NotHeld) held.1 in
+    let its = held-seen m c.args.id c.get.result c.get.ensures.found ∙ c.in-Some.is in
     rw (← c.self.view_is)
-    (joins-seen m c.release.new.self (Release m.seat.me.0.number id) Done
-    (release-joins m c.release.new.self m.seat.me.0.number id (record { number = same.1; known = same.3; wait = did.wait }) same.2 did.reads (speaks m) (Ok tt)
-    (held.0, held.1, did.released ∙ ap (λ (p : ℕ). without_at p id m.tickets.items) (sym held.2)) tt
-    (just-clear (holding_fault id m.tickets.items) tt clear)))
+    (release-joins (member m) c.args.id c.in-Some.held its (rescheduled m.seat c.release.new.seat m.sessions c.release.ensures.released))

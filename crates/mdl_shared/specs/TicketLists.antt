@@ -1,0 +1,13 @@
+-- A session's own list of its tickets, as the session's calls see it.
+use Rattle.std.specs.Prelude.{ℕ, ◌<◌, List}
+use Rattle.mdl_steps.specs.declared.view.Own.{Own}
+
+-- the tickets in order of gain, for how many more there is room, and below which place those may be
+pub record TicketList : Type 0 where
+  pub own : List Own
+  pub spare : ℕ
+  pub reach : ℕ
+
+-- there is room for one more ticket at a place
+abbrev pub HasRoom : ℕ → TicketList → Type 0
+HasRoom place list = (0 < list.spare) × (place < list.reach)
