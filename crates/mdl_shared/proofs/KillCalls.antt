@@ -26,9 +26,8 @@ use Rattle.mdl_shared.specs.SessionViews.{SessionView, settled_told, space_of}
 use Rattle.mdl_shared.specs.Showings.{HasStep, Shows}
 use Rattle.mdl_shared.proofs.PollCalls.{settled-some}
 use Rattle.mdl_shared.proofs.Members.{done-nothing}
-use Rattle.mdl_shared.proofs.Refusals.{does-nothing, stays-on}
-use Rattle.mdl_shared.proofs.SameSpace.{joins-still, refused, same-stays, told-settled, wait_by}
-use Rattle.mdl_shared.proofs.WaitSteps.{Watches, met-word, session-there, told-own, watches, watches-then, word-step}
+use Rattle.mdl_shared.proofs.SameSpace.{joins-still, same-stays, told-settled, wait_by}
+use Rattle.mdl_shared.proofs.WaitSteps.{Watches, met-word, shows, session-there, told-own, watches, watches-then, word-step}
 
 -- ---- the waits of any session
 
@@ -47,39 +46,16 @@ module _ {s : SessionView} (is : IsMember s) (target : ℕ) where
   pub target-there : is_within s.sessions target ≡ true → IsSession s.table target
   target-there within = let parts = within-parts s.sessions target within in session-there s is target parts.0 parts.1
 
-  -- of a session that there isn't nothing is met
-  pub nobody-waits : is_within s.sessions target ≡ false → Joins (space_of s) (Wait_of target) (Has_wait None) (space_of s) × Shows (Wait_of target) (Has_wait None) s s
-  nobody-waits beyond = (
-    joins-still s s (Wait_of target) (Has_wait None) (same-stays s) tt refl refl refl refl tt tt refl (λ state how is. cc) (λ how is. cc) refl (λ r. r)
-    (λ mine. absurd (not-own beyond mine)),
-    record {
-      table = refl;
-      sessions = refl;
-      refused = tt;
-      did = does-nothing s.me;
-      settled = refl;
-      told = tt;
-      steps = stays-on s.me;
-      met = ((λ none. (refl, refl)), (λ within. absurd (false≢true (sym beyond ∙ within))));
-    },
-  )
+  -- of a session that there isn't nothing is told
+  pub nobody-waits : is_within s.sessions target ≡ false → Joins (space_of s) (Wait_of target) (Has_wait None) (space_of s)
+  nobody-waits beyond =
+      joins-still s s (Wait_of target) (Has_wait None) (same-stays s) tt refl refl refl refl tt tt refl (λ state how is. cc) (λ how is. cc) refl (λ r. r)
+      (λ mine. absurd (not-own beyond mine))
 
-  pub nobody-killed : (number : ℕ) → is_within s.sessions target ≡ false
-      → Joins (space_of s) (Kill target number) (Has_killed false) (space_of s) × Shows (Kill target number) (Has_killed false) s s
-  nobody-killed number beyond = (
-    joins-still s s (Kill target number) (Has_killed false) (same-stays s) tt refl refl refl refl tt tt refl (λ state how is. cc) (λ how is. cc) refl (λ r. r)
-    (λ mine. absurd (not-own beyond mine)),
-    record {
-      table = refl;
-      sessions = refl;
-      refused = tt;
-      did = does-nothing s.me;
-      settled = refl;
-      told = tt;
-      steps = stays-on s.me;
-      met = ((λ none. refl), (λ within. absurd (false≢true (sym beyond ∙ within))));
-    },
-  )
+  pub nobody-killed : (number : ℕ) → is_within s.sessions target ≡ false → Joins (space_of s) (Kill target number) (Has_killed false) (space_of s)
+  nobody-killed number beyond =
+      joins-still s s (Kill target number) (Has_killed false) (same-stays s) tt refl refl refl refl tt tt refl (λ state how is. cc) (λ how is. cc) refl (λ r. r)
+      (λ mine. absurd (not-own beyond mine))
 
 -- ---- the number of a wait
 
@@ -100,16 +76,8 @@ number-met {s} {s′} target found within own now =
       did,
       joins-still s s′ (Wait_of target) (Has_wait (number_in found)) (done-nothing did.done) tt refl refl refl refl tt tt refl (λ state how is. cc) (λ how is. cc) refl (λ r. r)
       (λ mine. own-number s found (own mine)),
-      record {
-        table = ap (λ (x : SessionView). x.table) now;
-        sessions = ap (λ (x : SessionView). x.sessions) now;
-        refused = tt;
-        did = did.did;
-        settled = ap (λ (x : SessionView). x.me.0.settles) now;
-        told = tt;
-        steps = did.stayed;
-        met = ((λ beyond. absurd (false≢true (sym beyond ∙ within))), (λ w. (met.0, met.1, record { word = met.2.word_is; told = ap number_in (sym met.2.found) })));
-      },
+      shows did tt did.did (ap (λ (x : SessionView). x.me.0.settles) now) tt did.stayed
+      (((λ beyond. absurd (false≢true (sym beyond ∙ within))), (λ w. (met.0, met.1, record { word = met.2.word_is; told = ap number_in (sym met.2.found) })))),
     )
 
 -- ---- kills
@@ -137,16 +105,8 @@ module _ {s s′ : SessionView} (target number : ℕ) (within : is_within s.sess
       → Joins (space_of s) (Kill target number) (Has_killed false) (space_of s′) × Shows (Kill target number) (Has_killed false) s s′
   kill-missed settles met known = (
     joins-still s s′ (Kill target number) (Has_killed false) (done-nothing did.done) tt refl refl refl refl tt tt refl (λ state how is. cc) (λ how is. cc) refl (λ r. r) known,
-    record {
-      table = ap (λ (x : SessionView). x.table) did.done.now;
-      sessions = ap (λ (x : SessionView). x.sessions) did.done.now;
-      refused = tt;
-      did = did.did;
-      settled = settles;
-      told = tt;
-      steps = did.stayed;
-      met = ((λ beyond. absurd (false≢true (sym beyond ∙ within))), (λ w. met));
-    },
+    shows did tt did.did (settles) tt did.stayed
+    (((λ beyond. absurd (false≢true (sym beyond ∙ within))), (λ w. met))),
   )
 
   pub kill-settled : s′.me.0.settles ≡ s.me.0.settles ++ record { session = target; wait = number; state = 5 } ∷ []
@@ -156,16 +116,8 @@ module _ {s s′ : SessionView} (target number : ℕ) (within : is_within s.sess
   kill-settled settles met known = (
     joins-still s s′ (Kill target number) (Has_killed true) (done-nothing did.done) tt refl refl refl refl tt tt refl (λ state how is. cc) (λ how is. cc) refl (λ r. r)
     (λ mine. let h = known mine in (h.0, told-settled s′.me.0.told Killed h.1)),
-    record {
-      table = ap (λ (x : SessionView). x.table) did.done.now;
-      sessions = ap (λ (x : SessionView). x.sessions) did.done.now;
-      refused = tt;
-      did = did.did;
-      settled = settles;
-      told = tt;
-      steps = did.stayed;
-      met = (within, met);
-    },
+    shows did tt did.did (settles) tt did.stayed
+    ((within, met)),
   )
 
 -- a word that was read, and wasn't open, is that of no open wait

@@ -1,10 +1,8 @@
 pub mod Fitting
 pub mod Membership
-pub mod Telling
 pub mod Awaiting
 pub mod KnownKeys
 pub mod Rising
-pub mod Polling
 pub mod Ends
 pub mod SpaceLists
 pub mod SameSpace
@@ -15,6 +13,9 @@ pub mod Faults
 pub mod Props
 pub mod MemberFacts
 pub mod Members
+pub mod Refusals
+pub mod WaitSteps
+pub mod SearchCalls
 pub mod PollCalls
 pub mod NotedOnce
 pub mod TicketFaults
@@ -28,5 +29,4 @@ pub mod SpaceReads
 pub mod ReadCalls
 pub mod KillCalls
 pub mod KeyCalls
-pub mod ShowingCalls
 pub mod SessionValues

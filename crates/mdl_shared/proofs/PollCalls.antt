@@ -24,9 +24,8 @@ use Rattle.mdl_shared.specs.Waitings.{wait_fault}
 use Rattle.mdl_shared.proofs.Faults.{if-clear}
 use Rattle.mdl_shared.proofs.MemberFacts.{speaks}
 use Rattle.mdl_shared.proofs.Members.{done-nothing}
-use Rattle.mdl_shared.proofs.Refusals.{own-shows}
 use Rattle.mdl_shared.proofs.SameSpace.{joins-still, refused, same-stays, settled-told, told-settled, waits-asks}
-use Rattle.mdl_shared.proofs.WaitSteps.{Watches, met-word, told-own, watches, word-step}
+use Rattle.mdl_shared.proofs.WaitSteps.{Watches, met-word, shows, told-own, watches, word-step}
 
 -- ---- how a wait is settled, by the state of its word
 
@@ -79,23 +78,15 @@ clear-wait : (asks : Option Ask) → is_some asks ≡ true → wait_fault asks �
 clear-wait None e = cc
 clear-wait (Some a) e = refl
 
-no-wait : (asks : Option Ask) → is_some asks ≡ false → wait_fault asks ≡ Some NoWait
-no-wait None e = refl
-no-wait (Some a) e = cc
-
 -- without one both calls are refused
 module _ {s : SessionView} (is : IsMember s) (idle : is_some s.me.0.asks ≡ false) where
-  pub poll-refused : Joins (space_of s) (Poll_wait s.me.0.number) (Refused NoWait) (space_of s) × Shows (Poll_wait s.me.0.number) (Refused NoWait) s s
-  poll-refused = (
-    refused s s (Poll_wait s.me.0.number) NoWait (same-stays s) (speaks is) refl refl (waits-asks s.me.0.asks s.me.0.waits ∙ idle) (λ state how is. cc) tt,
-    own-shows (Poll_wait s.me.0.number) NoWait s (no-wait s.me.0.asks idle),
-  )
+  pub poll-refused : Joins (space_of s) (Poll_wait s.me.0.number) (Refused NoWait) (space_of s)
+  poll-refused =
+      refused s s (Poll_wait s.me.0.number) NoWait (same-stays s) (speaks is) refl refl (waits-asks s.me.0.asks s.me.0.waits ∙ idle) (λ state how is. cc) tt
 
-  pub timeout-refused : Joins (space_of s) (Settle_timeout s.me.0.number) (Refused NoWait) (space_of s) × Shows (Settle_timeout s.me.0.number) (Refused NoWait) s s
-  timeout-refused = (
-    refused s s (Settle_timeout s.me.0.number) NoWait (same-stays s) (speaks is) refl refl (waits-asks s.me.0.asks s.me.0.waits ∙ idle) (λ state how is. cc) tt,
-    own-shows (Settle_timeout s.me.0.number) NoWait s (no-wait s.me.0.asks idle),
-  )
+  pub timeout-refused : Joins (space_of s) (Settle_timeout s.me.0.number) (Refused NoWait) (space_of s)
+  timeout-refused =
+      refused s s (Settle_timeout s.me.0.number) NoWait (same-stays s) (speaks is) refl refl (waits-asks s.me.0.asks s.me.0.waits ∙ idle) (λ state how is. cc) tt
 
 module _ {s : SessionView} (is : IsMember s) (waiting : is_some s.me.0.asks ≡ true) (session found : ℕ) (mine : session ≡ s.me.0.number)
     (own : TellsOwn s.table.slots session found s.me.0) where
@@ -137,16 +128,8 @@ module _ {s : SessionView} (is : IsMember s) (waiting : is_some s.me.0.asks ≡ 
       joins-still s s′ (Poll_wait s.me.0.number) Pending (done-nothing polls.done) (speaks is) refl refl refl refl
       (waits-asks s.me.0.asks s.me.0.waits ∙ waiting) tt refl
       (λ state how met knows. let e : None ≡ state = cc in sym e ∙ agreed None none how knows) (λ how told. cc) refl (λ r. r) tt,
-      record {
-        table = ap (λ (x : SessionView). x.table) now;
-        sessions = ap (λ (x : SessionView). x.sessions) now;
-        refused = if-clear _ (wait_fault s.me.0.asks) (clear-wait s.me.0.asks waiting);
-        did = polls.did;
-        settled = ap (λ (x : SessionView). x.me.0.settles) now;
-        told = tt;
-        steps = polls.stayed;
-        met = polls-own 1 (unsettled-is (wait_state found) none busy ok.state);
-      },
+      shows polls (if-clear _ (wait_fault s.me.0.asks) (clear-wait s.me.0.asks waiting)) polls.did (ap (λ (x : SessionView). x.me.0.settles) now) tt polls.stayed
+      (polls-own 1 (unsettled-is (wait_state found) none busy ok.state)),
     )
 
     pub poll-settled : (one : Settled) → settled_of (wait_state found) ≡ Some one
@@ -158,16 +141,8 @@ module _ {s : SessionView} (is : IsMember s) (waiting : is_some s.me.0.asks ≡ 
           (waits-asks s.me.0.asks s.me.0.waits ∙ waiting) tt refl
           (λ state how met knows. let e : Some one ≡ state = cc in sym e ∙ agreed (Some one) some how knows)
           (λ how tells. let e : one ≡ how = cc in told-settled s′.me.0.told how (told ∙ ap (λ (x : Settled). Some (state_of x)) e)) refl (λ r. r) tt,
-          record {
-            table = ap (λ (x : SessionView). x.table) now;
-            sessions = ap (λ (x : SessionView). x.sessions) now;
-            refused = if-clear _ (wait_fault s.me.0.asks) (clear-wait s.me.0.asks waiting);
-            did = polls.did;
-            settled = ap (λ (x : SessionView). x.me.0.settles) now;
-            told = tt;
-            steps = polls.stayed;
-            met = polls-own (state_of one) its;
-          },
+          shows polls (if-clear _ (wait_fault s.me.0.asks) (clear-wait s.me.0.asks waiting)) polls.did (ap (λ (x : SessionView). x.me.0.settles) now) tt polls.stayed
+          (polls-own (state_of one) its),
         )
 
   -- ---- timeouts
@@ -192,17 +167,9 @@ module _ {s : SessionView} (is : IsMember s) (waiting : is_some s.me.0.asks ≡ 
           (waits-asks s.me.0.asks s.me.0.waits ∙ waiting) tt refl
           (λ state how met knows. let e : None ≡ state = cc in sym e ∙ agreed None none how knows)
           (λ how tells. let e : Timeout ≡ how = cc in told-settled s′.me.0.told how (told ∙ ap (λ (x : Settled). Some (state_of x)) e)) refl (λ r. r) tt,
-          record {
-            table = ap (λ (x : SessionView). x.table) now;
-            sessions = ap (λ (x : SessionView). x.sessions) now;
-            refused = if-clear _ (wait_fault s.me.0.asks) (clear-wait s.me.0.asks waiting);
-            did = did.did;
-            settled = ap (λ (x : SessionView). x.me.0.settles) now ∙ ap (λ (n : ℕ). s.me.0.settles ++ record { session = n; wait = wait; state = 4 } ∷ []) mine
-                ∙ ap (λ (w : ℕ). s.me.0.settles ++ record { session = s.me.0.number; wait = w; state = 4 } ∷ []) last;
-            told = tt;
-            steps = did.stayed;
-            met = (met.0, met.1, record { word = met.2.word_is ∙ ap (wait_word s.table.slots) mine; found = met.2.found ∙ ap (λ (w : ℕ). wait_in w 1) last });
-          },
+          shows did (if-clear _ (wait_fault s.me.0.asks) (clear-wait s.me.0.asks waiting)) did.did (ap (λ (x : SessionView). x.me.0.settles) now ∙ ap (λ (n : ℕ). s.me.0.settles ++ record { session = n; wait = wait; state = 4 } ∷ []) mine
+                ∙ ap (λ (w : ℕ). s.me.0.settles ++ record { session = s.me.0.number; wait = w; state = 4 } ∷ []) last) tt did.stayed
+          ((met.0, met.1, record { word = met.2.word_is ∙ ap (wait_word s.table.slots) mine; found = met.2.found ∙ ap (λ (w : ℕ). wait_in w 1) last })),
         )
 
     pub timeout-already : (one : Settled) → settled_of (wait_state found) ≡ Some one
@@ -219,16 +186,8 @@ module _ {s : SessionView} (is : IsMember s) (waiting : is_some s.me.0.asks ≡ 
           (waits-asks s.me.0.asks s.me.0.waits ∙ waiting) tt refl
           (λ state how met knows. let e : Some one ≡ state = cc in sym e ∙ agreed (Some one) some how knows)
           (λ how tells. let e : one ≡ how = cc in told-settled s′.me.0.told how (told ∙ ap (λ (x : Settled). Some (state_of x)) e)) refl (λ r. r) tt,
-          record {
-            table = ap (λ (x : SessionView). x.table) now;
-            sessions = ap (λ (x : SessionView). x.sessions) now;
-            refused = if-clear _ (wait_fault s.me.0.asks) (clear-wait s.me.0.asks waiting);
-            did = did.did;
-            settled = ap (λ (x : SessionView). x.me.0.settles) now;
-            told = tt;
-            steps = did.stayed;
-            met = (met.0, met.1, record { word = met.2.word_is ∙ ap (wait_word s.table.slots) mine; found = met.2.found ∙ in-state (state_of one) its });
-          },
+          shows did (if-clear _ (wait_fault s.me.0.asks) (clear-wait s.me.0.asks waiting)) did.did (ap (λ (x : SessionView). x.me.0.settles) now) tt did.stayed
+          ((met.0, met.1, record { word = met.2.word_is ∙ ap (wait_word s.table.slots) mine; found = met.2.found ∙ in-state (state_of one) its })),
         )
 
     pub timeouts : Watches s s′

@@ -1,6 +1,5 @@
 -- Searches for deadlocks, which may settle the wait of the session itself.
-use Rattle.std.proofs.Common.{◌≡◌, ℕ, true, is_some, [], List, Option, Some, None, Result, Ok, Err, refl, sym, ap, subst, ◌∙◌}
-use Rattle.std.proofs.lemmas.Bool.{false≢true}
+use Rattle.std.proofs.Common.{◌≡◌, Result, Ok, Err, refl, sym, subst}
 use Rattle.std.specs.Prelude.{IfOk, IfErr}
 use Rattle.mdl_calls.specs.declared.answers.Search.{Search as Found}
 use Rattle.mdl_calls.specs.declared.answers.Search.TheVariants as found
@@ -8,35 +7,13 @@ use Rattle.mdl_calls.specs.declared.answers.Settled.TheVariants.{Victim}
 use Rattle.mdl_calls.specs.declared.space_error.SpaceError.{SpaceError}
 use Rattle.mdl_calls.specs.declared.space_error.SpaceError.TheVariants.{OutOfMemory}
 use Rattle.mdl_calls.specs.Words.{No_cycle, Victim_is, Search, IsCause, searched}
-use Rattle.mdl_steps.specs.declared.view.Met.{Met}
-use Rattle.mdl_steps.specs.declared.view.Settlement.{Settlement}
-use Rattle.mdl_steps.specs.SeatStates.{SeatState}
 use Rattle.mdl_session_laws.specs.SessionJoins.{Joins}
 use Rattle.mdl_session_laws.specs.SessionSpaces.{Knows}
-use Rattle.mdl_visits.specs.Grantings.{StaysTold}
 use Rattle.mdl_visits.specs.Searches.{KnowsVictim}
 use Rattle.mdl_shared.specs.Members.{IsMember}
-use Rattle.mdl_shared.specs.SessionViews.{SessionView, session_at, space_of}
+use Rattle.mdl_shared.specs.SessionViews.{SessionView, space_of}
 use Rattle.mdl_shared.proofs.MemberFacts.{speaks}
-use Rattle.mdl_shared.proofs.Members.{HasDone}
 use Rattle.mdl_shared.proofs.SameSpace.{Stays, joins-still, refused, told-settled}
-
--- a visit without a deed
-pub quietly : {seat seat′ : SeatState} {log : List Met} {told : Option ℕ} {settles : List Settlement} (sessions : ℕ) → seat′.table ≡ seat.table
-    → seat′.me ≡ (record seat.me.0 { told = told; settles = settles; log = log }, seat.me.1) → StaysTold seat.me.0.told told
-    → (seat.me.0.asks ≡ None → told ≡ seat.me.0.told) → HasDone 0 [] (session_at seat sessions) (session_at seat′ sessions)
-quietly {log = log} {told = told} {settles = settles} sessions table me stays unasked = record {
-  told = told;
-  settles = settles;
-  log = log;
-  now = λ i. record { table = table i; sessions = sessions; me = me i };
-  stays = stays;
-  unasked = unasked;
-}
-
--- of a session that waits what is told of no wait is so
-pub asked : {P : Type 0} (s : SessionView) → is_some s.me.0.asks ≡ true → s.me.0.asks ≡ None → P
-asked s waiting none = absurd (false≢true (sym (ap is_some none) ∙ waiting))
 
 pub search-joins : {s s′ : SessionView} → IsMember s → Stays s s′ → (result : Result Found SpaceError)
     → IfOk result (λ f. KnowsVictim s.me.0.number f s′.me) → IfErr result (λ why. why ≡ OutOfMemory)

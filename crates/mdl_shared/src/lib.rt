@@ -37,15 +37,23 @@
 //! ```
 #![tactic(auto)]
 
+mod audit;
 mod downgrade;
 mod holdings;
+mod kill;
 mod known_keys;
 mod manager;
 mod member;
 mod pass;
+mod poll_wait;
 mod release;
+mod reschedule;
+mod search;
 mod session;
+mod settle_timeout;
 mod tickets;
+mod wait_of;
+mod wait_words;
 
 pub use manager::Manager;
 pub use mdl_calls::NewError;

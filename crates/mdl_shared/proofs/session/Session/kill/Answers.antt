@@ -14,7 +14,7 @@ use Rattle.mdl_shared.proofs.session.Session.kill.Goals as goal
 pub returns-then-not-is_session-clause-joined : goal.returns-then-not-is_session-clause-joined
 returns-then-not-is_session-clause-joined g c =
     let m = c.self.inside.member in
-    rw (← c.self.view_is) (nobody-killed (member m) c.args.target c.args.number (sym c.is_session.ensures ∙ c.if-not-is_session.true)).0
+    rw (← c.self.view_is) (nobody-killed (member m) c.args.target c.args.number (sym c.is_session.ensures ∙ c.if-not-is_session.true))
 
 pub read_wait-requires : goal.read_wait-requires
 read_wait-requires g c = record { session = target-there (member c.self.inside.member) c.args.target (sym c.is_session.ensures ∙ c.if-not-is_session.false) }

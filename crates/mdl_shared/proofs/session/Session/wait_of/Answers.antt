@@ -11,7 +11,7 @@ use Rattle.mdl_shared.proofs.session.Session.wait_of.Goals as goal
 pub returns-then-not-is_session-clause-joined : goal.returns-then-not-is_session-clause-joined
 returns-then-not-is_session-clause-joined g c =
     let m = c.self.inside.member in
-    rw (← c.self.view_is) (nobody-waits (member m) c.args.target (sym c.is_session.ensures ∙ c.if-not-is_session.true)).0
+    rw (← c.self.view_is) (nobody-waits (member m) c.args.target (sym c.is_session.ensures ∙ c.if-not-is_session.true))
 
 pub read_wait-requires : goal.read_wait-requires
 read_wait-requires g c =

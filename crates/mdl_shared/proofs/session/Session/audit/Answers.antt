@@ -2,8 +2,7 @@
 use Rattle.std.proofs.Common.{refl, sym, ◌∙◌}
 use Rattle.mdl_shared.proofs.Members.{done-lists}
 use Rattle.mdl_shared.proofs.Props.{member}
-use Rattle.mdl_shared.proofs.SearchCalls.{quietly}
-use Rattle.mdl_shared.proofs.WaitSteps.{still-member}
+use Rattle.mdl_shared.proofs.WaitSteps.{quietly, still-member}
 use Rattle.mdl_shared.proofs.session.Session.audit.Goals as goal
 
 pub audit-requires : goal.audit-requires

@@ -6,8 +6,8 @@ use Rattle.mdl_shared.specs.Passes.{view_of}
 use Rattle.mdl_shared.proofs.Members.{done-lists, done-nothing}
 use Rattle.mdl_shared.proofs.Props.{member}
 use Rattle.mdl_shared.proofs.SameSpace.{same-stays}
-use Rattle.mdl_shared.proofs.SearchCalls.{asked, quietly, search-joins}
-use Rattle.mdl_shared.proofs.WaitSteps.{still-member, waits-seen}
+use Rattle.mdl_shared.proofs.SearchCalls.{search-joins}
+use Rattle.mdl_shared.proofs.WaitSteps.{asked, quietly, still-member, waits-seen}
 use Rattle.mdl_shared.proofs.session.Session.search_deadlock.Goals as goal
 use Rattle.mdl_shared.proofs.session.Session.search_deadlock.Goals.{in-Ok, in-Err}
 

@@ -13,7 +13,7 @@ use Rattle.mdl_shared.proofs.session.Session.settle_timeout.Goals.{in-Some, in-N
 pub returns-then-is_none-clause-joined : goal.returns-then-is_none-clause-joined
 returns-then-is_none-clause-joined g c =
     let m = c.self.inside.member in
-    rw (← c.self.view_is) (timeout-refused (member m) (waits-seen m false (c.is_none.ensures ∙ ap not c.if-is_none.true))).0
+    rw (← c.self.view_is) (timeout-refused (member m) (waits-seen m false (c.is_none.ensures ∙ ap not c.if-is_none.true)))
 
 pub settle_wait-word-requires : goal.settle_wait-word-requires
 settle_wait-word-requires g c =
