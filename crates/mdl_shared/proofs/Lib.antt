@@ -2,7 +2,6 @@ pub mod Fitting
 pub mod Membership
 pub mod Awaiting
 pub mod KnownKeys
-pub mod Rising
 pub mod Ends
 pub mod SpaceLists
 pub mod SameSpace

@@ -1,6 +1,7 @@
 -- Calls on the session's own wait: polls and timeouts.
 use Rattle.std.proofs.Common.{◌≡◌, ◌≢◌, ℕ, ◌<◌, ◌≤◌, ◌==◌, true, false, is_some, List, [], ◌∷◌, ◌++◌, Option, Some, None, inl, inr, refl, sym, ap, subst, ◌∙◌, arith}
 use Rattle.std.proofs.lemmas.Bool.{eqb-false, eqb-true}
+use Rattle.std.proofs.lemmas.Bool.Decides.{nat_tests}
 use Rattle.mdl_calls.specs.declared.answers.Settled.{Settled}
 use Rattle.mdl_calls.specs.declared.answers.Settled.TheVariants.{Granted, Victim, Timeout, Killed}
 use Rattle.mdl_calls.specs.declared.answers.TimedOut.TheVariants.{ByThisCall, Already}
@@ -30,31 +31,14 @@ use Rattle.mdl_shared.proofs.WaitSteps.{Watches, met-word, shows, told-own, watc
 -- ---- how a wait is settled, by the state of its word
 
 settled-is : (state : ℕ) (how : Settled) → settled_of state ≡ Some how → state ≡ state_of how
-settled-is state how e =
-    by_bool (state == 2) (λ two. let now = rw two at e in let same : Granted ≡ how = cc in eqb-true state 2 two ∙ ap state_of same) (λ not_two.
-    let at_three = rw not_two at e in
-    by_bool (state == 3) (λ three. let now = rw three at at_three in let same : Victim ≡ how = cc in eqb-true state 3 three ∙ ap state_of same) (λ not_three.
-    let at_four = rw not_three at at_three in
-    by_bool (state == 4) (λ four. let now = rw four at at_four in let same : Timeout ≡ how = cc in eqb-true state 4 four ∙ ap state_of same) (λ not_four.
-    let at_five = rw not_four at at_four in
-    by_bool (state == 5) (λ five. let now = rw five at at_five in let same : Killed ≡ how = cc in eqb-true state 5 five ∙ ap state_of same) (λ not_five.
-    let now = rw not_five at at_five in cc))))
+settled-is state Granted e = grind (arith, nat_tests)
+settled-is state Victim e = grind (arith, nat_tests)
+settled-is state Timeout e = grind (arith, nat_tests)
+settled-is state Killed e = grind (arith, nat_tests)
 
 -- the other states
 unsettled-is : (state : ℕ) → settled_of state ≡ None → state ≢ 0 → state ≤ 5 → state ≡ 1
-unsettled-is state e busy most =
-    by_bool (state == 2) (λ two. let now = rw two at e in cc) (λ not_two.
-    let at_three = rw not_two at e in
-    by_bool (state == 3) (λ three. let now = rw three at at_three in cc) (λ not_three.
-    let at_four = rw not_three at at_three in
-    by_bool (state == 4) (λ four. let now = rw four at at_four in cc) (λ not_four.
-    let at_five = rw not_four at at_four in
-    by_bool (state == 5) (λ five. let now = rw five at at_five in cc) (λ not_five.
-    let two = eqb-false state 2 not_two in
-    let three = eqb-false state 3 not_three in
-    let four = eqb-false state 4 not_four in
-    let five = eqb-false state 5 not_five in
-    omega (arith, busy, most, two, three, four, five)))))
+unsettled-is state e busy most = grind (arith, nat_tests)
 
 -- a settled one has one
 pub settled-some : (state : ℕ) → 1 < state → state ≤ 5 → (how : Settled) × (settled_of state ≡ Some how)
