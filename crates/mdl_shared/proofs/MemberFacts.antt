@@ -14,7 +14,7 @@ use Rattle.mdl_steps.specs.Lists.{Each}
 use Rattle.mdl_steps.specs.Seats.{IsPlace, IsRising}
 use Rattle.mdl_session_laws.specs.SessionSpaces.{SpeaksFor, are_below as are_below_told, are_placed as are_placed_told, first_free, is_known as is_known_in}
 use Rattle.mdl_visits.specs.Leavings.{HasTicket}
-use Rattle.mdl_visits.specs.Numbers.{all_numbers, is_ask_apart, is_no_number, numbered}
+use Rattle.mdl_visits.specs.Numbers.{all_numbers, is_ask_apart, numbered}
 use Rattle.mdl_visits.proofs.Numbers.{not_waited}
 use Rattle.mdl_shared.specs.Members.{IsMember, are_apart, are_placed, is_ask_placed, is_known_place}
 use Rattle.mdl_shared.specs.OwnLists.{told_of}
@@ -50,7 +50,6 @@ awaited-told : (known : List Known) (asks : Option Ask) (waits : ℕ)
     → IfSome (wait_by waits asks) (λ (w : Wait). is_known_in w.place (map known_of known) ≡ true) → is_ask_placed known asks ≡ true
 awaited-told known None waits at = refl
 awaited-told known (Some a) waits at = sym (known-told a.place known) ∙ at
-
 
 module _ {s : SessionView} (is : IsMember s) where
   -- it speaks for its number

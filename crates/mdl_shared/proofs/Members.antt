@@ -8,7 +8,7 @@ use Rattle.mdl_steps.specs.declared.view.Ask.{Ask}
 use Rattle.mdl_steps.specs.declared.view.Met.{Met}
 use Rattle.mdl_steps.specs.declared.view.Own.{Own}
 use Rattle.mdl_steps.specs.declared.view.Settlement.{Settlement}
-use Rattle.mdl_steps.specs.Deeds.{all_done, all_next, all_owned, next_after}
+use Rattle.mdl_steps.specs.Deeds.{all_done, all_next, all_owned}
 use Rattle.mdl_steps.specs.Layout.{word_count}
 use Rattle.mdl_steps.specs.Plays.{Mine}
 use Rattle.mdl_steps.specs.SeatStates.{AtItsTable, SeatState}
@@ -26,7 +26,7 @@ use Rattle.mdl_shared.specs.SessionViews.{Lists, SessionView, lists_seen, sessio
 use Rattle.mdl_shared.specs.TicketLists.{HasRoom, TicketList}
 use Rattle.mdl_shared.specs.Waitings.{is_ask_last, is_ask_told}
 use Rattle.mdl_shared.proofs.Alike.{alike_done}
-use Rattle.mdl_shared.proofs.SameSpace.{KeepsRest, SeesWait, Stays}
+use Rattle.mdl_shared.proofs.SameSpace.{KeepsRest, Stays}
 
 -- a call left the session at the same table of the same space, without a latch or a fast ticket, and in order but for what its joining tells
 pub record StaysInOrder (s s′ : SessionView) : Type 0 where

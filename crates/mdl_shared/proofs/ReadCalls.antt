@@ -48,7 +48,7 @@ module _ (m m′ : SessionView) (who id : ℕ) (rest : KeepsRest m m′) (next :
   still same reads = record { number = rest.number; tickets = same; next = next; known = rest.known; wait = rest.wait; reads = reads }
 
   drawn : (space_of m′).numbers ≡ (space_of m).numbers
-  drawn = numbers-same m.me.0.next m′.me.0.next m.me.0.waits m′.me.0.waits next rest.wait.1
+  drawn = numbers-same m.me.0.next m′.me.0.next m.me.0.waits m′.me.0.waits next rest.wait.waits
 
   -- ---- reads
 
@@ -86,7 +86,7 @@ module _ (m m′ : SessionView) (who id : ℕ) (rest : KeepsRest m m′) (next :
   named-there : (place : ℕ) (met key : KeyName) → IsNamed place met m.me → key_known_in place (space_of m).known ≡ Some key → met ≡ key
   named-there place met key named knows =
       let there = known-there place key m.me.0.known (sym (key-told place m.me.0.known) ∙ knows) in
-      named there.0 there.1 (ap (λ ks. get_elem? ks there.0) (sym m.known_is) ∙ there.2) there.3 ∙ there.4
+      named there.0 there.1 there.2 there.3 ∙ there.4
 
   -- of the ticket that is held
   told-one : (t : Own) (ticket : Held) → numbered id m.me.0.slow ≡ Some t → ticket_held id (space_of m).own ≡ Some ticket → ticket ≡ told_of t

@@ -113,10 +113,9 @@ meets-there m place standing follows = record {
   fits = λ key knows.
       let there = known-there place key m.me.0.known (sym (key-told place m.me.0.known) ∙ knows) in
       subst (λ (k : KeyName). MayStand k.namespace standing) there.4
-      (follows.fits there.0 there.1 (ap (λ ks. get_elem? ks there.0) (sym m.known_is) ∙ there.2) there.3);
+      (follows.fits there.0 there.1 there.2 there.3);
   noted = λ version is.
-      noted-each (λ v. v ≡ standing.version) place version m.me.0.slow
-      (subst (λ ts. Each (λ (t : Own). (v : ℕ) → t.noted ≡ Some v → v ≡ standing.version) (own_at place ts)) (sym m.listed) follows.noted) is;
+      noted-each (λ v. v ≡ standing.version) place version m.me.0.slow follows.noted is;
   newest = newest-each place standing m.me.0.reads follows.reads;
   same = λ last is same. last-each place standing last m.me.0.reads follows.reads is same;
 }

@@ -1,6 +1,7 @@
 //! A session's own list of its tickets.
-ghost use Rattle.std.specs.Prelude.{OnOk, Some, [], length, true, ◌++◌, ◌∷◌, ◌<◌, ◌==◌, ◌≡◌, ◌≤◌};
+ghost use Rattle.std.specs.Prelude.{OnOk, Some, [], find, length, true, ◌++◌, ◌∷◌, ◌<◌, ◌==◌, ◌≡◌, ◌≤◌};
 ghost use Rattle.mdl_steps.specs.Cells.{note_at};
+ghost use Rattle.mdl_steps.specs.declared.view.Own.{Own};
 ghost use Rattle.mdl_steps.specs.Deeds.{is_own};
 ghost use Rattle.mdl_steps.specs.Plays.{noting_version};
 ghost use Rattle.mdl_visits.specs.Numbers.{numbered};
@@ -75,12 +76,7 @@ impl Tickets {
         ensures gained { self.new.own ≡ self.old.own ++ record { number = number; place = place; mode = mode; noted = note_at place self.old.own } ∷ [] }
         ensures reach { self.new.reach ≡ self.old.reach }
     {
-        let noted = self
-            .gained
-            .iter()
-            .copied()
-            .find(|ticket| ticket.place == place)
-            .and_then(|ticket| ticket.noted);
+        let noted = note_at(&self.gained, place);
         self.gained.push_reserved(Own {
             number,
             place,
@@ -112,6 +108,21 @@ impl Tickets {
     {
         note(&mut self.gained, place, version);
     }
+}
+
+// The version that is noted at a place, under the first ticket there.
+fn note_at(tickets: &[Own], place: usize) -> Option<u64>
+    ensures { result ≡ note_at place tickets.now }
+{
+    let first = first_at(tickets, place)?;
+    first.noted
+}
+
+// The first ticket at a place.
+fn first_at(tickets: &[Own], place: usize) -> Option<Own>
+    ensures { result ≡ find (λ (t : Own). t.place == place) tickets.now }
+{
+    tickets.iter().copied().find(|ticket| ticket.place == place)
 }
 
 // Whether a ticket is of a number at a place.

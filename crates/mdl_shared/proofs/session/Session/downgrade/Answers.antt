@@ -1,5 +1,5 @@
 -- The ticket has the weaker mode, or it can't have it.
-use Rattle.std.proofs.Common.{◌≡◌, ℕ, true, false, ◌&&◌, List, Some, inr, is_some, refl, sym, ap, subst, ◌∙◌}
+use Rattle.std.proofs.Common.{◌≡◌, ℕ, false, ◌&&◌, Some, inr, is_some, refl, sym, ap, subst, ◌∙◌}
 use Rattle.mdl_system.specs.Strength.{may_downgrade}
 use Rattle.mdl_calls.specs.declared.space_error.SpaceError.TheVariants.{NotHeld, NotUpgradable}
 use Rattle.mdl_calls.specs.Words.{Downgrade, MayNotDowngrade}

@@ -1,5 +1,5 @@
 -- The ticket goes, or there is none.
-use Rattle.std.proofs.Common.{Some, false, inr, is_some, refl, ap, ◌∙◌}
+use Rattle.std.proofs.Common.{false, inr, is_some, refl, ap, ◌∙◌}
 use Rattle.mdl_calls.specs.declared.space_error.SpaceError.TheVariants.{NotHeld}
 use Rattle.mdl_calls.specs.Words.{Release}
 use Rattle.mdl_shared.specs.Passes.{view_of}

@@ -1,6 +1,6 @@
 -- The closure tells the others from it.
 use Rattle.std.proofs.lemmas.Fn.{filter_same}
-use Rattle.std.proofs.Common.{rules, sym, ap, ◌∙◌}
+use Rattle.std.proofs.Common.{rules, ap, ◌∙◌}
 use Rattle.mdl_shared.specs.Members.{without_at}
 use Rattle.mdl_shared.specs.TicketLists.{TicketList}
 use Rattle.mdl_shared.proofs.tickets.Tickets.strike.Goals as goal
