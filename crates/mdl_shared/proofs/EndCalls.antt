@@ -1,5 +1,5 @@
 -- The end of a session's wait.
-use Rattle.std.proofs.Common.{◌≡◌, ◌⊎◌, inl, inr, ℕ, ◌+◌, ◌-◌, true, is_some, List, [], ◌∷◌, ◌++◌, map, Option, Some, None, Ok, refl, sym, ap, subst, ◌∙◌, arith}
+use Rattle.std.proofs.Common.{◌≡◌, ℕ, ◌+◌, ◌-◌, true, is_some, List, [], ◌∷◌, Option, Some, None, Ok, refl, sym, ap, subst, ◌∙◌, arith}
 use Rattle.mdl_calls.specs.declared.answers.Ended.{Ended}
 use Rattle.mdl_calls.specs.declared.answers.Ended.TheVariants as ended_as
 use Rattle.mdl_calls.specs.declared.answers.Settled.{Settled}
@@ -7,24 +7,27 @@ use Rattle.mdl_calls.specs.declared.answers.Settled.TheVariants as settled_as
 use Rattle.mdl_calls.specs.declared.space_error.SpaceError.TheVariants.{NoWait, Unsettled}
 use Rattle.mdl_calls.specs.Own.{winning}
 use Rattle.mdl_calls.specs.Words.{Granted, Lost, Refused, End_wait, ended, is_answer_of, is_waiting}
+use Rattle.mdl_steps.specs.declared.deed.Deed.TheVariants.{Gain}
 use Rattle.mdl_steps.specs.declared.view.Ask.{Ask}
 use Rattle.mdl_steps.specs.declared.view.Met.{Met}
 use Rattle.mdl_steps.specs.declared.view.Own.{Own}
 use Rattle.mdl_steps.specs.declared.view.Settlement.{Settlement}
+use Rattle.mdl_steps.specs.Cells.{note_at}
+use Rattle.mdl_steps.specs.Deeds.{owned}
 use Rattle.mdl_steps.specs.WaitStates.{IsLost}
 use Rattle.mdl_session_laws.specs.SessionJoins.{Joins}
 use Rattle.mdl_visits.specs.Polls.{state_of}
-use Rattle.mdl_shared.specs.Endings.{lost_end, ticket_asked}
+use Rattle.mdl_shared.specs.Endings.{lost_end}
 use Rattle.mdl_shared.specs.Members.{IsMember}
 use Rattle.mdl_shared.specs.OwnLists.{told_of}
 use Rattle.mdl_shared.specs.Rememberings.{AreAlike}
 use Rattle.mdl_shared.specs.SessionViews.{SessionView, space_of}
-use Rattle.mdl_shared.proofs.Alike.{alike_gained}
+use Rattle.mdl_shared.proofs.Alike.{alike_done}
 use Rattle.mdl_shared.proofs.MemberFacts.{ask-last, speaks}
 use Rattle.mdl_shared.proofs.Members.{StaysInOrder}
-use Rattle.mdl_shared.proofs.NotedOnce.{one-note}
+use Rattle.mdl_shared.proofs.NotedOnce.{one-note, one-note_done}
 use Rattle.mdl_shared.proofs.SameSpace.{Stays, own_of, refused, same-stays, wait_by, waits-asks}
-use Rattle.mdl_shared.proofs.SpaceNotes.{noted-gained, nothing-read}
+use Rattle.mdl_shared.proofs.SpaceNotes.{nothing-read}
 use Rattle.mdl_shared.proofs.SpaceTickets.{told-last}
 
 -- ---- how it ended
@@ -45,11 +48,24 @@ granted-so settled_as.Killed e = cc
 
 -- ---- what the session has then
 
--- the session ended its wait and has these tickets; it made steps, which may have settled other waits; nothing else changed
+-- a session that has ended its wait, with these tickets, after these steps, which settled these waits
+abbrev pub after-end : List Own → List Settlement → List Met → SessionView → SessionView
+after-end tickets settles log s = record s { me = (record s.me.0 { slow = tickets; asks = None; told = None; settles = settles; log = log }, s.me.1) }
+
+-- nothing else changed
 pub record HasEnded (tickets : List Own) (s s′ : SessionView) : Type 0 where
   pub settles : List Settlement
   pub log : List Met
-  pub now : s′ ≡ record s { me = (record s.me.0 { slow = tickets; asks = None; told = None; settles = settles; log = log }, s.me.1) }
+  pub now : s′ ≡ after-end tickets settles log s
+
+-- without a wait there is nothing to end
+pub idle-joins : {s : SessionView} → IsMember s → s.me.0.asks ≡ None → Joins (space_of s) (End_wait s.me.0.number) (Refused NoWait) (space_of s)
+idle-joins {s} is idle =
+    refused s s (End_wait s.me.0.number) NoWait (same-stays s) (speaks is) refl refl (waits-asks s.me.0.asks s.me.0.waits ∙ ap is_some idle) (λ state how is. cc) tt
+
+-- it waits where it asks
+waits : {s : SessionView} {a : Ask} → s.me.0.asks ≡ Some a → is_waiting (space_of s).own ≡ true
+waits {s} asks = waits-asks s.me.0.asks s.me.0.waits ∙ ap is_some asks
 
 module _ {s s′ : SessionView} (is : IsMember s) where
   ended-order : {tickets : List Own} → HasEnded tickets s s′ → AreAlike tickets → StaysInOrder s s′
@@ -65,25 +81,17 @@ module _ {s s′ : SessionView} (is : IsMember s) where
     fewer = is.fewer;
   })
 
-  -- without a wait there is nothing to end
-  pub idle-joins : s.me.0.asks ≡ None → Joins (space_of s) (End_wait s.me.0.number) (Refused NoWait) (space_of s)
-  idle-joins idle =
-      refused s s (End_wait s.me.0.number) NoWait (same-stays s) (speaks is) refl refl (waits-asks s.me.0.asks s.me.0.waits ∙ ap is_some idle) (λ state how is. cc) tt
-
   module _ (a : Ask) (asks : s.me.0.asks ≡ Some a) where
-    waits : is_waiting (space_of s).own ≡ true
-    waits = waits-asks s.me.0.asks s.me.0.waits ∙ ap is_some asks
-
-    -- nor is there as long as the wait isn't settled
+    -- it isn't settled
     pub unsettled-joins : Stays s s′ → ((how : Settled) → (space_of s).settled ≡ Some how → ⊥) → Joins (space_of s) (End_wait s.me.0.number) (Refused Unsettled) (space_of s′)
     unsettled-joins stays unsettled =
-        refused s s′ (End_wait s.me.0.number) Unsettled stays (speaks is) refl refl waits (λ state how met knows. absurd (unsettled how knows)) tt
+        refused s s′ (End_wait s.me.0.number) Unsettled stays (speaks is) refl refl (waits asks) (λ state how met knows. absurd (unsettled how knows)) tt
 
     -- won
-    pub won-order : HasEnded (s.me.0.slow ++ ticket_asked a s.me.0.slow ∷ []) s s′ → StaysInOrder s s′
-    won-order ends = ended-order ends (alike_gained s.me.0.slow (ticket_asked a s.me.0.slow) refl is.alike)
+    pub won-order : HasEnded (owned a.place (Gain a.number a.mode) s.me.0.slow) s s′ → StaysInOrder s s′
+    won-order ends = ended-order ends (alike_done a.place (Gain a.number a.mode ∷ []) s.me.0.slow is.alike)
 
-    pub won-joins : ((how : Settled) → (space_of s).settled ≡ Some how → settled_as.Granted ≡ how) → HasEnded (s.me.0.slow ++ ticket_asked a s.me.0.slow ∷ []) s s′
+    pub won-joins : ((how : Settled) → (space_of s).settled ≡ Some how → settled_as.Granted ≡ how) → HasEnded (owned a.place (Gain a.number a.mode) s.me.0.slow) s s′
         → Joins (space_of s) (End_wait s.me.0.number) (Granted a.number) (space_of s′)
     won-joins agreed ends =
         let last = ask-last is a asks in
@@ -93,16 +101,16 @@ module _ {s s′ : SessionView} (is : IsMember s) where
           has = refl;
           fits = refl;
           number = refl;
-          own = ap (λ held. own_of held None) (told-last s.me.0.slow (ticket_asked a s.me.0.slow))
+          own = ap (λ held. own_of held None) (told-last s.me.0.slow (record { number = a.number; place = a.place; mode = a.mode; noted = note_at a.place s.me.0.slow }))
               ∙ sym (ap (λ (o : Option Ask). winning a.number (wait_by s.me.0.waits o) (space_of s).own) asks);
           numbers = (id, refl);
-          explained = waits;
+          explained = waits asks;
           gained = tt;
           learns = refl;
           agreed = λ state how met knows. let e : Some settled_as.Granted ≡ state = cc in sym e ∙ ap Some (agreed how knows);
           told = λ how told. cc;
           settled = refl;
-          reads = nothing-read s _ refl (λ at. noted-gained at a.number a.place a.mode s.me.0.slow (one-note s is at));
+          reads = nothing-read s (after-end (owned a.place (Gain a.number a.mode) s.me.0.slow) ends.settles ends.log s) refl (λ at. one-note_done s is at a.place (Gain a.number a.mode));
           truly = tt;
         })
 
@@ -119,12 +127,12 @@ module _ {s s′ : SessionView} (is : IsMember s) where
       number = refl;
       own = refl;
       numbers = refl;
-      explained = waits;
+      explained = waits asks;
       gained = tt;
       learns = refl;
       agreed = λ state how met knows. let e : Some one ≡ state = cc in sym e ∙ ap Some (agreed how knows);
       told = λ how told. cc;
       settled = refl;
-      reads = nothing-read s _ refl (λ at. one-note s is at);
+      reads = nothing-read s (after-end s.me.0.slow ends.settles ends.log s) refl (λ at. one-note s is at);
       truly = tt;
     })

@@ -34,3 +34,4 @@ pub mod WaitSteps
 pub mod WaitCalls
 pub mod Wishing
 pub mod WishShows
+pub mod EndSteps

@@ -33,7 +33,7 @@ use Rattle.mdl_shared.proofs.WaitSteps.{Watches, met-word, told-own, watches, wa
 
 -- ---- how a wait is settled, by the state of its word
 
-settled-is : (state : ℕ) (how : Settled) → settled_of state ≡ Some how → state ≡ state_of how
+pub settled-is : (state : ℕ) (how : Settled) → settled_of state ≡ Some how → state ≡ state_of how
 settled-is state how e =
     by_bool (state == 2) (λ two. let now = rw two at e in let same : Granted ≡ how = cc in eqb-true state 2 two ∙ ap state_of same) (λ not_two.
     let at_three = rw not_two at e in
@@ -70,7 +70,7 @@ settled-some state more most = by (settled_of state) refl
         let busy : state ≢ 0 = λ none. omega (arith, more, none) in
         let one = unsettled-is state e busy most in absurd (omega (arith, more, one))
 
-settled-more : (state : ℕ) (how : Settled) → state ≡ state_of how → IsSettled state
+pub settled-more : (state : ℕ) (how : Settled) → state ≡ state_of how → IsSettled state
 settled-more state Granted is = omega (arith, is)
 settled-more state Victim is = omega (arith, is)
 settled-more state Timeout is = omega (arith, is)

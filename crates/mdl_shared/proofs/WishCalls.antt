@@ -12,14 +12,15 @@ use Rattle.mdl_calls.specs.Words.{Granted, Refused, Waits, Would_wait, Call, Beg
 use Rattle.mdl_steps.specs.declared.deed.Deed.TheVariants.{Gain}
 use Rattle.mdl_steps.specs.declared.view.Met.{Met}
 use Rattle.mdl_steps.specs.Cells.{note_at}
+use Rattle.mdl_steps.specs.SeatStates.{AtItsTable, SeatState}
 use Rattle.mdl_steps.specs.WaitPlays.{asking}
 use Rattle.mdl_session_laws.specs.SessionJoins.{Joins, Learns, LetsRead, ReadsNothing, TellsTruly, ends_wait, gained_at, has_call, met}
 use Rattle.mdl_session_laws.specs.SessionSpaces.{SpeaksFor, Knows, is_known}
 use Rattle.mdl_session_laws.proofs.RefusedCalls.{reads-nothing}
-use Rattle.mdl_visits.specs.WaitOpenings.{awaiting}
+use Rattle.mdl_visits.specs.WaitOpenings.{Opens, awaiting}
 use Rattle.mdl_shared.specs.Members.{IsMember, kind_known, wish_fault}
 use Rattle.mdl_shared.specs.OwnLists.{told_of}
-use Rattle.mdl_shared.specs.SessionViews.{SessionView, settled_told, space_of}
+use Rattle.mdl_shared.specs.SessionViews.{SessionView, session_at, settled_told, space_of}
 use Rattle.mdl_shared.proofs.MemberFacts.{next-some, nothing-told, speaks}
 use Rattle.mdl_shared.proofs.Members.{HasDone, StaysInOrder, done-next, done-rest, done-slow}
 use Rattle.mdl_shared.proofs.SameSpace.{Stays, joins-held, joins-still, no-asks, numbers_by, own_by, refused, same-stays, waits-asks}
@@ -132,6 +133,11 @@ module _ {s : SessionView} (is : IsMember s) (place : ℕ) (mode : Mode) where
         (λ state how is. cc) tt
 
 -- ---- waits that begin
+
+-- what the visit tells
+pub begun : {place : ℕ} {mode : Mode} (seat seat′ : SeatState) (sessions : ℕ) (opens : AtItsTable seat seat′ (Opens place mode))
+    → session_at seat′ sessions ≡ record (session_at seat sessions) { me = (record (awaiting place mode seat.me.0) { log = seat.me.0.log ++ opens.1.made }, seat.me.1) }
+begun seat seat′ sessions opens = λ i. record { table = opens.0 i; sessions = sessions; me = opens.1.now i }
 
 module _ {s s′ : SessionView} (is : IsMember s) {place : ℕ} {mode : Mode} (clear : wish_fault (kind_known place s.me.0.known) s.me.0.asks mode s.me.0.next ≡ None)
     {log : List Met} (now : s′ ≡ record s { me = (record (awaiting place mode s.me.0) { log = log }, s.me.1) }) where

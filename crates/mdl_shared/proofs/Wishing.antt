@@ -1,5 +1,5 @@
 -- What a session that may wish for a mode at a place gives the visit, by its own lists.
-use Rattle.std.proofs.Common.{◌≡◌, ℕ, ◌<◌, true, is_some, Option, Some, None, List, Ok, refl, sym, ap, ◌∙◌}
+use Rattle.std.proofs.Common.{◌≡◌, ℕ, ◌+◌, ◌<◌, true, is_some, Option, Some, None, List, Ok, refl, sym, ap, ◌∙◌}
 use Rattle.mdl_key.specs.declared.mode.Mode.{Mode}
 use Rattle.mdl_key.specs.declared.namespace.Kind.{Kind}
 use Rattle.mdl_key.specs.Refusals.{RefusesJust}
@@ -11,10 +11,11 @@ use Rattle.mdl_steps.specs.declared.view.Own.{Own}
 use Rattle.mdl_steps.specs.Deeds.{owned}
 use Rattle.mdl_steps.specs.Seats.{IsPlace, IsRising}
 use Rattle.mdl_visits.specs.Visits.{KnowsKind}
+use Rattle.mdl_visits.specs.WaitOpenings.{awaiting}
 use Rattle.mdl_shared.specs.declared.member.Member.{Member}
 use Rattle.mdl_shared.specs.Members.{kind_known, most_numbers, wish_fault}
 use Rattle.mdl_shared.specs.Passes.{view_of}
-use Rattle.mdl_shared.specs.SessionViews.{Lists, SessionView}
+use Rattle.mdl_shared.specs.SessionViews.{Lists, SessionView, lists_seen}
 use Rattle.mdl_shared.specs.Waitings.{are_below}
 use Rattle.mdl_shared.proofs.Faults.{just-done}
 use Rattle.mdl_shared.proofs.MemberFacts.{below, may-latch, place-within}
@@ -66,3 +67,11 @@ unasked m idle P ask asks = let no = sym asks ∙ ap (λ (l : Lists). l.asks) m.
 pub gained-seen : (place number : ℕ) (mode : Mode) (own tickets tickets′ : List Own) → tickets ≡ own → tickets′ ≡ owned place (Gain number mode) tickets
     → tickets′ ≡ owned place (Gain number mode) own
 gained-seen place number mode own tickets tickets′ same gained = gained ∙ ap (owned place (Gain number mode)) same
+
+-- its own lists as it begins to wait
+pub waiting-lists : (m : Member) (place : ℕ) (mode : Mode) (tickets : List Own) → tickets ≡ m.tickets.own
+    → record { tickets = tickets; known = m.known.known; next = m.next + 1; asks = Some (record { number = m.next; place = place; mode = mode }); waits = m.waits + 1 }
+    ≡ lists_seen (awaiting place mode m.seat.me.0)
+waiting-lists m place mode tickets same =
+    ap (λ (ts : List Own). record { tickets = ts; known = m.known.known; next = m.next + 1; asks = Some (record { number = m.next; place = place; mode = mode }); waits = m.waits + 1 }) same
+    ∙ ap (λ (l : Lists). record l { next = l.next + 1; asks = Some (record { number = l.next; place = place; mode = mode }); waits = l.waits + 1 }) m.lists

@@ -27,20 +27,21 @@ impl<R: Wait> Session<R> {
         }
         let number = member.next;
         let wait = member.waits + 1;
-        let queued = match begin_wait(&self.rt, &mut member.seat, place, kind, number, mode, wait) {
-            Ok(queued) => queued,
+        match begin_wait(&self.rt, &mut member.seat, place, kind, number, mode, wait) {
+            Ok(Queued::Granted) => {
+                member.tickets.push_reserved(number, place, mode);
+                member.next += 1;
+                return Ok(Begun::Granted(number));
+            }
+            Ok(Queued::Waiting) => {}
             Err(cause) => return Err(refusal(cause)),
-        };
-        member.next += 1;
-        if queued == Queued::Granted {
-            member.tickets.push_reserved(number, place, mode);
-            return Ok(Begun::Granted(number));
         }
         member.asks = Some(Ask {
             number,
             place,
             mode,
         });
+        member.next += 1;
         member.waits = wait;
         Ok(Begun::Waiting(wait))
     }
