@@ -1,6 +1,7 @@
 -- The end of a session's wait.
 use Rattle.std.proofs.Common.{◌≡◌, ℕ, ◌+◌, ◌-◌, true, is_some, List, [], ◌∷◌, Option, Some, None, Ok, refl, sym, ap, subst, ◌∙◌, arith}
 use Rattle.std.proofs.lemmas.Bool.{and_parts}
+use Rattle.std.proofs.lemmas.Bool.Decides.{nat_tests}
 use Rattle.mdl_calls.specs.declared.answers.Ended.{Ended}
 use Rattle.mdl_calls.specs.declared.answers.Ended.TheVariants as ended_as
 use Rattle.mdl_calls.specs.declared.answers.Settled.{Settled}
@@ -29,7 +30,6 @@ use Rattle.mdl_shared.proofs.Alike.{alike_done}
 use Rattle.mdl_shared.proofs.MemberFacts.{apart, ask-last, below, speaks}
 use Rattle.mdl_shared.proofs.Members.{StaysInOrder}
 use Rattle.mdl_shared.proofs.NotedOnce.{one-note, one-note_done}
-use Rattle.mdl_shared.proofs.Rising.{below_asked}
 use Rattle.mdl_shared.proofs.SameSpace.{Stays, own_of, refused, same-stays, wait_by, waits-asks}
 use Rattle.mdl_shared.proofs.SpaceNotes.{nothing-read}
 use Rattle.mdl_shared.proofs.SpaceTickets.{told-last}
@@ -76,10 +76,14 @@ pub asks-nothing : (P : Ask → Type 0) (a : Ask) → ◌≡◌ {A = Option Ask}
 asks-nothing P a e = cc
 
 -- the ticket that it asks for is above all that it has
+below-asked : (next number : ℕ) (tickets : List Own) → number + 1 ≡ next → is_no_number number tickets ≡ true → are_below next tickets ≡ true → are_below number tickets ≡ true
+below-asked next number [] last apart all = refl
+below-asked next number (t ∷ ts) last apart all = grind (arith, nat_tests, below-asked next number ts)
+
 pub asked-below : {s : SessionView} (is : IsMember s) (a : Ask) → s.me.0.asks ≡ Some a → are_below a.number s.me.0.slow ≡ true
 asked-below {s} is a asks =
     let none = and_parts _ (is_no_number a.number s.me.0.slow) (ap (is_ask_apart s.me.0.next s.me.0.slow) (sym asks) ∙ apart is) in
-    below_asked s.me.0.next a.number s.me.0.slow (ask-last is a asks) none.1 (below is)
+    below-asked s.me.0.next a.number s.me.0.slow (ask-last is a asks) none.1 (below is)
 
 module _ {s s′ : SessionView} (is : IsMember s) where
   ended-order : {tickets : List Own} → HasEnded tickets s s′ → AreAlike tickets → StaysInOrder s s′

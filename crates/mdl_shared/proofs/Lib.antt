@@ -3,7 +3,6 @@ pub mod Membership
 pub mod Telling
 pub mod Awaiting
 pub mod KnownKeys
-pub mod Rising
 pub mod Polling
 pub mod SpaceLists
 pub mod SameSpace
@@ -27,7 +26,6 @@ pub mod SpaceReads
 pub mod ReadCalls
 pub mod KillCalls
 pub mod KeyCalls
-pub mod ShowingCalls
 pub mod SessionValues
 pub mod Refusals
 pub mod WaitSteps
