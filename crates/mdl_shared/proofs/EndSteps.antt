@@ -47,7 +47,7 @@ module _ {s mid : SessionView} (is : IsMember s) (a : Ask) (asks : s.me.0.asks �
       let polled = poll-pending is waiting session found mine own now none in
       let shown = polled.1 in (
         unsettled-joins is a asks (done-nothing (polls is waiting session found mine own now).done)
-        (λ how knows. let e : None ≡ Some how = polled.0.agreed None how refl knows in cc),
+            (λ how knows. let e : None ≡ Some how = polled.0.agreed None how refl knows in cc),
         record {
           table = shown.table;
           sessions = shown.sessions;
@@ -97,9 +97,16 @@ module _ {s mid : SessionView} (is : IsMember s) (a : Ask) (asks : s.me.0.asks �
             settled = tt;
             told = tt;
             steps = tt;
-            met = (met s′ ends, (a, asks, rescheduled_after s.table a.place (without_wait s.me) (without_wait mid.me) s′.me shown.steps shown.settled refl
-                (ap (λ (x : SessionView). x.me.0.number) now) refl
-                (subst (λ (id : TableId). HasRescheduled id a.place (without_wait mid.me) s′.me) shown.table rescheduled)));
+            met = (
+              met s′ ends,
+              (
+                a,
+                asks,
+                rescheduled_after s.table a.place (without_wait s.me) (without_wait mid.me) s′.me shown.steps shown.settled refl
+                    (ap (λ (x : SessionView). x.me.0.number) now) refl
+                    (subst (λ (id : TableId). HasRescheduled id a.place (without_wait mid.me) s′.me) shown.table rescheduled),
+              ),
+            );
           },
         )
 

@@ -88,8 +88,8 @@ returns-in-Err-clause-joined g c =
     let m = c.self.inside.member in
     let may = may-wish m c.args.place c.in_ok-kind.kind c.args.mode c.in_ok-kind.ensures in
     rw (← c.self.view_is) (
-      try-refused (member m) c.args.place c.args.mode may.clear (done-nothing (visited m.seat c.try_now.new.seat m.sessions c.in-Err.ensures.unchanged))
-      (refusal-causes c.in-Err.cause c.refusal.result c.refusal.ensures.full c.refusal.ensures.memory c.in-Err.ensures.refused))
+    try-refused (member m) c.args.place c.args.mode may.clear (done-nothing (visited m.seat c.try_now.new.seat m.sessions c.in-Err.ensures.unchanged))
+    (refusal-causes c.in-Err.cause c.refusal.result c.refusal.ensures.full c.refusal.ensures.memory c.in-Err.ensures.refused))
 
 pub invariant_of-member-2 : goal.invariant_of-member-2
 invariant_of-member-2 g c =
