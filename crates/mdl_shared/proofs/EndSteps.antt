@@ -28,7 +28,7 @@ use Rattle.mdl_shared.specs.Waitings.{wait_fault}
 use Rattle.mdl_shared.proofs.EndCalls.{HasEnded, lost-joins, unsettled-joins, won-joins}
 use Rattle.mdl_shared.proofs.Faults.{if-clear}
 use Rattle.mdl_shared.proofs.Members.{done-nothing}
-use Rattle.mdl_shared.proofs.WaitCalls.{poll-pending, poll-settled, polls, settled-is, settled-more}
+use Rattle.mdl_shared.proofs.PollCalls.{poll-pending, poll-settled, polls, settled-is, settled-more}
 use Rattle.mdl_shared.proofs.WaitSteps.{told-own, word-step}
 
 module _ {s mid : SessionView} (is : IsMember s) (a : Ask) (asks : s.me.0.asks ≡ Some a) (session found : ℕ) (mine : session ≡ s.me.0.number)

@@ -1,9 +1,7 @@
 pub mod Fitting
 pub mod Membership
-pub mod Telling
 pub mod Awaiting
 pub mod KnownKeys
-pub mod Polling
 pub mod SpaceLists
 pub mod SameSpace
 pub mod SpaceTickets
@@ -13,6 +11,9 @@ pub mod Faults
 pub mod Props
 pub mod MemberFacts
 pub mod Members
+pub mod Refusals
+pub mod WaitSteps
+pub mod SearchCalls
 pub mod PollCalls
 pub mod NotedOnce
 pub mod TicketFaults
@@ -27,9 +28,6 @@ pub mod ReadCalls
 pub mod KillCalls
 pub mod KeyCalls
 pub mod SessionValues
-pub mod Refusals
-pub mod WaitSteps
-pub mod WaitCalls
 pub mod Wishing
 pub mod WishShows
 pub mod EndSteps

@@ -37,20 +37,25 @@
 //! ```
 #![tactic(auto)]
 
+mod audit;
 mod begin_wait;
 mod downgrade;
 mod end_wait;
 mod holdings;
+mod kill;
 mod known_keys;
 mod manager;
 mod member;
 mod pass;
 mod poll_wait;
 mod release;
+mod reschedule;
+mod search;
 mod session;
 mod settle_timeout;
 mod tickets;
 mod try_now;
+mod wait_of;
 mod wait_words;
 mod wishes;
 

@@ -17,7 +17,7 @@ use Rattle.mdl_shared.proofs.EndSteps.{ended-lost, ended-won, lost-end, told-end
 use Rattle.mdl_shared.proofs.MemberFacts.{awaited, may-latch, place-within}
 use Rattle.mdl_shared.proofs.Members.{done-lists, kept}
 use Rattle.mdl_shared.proofs.Props.{member}
-use Rattle.mdl_shared.proofs.WaitCalls.{polls}
+use Rattle.mdl_shared.proofs.PollCalls.{polls}
 use Rattle.mdl_shared.proofs.WaitSteps.{session-there, still-member}
 use Rattle.mdl_shared.proofs.session.Session.end_wait.Goals as goal
 
