@@ -2,7 +2,6 @@ pub mod Fitting
 pub mod Membership
 pub mod Awaiting
 pub mod KnownKeys
-pub mod Ends
 pub mod SpaceLists
 pub mod SameSpace
 pub mod SpaceTickets
@@ -29,3 +28,6 @@ pub mod ReadCalls
 pub mod KillCalls
 pub mod KeyCalls
 pub mod SessionValues
+pub mod Wishing
+pub mod WishShows
+pub mod EndSteps

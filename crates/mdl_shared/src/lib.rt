@@ -38,7 +38,9 @@
 #![tactic(auto)]
 
 mod audit;
+mod begin_wait;
 mod downgrade;
+mod end_wait;
 mod holdings;
 mod kill;
 mod known_keys;
@@ -52,8 +54,10 @@ mod search;
 mod session;
 mod settle_timeout;
 mod tickets;
+mod try_now;
 mod wait_of;
 mod wait_words;
+mod wishes;
 
 pub use manager::Manager;
 pub use mdl_calls::NewError;
