@@ -129,7 +129,7 @@ downgraded seat seat′ sessions id mode t is its may fits visit step =
       record {
         table = visit.0;
         sessions = refl;
-        refused = if-clear (λ why. Done ≡ Refused why) (downgrade_fault (numbered t.number seat.me.0.slow) mode seat.me.0.known) clear;
+        refused = if-clear _ (downgrade_fault (numbered t.number seat.me.0.slow) mode seat.me.0.known) clear;
         did = does_reschedule seat.me seat′.me seat.table t.place (Alter t.number mode ∷ []) visit.1;
         settled = tt;
         told = tt;
