@@ -126,10 +126,10 @@ module _ {s : SessionView} (is : IsMember s) (waiting : is_some s.me.0.asks ≡ 
         → Joins (space_of s) (Poll_wait s.me.0.number) Pending (space_of s′) × Shows (Poll_wait s.me.0.number) Pending s s′
     poll-pending none = (
       joins-still s s′ (Poll_wait s.me.0.number) Pending (done-nothing polls.done) (speaks is) refl refl refl refl
-          (waits-asks s.me.0.asks s.me.0.waits ∙ waiting) tt refl
-          (λ state how met knows. let e : None ≡ state = cc in sym e ∙ agreed None none how knows) (λ how told. cc) refl (λ r. r) tt,
+      (waits-asks s.me.0.asks s.me.0.waits ∙ waiting) tt refl
+      (λ state how met knows. let e : None ≡ state = cc in sym e ∙ agreed None none how knows) (λ how told. cc) refl (λ r. r) tt,
       shows polls (if-clear _ (wait_fault s.me.0.asks) (clear-wait s.me.0.asks waiting)) polls.did (ap (λ (x : SessionView). x.me.0.settles) now) tt polls.stayed
-          (polls-own 1 (unsettled-is (wait_state found) none busy ok.state)),
+      (polls-own 1 (unsettled-is (wait_state found) none busy ok.state)),
     )
 
     pub poll-settled : (one : Settled) → settled_of (wait_state found) ≡ Some one
@@ -138,18 +138,18 @@ module _ {s : SessionView} (is : IsMember s) (waiting : is_some s.me.0.asks ≡ 
         let its = settled-is (wait_state found) one some in
         let told = told-own ReadWait session found found s.me.0.settles s s′ now mine (settled-more (wait_state found) one its) ∙ ap Some its in (
           joins-still s s′ (Poll_wait s.me.0.number) (Is_settled one) (done-nothing polls.done) (speaks is) refl refl refl refl
-              (waits-asks s.me.0.asks s.me.0.waits ∙ waiting) tt refl
-              (λ state how met knows. let e : Some one ≡ state = cc in sym e ∙ agreed (Some one) some how knows)
-              (λ how tells. let e : one ≡ how = cc in told-settled s′.me.0.told how (told ∙ ap (λ (x : Settled). Some (state_of x)) e)) refl (λ r. r) tt,
+          (waits-asks s.me.0.asks s.me.0.waits ∙ waiting) tt refl
+          (λ state how met knows. let e : Some one ≡ state = cc in sym e ∙ agreed (Some one) some how knows)
+          (λ how tells. let e : one ≡ how = cc in told-settled s′.me.0.told how (told ∙ ap (λ (x : Settled). Some (state_of x)) e)) refl (λ r. r) tt,
           shows polls (if-clear _ (wait_fault s.me.0.asks) (clear-wait s.me.0.asks waiting)) polls.did (ap (λ (x : SessionView). x.me.0.settles) now) tt polls.stayed
-              (polls-own (state_of one) its),
+          (polls-own (state_of one) its),
         )
 
   -- ---- timeouts
 
   module _ {s′ : SessionView} (wait : ℕ) (last : wait ≡ s.me.0.waits)
       (hit : found ≡ wait_in wait 1
-      → s′ ≡ word-step SettleWait session (wait_in wait 1) (wait_in wait 4) (s.me.0.settles ++ record { session = session; wait = wait; state = 4 } ∷ []) s)
+          → s′ ≡ word-step SettleWait session (wait_in wait 1) (wait_in wait 4) (s.me.0.settles ++ record { session = session; wait = wait; state = 4 } ∷ []) s)
       (miss : found ≢ wait_in wait 1 → s′ ≡ word-step MissWait session found found s.me.0.settles s) where
     pub timeout-now : settled_of (wait_state found) ≡ None
         → Watches s s′ × Joins (space_of s) (Settle_timeout s.me.0.number) (Timed_out ByThisCall) (space_of s′) × Shows (Settle_timeout s.me.0.number) (Timed_out ByThisCall) s s′
@@ -164,12 +164,12 @@ module _ {s : SessionView} (is : IsMember s) (waiting : is_some s.me.0.asks ≡ 
         let told = told-own SettleWait session (wait_in wait 1) (wait_in wait 4) all s s′ now mine (omega (arith, four)) ∙ ap Some four in (
           did,
           joins-still s s′ (Settle_timeout s.me.0.number) (Timed_out ByThisCall) (done-nothing did.done) (speaks is) refl refl refl refl
-              (waits-asks s.me.0.asks s.me.0.waits ∙ waiting) tt refl
-              (λ state how met knows. let e : None ≡ state = cc in sym e ∙ agreed None none how knows)
-              (λ how tells. let e : Timeout ≡ how = cc in told-settled s′.me.0.told how (told ∙ ap (λ (x : Settled). Some (state_of x)) e)) refl (λ r. r) tt,
+          (waits-asks s.me.0.asks s.me.0.waits ∙ waiting) tt refl
+          (λ state how met knows. let e : None ≡ state = cc in sym e ∙ agreed None none how knows)
+          (λ how tells. let e : Timeout ≡ how = cc in told-settled s′.me.0.told how (told ∙ ap (λ (x : Settled). Some (state_of x)) e)) refl (λ r. r) tt,
           shows did (if-clear _ (wait_fault s.me.0.asks) (clear-wait s.me.0.asks waiting)) did.did (ap (λ (x : SessionView). x.me.0.settles) now ∙ ap (λ (n : ℕ). s.me.0.settles ++ record { session = n; wait = wait; state = 4 } ∷ []) mine
-              ∙ ap (λ (w : ℕ). s.me.0.settles ++ record { session = s.me.0.number; wait = w; state = 4 } ∷ []) last) tt did.stayed
-              ((met.0, met.1, record { word = met.2.word_is ∙ ap (wait_word s.table.slots) mine; found = met.2.found ∙ ap (λ (w : ℕ). wait_in w 1) last })),
+                ∙ ap (λ (w : ℕ). s.me.0.settles ++ record { session = s.me.0.number; wait = w; state = 4 } ∷ []) last) tt did.stayed
+          ((met.0, met.1, record { word = met.2.word_is ∙ ap (wait_word s.table.slots) mine; found = met.2.found ∙ ap (λ (w : ℕ). wait_in w 1) last })),
         )
 
     pub timeout-already : (one : Settled) → settled_of (wait_state found) ≡ Some one
@@ -183,11 +183,11 @@ module _ {s : SessionView} (is : IsMember s) (waiting : is_some s.me.0.asks ≡ 
         let told = told-own MissWait session found found s.me.0.settles s s′ now mine more ∙ ap Some its in (
           did,
           joins-still s s′ (Settle_timeout s.me.0.number) (Timed_out (Already one)) (done-nothing did.done) (speaks is) refl refl refl refl
-              (waits-asks s.me.0.asks s.me.0.waits ∙ waiting) tt refl
-              (λ state how met knows. let e : Some one ≡ state = cc in sym e ∙ agreed (Some one) some how knows)
-              (λ how tells. let e : one ≡ how = cc in told-settled s′.me.0.told how (told ∙ ap (λ (x : Settled). Some (state_of x)) e)) refl (λ r. r) tt,
+          (waits-asks s.me.0.asks s.me.0.waits ∙ waiting) tt refl
+          (λ state how met knows. let e : Some one ≡ state = cc in sym e ∙ agreed (Some one) some how knows)
+          (λ how tells. let e : one ≡ how = cc in told-settled s′.me.0.told how (told ∙ ap (λ (x : Settled). Some (state_of x)) e)) refl (λ r. r) tt,
           shows did (if-clear _ (wait_fault s.me.0.asks) (clear-wait s.me.0.asks waiting)) did.did (ap (λ (x : SessionView). x.me.0.settles) now) tt did.stayed
-              ((met.0, met.1, record { word = met.2.word_is ∙ ap (wait_word s.table.slots) mine; found = met.2.found ∙ in-state (state_of one) its })),
+          ((met.0, met.1, record { word = met.2.word_is ∙ ap (wait_word s.table.slots) mine; found = met.2.found ∙ in-state (state_of one) its })),
         )
 
     pub timeouts : Watches s s′
