@@ -37,14 +37,19 @@
 //! ```
 #![tactic(auto)]
 
+mod change_definition;
 mod downgrade;
 mod holdings;
+mod key_of;
 mod known_keys;
 mod manager;
 mod member;
 mod pass;
+mod read_definition;
 mod release;
+mod resolve;
 mod session;
+mod tables_of;
 mod tickets;
 
 pub use manager::Manager;
