@@ -17,7 +17,9 @@ pub mod MemberFacts
 pub mod Members
 pub mod PollCalls
 pub mod NotedOnce
+pub mod TicketEdits
 pub mod TicketFaults
+pub mod TicketSearch
 pub mod ClearCalls
 pub mod TicketCalls
 pub mod TellingCalls

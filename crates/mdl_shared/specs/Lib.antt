@@ -3,6 +3,7 @@ pub use Rattle.mdl_session_laws.specs.SessionJoins
 pub use Rattle.mdl_session_laws.specs.SessionSpaces
 pub use Rattle.mdl_visits.specs.Audits
 pub use Rattle.mdl_visits.specs.Grantings
+pub use Rattle.mdl_visits.specs.KnownLists
 pub use Rattle.mdl_visits.specs.Leavings
 pub use Rattle.mdl_visits.specs.Lookups
 pub use Rattle.mdl_visits.specs.Numbers
@@ -17,10 +18,10 @@ pub use Rattle.mdl_visits.specs.WaitOpenings
 pub mod Beginnings
 pub mod Doings
 pub mod Endings
-pub mod KnownLists
 pub mod Members
 pub mod Modes
 pub mod OwnLists
+pub mod OwnTickets
 pub mod Passes
 pub mod Rememberings
 pub mod SessionViews

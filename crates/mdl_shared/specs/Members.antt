@@ -1,4 +1,5 @@
 -- What a session keeps of its own between two calls.
+pub use Rattle.mdl_visits.specs.KnownLists.{are_apart, are_two, is_known_place, kind_known, place_known}
 use Rattle.std.specs.Prelude.{◌≡◌, ◌<◌, ◌≤◌, ◌++◌, ◌∷◌, [], ℕ, ◌^◌, Bool, true, false, ◌==◌, ◌&&◌, not, nat_le, nat_lt, List, All, Option, Some, None, find, filter, is_some, if◌then◌else◌}
 use Rattle.std.specs.List.{list_all, list_any}
 use Rattle.std.specs.Option.{option_map, option_map_or}
@@ -23,10 +24,6 @@ use Rattle.mdl_shared.specs.Waitings.{is_ask_last, is_ask_told}
 -- a session's tickets have numbers below this
 abbrev pub most_numbers : ℕ
 most_numbers = 2 ^ 60
-
--- whether a session has looked up a key of the place
-abbrev pub is_known_place : List Known → ℕ → Bool
-is_known_place known place = list_any (λ k. k.place == place) known
 
 -- each ticket is of a place whose key the session has looked up
 abbrev pub are_placed : List Known → List Own → Bool
@@ -64,10 +61,6 @@ without_at place number tickets = filter (λ t. not (is_own place number t)) tic
 abbrev pub holding_fault : ℕ → List Own → Option SpaceError
 holding_fault number tickets = if is_some (numbered number tickets) then None else Some NotHeld
 
--- the kind of the key at a place that the session has looked up
-abbrev pub kind_known : ℕ → List Known → Option Kind
-kind_known place known = option_map (λ (k : Known). kind_of k.key.namespace) (find (λ (k : Known). k.place == place) known)
-
 -- why a wish for a mode isn't even tried, at a place whose key is of this kind, or isn't known, by a session with this wait, or none, whose next
 -- ticket has this number
 abbrev pub wish_fault : Option Kind → Option Ask → Mode → ℕ → Option SpaceError
@@ -76,28 +69,11 @@ wish_fault (Some kind) asks mode next =
     if is_some asks then Some AlreadyWaiting
     else (if not (is_mode_of kind mode) then Some BadMode else (if nat_le most_numbers next then Some CounterFull else None))
 
--- the place of a key that the session has looked up
-abbrev pub place_known : KeyName → List Known → Option ℕ
-place_known key known = option_map (λ (k : Known). k.place) (find (λ (k : Known). key_eq k.key key) known)
-
 -- a key is at this place by what the session knew of it, or was looked up and is the last that it knows, at a place that it didn't know
 abbrev pub LearnsPlace : KeyName → ℕ → Option ℕ → List Known → List Known → Type 0
 LearnsPlace key place (Some known) before after = (place ≡ known) × (after ≡ before)
 LearnsPlace key place None before after = (is_known_place before place ≡ false) × (after ≡ before ++ record { key = key; place = place } ∷ [])
 
--- whether two keys differ, and their places
-abbrev pub are_two : Known → Known → Bool
-are_two one other = not (key_eq one.key other.key) && not (one.place == other.place)
-
--- whether no key is looked up twice, and no place
-abbrev pub are_apart : List Known → Bool
-are_apart [] = true
-are_apart (k ∷ later) = list_all (are_two k) later && are_apart later
-
 -- each of these keys is known at its place
 abbrev pub AreLearnt : List Known → List Known → Type 0
 AreLearnt tables known = All (λ (t : Known). key_known t.place known ≡ Some t.key) tables
-
--- a ticket with a version noted under it, where it is at the place
-abbrev pub noting_at : ℕ → ℕ → Own → Own
-noting_at place version t = if t.place == place then record t { noted = Some version } else t

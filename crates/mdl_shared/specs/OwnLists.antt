@@ -1,4 +1,5 @@
 -- What a session tells of its own lists.
+pub use Rattle.mdl_visits.specs.KnownLists.{key_known}
 use Rattle.std.specs.Prelude.{ℕ, ◌==◌, List, Option, Some, None, find, is_some, if◌then◌else◌}
 use Rattle.std.specs.Option.{option_map}
 use Rattle.mdl_key.specs.Words.{KeyName}
@@ -11,10 +12,6 @@ use Rattle.mdl_steps.specs.declared.view.Own.{Own}
 -- a session's ticket, as it is told
 abbrev pub told_of : Own → Held
 told_of t = record { id = t.number; place = t.place; mode = t.mode }
-
--- the key of a place that the session has looked up
-abbrev pub key_known : ℕ → List Known → Option KeyName
-key_known place known = option_map (λ (k : Known). k.key) (find (λ (k : Known). k.place == place) known)
 
 -- why the session can't tell the key of a place
 abbrev pub naming_fault : ℕ → List Known → Option SpaceError

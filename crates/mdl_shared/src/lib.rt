@@ -41,7 +41,6 @@ mod change_definition;
 mod downgrade;
 mod holdings;
 mod key_of;
-mod known_keys;
 mod manager;
 mod member;
 mod pass;

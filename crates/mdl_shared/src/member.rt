@@ -7,9 +7,9 @@ ghost use Rattle.mdl_shared.specs.Members.{IsMember};
 ghost use Rattle.mdl_shared.specs.SessionViews.{lists_seen, session_at};
 ghost use Rattle.mdl_shared.specs.TicketLists.{HasRoom};
 
-use crate::known_keys::KnownKeys;
 use crate::tickets::Tickets;
 use mdl_steps::{Ask, TableSeat};
+use mdl_visits::KnownKeys;
 use std::alloc::Global;
 
 /// A session's seat at the table, and its own lists of what the seat's view tells.

@@ -1,35 +1,57 @@
 //! A session's own list of its tickets.
-ghost use Rattle.std.specs.Prelude.{OnOk, Some, [], find, length, true, ◌++◌, ◌∷◌, ◌<◌, ◌==◌, ◌≡◌, ◌≤◌};
-ghost use Rattle.mdl_steps.specs.Cells.{note_at};
-ghost use Rattle.mdl_steps.specs.declared.view.Own.{Own};
+ghost use Rattle.std.specs.Prelude.{not, ◌^◌, MatchOption, None, OnErr, OnOk, IfOk, IfSome, Some, [], find, length, map, slice_index_or, true, ◌+◌, ◌++◌, ◌<◌, ◌==◌, ◌∷◌, ◌≡◌, ◌≤◌, ◌&&◌, ℕ, if◌then◌else◌};
+ghost use Rattle.std.specs.List.{list_all};
 ghost use Rattle.mdl_steps.specs.Deeds.{is_own};
+ghost use Rattle.std.specs.Vec.{vec_capacity, vec_len};
+ghost use Rattle.mdl_calls.specs.declared.answers.Held.{Held};
+ghost use Rattle.mdl_steps.specs.Cells.{note_at};
 ghost use Rattle.mdl_steps.specs.Plays.{noting_version};
 ghost use Rattle.mdl_visits.specs.Numbers.{numbered};
-ghost use Rattle.mdl_shared.specs.Members.{noting_at, without_at};
-ghost use Rattle.mdl_shared.specs.Modes.{in_mode_at, in_mode_if};
-ghost use Rattle.mdl_shared.specs.TicketLists.{HasRoom};
+ghost use Rattle.mdl_shared.specs.Members.{without_at};
+ghost use Rattle.mdl_shared.specs.Modes.{in_mode_at};
+ghost use Rattle.mdl_shared.specs.OwnLists.{told_of};
 ghost use Rattle.mdl_shared.specs.Waitings.{are_below};
+ghost use Rattle.mdl_shared.specs.TicketLists.{HasRoom};
+ghost use Rattle.mdl_shared.specs.OwnTickets.{StandsAt, counted_at, noted_in, own_of, AreRising};
 
-use mdl_calls::TicketId;
+use mdl_calls::{Held, Place, TicketId};
 use mdl_key::Mode;
 use mdl_steps::Own;
 use std::alloc::{AllocError, Global};
 use std::marker::Model;
 
-/// A session's tickets, in order of gain.
+/// What is kept of a place: how many tickets the session has there, and the version that is noted under all of them.
+#[derive(Clone, Copy)]
+pub(crate) struct OfPlace {
+    pub(crate) tickets: usize,
+    pub(crate) noted: Option<u64>,
+}
+
+/// A session's tickets, in order of gain. A ticket is found by its number by a search by halves, and the note of a place in a list
+/// by places, so no call walks the tickets.
 #[derive(Drop)]
 pub(crate) struct Tickets {
-    gained: Vec<Own>,
+    gained: Vec<Held>,
+    places: Vec<OfPlace>,
 }
 
 impl Model for Tickets {
-    ghost use Rattle.std.specs.Prelude.{◌-◌};
-    ghost use Rattle.std.specs.Vec.{vec_capacity, vec_len};
+    ghost use Rattle.std.specs.Prelude.{map, length, ◌-◌};
+    ghost use Rattle.std.specs.List.{list_all};
+    ghost use Rattle.mdl_steps.specs.Deeds.{is_own};
+    ghost use Rattle.std.specs.Vec.{vec_capacity};
     ghost use Rattle.mdl_shared.specs.TicketLists.{TicketList};
+    ghost use Rattle.mdl_shared.specs.OwnTickets.{AreKept, own_of};
 
     ghost Value = { TicketList };
 
-    ghost view = { λ s. record { own = s.gained.items; spare = vec_capacity s.gained - vec_len s.gained; reach = 65536 } };
+    ghost view = { λ s. record {
+      own = map (own_of s.places.items) s.gained.items;
+      spare = vec_capacity s.gained - length s.gained.items;
+      reach = length s.places.items;
+    } };
+
+    ghost invariant = { λ s. AreKept s.gained.items s.places.items };
 }
 
 impl Tickets {
@@ -39,6 +61,7 @@ impl Tickets {
     {
         Tickets {
             gained: Vec::new(alloc),
+            places: Vec::new(alloc),
         }
     }
 
@@ -53,19 +76,17 @@ impl Tickets {
     pub(crate) fn get(&self, id: TicketId) -> Option<Own>
         ensures found { result ≡ numbered id self.now.own }
     {
-        self.gained
-            .iter()
-            .copied()
-            .find(|ticket| ticket.number == id)
+        let at = index_of(&self.gained, id)?;
+        Some(own_of(&self.places, self.gained[at]))
     }
 
     /// Makes room for one more ticket at a place.
     pub(crate) fn reserve(&mut self, place: usize) -> Result<(), AllocError>
-        requires narrow { place < 65536 }
+        requires { place < 65536 }
         ensures same { self.new.own ≡ self.old.own }
         ensures room { OnOk result (HasRoom place self.new) }
     {
-        let _place = place;
+        reach(&mut self.places, place)?;
         self.gained.reserve(1)
     }
 
@@ -76,12 +97,11 @@ impl Tickets {
         ensures gained { self.new.own ≡ self.old.own ++ record { number = number; place = place; mode = mode; noted = note_at place self.old.own } ∷ [] }
         ensures reach { self.new.reach ≡ self.old.reach }
     {
-        let noted = note_at(&self.gained, place);
-        self.gained.push_reserved(Own {
-            number,
-            place,
+        count_one(&mut self.places, place);
+        self.gained.push_reserved(Held {
+            id: number,
+            place: place as Place,
             mode,
-            noted,
         });
     }
 
@@ -90,7 +110,10 @@ impl Tickets {
         ensures struck { self.new.own ≡ without_at place id self.old.own }
         ensures room { (self.old.spare ≤ self.new.spare) × (self.new.reach ≡ self.old.reach) }
     {
-        self.gained.retain(|ticket| !is_at(ticket, place, id));
+        if let Some(at) = index_at(&self.gained, place, id) {
+            self.gained.remove(at);
+            uncount_one(&mut self.places, place);
+        }
     }
 
     /// Writes another mode of the ticket of a number at a place, if there is one.
@@ -98,7 +121,9 @@ impl Tickets {
         ensures changed { self.new.own ≡ in_mode_at place id mode self.old.own }
         ensures room { (self.old.spare ≤ self.new.spare) × (self.new.reach ≡ self.old.reach) }
     {
-        change(&mut self.gained, place, id, mode);
+        if let Some(at) = index_at(&self.gained, place, id) {
+            self.gained[at].mode = mode;
+        }
     }
 
     /// Notes a version under each ticket at a place.
@@ -106,71 +131,101 @@ impl Tickets {
         ensures noted { self.new.own ≡ noting_version place version self.old.own }
         ensures room { (self.old.spare ≤ self.new.spare) × (self.new.reach ≡ self.old.reach) }
     {
-        note(&mut self.gained, place, version);
+        note(&mut self.places, place, version);
+    }
+
+    /// The tickets, as they are told.
+    pub(crate) fn held(&self) -> Result<Vec<Held>, AllocError>
+        ensures { IfOk result (λ held. held.items ≡ map told_of self.now.own) }
+    {
+        let held = self.gained.clone()?;
+        Ok(held)
     }
 }
 
-// The version that is noted at a place, under the first ticket there.
-fn note_at(tickets: &[Own], place: usize) -> Option<u64>
-    ensures { result ≡ note_at place tickets.now }
+// Where the ticket of a number stands, among tickets whose numbers rise.
+fn index_of(tickets: &[Held], id: TicketId) -> Option<usize>
+    requires { AreRising tickets.now }
+    ensures { MatchOption result (list_all (λ t. not (t.id == id)) tickets.now ≡ true) (λ at. StandsAt id at tickets.now) }
 {
-    let first = first_at(tickets, place)?;
-    first.noted
+    tickets.binary_search_by_key(&id, |ticket| ticket.id).ok()
 }
 
-// The first ticket at a place.
-fn first_at(tickets: &[Own], place: usize) -> Option<Own>
-    ensures { result ≡ find (λ (t : Own). t.place == place) tickets.now }
+// The same, where the ticket is at a place.
+fn index_at(tickets: &[Held], place: usize, id: TicketId) -> Option<usize>
+    requires { AreRising tickets.now }
+    ensures { MatchOption result (list_all (λ t. not (is_own place id (own_of [] t))) tickets.now ≡ true)
+        (λ at. StandsAt id at tickets.now × ((d : Held) → (slice_index_or tickets.now at d).place ≡ place)) }
 {
-    tickets.iter().copied().find(|ticket| ticket.place == place)
-}
-
-// Whether a ticket is of a number at a place.
-fn is_at(ticket: &Own, place: usize, id: TicketId) -> bool
-    ensures { result ≡ is_own place id ticket.now }
-{
-    ticket.place == place && ticket.number == id
-}
-
-// Writes the mode into a slice.
-fn change(tickets: &mut [Own], place: usize, id: TicketId, mode: Mode)
-    ensures { tickets.new ≡ in_mode_at place id mode tickets.old }
-{
-    for ticket in tickets.iter_mut() {
-        *ticket = changed(*ticket, place, id, mode);
-    }
-}
-
-// A ticket in another mode, where it is that of a number at a place.
-fn changed(ticket: Own, place: usize, id: TicketId, mode: Mode) -> Own
-    ensures { result ≡ in_mode_if place id mode ticket }
-{
-    if is_at(&ticket, place, id) {
-        Own { mode, ..ticket }
+    let at = index_of(tickets, id)?;
+    if usize::from(tickets[at].place) == place {
+        Some(at)
     } else {
-        ticket
+        None
     }
 }
 
-// Notes the version in a slice.
-fn note(tickets: &mut [Own], place: usize, version: u64)
-    ensures { tickets.new ≡ noting_version place version tickets.old }
+// A ticket with the note of its place.
+fn own_of(places: &[OfPlace], ticket: Held) -> Own
+    ensures { result ≡ own_of places.now ticket }
 {
-    for ticket in tickets.iter_mut() {
-        *ticket = noting(*ticket, place, version);
+    let place = usize::from(ticket.place);
+    Own {
+        number: ticket.id,
+        place,
+        mode: ticket.mode,
+        noted: places.get(place).and_then(|here| here.noted),
     }
 }
 
-// A ticket with the version noted, where it is at the place.
-fn noting(ticket: Own, place: usize, version: u64) -> Own
-    ensures { result ≡ noting_at place version ticket }
+// Adds places without tickets until there is this one.
+fn reach(places: &mut Vec<OfPlace>, place: usize) -> Result<(), AllocError>
+    requires narrow { (place < 65536) × (length places.old.items ≤ 65536) }
+    ensures narrow { length places.new.items ≤ 65536 }
+    ensures reach { OnOk result (place < length places.new.items) }
+    ensures same { (q : ℕ) → (counted_at q places.new.items ≡ counted_at q places.old.items) × (noted_in q places.new.items ≡ noted_in q places.old.items) }
 {
-    if ticket.place == place {
-        Own {
-            noted: Some(version),
-            ..ticket
-        }
-    } else {
-        ticket
+    while places.len() <= place {
+        places.push(OfPlace {
+            tickets: 0,
+            noted: None,
+        })?;
+    }
+    Ok(())
+}
+
+// Counts one more ticket at a place. The first one there has no note.
+fn count_one(places: &mut Vec<OfPlace>, place: usize)
+    requires inside { place < length places.old.items }
+    requires few { counted_at place places.old.items < 2 ^ 63 }
+    ensures length { length places.new.items ≡ length places.old.items }
+    ensures counted { (q : ℕ) → counted_at q places.new.items ≡ counted_at q places.old.items + (if q == place then 1 else 0) }
+    ensures noted { (q : ℕ) → noted_in q places.new.items ≡ (if q == place && counted_at q places.old.items == 0 then None else noted_in q places.old.items) }
+{
+    let here = &mut places[place];
+    if here.tickets == 0 {
+        here.noted = None;
+    }
+    here.tickets += 1;
+}
+
+// Counts one ticket less at a place.
+fn uncount_one(places: &mut Vec<OfPlace>, place: usize)
+    requires some { 0 < counted_at place places.old.items }
+    ensures length { length places.new.items ≡ length places.old.items }
+    ensures counted { (q : ℕ) → counted_at q places.old.items ≡ counted_at q places.new.items + (if q == place then 1 else 0) }
+    ensures noted { (q : ℕ) → noted_in q places.new.items ≡ noted_in q places.old.items }
+{
+    places[place].tickets -= 1;
+}
+
+// Notes a version at a place, if there is this place.
+fn note(places: &mut Vec<OfPlace>, place: usize, version: u64)
+    ensures length { length places.new.items ≡ length places.old.items }
+    ensures counted { (q : ℕ) → counted_at q places.new.items ≡ counted_at q places.old.items }
+    ensures noted { (q : ℕ) → 0 < counted_at q places.old.items → noted_in q places.new.items ≡ (if q == place then Some version else noted_in q places.old.items) }
+{
+    if place < places.len() {
+        places[place].noted = Some(version);
     }
 }

@@ -18,6 +18,7 @@ pub mod Numbers
 pub mod Reading
 pub mod Changing
 pub mod Lookups
+pub mod KeyLists
 pub mod Naming
 pub mod Asking
 pub mod Gathering

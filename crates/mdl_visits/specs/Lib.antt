@@ -2,9 +2,11 @@ pub mod Audits
 pub mod Coverings
 pub mod Grantings
 pub mod Idle
+pub mod KnownLists
 pub mod Leavings
 pub mod Lookups
 pub mod Numbers
+pub mod OwnKeys
 pub mod Polls
 pub mod Readings
 pub mod Redefinitions

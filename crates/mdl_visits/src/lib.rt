@@ -39,6 +39,7 @@ mod audited;
 mod calls;
 mod enter_and_leave;
 mod grant_waiters;
+mod known_keys;
 mod latches;
 mod laws;
 mod no_fast_tickets;
@@ -63,6 +64,7 @@ pub use calls::search::search_deadlock;
 pub use calls::tables_of::{find_tables, tables_defined};
 pub use calls::try_now::{Tried, try_now};
 pub use calls::upgrade_now::upgrade_now;
+pub use known_keys::KnownKeys;
 pub use laws::{
     blocked_wishes_werent_grantable, granted_waits_were_grantable, granted_wishes_were_grantable,
     waits_left_werent_grantable,

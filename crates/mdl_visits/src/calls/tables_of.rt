@@ -14,6 +14,7 @@ ghost use Rattle.mdl_visits.specs.Lookups.{TookDirectory};
 ghost use Rattle.mdl_visits.specs.Tables.{AreListed, AreSorted, AreTables, AreWithin, HasAsked, MeetsDefinition, WasAsked, knowing_all};
 ghost use Rattle.mdl_visits.specs.Visits.{IsStepOf, MakesSteps, StaysQuiet};
 
+use crate::KnownKeys;
 use crate::latches::{await_directory, await_latch};
 use mdl_calls::Place;
 use mdl_steps::{Known, Latched, LatchedDirectory, TableSeat};
@@ -26,15 +27,15 @@ pub fn find_tables<R: Wait>(
     rt: &R,
     seat: &mut TableSeat,
     alloc: Global,
-    known: &mut Vec<Known>,
+    known: &mut KnownKeys,
     schema: &str,
 ) -> Result<(Vec<Known>, Vec<Place>), AllocError>
     requires idle { IsIdle seat.old.me }
-    ensures same { known.new.items ≡ known.old.items }
+    ensures same { known.new.known ≡ known.old.known }
     ensures found { (k : Keys) × AtItsTable seat.old seat.new (TookDirectory seat.old.table.slots k k)
         × IfOk result (λ found. AreTables schema.now k found.0.items × MakesSteps (knowing_all found.0.items seat.old.me) seat.new.me) }
     ensures within { IfOk result (λ found. AreWithin seat.old.table.slots found.0.items) }
-    ensures room { IfOk result (λ found. (vec_len known.new + length found.0.items ≤ vec_capacity known.new)
+    ensures room { IfOk result (λ found. (length found.0.items ≤ known.new.room) × (seat.old.table.slots ≤ known.new.reach)
         × (found.1.items ≡ []) × (vec_len found.1 + length found.0.items ≤ vec_capacity found.1)) }
     ensures unchanged { OnErr result (MakesSteps seat.old.me seat.new.me) }
 {
@@ -56,18 +57,18 @@ fn list_tables(
     seat: &mut TableSeat,
     directory: &LatchedDirectory,
     alloc: Global,
-    known: &mut Vec<Known>,
+    known: &mut KnownKeys,
     schema: &str,
 ) -> Result<(Vec<Known>, Vec<Place>), AllocError>
     requires held { (k : Keys) × HasDirectory k seat.old.me }
-    ensures same { (seat.new ≡ seat.old) × (known.new.items ≡ known.old.items) }
+    ensures same { (seat.new ≡ seat.old) × (known.new.known ≡ known.old.known) }
     ensures listed { (k : Keys) → HasDirectory k seat.old.me → IfOk result (λ found. AreListed schema.now k found.0.items) }
-    ensures room { IfOk result (λ found. (vec_len known.new + length found.0.items ≤ vec_capacity known.new)
+    ensures room { IfOk result (λ found. (length found.0.items ≤ known.new.room) × (seat.old.table.slots ≤ known.new.reach)
         × (found.1.items ≡ []) × (vec_len found.1 + length found.0.items ≤ vec_capacity found.1)) }
 {
     let mut tables = seat.tables_of(directory, alloc, schema)?;
     sort_by_key(&mut tables);
-    known.reserve(tables.len())?;
+    known.reserve(tables.len(), seat.slot_count())?;
     let places = Vec::with_capacity(alloc, tables.len())?;
     Ok((tables, places))
 }

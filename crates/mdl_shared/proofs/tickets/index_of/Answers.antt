@@ -1,0 +1,15 @@
+-- The closure gives a ticket's number, and the numbers rise.
+use Rattle.std.proofs.Common.{◌≡◌, ℕ, Option, true, rules, subst, sym, MatchOption}
+use Rattle.std.specs.Prelude.{not, ◌==◌}
+use Rattle.std.specs.List.{list_all}
+use Rattle.std.proofs.lemmas.List.Sorted.{answers_always}
+use Rattle.mdl_calls.specs.declared.answers.Held.{Held}
+use Rattle.mdl_shared.specs.OwnTickets.{StandsAt}
+use Rattle.mdl_shared.proofs.TicketSearch.{searched}
+use Rattle.mdl_shared.proofs.tickets.index_of.Goals as goal
+
+pub returns : goal.returns
+returns c =
+    let facts = c.binary_search_by_key.ensures in
+    let by_number = facts.position (λ ticket. ticket.id) (answers_always _ _ _ (λ f a r g called. search rules)) in
+    rw c.ok.ensures.value (searched c.args.tickets.now c.requires c.args.id _ facts.bound by_number)

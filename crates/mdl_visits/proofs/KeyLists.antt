@@ -1,0 +1,145 @@
+-- The keys that a session looked up: found by the key, and by the place through an index.
+use Rattle.std.proofs.Common.{◌≡◌, ℕ, zero, suc, ◌<◌, ◌≤◌, true, false, List, [], ◌∷◌, ◌++◌, length, set, map, Option, Some, None, refl, sym, ap, subst, ltb, ◌∙◌, arith}
+use Rattle.std.specs.Prelude.{◌==◌, is_some, slice_get, if◌then◌else◌}
+use Rattle.std.specs.Map.{lookup}
+use Rattle.std.specs.List.{list_all}
+use Rattle.std.proofs.lemmas.List.{map_push}
+use Rattle.std.proofs.lemmas.List.Folds.{list_all-append}
+use Rattle.std.proofs.lemmas.Bool.{and_parts, eq-eqb, eqb-true}
+use Rattle.std.proofs.lemmas.Bool.Decides.{nat_tests}
+use Rattle.mdl_key.specs.Words.{KeyName, key_eq}
+use Rattle.mdl_steps.specs.declared.view.Known.{Known}
+use Rattle.mdl_steps.specs.Schemas.{is_known}
+use Rattle.mdl_steps.proofs.KeyLemmas.{key-Decides}
+use Rattle.mdl_steps.proofs.Views.{by_bool}
+use Rattle.mdl_visits.specs.KnownLists.{are_apart, are_two, is_known_place, key_known, place_known}
+use Rattle.mdl_visits.specs.OwnKeys.{AreIndexed, known_of}
+
+-- ---- by the key
+
+key_swap : (j k : KeyName) → key_eq j k ≡ key_eq k j
+key_swap j k =
+    by_bool (key_eq j k)
+    (λ same. same ∙ sym ((key-Decides k j).1 (sym ((key-Decides j k).0 same))))
+    (λ differ. by_bool (key_eq k j)
+    (λ same. (let back = (key-Decides j k).1 (sym ((key-Decides k j).0 same)) in (let never : true ≡ false = sym back ∙ differ in absurd (cc))))
+    (λ other. differ ∙ sym other))
+
+pub place_found : (key : KeyName) (entries : List (KeyName × ℕ)) → lookup (key_eq key) entries ≡ place_known key (map known_of entries)
+place_found key [] = refl
+place_found key (e ∷ es) = rw (key_swap key e.0) (grind (arith, place_found key es))
+
+pub known_found : (key : KeyName) (known : List Known) → is_some (place_known key known) ≡ is_known known key
+known_found key [] = refl
+known_found key (k ∷ ks) = grind (arith, known_found key ks)
+
+-- ---- by the place
+
+-- the key of an entry at a place, where there is one
+abbrev pub key_in : ℕ → Option (KeyName × ℕ) → Option KeyName
+key_in place None = None
+key_in place (Some e) = if e.1 == place then Some e.0 else None
+
+abbrev pub key_under : ℕ → List (KeyName × ℕ) → Option ℕ → Option KeyName
+key_under place entries None = None
+key_under place entries (Some at) = key_in place (slice_get entries at)
+
+abbrev At : ℕ → ℕ → List (KeyName × ℕ) → Type 0
+At place i entries = (e : KeyName × ℕ) × (slice_get entries i ≡ Some e) × (e.1 ≡ place)
+
+nowhere : (place : ℕ) (entries : List (KeyName × ℕ)) → ((i : ℕ) → At place i entries → ⊥) → key_known place (map known_of entries) ≡ None
+nowhere place [] none = refl
+nowhere place (e ∷ es) none =
+    by_bool (e.1 == place)
+    (λ hit. absurd (none 0 (e, refl, eqb-true e.1 place hit)))
+    (λ miss. rw miss (nowhere place es (λ i at. none (suc i) at)))
+
+here : (place at : ℕ) (e : KeyName × ℕ) (entries : List (KeyName × ℕ)) → slice_get entries at ≡ Some e → e.1 ≡ place → ((i : ℕ) → At place i entries → i ≡ at)
+    → key_known place (map known_of entries) ≡ Some e.0
+here place at e [] stands is only = absurd (cc)
+here place zero e (x ∷ xs) stands is only = (let first : x ≡ e = cc in rw first (rw (eq-eqb e.1 place is) refl))
+here place (suc at) e (x ∷ xs) stands is only =
+    by_bool (x.1 == place)
+    (λ hit. (let never = only 0 (x, refl, eqb-true x.1 place hit) in absurd (omega (arith, never))))
+    (λ miss. rw miss (here place at e xs stands is (λ i there. (let next = only (suc i) there in omega (arith, next)))))
+
+-- through the index: what stands elsewhere under another index is another place's
+pub key_by : (place : ℕ) (entries : List (KeyName × ℕ)) (indexes : List ℕ) → AreIndexed entries indexes
+    → key_known place (map known_of entries) ≡ key_under place entries (slice_get indexes place)
+key_by place entries indexes indexed = by_index (slice_get indexes place) refl
+  where
+    under : (i : ℕ) → At place i entries → slice_get indexes place ≡ Some i
+    under i at = subst (λ (q : ℕ). slice_get indexes q ≡ Some i) at.2 (indexed i at.0 at.1)
+
+    by_entry : (at : ℕ) → slice_get indexes place ≡ Some at → (e : Option (KeyName × ℕ)) → slice_get entries at ≡ e → key_known place (map known_of entries) ≡ key_in place e
+    by_entry at is None none = nowhere place entries (λ i there. (let same = sym is ∙ under i there in let stands = there.1 in absurd (cc)))
+    by_entry at is (Some e) stands =
+        by_bool (e.1 == place)
+        (λ hit. rw hit (here place at e entries stands (eqb-true e.1 place hit) (λ i there. (let same = sym is ∙ under i there in cc))))
+        (λ miss. rw miss (nowhere place entries (λ i there. (let same = sym is ∙ under i there in let other = there.1 in let back = there.2 in
+        let one : e ≡ there.0 = cc in (let hit = eq-eqb e.1 place (ap (λ (x : KeyName × ℕ). x.1) one ∙ back) in (let never : true ≡ false = sym hit ∙ miss in absurd (cc)))))))
+
+    by_index : (at : Option ℕ) → slice_get indexes place ≡ at → key_known place (map known_of entries) ≡ key_under place entries at
+    by_index None none = nowhere place entries (λ i there. (let stands = under i there in absurd (cc)))
+    by_index (Some at) is = by_entry at is (slice_get entries at) refl
+
+-- ---- one key more
+
+get_left : {X : Type 0} (xs ys : List X) (i : ℕ) → i < length xs → slice_get (xs ++ ys) i ≡ slice_get xs i
+get_left [] ys i inside = absurd (omega arith)
+get_left (x ∷ xs) ys zero inside = refl
+get_left (x ∷ xs) ys (suc i) inside = get_left xs ys i (omega arith)
+
+get_last : {X : Type 0} (xs : List X) (y z : X) (i : ℕ) → length xs ≤ i → slice_get (xs ++ y ∷ []) i ≡ Some z → (i ≡ length xs) × (Some y ≡ Some z)
+get_last [] y z zero past is = (refl, is)
+get_last [] y z (suc i) past is = absurd (cc)
+get_last (x ∷ xs) y z zero past is = absurd (omega arith)
+get_last (x ∷ xs) y z (suc i) past is = (let later = get_last xs y z i (omega arith) is in (ap suc later.0, later.1))
+
+get_set : {X : Type 0} (xs : List X) (i : ℕ) (y : X) → i < length xs → slice_get (set xs i y) i ≡ Some y
+get_set [] i y inside = absurd (omega arith)
+get_set (x ∷ xs) zero y inside = refl
+get_set (x ∷ xs) (suc i) y inside = get_set xs i y (omega arith)
+
+get_other : {X : Type 0} (xs : List X) (i j : ℕ) (y : X) → (j == i) ≡ false → slice_get (set xs i y) j ≡ slice_get xs j
+get_other [] i j y other = refl
+get_other (x ∷ xs) zero zero y other = absurd (cc)
+get_other (x ∷ xs) zero (suc j) y other = refl
+get_other (x ∷ xs) (suc i) zero y other = refl
+get_other (x ∷ xs) (suc i) (suc j) y other = get_other xs i j y (grind (arith, nat_tests))
+
+-- an entry is at a place that is known
+elsewhere : (place : ℕ) (entries : List (KeyName × ℕ)) (at : ℕ) (e : KeyName × ℕ) → is_known_place (map known_of entries) place ≡ false → slice_get entries at ≡ Some e → (e.1 == place) ≡ false
+elsewhere place [] at e new stands = absurd (cc)
+elsewhere place (x ∷ xs) zero e new stands = (let first : x ≡ e = cc in rw (← first) (grind (arith, nat_tests)))
+elsewhere place (x ∷ xs) (suc at) e new stands = elsewhere place xs at e (grind (arith, nat_tests)) stands
+
+-- what stood under other places stays, and the new key's place has the next index
+pub indexed_more : (entries : List (KeyName × ℕ)) (indexes : List ℕ) (key : KeyName) (place : ℕ) → AreIndexed entries indexes
+    → is_known_place (map known_of entries) place ≡ false → place < length indexes
+    → AreIndexed (entries ++ (key, place) ∷ []) (set indexes place (length entries))
+indexed_more entries indexes key place indexed new inside at e stands =
+    elim (ltb at (length entries)) as (λ b. ltb at (length entries) ≡ b → slice_get (set indexes place (length entries)) e.1 ≡ Some at) [
+      | true ↦ λ before.
+          let old : slice_get entries at ≡ Some e = sym (get_left entries ((key, place) ∷ []) at (grind (arith, nat_tests))) ∙ stands in
+          get_other indexes place e.1 (length entries) (elsewhere place entries at e new old) ∙ indexed at e old
+      | false ↦ λ before.
+          let last = get_last entries (key, place) e at (grind (arith, nat_tests)) stands in
+          let there : place ≡ e.1 = (let is = last.1 in let both : (key, place) ≡ e = cc in ap (λ (x : KeyName × ℕ). x.1) both) in
+          rw (← there) (get_set indexes place (length entries) inside ∙ ap (λ (i : ℕ). Some i) (sym last.0))
+    ] refl
+
+pub known_more : (entries : List (KeyName × ℕ)) (key : KeyName) (place : ℕ)
+    → map known_of (entries ++ (key, place) ∷ []) ≡ map known_of entries ++ record { key = key; place = place } ∷ []
+known_more entries key place = map_push known_of entries (key, place)
+
+-- ---- several keys more
+
+-- the next one has a key and a place that aren't known
+pub next_new : (known : List Known) (k : Known) (rest : List Known) → are_apart (known ++ k ∷ rest) ≡ true → (place_known k.key known ≡ None) × (is_known_place known k.place ≡ false)
+next_new [] k rest apart = (refl, refl)
+next_new (x ∷ xs) k rest apart =
+    let parts = and_parts (list_all (are_two x) (xs ++ k ∷ rest)) (are_apart (xs ++ k ∷ rest)) apart in
+    let later = next_new xs k rest parts.1 in
+    let two : are_two x k ≡ true = (and_parts (are_two x k) (list_all (are_two x) rest) (and_parts (list_all (are_two x) xs) _ (sym (list_all-append (are_two x) xs (k ∷ rest)) ∙ parts.0)).1).0 in
+    (grind (arith, nat_tests, later.0, two), grind (arith, nat_tests, later.1, two))

@@ -1,0 +1,140 @@
+//! A session's own list of the keys that it looked up.
+ghost use Rattle.std.specs.Prelude.{None, OnOk, Some, [], false, length, slice_get, true, ℕ, ◌+◌, ◌++◌, ◌∷◌, ◌<◌, ◌≡◌, ◌≤◌};
+ghost use Rattle.std.specs.Option.{is_some, option_copied};
+ghost use Rattle.mdl_steps.specs.Schemas.{is_known, unknown};
+ghost use Rattle.mdl_visits.specs.Tables.{AreWithin};
+ghost use Rattle.mdl_visits.specs.KnownLists.{are_apart, is_known_place, key_known, kind_known, place_known};
+
+use indexmap::IndexMap;
+use mdl_key::{Key, Kind};
+use mdl_steps::Known;
+use std::alloc::{AllocError, Global};
+use std::marker::Model;
+
+/// The keys that a session looked up, with their places, in order of the look-ups.
+///
+/// A key's place is found by a hash of the key, and what stands at a place by an array, so neither walks the keys.
+#[derive(Drop)]
+pub struct KnownKeys {
+    places: IndexMap<Key, usize>,
+    // By places: where the key of a place stands among the keys. A place that isn't known has any number.
+    indexes: Vec<usize>,
+}
+
+impl Model for KnownKeys {
+    ghost use Rattle.std.specs.Prelude.{length, map};
+    ghost use Rattle.indexmap.specs.IndexMap.{spare};
+    ghost use Rattle.mdl_visits.specs.KnownLists.{KnownList};
+    ghost use Rattle.mdl_visits.specs.OwnKeys.{AreIndexed, known_of};
+
+    ghost Value = { KnownList };
+
+    ghost view = { λ s. record { known = map known_of s.places.entries; room = spare s.places; reach = length s.indexes.items } };
+
+    ghost invariant = { λ s. AreIndexed s.places.entries s.indexes.items };
+}
+
+impl KnownKeys {
+    /// None. It takes no memory.
+    pub fn new(alloc: Global) -> KnownKeys
+        ensures { result.known ≡ [] }
+    {
+        KnownKeys {
+            places: IndexMap::new(alloc),
+            indexes: Vec::new(alloc),
+        }
+    }
+
+    /// The allocator of the list.
+    pub fn allocator(&self) -> Global {
+        *self.indexes.allocator()
+    }
+
+    /// The place of a key.
+    pub fn place_of(&self, key: &Key) -> Option<usize>
+        ensures { result ≡ place_known key.now self.now.known }
+    {
+        self.places.get(key).copied()
+    }
+
+    /// The key of a place.
+    pub fn key_at(&self, place: usize) -> Option<&Key>
+        ensures { option_copied result ≡ key_known place self.now.known }
+    {
+        let at = index_under(&self.indexes, place)?;
+        let (key, other) = self.places.get_index(at)?;
+        if *other == place { Some(key) } else { None }
+    }
+
+    /// The kind of the lock at a place.
+    pub fn kind_at(&self, place: usize) -> Option<Kind>
+        ensures { result ≡ kind_known place self.now.known }
+    {
+        self.key_at(place).map(|key| key.kind())
+    }
+
+    /// Makes room for so many more keys at places below this one.
+    pub fn reserve(&mut self, n: usize, slots: usize) -> Result<(), AllocError>
+        ensures same { self.new.known ≡ self.old.known }
+        ensures room { OnOk result ((n ≤ self.new.room) × (slots ≤ self.new.reach)) }
+    {
+        self.places.reserve(n)?;
+        reach(&mut self.indexes, slots)
+    }
+
+    /// Puts a new key last, with its place. It takes no memory.
+    pub fn push_reserved(&mut self, key: Key, place: usize)
+        requires room { (1 ≤ self.old.room) × (place < self.old.reach) }
+        requires unknown { (place_known key self.old.known ≡ None) × (is_known_place self.old.known place ≡ false) }
+        ensures known { self.new.known ≡ self.old.known ++ record { key = key; place = place } ∷ [] }
+        ensures room { (self.old.room ≤ self.new.room + 1) × (self.new.reach ≡ self.old.reach) }
+    {
+        self.indexes[place] = self.places.len();
+        self.places.insert(key, place).unwrap();
+    }
+
+    /// Adds the keys that aren't known yet. It takes no memory.
+    pub fn learn(&mut self, mut tables: Vec<Known>)
+        requires room { (length tables.items ≤ self.old.room) × AreWithin self.old.reach tables.items }
+        requires apart { are_apart (self.old.known ++ unknown self.old.known tables.items) ≡ true }
+        ensures known { self.new.known ≡ self.old.known ++ unknown self.old.known tables.items }
+    {
+        keep_unknown(self, &mut tables);
+        for table in tables {
+            self.push_reserved(table.key, table.place);
+        }
+    }
+
+    // Whether a key is known.
+    fn is_known(&self, key: &Key) -> bool
+        ensures { result ≡ is_known self.now.known key.now }
+    {
+        self.place_of(key).is_some()
+    }
+}
+
+// Strikes the keys that are known.
+fn keep_unknown(known: &KnownKeys, tables: &mut Vec<Known>)
+    ensures kept { tables.new.items ≡ unknown known.now.known tables.old.items }
+    ensures fewer { length tables.new.items ≤ length tables.old.items }
+{
+    tables.retain(|table| !known.is_known(&table.key));
+}
+
+// The index under a place, if there is the place.
+fn index_under(indexes: &[usize], place: usize) -> Option<usize>
+    ensures { result ≡ slice_get indexes.now place }
+{
+    indexes.get(place).copied()
+}
+
+// Adds places until there are so many. What stands under the others stays.
+fn reach(indexes: &mut Vec<usize>, slots: usize) -> Result<(), AllocError>
+    ensures reach { OnOk result (slots ≤ length indexes.new.items) }
+    ensures same { (place at : ℕ) → slice_get indexes.old.items place ≡ Some at → slice_get indexes.new.items place ≡ Some at }
+{
+    while indexes.len() < slots {
+        indexes.push(0)?;
+    }
+    Ok(())
+}
