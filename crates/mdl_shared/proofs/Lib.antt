@@ -32,3 +32,4 @@ pub mod KillCalls
 pub mod KeyCalls
 pub mod ShowingCalls
 pub mod SessionValues
+pub mod Refusals
