@@ -30,8 +30,12 @@ impl<R: Wait> Session<R> {
         };
         let place = match resolve(&self.rt, &mut member.seat, alloc, key) {
             Ok(place) => place,
-            Err(ResolveError::NoPlace) => return Err(SpaceError::NoPlace),
-            Err(ResolveError::OutOfMemory) => return Err(SpaceError::OutOfMemory),
+            Err(why) => {
+                return match why {
+                    ResolveError::NoPlace => Err(SpaceError::NoPlace),
+                    ResolveError::OutOfMemory => Err(SpaceError::OutOfMemory),
+                };
+            }
         };
         member.known.push_reserved(key_kept, place);
         Ok(place as u16)
