@@ -10,7 +10,7 @@ use Rattle.mdl_key.specs.declared.namespace.Namespace.{Namespace}
 use Rattle.mdl_key.specs.declared.namespace.Namespace.TheVariants as of
 use Rattle.mdl_key.specs.Keys.{key_cmp}
 use Rattle.mdl_key.specs.Words.{KeyName}
-use Rattle.mdl_calls.specs.declared.space_error.SpaceError.TheVariants.{NoPlace}
+use Rattle.mdl_calls.specs.declared.space_error.SpaceError.TheVariants.{NoPlace, OutOfMemory}
 use Rattle.mdl_calls.specs.Words.{At_place, Refused, Resolve, Tables, Tables_of, is_table_of as is_table_told}
 use Rattle.mdl_calls.specs.Reads.{is_of_tables as is_of_tables_told}
 use Rattle.mdl_calls.proofs.MappedLists.{pairs-map}
@@ -18,21 +18,28 @@ use Rattle.mdl_steps.specs.declared.view.Keys.{Keys}
 use Rattle.mdl_steps.specs.declared.view.Known.{Known}
 use Rattle.mdl_steps.specs.declared.view.Met.{Met}
 use Rattle.mdl_steps.specs.Schemas.{is_of_tables, is_table_of, unknown}
+use Rattle.mdl_steps.specs.Plays.{Mine}
 use Rattle.mdl_steps.specs.SeatStates.{AtItsTable, SeatState}
 use Rattle.mdl_session_laws.specs.SessionJoins.{Joins, LearnsPlace as LearnsAt, LearnsTables}
 use Rattle.mdl_session_laws.specs.SessionSpaces.{KnownKey, key_known as key_known_in}
 use Rattle.mdl_session_laws.proofs.KeyLists.{place-of_key}
 use Rattle.mdl_session_laws.proofs.RefusedCalls.{reads-nothing}
 use Rattle.mdl_visits.specs.Lookups.{IsAnswer, TookDirectory, knowing}
-use Rattle.mdl_visits.specs.Tables.{AreTables, AreWithin, Asked, HasAsked, IsTable, told as asked_places}
-use Rattle.mdl_visits.specs.Visits.{MakesSteps}
+use Rattle.mdl_visits.specs.Tables.{AreTables, AreWithin, Asked, HasAsked, IsTable, knowing_all, told as asked_places}
+use Rattle.mdl_visits.specs.Visits.{MakesSteps, StaysQuiet}
+use Rattle.mdl_visits.proofs.Asking.{asked_after, goes_on, steps_then}
+use Rattle.mdl_visits.proofs.Doing.{does_steps}
+use Rattle.mdl_visits.proofs.Listing.{took_earlier}
+use Rattle.mdl_visits.proofs.Lookups.{no_record}
+use Rattle.mdl_visits.proofs.Steps.{does_then}
 use Rattle.mdl_shared.specs.declared.member.Member.{Member}
 use Rattle.mdl_shared.specs.Members.{AreLearnt, IsMember, are_apart, is_known_place, place_known}
 use Rattle.mdl_shared.specs.OwnLists.{key_known}
 use Rattle.mdl_shared.specs.Passes.{view_of}
 use Rattle.mdl_shared.specs.SessionViews.{Lists, SessionView, lists_seen, session_at, space_of}
-use Rattle.mdl_shared.proofs.KnownKeys.{new_place}
-use Rattle.mdl_shared.proofs.MemberFacts.{speaks}
+use Rattle.mdl_shared.specs.Showings.{Shows}
+use Rattle.mdl_shared.proofs.KnownKeys.{all_learnt, apart_and, new_place}
+use Rattle.mdl_shared.proofs.MemberFacts.{keys-apart, speaks}
 use Rattle.mdl_shared.proofs.Members.{HasDone, StaysInOrder, visited}
 use Rattle.mdl_shared.proofs.Membership.{within_and}
 use Rattle.mdl_shared.proofs.SameSpace.{Stays, joins-still, keeps-settled, refused, same-stays, sees-same}
@@ -215,3 +222,50 @@ tables-joins {s} {s′} is schema k tables places are asked learnt all apart =
       reads = reads-nothing (space_of s) (space_of x) refl refl;
       truly = tt;
     })
+
+-- refused, since memory ran out
+pub memory-joins : {s s′ : SessionView} → IsMember s → (schema : List ℕ) → Stays s s′ → Joins (space_of s) (Tables_of s.me.0.number schema) (Refused OutOfMemory) (space_of s′)
+memory-joins {s} {s′} is schema stays = refused s s′ (Tables_of s.me.0.number schema) OutOfMemory stays (speaks is) refl refl tt (λ state how met. cc) tt
+
+-- what the directory tells of them, and then the place of each
+module _ (seat mid seat′ : SeatState) (sessions : ℕ) (schema : List ℕ) (k : Keys) (tables : List Known) (is : IsMember (session_at seat sessions))
+    (took : AtItsTable seat mid (TookDirectory seat.table.slots k k)) (are : AreTables schema k tables) (knows : MakesSteps (knowing_all tables seat.me) mid.me)
+    (steps : AtItsTable mid seat′ MakesSteps) where
+  abbrev all : List Known
+  all = seat.me.0.known ++ unknown seat.me.0.known tables
+
+  pub learnt-all : HasLearnt (unknown seat.me.0.known tables) (session_at seat sessions) (session_at seat′ sessions)
+  learnt-all = learnt-by seat seat′ sessions (unknown seat.me.0.known tables) (steps.0 ∙ took.0) (steps_then (knowing_all tables seat.me) mid.me seat′.me knows steps.1)
+
+  pub all-apart : are_apart all ≡ true
+  all-apart = apart_and schema k seat.me.0 tables took.1.recorded.known are (keys-apart is)
+
+  pub told-tables : (places : List ℕ) → StaysQuiet mid.me seat′.me → HasAsked mid.me.0.number tables places mid.me seat′.me
+      → Joins (space_of (session_at seat sessions)) (Tables_of seat.me.0.number schema) (Tables places) (space_of (session_at seat′ sessions))
+      × Shows (Tables_of seat.me.0.number schema) (Tables places) (session_at seat sessions) (session_at seat′ sessions)
+  told-tables places quiet asked =
+      let old : Mine = seat.me in
+      let new : Mine = seat′.me in
+      let learnt = learnt-all in
+      let has : HasAsked old.0.number tables places old new =
+      asked_after old.0.number tables places old mid.me new (goes_on (knowing_all tables old) mid.me knows)
+      (subst (λ (n : ℕ). HasAsked n tables places mid.me new) (ap (λ (m : Mine). m.0.number) knows.1) asked) in
+      let known = all_learnt schema k old.0 tables took.1.recorded.known are took.1.recorded.distinct in
+      let none : mid.me.0.directory ≡ None = ap (λ (m : Mine). m.0.directory) knows.1 ∙ sym (no_record old.0.directory is.idle.1) in
+      (
+        tables-joins is schema k tables places are has learnt known all-apart,
+        record {
+          table = steps.0 ∙ took.0;
+          sessions = refl;
+          refused = tt;
+          did = does_then [] [] old mid.me new (does_steps (knowing_all tables old) mid.me knows) (does_steps mid.me new steps.1);
+          settled = ap (λ (x : SessionView). x.me.0.settles) learnt.now;
+          told = ap (λ (x : SessionView). x.me.0.told) learnt.now;
+          steps = tt;
+          met = (
+            k,
+            took_earlier seat.table.slots k k old mid.me new took.1 quiet none,
+            (tables, are, has, ap (λ (x : SessionView). x.me.0.known) learnt.now, subst (AreLearnt tables) (sym (ap (λ (x : SessionView). x.me.0.known) learnt.now)) known),
+          );
+        },
+      )
