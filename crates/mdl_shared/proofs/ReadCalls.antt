@@ -1,5 +1,5 @@
 -- Calls on what stands under keys: reads and changes.
-use Rattle.std.proofs.Common.{◌≡◌, ◌⊎◌, ℕ, ◌+◌, MatchOption, true, false, is_some, List, [], ◌∷◌, ◌++◌, Option, Some, None, Err, if◌then◌else◌, map, inl, inr, refl, sym, ap, subst, ◌∙◌}
+use Rattle.std.proofs.Common.{◌≡◌, ◌⊎◌, ℕ, ◌+◌, MatchOption, Bool, true, false, is_some, List, [], ◌∷◌, ◌++◌, Option, Some, None, Err, if◌then◌else◌, map, inl, inr, refl, sym, ap, subst, ◌∙◌}
 use Rattle.std.specs.Option.{option_map}
 use Rattle.std.proofs.lemmas.Bool.{false≢true}
 use Rattle.mdl_key.specs.declared.mode.Mode.TheVariants.{X}
@@ -18,7 +18,7 @@ use Rattle.mdl_calls.specs.Words.{Changed, Reads, Refused, Change_definition, Re
 use Rattle.mdl_calls.proofs.StandingLemmas.{drop-memory, redefined-cause}
 use Rattle.mdl_steps.specs.declared.view.Met.{Met}
 use Rattle.mdl_steps.specs.declared.view.Own.{Own}
-use Rattle.mdl_steps.specs.Plays.{noting_version}
+use Rattle.mdl_steps.specs.Plays.{Mine, noting_version}
 use Rattle.mdl_steps.specs.SeatStates.{SeatState}
 use Rattle.mdl_session_laws.specs.SessionJoins.{ChangesThere, Joins, MeetsFault as Faulty, ReadsThere as Read_so, TellsTruly}
 use Rattle.mdl_session_laws.specs.SessionSpaces.{Knows, key_known as key_known_in}
@@ -26,7 +26,8 @@ use Rattle.mdl_visits.specs.Leavings.{Learns}
 use Rattle.mdl_visits.specs.Numbers.{numbered}
 use Rattle.mdl_visits.specs.Readings.{Follows, MeetsRead}
 use Rattle.mdl_visits.specs.Redefinitions.{IsNamed, IsRefusedFor, Redefines, exclusive_fault}
-use Rattle.mdl_visits.specs.Visits.{Does, StaysQuiet}
+use Rattle.mdl_visits.specs.Visits.{Does, StaysQuiet, Visits}
+use Rattle.mdl_visits.proofs.Doing.{does_visits}
 use Rattle.mdl_shared.specs.declared.member.Member.{Member}
 use Rattle.mdl_shared.specs.Members.{IsMember, holding_fault}
 use Rattle.mdl_shared.specs.OwnLists.{told_of}
@@ -234,3 +235,16 @@ module _ {s : SessionView} (is : IsMember s) (id : ℕ) (t : Own) (its : numbere
     unchanged-joins stays w why =
         let told = refused-so w why in
         refused s s′ (Change_definition s.me.0.number id change) (cause_of w) stays (speaks is) refl refl told.0 (λ state how met. cc) told.1
+
+    pub unchanged-shows : s′.table ≡ s.table → s′.sessions ≡ s.sessions → Visits t.place [] s.me s′.me → (w : ChangeError) → IsRefusedFor t.place s.me.0.number change w s.me s′.me
+        → Shows (Change_definition s.me.0.number id change) (Refused (cause_of w)) s s′
+    unchanged-shows table sessions visit w why = record {
+      table = table;
+      sessions = sessions;
+      refused = if-clear _ (exclusive_fault (numbered id s.me.0.slow)) (ap exclusive_fault its ∙ ap (λ (b : Bool). if b then None else Some NotExclusive) exclusive);
+      did = does_visits s.me s′.me t.place [] visit;
+      settled = ap (λ (m : Mine). m.0.settles) visit.now;
+      told = ap (λ (m : Mine). m.0.told) visit.now;
+      steps = tt;
+      met = inr (t, its, (w, refl, why));
+    }
