@@ -39,19 +39,24 @@
 
 mod audit;
 mod begin_wait;
+mod change_definition;
 mod downgrade;
 mod end_wait;
 mod holdings;
+mod key_of;
 mod kill;
 mod manager;
 mod member;
 mod pass;
 mod poll_wait;
+mod read_definition;
 mod release;
 mod reschedule;
+mod resolve;
 mod search;
 mod session;
 mod settle_timeout;
+mod tables_of;
 mod tickets;
 mod try_now;
 mod wait_of;
