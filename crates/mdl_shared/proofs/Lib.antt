@@ -5,7 +5,6 @@ pub mod Awaiting
 pub mod KnownKeys
 pub mod Rising
 pub mod Polling
-pub mod Ends
 pub mod SpaceLists
 pub mod SameSpace
 pub mod SpaceTickets
@@ -32,3 +31,9 @@ pub mod KillCalls
 pub mod KeyCalls
 pub mod ShowingCalls
 pub mod SessionValues
+pub mod Refusals
+pub mod WaitSteps
+pub mod WaitCalls
+pub mod Wishing
+pub mod WishShows
+pub mod EndSteps

@@ -61,7 +61,7 @@ MakesNoStep a b = b.me ≡ a.me
 abbrev pub MeetsTicket : ℕ → List Deed → SessionView → SessionView → Own → Type 0
 MeetsTicket id ds a b t = HasStep a b (λ e. MeetsOwn t.place a.me.0.number id e × (e.deeds ≡ ds))
 
--- way was made at its place
+-- the waits at its place were granted that could be
 abbrev pub Reschedules : SessionView → SessionView → Own → Type 0
 Reschedules a b t = HasRescheduled a.table t.place a.me b.me
 
@@ -118,10 +118,12 @@ KeepsTold (Release who id) a b = Unit {0}
 KeepsTold (Downgrade who id mode) a b = Unit {0}
 KeepsTold _ a b = b.me.0.told ≡ a.me.0.told
 
--- calls that only read a word of a wait give no latch back and raise no flag, and one that reads a definition raises none
+-- calls that read or settle the word of a wait give no latch back and raise no flag, and one that reads a definition raises none
 abbrev pub StepsSo : Call → SessionView → SessionView → Type 0
 StepsSo (Poll_wait who) a b = StaysOn a.me b.me
+StepsSo (Settle_timeout who) a b = StaysOn a.me b.me
 StepsSo (Wait_of target) a b = StaysOn a.me b.me
+StepsSo (Kill target number) a b = StaysOn a.me b.me
 StepsSo (Read_definition who id) a b = StaysQuiet a.me b.me
 StepsSo _ a b = Unit {0}
 
@@ -137,7 +139,7 @@ done_by (Release who id) Done tickets = Lose id ∷ []
 done_by (Downgrade who id mode) Done tickets = Alter id mode ∷ []
 done_by _ _ tickets = []
 
--- which waits they settled. `HasRescheduled` tells that where way was made, and `Searched` of a search
+-- which waits they settled. `HasRescheduled` tells that where a place's waits were granted, and `Searched` of a search
 abbrev pub SettlesSo : Call → Answer → Lists → SessionView → SessionView → Type 0
 SettlesSo (Search who) No_cycle l a b = Unit {0}
 SettlesSo (Search who) (Victim_is victim) l a b = Unit {0}
@@ -229,12 +231,12 @@ MeetsSo _ _ l a b = Unit {0}
 -- ---- the whole
 
 -- the session, which has these lists before the call, is at the same table (`table`) of the same space (`sessions`); where it has a fault of its own, that
--- is the answer (`refused`); the call's steps did these deeds, and no others (`did`), settled these waits, and no others (`settled`), let the session know
+-- is the answer, and no step is made (`refused`); the call's steps did these deeds, and no others (`did`), settled these waits, and no others (`settled`), let the session know
 -- no more of its own wait than they may (`told`), gave up nothing that they may not (`steps`), and met this (`met`)
 pub record ShowsBy (call : Call) (answer : Answer) (l : Lists) (a b : SessionView) : Type 0 where
   pub table : b.table ≡ a.table
   pub sessions : b.sessions ≡ a.sessions
-  pub refused : IfSome (own_fault call l) (λ why. answer ≡ Refused why)
+  pub refused : IfSome (own_fault call l) (λ why. (answer ≡ Refused why) × MakesNoStep a b)
   pub did : Does (done_by call answer l.tickets) a.me b.me
   pub settled : SettlesSo call answer l a b
   pub told : KeepsTold call a b

@@ -37,14 +37,21 @@
 //! ```
 #![tactic(auto)]
 
+mod begin_wait;
 mod downgrade;
+mod end_wait;
 mod holdings;
 mod manager;
 mod member;
 mod pass;
+mod poll_wait;
 mod release;
 mod session;
+mod settle_timeout;
 mod tickets;
+mod try_now;
+mod wait_words;
+mod wishes;
 
 pub use manager::Manager;
 pub use mdl_calls::NewError;

@@ -1,0 +1,79 @@
+-- A call that is refused for what the session has of its own, before any step.
+use Rattle.std.proofs.Common.{◌≡◌, List, [], Some, IfSome, Option, inl, refl, sym, ap, subst, append-nil}
+use Rattle.mdl_calls.specs.declared.space_error.SpaceError.{SpaceError}
+use Rattle.mdl_calls.specs.Words.{Refused, Call, Resolve, Try_now, Begin_wait, Search, Poll_wait, Settle_timeout, End_wait, Wait_of, Kill, Release, Clone_ticket, Upgrade_now, Merge, Downgrade, Read_definition, Change_definition, Tables_of, Key_of}
+use Rattle.mdl_steps.specs.declared.deed.Deed.{Deed}
+use Rattle.mdl_steps.specs.declared.view.Own.{Own}
+use Rattle.mdl_steps.specs.Plays.{Mine}
+use Rattle.mdl_visits.specs.Polls.{SettlesNothing}
+use Rattle.mdl_visits.specs.Visits.{Does, StaysOn}
+use Rattle.mdl_visits.proofs.Steps.{quiet_none}
+use Rattle.mdl_shared.specs.SessionViews.{Lists, SessionView, lists_seen}
+use Rattle.mdl_shared.specs.Showings.{KeepsTold, MakesNoStep, MeetsSo, SettlesSo, Shows, StepsSo, done_by, own_fault}
+
+-- without a step nothing is done, and the session stays
+pub does-nothing : (m : Mine) → Does [] m m
+does-nothing m = ([], sym (append-nil m.0.log), refl)
+
+pub stays-on : (m : Mine) → StaysOn m m
+stays-on m = ([], sym (append-nil m.0.log), tt)
+
+-- a refusal does no deed, and settles no wait
+done-refused : (call : Call) (why : SpaceError) (tickets : List Own) → done_by call (Refused why) tickets ≡ []
+done-refused (Try_now who place mode) why tickets = refl
+done-refused _ why tickets = refl
+
+settled-refused : (call : Call) (why : SpaceError) (l : Lists) (s : SessionView) → SettlesSo call (Refused why) l s s
+settled-refused (Search who) why l s = refl
+settled-refused _ why l s = refl
+
+told-same : (call : Call) (s : SessionView) → KeepsTold call s s
+told-same (Search who) s = tt
+told-same (Poll_wait who) s = tt
+told-same (Settle_timeout who) s = tt
+told-same (End_wait who) s = tt
+told-same (Wait_of target) s = tt
+told-same (Kill target number) s = tt
+told-same (Release who id) s = tt
+told-same (Downgrade who id mode) s = tt
+told-same _ s = refl
+
+steps-none : (call : Call) (s : SessionView) → StepsSo call s s
+steps-none (Poll_wait who) s = stays-on s.me
+steps-none (Settle_timeout who) s = stays-on s.me
+steps-none (Wait_of target) s = stays-on s.me
+steps-none (Kill target number) s = stays-on s.me
+steps-none (Read_definition who id) s = quiet_none s.me s.me refl
+steps-none _ s = tt
+
+-- it meets nothing but its own fault
+own-met : (call : Call) (why : SpaceError) (l : Lists) (s : SessionView) → own_fault call l ≡ Some why → MeetsSo call (Refused why) l s s
+own-met (Resolve who key) why l s e = cc
+own-met (Try_now who place mode) why l s e = inl e
+own-met (Begin_wait who place mode) why l s e = inl e
+own-met (Search who) why l s e = cc
+own-met (Poll_wait who) why l s e = e
+own-met (Settle_timeout who) why l s e = e
+own-met (End_wait who) why l s e = inl e
+own-met (Release who id) why l s e = e
+own-met (Clone_ticket who id mode) why l s e = inl e
+own-met (Upgrade_now who id mode) why l s e = e
+own-met (Merge who old new) why l s e = e
+own-met (Downgrade who id mode) why l s e = e
+own-met (Change_definition who id change) why l s e = inl e
+own-met (Tables_of who schema) why l s e = cc
+own-met (Key_of who place) why l s e = refl
+own-met _ why l s e = cc
+
+-- so a call that has a fault of the session's own shows just that
+pub own-shows : (call : Call) (why : SpaceError) (s : SessionView) → own_fault call (lists_seen s.me.0) ≡ Some why → Shows call (Refused why) s s
+own-shows call why s fault = record {
+  table = refl;
+  sessions = refl;
+  refused = subst (λ (o : Option SpaceError). IfSome o (λ w. (Refused why ≡ Refused w) × MakesNoStep s s)) (sym fault) (refl, refl);
+  did = subst (λ (ds : List Deed). Does ds s.me s.me) (sym (done-refused call why s.me.0.slow)) (does-nothing s.me);
+  settled = settled-refused call why (lists_seen s.me.0) s;
+  told = told-same call s;
+  steps = steps-none call s;
+  met = own-met call why (lists_seen s.me.0) s fault;
+}
