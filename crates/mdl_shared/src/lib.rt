@@ -38,11 +38,14 @@
 #![tactic(auto)]
 
 mod begin_wait;
+mod clone_ticket;
 mod downgrade;
 mod end_wait;
+mod held;
 mod holdings;
 mod manager;
 mod member;
+mod merge;
 mod pass;
 mod poll_wait;
 mod release;
@@ -50,6 +53,7 @@ mod session;
 mod settle_timeout;
 mod tickets;
 mod try_now;
+mod upgrade_now;
 mod wait_words;
 mod wishes;
 
