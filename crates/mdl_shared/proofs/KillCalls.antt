@@ -23,7 +23,7 @@ use Rattle.mdl_visits.specs.Polls.{MeetsOther, MeetsWait, number_in}
 use Rattle.mdl_visits.proofs.Steps.{goes_staying, step_after}
 use Rattle.mdl_shared.specs.Members.{IsMember}
 use Rattle.mdl_shared.specs.SessionViews.{SessionView, settled_told, space_of}
-use Rattle.mdl_shared.specs.Showings.{HasStep, Shows}
+use Rattle.mdl_shared.specs.Showings.{ShowsStep, Shows}
 use Rattle.mdl_shared.proofs.PollCalls.{settled-some}
 use Rattle.mdl_shared.proofs.Members.{done-nothing}
 use Rattle.mdl_shared.proofs.SameSpace.{joins-still, same-stays, told-settled, wait_by}
@@ -100,7 +100,7 @@ closed-settled kind s s′ target number found mine sound now other its = by s.m
 
 module _ {s s′ : SessionView} (target number : ℕ) (within : is_within s.sessions target ≡ true) (did : Watches s s′) where
   -- whoever met another word settled nothing
-  pub kill-missed : s′.me.0.settles ≡ s.me.0.settles → HasStep s s′ (MeetsOther s.table.slots target (wait_in number 1))
+  pub kill-missed : s′.me.0.settles ≡ s.me.0.settles → ShowsStep s s′ (MeetsOther s.table.slots target (wait_in number 1))
       → (target ≡ s.me.0.number → wait_number (space_of s).own ≡ Some number → is_some (space_of s′).settled ≡ true)
       → Joins (space_of s) (Kill target number) (Has_killed false) (space_of s′) × Shows (Kill target number) (Has_killed false) s s′
   kill-missed settles met known = (
@@ -110,7 +110,7 @@ module _ {s s′ : SessionView} (target number : ℕ) (within : is_within s.sess
   )
 
   pub kill-settled : s′.me.0.settles ≡ s.me.0.settles ++ record { session = target; wait = number; state = 5 } ∷ []
-      → HasStep s s′ (MeetsWait s.table.slots target number 1)
+      → ShowsStep s s′ (MeetsWait s.table.slots target number 1)
       → (target ≡ s.me.0.number → (wait_number (space_of s).own ≡ Some number) × (s′.me.0.told ≡ Some 5))
       → Joins (space_of s) (Kill target number) (Has_killed true) (space_of s′) × Shows (Kill target number) (Has_killed true) s s′
   kill-settled settles met known = (

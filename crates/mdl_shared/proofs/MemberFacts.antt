@@ -14,6 +14,7 @@ use Rattle.mdl_steps.specs.Lists.{Each}
 use Rattle.mdl_steps.specs.Seats.{IsPlace, IsRising}
 use Rattle.mdl_session_laws.specs.SessionSpaces.{SpeaksFor, are_below as are_below_told, are_placed as are_placed_told, first_free, is_known as is_known_in}
 use Rattle.mdl_visits.specs.Leavings.{HasTicket}
+use Rattle.mdl_visits.specs.Visits.{MayVisit}
 use Rattle.mdl_visits.specs.Numbers.{all_numbers, is_ask_apart, numbered}
 use Rattle.mdl_visits.proofs.Numbers.{not_waited}
 use Rattle.mdl_shared.specs.Members.{IsMember, are_apart, are_placed, is_ask_placed, is_known_place}
@@ -132,6 +133,10 @@ module _ {s : SessionView} (is : IsMember s) where
       by : (latches : List LatchRecord) → ◌≡◌ {A = ℕ} (length latches) 0 → Each (λ (h : LatchRecord). h.place < place) latches
       by [] none = tt
       by (h ∷ hs) none = absurd (omega arith)
+
+  -- so it may go to a place that it knows
+  pub may-visit : (place : ℕ) → is_known_place s.me.0.known place ≡ true → MayVisit place (record { table = s.table; me = s.me })
+  may-visit place known = record { is_place = place-within place known; rising = may-latch place }
 
   -- ---- a ticket of its
 

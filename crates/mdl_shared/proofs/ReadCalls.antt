@@ -33,7 +33,7 @@ use Rattle.mdl_shared.specs.Members.{IsMember, holding_fault}
 use Rattle.mdl_shared.specs.OwnLists.{told_of}
 use Rattle.mdl_shared.specs.Passes.{view_of}
 use Rattle.mdl_shared.specs.SessionViews.{Lists, SessionView, lists_seen, session_at, space_of}
-use Rattle.mdl_shared.specs.Showings.{HasStep, Shows}
+use Rattle.mdl_shared.specs.Showings.{ShowsStep, Shows}
 use Rattle.mdl_shared.proofs.Alike.{alike_noting}
 use Rattle.mdl_shared.proofs.Faults.{if-clear, test-failed}
 use Rattle.mdl_shared.proofs.MemberFacts.{speaks}
@@ -138,7 +138,7 @@ module _ {s : SessionView} (is : IsMember s) (id : ℕ) (t : Own) (its : numbere
       tt
 
   pub read-shows : {s′ : SessionView} (standing : Standing) → HasNoted t.place standing s s′ → Follows t.place standing s.me → Does [] s.me s′.me → StaysQuiet s.me s′.me
-      → HasStep s s′ (MeetsRead t.place s.me.0.number id standing) → Shows (Read_definition s.me.0.number id) (Reads standing.version standing.definition) s s′
+      → ShowsStep s s′ (MeetsRead t.place s.me.0.number id standing) → Shows (Read_definition s.me.0.number id) (Reads standing.version standing.definition) s s′
   read-shows {s′} standing noted follows did quiet met = record {
     table = ap (λ (x : SessionView). x.table) noted.now;
     sessions = ap (λ (x : SessionView). x.sessions) noted.now;

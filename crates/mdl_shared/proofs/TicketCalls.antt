@@ -1,10 +1,11 @@
 -- Calls on held tickets: releases, downgrades, upgrades and merges.
-use Rattle.std.proofs.Common.{◌≡◌, ℕ, true, false, not, ◌&&◌, List, [], ◌∷◌, Some, None, map, filter, is_some, if◌then◌else◌, refl, sym, ap, subst, ◌∙◌}
+use Rattle.std.proofs.Common.{◌≡◌, ℕ, true, false, not, ◌&&◌, List, [], ◌∷◌, Option, Some, None, map, filter, is_some, if◌then◌else◌, Ok, refl, sym, ap, subst, ◌∙◌}
 use Rattle.std.specs.Option.{option_map}
 use Rattle.std.proofs.lemmas.Bool.{and_from, and_parts, eq-eqb, not-true, not_from_false}
 use Rattle.mdl_key.specs.declared.mode.Mode.{Mode}
 use Rattle.mdl_system.specs.Strength.{covers, may_downgrade}
 use Rattle.mdl_calls.specs.declared.answers.Held.{Held}
+use Rattle.mdl_calls.specs.declared.space_error.SpaceError.{SpaceError}
 use Rattle.mdl_calls.specs.Words.{Done, Refused, Upgraded, Would_wait, Release, Downgrade, Upgrade_now, Merge, MayDowngrade, is_number}
 use Rattle.mdl_calls.specs.Own.{merging, upgraded}
 use Rattle.mdl_steps.specs.declared.deed.Deed.{Deed}
@@ -16,9 +17,10 @@ use Rattle.mdl_session_laws.specs.SessionJoins.{Joins, ReadsNothing}
 use Rattle.mdl_visits.specs.Grantings.{VisitsAndReschedules}
 use Rattle.mdl_visits.specs.Leavings.{MeetsOwn}
 use Rattle.mdl_visits.specs.Numbers.{numbered}
-use Rattle.mdl_visits.specs.Visits.{IsStepOf}
+use Rattle.mdl_visits.specs.Visits.{Does, IsStepOf, Visits}
 use Rattle.mdl_visits.proofs.Doing.{does_reschedule}
 use Rattle.mdl_visits.proofs.Numbers.{has_number}
+use Rattle.mdl_shared.specs.Doings.{merge_deeds}
 use Rattle.mdl_shared.specs.Members.{IsMember}
 use Rattle.mdl_shared.specs.Modes.{downgrade_fault, is_fit, merge_fault}
 use Rattle.mdl_shared.specs.OwnLists.{told_of}
@@ -28,13 +30,14 @@ use Rattle.mdl_shared.specs.Upgrades.{upgrade_fault}
 use Rattle.mdl_shared.proofs.ClearCalls.{downgrade-open}
 use Rattle.mdl_shared.proofs.Faults.{if-clear}
 use Rattle.mdl_shared.proofs.MemberFacts.{speaks}
-use Rattle.mdl_shared.proofs.Members.{HasDone, done-next, done-nothing, done-reads, done-rest, done-slow, rescheduled}
+use Rattle.mdl_shared.proofs.Members.{HasDone, done-next, done-nothing, done-reads, done-rest, done-slow, rescheduled, visited}
 use Rattle.mdl_shared.proofs.NotedOnce.{one-note, one-note_done}
-use Rattle.mdl_shared.proofs.SameSpace.{joins-held, joins-still, numbers-same, same-rest}
+use Rattle.mdl_shared.proofs.SameSpace.{joins-held, joins-still, numbers-same, refused, same-rest, same-stays}
 use Rattle.mdl_shared.proofs.SpaceLists.{fit-known, ticket-told}
 use Rattle.mdl_shared.proofs.SpaceNotes.{AllNoted, noted-less, noted-moded, nothing-read, noted_under}
 use Rattle.mdl_shared.proofs.SpaceTickets.{all_of, given-up, holds-told, in-mode, in_mode_told, is_here, merged-told, of-held, only-one, same-mode}
-use Rattle.mdl_shared.proofs.TicketFaults.{knows, merge-clear, merge-here, upgrade-clear}
+use Rattle.mdl_shared.proofs.TicketFaults.{knows, merge-cause, merge-clear, merge-here, upgrade-cause, upgrade-clear}
+use Rattle.mdl_shared.proofs.WishShows.{did, settles, told}
 
 -- ---- a call with one deed
 
@@ -111,6 +114,21 @@ module _ {m : SessionView} (is : IsMember m) (id : ℕ) (t : Own) (its : numbere
       (noted-less at (noted_under at m.me.0.slow) _ _ (noted-moded at t.place id (noted_under at m.me.0.slow) gone.mode m.me.0.slow (one-note m is at)))))
       tt
 
+-- ---- refused for what the session has
+
+module _ {s : SessionView} (is : IsMember s) (why : SpaceError) where
+  pub upgrade-unfit : (id : ℕ) (mode : Mode) → upgrade_fault mode s.me.0.known s.me.0.asks (numbered id s.me.0.slow) ≡ Some why
+      → Joins (space_of s) (Upgrade_now s.me.0.number id mode) (Refused why) (space_of s)
+  upgrade-unfit id mode fault =
+      refused s s (Upgrade_now s.me.0.number id mode) why (same-stays s) (speaks is) refl refl
+      (upgrade-cause s s.me.0.number id mode why (numbered id s.me.0.slow) refl fault) (λ state how is. cc) tt
+
+  pub merge-unfit : (old new : ℕ) → merge_fault (numbered old s.me.0.slow) (numbered new s.me.0.slow) s.me.0.asks ≡ Some why
+      → Joins (space_of s) (Merge s.me.0.number old new) (Refused why) (space_of s)
+  merge-unfit old new fault =
+      refused s s (Merge s.me.0.number old new) why (same-stays s) (speaks is) refl refl
+      (merge-cause s s.me.0.number old new why (numbered old s.me.0.slow) (numbered new s.me.0.slow) refl refl fault) (λ state how is. cc) tt
+
 -- ---- what a downgrade comes to
 
 pub downgraded : (seat seat′ : SeatState) (sessions id : ℕ) (mode : Mode) (t : Own) → IsMember (session_at seat sessions) → numbered id seat.me.0.slow ≡ Some t
@@ -137,3 +155,38 @@ downgraded seat seat′ sessions id mode t is its may fits visit step =
         met = ((t, own, (step.0, step.1, (step.2, step.3))), (t, own, visit.1.way));
       },
     )
+
+-- ---- what a merge comes to
+
+pub merged : (seat seat′ : SeatState) (sessions old new : ℕ) (kept gone : Own) → IsMember (session_at seat sessions)
+    → numbered old seat.me.0.slow ≡ Some kept → numbered new seat.me.0.slow ≡ Some gone → merge_fault (numbered old seat.me.0.slow) (numbered new seat.me.0.slow) seat.me.0.asks ≡ None
+    → AtItsTable seat seat′ (Visits kept.place (Alter kept.number gone.mode ∷ Lose gone.number ∷ []))
+    → ((e : Met) × IsStepOf seat.me seat′.me e × MeetsOwn kept.place seat.me.0.number kept.number e × MeetsOwn kept.place seat.me.0.number gone.number e
+    × (e.deeds ≡ Alter kept.number gone.mode ∷ Lose gone.number ∷ []))
+    → Joins (space_of (session_at seat sessions)) (Merge seat.me.0.number old new) Done (space_of (session_at seat′ sessions))
+    × Shows (Merge seat.me.0.number old new) Done (session_at seat sessions) (session_at seat′ sessions)
+merged seat seat′ sessions old new kept gone is one other clear visit step =
+    let first = has_number old kept seat.me.0.slow one in
+    let second = has_number new gone seat.me.0.slow other in
+    let its = subst (λ (n : ℕ). numbered n seat.me.0.slow ≡ Some kept) (sym first) one in
+    let others = subst (λ (n : ℕ). numbered n seat.me.0.slow ≡ Some gone) (sym second) other in
+    let fault : (n p : ℕ) → numbered n seat.me.0.slow ≡ Some kept → numbered p seat.me.0.slow ≡ Some gone
+        → merge_fault (numbered n seat.me.0.slow) (numbered p seat.me.0.slow) seat.me.0.asks ≡ merge_fault (Some kept) (Some gone) seat.me.0.asks =
+    λ n p x y. ap (λ o. merge_fault o (numbered p seat.me.0.slow) seat.me.0.asks) x ∙ ap (λ o. merge_fault (Some kept) o seat.me.0.asks) y in
+    let free = sym (fault old new one other) ∙ clear in
+    subst (λ (n : ℕ). Joins (space_of (session_at seat sessions)) (Merge seat.me.0.number n new) Done (space_of (session_at seat′ sessions))
+    × Shows (Merge seat.me.0.number n new) Done (session_at seat sessions) (session_at seat′ sessions)) first
+    (subst (λ (n : ℕ). Joins (space_of (session_at seat sessions)) (Merge seat.me.0.number kept.number n) Done (space_of (session_at seat′ sessions))
+    × Shows (Merge seat.me.0.number kept.number n) Done (session_at seat sessions) (session_at seat′ sessions)) second (
+      merge-joins is kept.number kept its gone.number gone others free (visited seat seat′ sessions visit),
+      record {
+        table = visit.0;
+        sessions = refl;
+        refused = if-clear _ _ (fault kept.number gone.number its others ∙ free);
+        did = subst (λ (o : Option Own). Does (merge_deeds kept.number gone.number (Ok tt) o) seat.me seat′.me) (sym others) (did visit.1);
+        settled = settles visit.1;
+        told = told visit.1;
+        steps = tt;
+        met = (kept, its, (gone, others, (step.0, step.1, (step.2, step.3, step.4))));
+      },
+    ))

@@ -11,17 +11,17 @@ use Rattle.mdl_visits.specs.Visits.{AreStepsOf, Does, MeetsBlocked, MeetsGrantab
 use Rattle.mdl_visits.specs.WaitOpenings.{MeetsOpening, Opens}
 use Rattle.mdl_shared.specs.Members.{kind_known, wish_fault}
 use Rattle.mdl_shared.specs.SessionViews.{SessionView, lists_seen}
-use Rattle.mdl_shared.specs.Showings.{HasStep, KeepsTold, MeetsSo, SettlesSo, Shows, StepsSo, done_by, own_fault}
+use Rattle.mdl_shared.specs.Showings.{ShowsStep, KeepsTold, MeetsSo, SettlesSo, Shows, StepsSo, done_by, own_fault}
 use Rattle.mdl_shared.proofs.Faults.{if-clear}
 
 -- what a visit did
-did : {place : ℕ} {ds : List Deed} {m m′ : Mine} → Visits place ds m m′ → Does ds m m′
+pub did : {place : ℕ} {ds : List Deed} {m m′ : Mine} → Visits place ds m m′ → Does ds m m′
 did went = (went.made, ap (λ (m : Mine). m.0.log) went.now, went.did)
 
-settles : {place : ℕ} {ds : List Deed} {m m′ : Mine} → Visits place ds m m′ → SettlesNothing m m′
+pub settles : {place : ℕ} {ds : List Deed} {m m′ : Mine} → Visits place ds m m′ → SettlesNothing m m′
 settles went = ap (λ (m : Mine). m.0.settles) went.now
 
-told : {place : ℕ} {ds : List Deed} {m m′ : Mine} → Visits place ds m m′ → m′.0.told ≡ m.0.told
+pub told : {place : ℕ} {ds : List Deed} {m m′ : Mine} → Visits place ds m m′ → m′.0.told ≡ m.0.told
 told went = ap (λ (m : Mine). m.0.told) went.now
 
 module _ {s s′ : SessionView} (table : s′.table ≡ s.table) (sessions : s′.sessions ≡ s.sessions) where
@@ -41,16 +41,16 @@ module _ {s s′ : SessionView} (table : s′.table ≡ s.table) (sessions : s�
   module _ {place : ℕ} {mode : Mode} (clear : wish_fault (kind_known place s.me.0.known) s.me.0.asks mode s.me.0.next ≡ None) where
     -- ---- wishes
 
-    pub try-granted-shows : {id : ℕ} → Visits place (Gain id mode ∷ []) s.me s′.me → HasStep s s′ (MeetsGrantable place s.me.0.number mode (Gain id mode))
+    pub try-granted-shows : {id : ℕ} → Visits place (Gain id mode ∷ []) s.me s′.me → ShowsStep s s′ (MeetsGrantable place s.me.0.number mode (Gain id mode))
         → Shows (Try_now s.me.0.number place mode) (Granted id) s s′
     try-granted-shows went met = shows clear (did went) (settles went) (told went) tt met
 
-    pub try-blocked-shows : Visits place [] s.me s′.me → HasStep s s′ (MeetsBlocked place s.me.0.number mode) → Shows (Try_now s.me.0.number place mode) Would_wait s s′
+    pub try-blocked-shows : Visits place [] s.me s′.me → ShowsStep s s′ (MeetsBlocked place s.me.0.number mode) → Shows (Try_now s.me.0.number place mode) Would_wait s s′
     try-blocked-shows went met = shows clear (did went) (settles went) (told went) tt met
 
     -- ---- waits that begin
 
-    pub begin-granted-shows : {id : ℕ} → Visits place (Gain id mode ∷ []) s.me s′.me → HasStep s s′ (MeetsGrantable place s.me.0.number mode (Gain id mode))
+    pub begin-granted-shows : {id : ℕ} → Visits place (Gain id mode ∷ []) s.me s′.me → ShowsStep s s′ (MeetsGrantable place s.me.0.number mode (Gain id mode))
         → Shows (Begin_wait s.me.0.number place mode) (Granted id) s s′
     begin-granted-shows went met = shows clear (did went) (settles went) (told went) tt met
 

@@ -2,21 +2,19 @@
 use Rattle.std.proofs.Common.{◌≡◌, ℕ, ◌+◌, ◌<◌, true, Option, Some, None, List, sym, ap, ◌∙◌}
 use Rattle.mdl_key.specs.declared.mode.Mode.{Mode}
 use Rattle.mdl_key.specs.declared.namespace.Kind.{Kind}
-use Rattle.mdl_key.specs.Words.{is_mode_of}
 use Rattle.mdl_calls.specs.declared.space_error.SpaceError.{SpaceError}
 use Rattle.mdl_steps.specs.declared.deed.Deed.TheVariants.{Gain}
 use Rattle.mdl_steps.specs.declared.view.Ask.{Ask}
 use Rattle.mdl_steps.specs.declared.view.Own.{Own}
 use Rattle.mdl_steps.specs.Deeds.{owned}
-use Rattle.mdl_steps.specs.Seats.{IsPlace, IsRising}
-use Rattle.mdl_visits.specs.Visits.{KnowsKind}
+use Rattle.mdl_visits.specs.Visits.{HasWish, MayVisit}
 use Rattle.mdl_visits.specs.WaitOpenings.{awaiting}
 use Rattle.mdl_shared.specs.declared.member.Member.{Member}
 use Rattle.mdl_shared.specs.Members.{kind_known, most_numbers, wish_fault}
 use Rattle.mdl_shared.specs.Passes.{view_of}
 use Rattle.mdl_shared.specs.SessionViews.{Lists, SessionView, lists_seen}
 use Rattle.mdl_shared.specs.Waitings.{are_below}
-use Rattle.mdl_shared.proofs.MemberFacts.{below, may-latch, place-within}
+use Rattle.mdl_shared.proofs.MemberFacts.{below, may-visit}
 use Rattle.mdl_shared.proofs.Membership.{kind_place, kind_there}
 use Rattle.mdl_shared.proofs.Props.{member}
 use Rattle.mdl_shared.proofs.SameSpace.{no-asks, waits-asks}
@@ -25,11 +23,8 @@ use Rattle.mdl_shared.proofs.WishFaults.{wish-clear, wish-mode}
 -- a session may wish for a mode at a place of a kind: it has no fault of its own, and the visit may be made
 pub record MayWish (place : ℕ) (kind : Kind) (mode : Mode) (s : SessionView) : Type 0 where
   pub clear : wish_fault (kind_known place s.me.0.known) s.me.0.asks mode s.me.0.next ≡ None
-  pub within : IsPlace s.table place
-  pub rising : IsRising place s.me
-  pub idle : s.me.0.asks ≡ None
-  pub known : KnowsKind s.me.0 place kind
-  pub fits : is_mode_of kind mode ≡ true
+  pub at : MayVisit place (record { table = s.table; me = s.me })
+  pub wish : HasWish place kind mode s.me.0
   pub below : s.me.0.next < most_numbers
 
 -- a fault by its own lists is one of its view
@@ -45,11 +40,12 @@ may-wish m place kind mode wished =
     let clear = fault-seen m place mode None (ap (λ (o : Option Kind). wish_fault o m.asks mode m.next) wished.0 ∙ wished.1) in
     let passed = wish-clear (view_of m) place mode clear in record {
       clear = clear;
-      within = place-within is place (kind_place place kind m.seat.me.0.known known);
-      rising = may-latch is place;
-      idle = no-asks m.seat.me.0.asks m.seat.me.0.waits (waits-asks m.seat.me.0.asks m.seat.me.0.waits ∙ passed.0);
-      known = kind_there place kind m.seat.me.0.known known;
-      fits = wish-mode kind m.asks mode m.next wished.1;
+      at = may-visit is place (kind_place place kind m.seat.me.0.known known);
+      wish = record {
+        idle = no-asks m.seat.me.0.asks m.seat.me.0.waits (waits-asks m.seat.me.0.asks m.seat.me.0.waits ∙ passed.0);
+        knows = kind_there place kind m.seat.me.0.known known;
+        is_mode = wish-mode kind m.asks mode m.next wished.1;
+      };
       below = passed.3;
     }
 

@@ -46,8 +46,8 @@ use Rattle.mdl_shared.specs.Waitings.{wait_fault}
 -- ---- words
 
 -- a step that was made between the two shows this
-abbrev pub HasStep : SessionView → SessionView → (Met → Type 0) → Type 0
-HasStep a b fact = (e : Met) × IsStepOf a.me b.me e × fact e
+abbrev pub ShowsStep : SessionView → SessionView → (Met → Type 0) → Type 0
+ShowsStep a b fact = (e : Met) × IsStepOf a.me b.me e × fact e
 
 -- the session has the ticket of a number, of which this is so
 abbrev pub OfTicket : ℕ → Lists → (Own → Type 0) → Type 0
@@ -59,7 +59,7 @@ MakesNoStep a b = b.me ≡ a.me
 
 -- a step met the ticket of a number in the granted list of its place and did these deeds
 abbrev pub MeetsTicket : ℕ → List Deed → SessionView → SessionView → Own → Type 0
-MeetsTicket id ds a b t = HasStep a b (λ e. MeetsOwn t.place a.me.0.number id e × (e.deeds ≡ ds))
+MeetsTicket id ds a b t = ShowsStep a b (λ e. MeetsOwn t.place a.me.0.number id e × (e.deeds ≡ ds))
 
 -- the waits at its place were granted that could be
 abbrev pub Reschedules : SessionView → SessionView → Own → Type 0
@@ -81,7 +81,7 @@ SearchesFor found a b =
 
 -- a step met the session's own wait in this state
 abbrev pub MeetsOwnWait : ℕ → Lists → SessionView → SessionView → Type 0
-MeetsOwnWait state l a b = HasStep a b (MeetsWait a.table.slots a.me.0.number l.waits state)
+MeetsOwnWait state l a b = ShowsStep a b (MeetsWait a.table.slots a.me.0.number l.waits state)
 
 -- why a wish is refused: for what the session has; or memory ran out; or a step met the book of the place full
 abbrev pub RefusesWish : Option SpaceError → SpaceError → Type 0 → Type 0
@@ -160,16 +160,16 @@ MeetsSo (Resolve who key) (At_place place) l a b =
 MeetsSo (Resolve who key) (Refused why) l a b =
     (place_known key l.known ≡ None)
     × (((why ≡ cause.NoPlace) × LooksUp key (Err resolve_error.NoPlace) a b) ⊎ ((why ≡ cause.OutOfMemory) × (MakesNoStep a b ⊎ LooksAtKeys a b)))
-MeetsSo (Try_now who place mode) (Granted id) l a b = HasStep a b (MeetsGrantable place a.me.0.number mode (Gain id mode))
-MeetsSo (Try_now who place mode) Would_wait l a b = HasStep a b (MeetsBlocked place a.me.0.number mode)
+MeetsSo (Try_now who place mode) (Granted id) l a b = ShowsStep a b (MeetsGrantable place a.me.0.number mode (Gain id mode))
+MeetsSo (Try_now who place mode) Would_wait l a b = ShowsStep a b (MeetsBlocked place a.me.0.number mode)
 MeetsSo (Try_now who place mode) (Refused why) l a b =
-    RefusesWish (own_fault (Try_now who place mode) l) why (HasStep a b (MeetsFull place))
-MeetsSo (Begin_wait who place mode) (Granted id) l a b = HasStep a b (MeetsGrantable place a.me.0.number mode (Gain id mode))
+    RefusesWish (own_fault (Try_now who place mode) l) why (ShowsStep a b (MeetsFull place))
+MeetsSo (Begin_wait who place mode) (Granted id) l a b = ShowsStep a b (MeetsGrantable place a.me.0.number mode (Gain id mode))
 MeetsSo (Begin_wait who place mode) (Waits number) l a b =
     (e f : Met) × AreStepsOf a.me b.me e f × MeetsBlocked place a.me.0.number mode e
     × MeetsOpening a.table.slots place a.me.0.number l.waits l.next mode f
 MeetsSo (Begin_wait who place mode) (Refused why) l a b =
-    RefusesWish (own_fault (Begin_wait who place mode) l) why (HasStep a b (MeetsFull place))
+    RefusesWish (own_fault (Begin_wait who place mode) l) why (ShowsStep a b (MeetsFull place))
 MeetsSo (Search who) No_cycle l a b = (l.asks ≡ None → MakesNoStep a b) × (is_some l.asks ≡ true → SearchesFor found.NoCycle a b)
 MeetsSo (Search who) (Victim_is victim) l a b = (is_some l.asks ≡ true) × SearchesFor (found.Victim victim) a b
 MeetsSo (Search who) (Refused why) l a b = (is_some l.asks ≡ true) × LooksAtKeys a b
@@ -186,26 +186,26 @@ MeetsSo (End_wait who) (Lost how) l a b =
 MeetsSo (End_wait who) (Refused why) l a b = (own_fault (End_wait who) l ≡ Some why) ⊎ ((why ≡ cause.Unsettled) × MeetsOwnWait unsettled_state l a b)
 MeetsSo (Wait_of target) (Has_wait number) l a b =
     (is_within a.sessions target ≡ false → (number ≡ None) × MakesNoStep a b)
-    × (is_within a.sessions target ≡ true → HasStep a b (MeetsNumber a.table.slots target number))
+    × (is_within a.sessions target ≡ true → ShowsStep a b (MeetsNumber a.table.slots target number))
 MeetsSo (Kill target number) (Has_killed true) l a b =
-    (is_within a.sessions target ≡ true) × HasStep a b (MeetsWait a.table.slots target number unsettled_state)
+    (is_within a.sessions target ≡ true) × ShowsStep a b (MeetsWait a.table.slots target number unsettled_state)
 MeetsSo (Kill target number) (Has_killed false) l a b =
     (is_within a.sessions target ≡ false → MakesNoStep a b)
-    × (is_within a.sessions target ≡ true → HasStep a b (MeetsOther a.table.slots target (wait_in number unsettled_state)))
+    × (is_within a.sessions target ≡ true → ShowsStep a b (MeetsOther a.table.slots target (wait_in number unsettled_state)))
 MeetsSo (Release who id) Done l a b = OfTicket id l (MeetsTicket id (Lose id ∷ []) a b) × OfTicket id l (Reschedules a b)
 MeetsSo (Release who id) (Refused why) l a b = own_fault (Release who id) l ≡ Some why
 MeetsSo (Clone_ticket who id mode) (Granted new) l a b = OfTicket id l (MeetsTicket id (Gain new mode ∷ []) a b)
 MeetsSo (Clone_ticket who id mode) (Refused why) l a b =
     RefusesWish (own_fault (Clone_ticket who id mode) l) why
-    (OfTicket id l (λ t. HasStep a b (MeetsFull t.place)))
+    (OfTicket id l (λ t. ShowsStep a b (MeetsFull t.place)))
 MeetsSo (Upgrade_now who id mode) Upgraded l a b =
     (t : Own) → numbered id l.tickets ≡ Some t → covers t.mode mode ≡ false
-    → HasStep a b (MeetsGrantable t.place a.me.0.number mode (Alter id mode))
+    → ShowsStep a b (MeetsGrantable t.place a.me.0.number mode (Alter id mode))
 MeetsSo (Upgrade_now who id mode) Would_wait l a b =
-    OfTicket id l (λ t. (covers t.mode mode ≡ false) × HasStep a b (MeetsBlocked t.place a.me.0.number mode))
+    OfTicket id l (λ t. (covers t.mode mode ≡ false) × ShowsStep a b (MeetsBlocked t.place a.me.0.number mode))
 MeetsSo (Upgrade_now who id mode) (Refused why) l a b = own_fault (Upgrade_now who id mode) l ≡ Some why
 MeetsSo (Merge who old new) Done l a b =
-    OfTicket old l (λ kept. OfTicket new l (λ gone. HasStep a b (λ e.
+    OfTicket old l (λ kept. OfTicket new l (λ gone. ShowsStep a b (λ e.
     MeetsOwn kept.place a.me.0.number old e × MeetsOwn kept.place a.me.0.number new e × (e.deeds ≡ Alter old gone.mode ∷ Lose new ∷ []))))
 MeetsSo (Merge who old new) (Refused why) l a b = own_fault (Merge who old new) l ≡ Some why
 MeetsSo (Downgrade who id mode) Done l a b = OfTicket id l (MeetsTicket id (Alter id mode ∷ []) a b) × OfTicket id l (Reschedules a b)
@@ -213,7 +213,7 @@ MeetsSo (Downgrade who id mode) (Refused why) l a b = own_fault (Downgrade who i
 MeetsSo (Read_definition who id) (Reads version definition) l a b =
     OfTicket id l (λ t. Follows t.place (record { version = version; definition = definition }) a.me
     × ReadsThere t.place (record { version = version; definition = definition }) a.me b.me
-    × HasStep a b (MeetsRead t.place a.me.0.number id (record { version = version; definition = definition })))
+    × ShowsStep a b (MeetsRead t.place a.me.0.number id (record { version = version; definition = definition })))
 MeetsSo (Change_definition who id change) (Changed version) l a b =
     OfTicket id l (λ t. (t.mode ≡ X) × Redefines t.place change version a.me b.me)
 MeetsSo (Change_definition who id change) (Refused why) l a b =

@@ -48,11 +48,8 @@ begin_wait-requires g c =
     let m = c.self.inside.member in
     let may = may-wish m c.args.place c.in_ok-kind.kind c.args.mode c.in_ok-kind.ensures in
     let waits = ap (λ (l : Lists). l.waits) m.lists in record {
-      place = may.within;
-      rising = may.rising;
-      kind = may.known;
-      mode = may.fits;
-      unwaited = may.idle;
+      at = may.at;
+      wish = may.wish;
       unfast = nil_from_length m.seat.me.0.fast (member m).slow;
       number = ap (λ (l : Lists). l.next) m.lists;
       wait = (ap (λ (n : ℕ). n + 1) waits, omega (arith, may.below, (member m).fewer.0, waits));
@@ -65,7 +62,7 @@ invariant_of-member-in-Err-1 g c =
     record {
       lawful = ∣ still-member done (member m) ∣₁;
       lists = lists-done m done c.reserve.ensures.same;
-      room = unasked m (may-wish m c.args.place c.in_ok-kind.kind c.args.mode c.in_ok-kind.ensures).idle _;
+      room = unasked m (may-wish m c.args.place c.in_ok-kind.kind c.args.mode c.in_ok-kind.ensures).wish.idle _;
     }
 
 pub returns-in-Err-clause-joined : goal.returns-in-Err-clause-joined
@@ -93,9 +90,9 @@ invariant_of-member-in-Ok-Granted g c =
     let may = may-wish m c.args.place c.in_ok-kind.kind c.args.mode c.in_ok-kind.ensures in
     let done = visited m.seat c.begin_wait.new.seat m.sessions (c.begin_wait.ensures.granted (c.in-Ok-Granted.is ∙ ap Ok c.in-Ok-Granted.field-0-is)).0 in
     record {
-      lawful = ∣ kept (member m) (done-order done (member m) (inl may.idle)) (begin-granted (member m) c.args.place c.args.mode may.clear (ap (λ (l : Lists). l.next) m.lists) done) ∣₁;
+      lawful = ∣ kept (member m) (done-order done (member m) (inl may.wish.idle)) (begin-granted (member m) c.args.place c.args.mode may.clear (ap (λ (l : Lists). l.next) m.lists) done) ∣₁;
       lists = lists-done m done (gained-seen c.args.place m.next c.args.mode m.tickets.own c.reserve.new.self.own c.push_reserved.new.self.own c.reserve.ensures.same c.push_reserved.ensures.gained);
-      room = unasked m may.idle _;
+      room = unasked m may.wish.idle _;
     }
 
 pub returns-in-Ok-Granted : goal.returns-in-Ok-Granted

@@ -7,7 +7,7 @@ use Rattle.mdl_calls.specs.declared.space_error.SpaceError.TheVariants.{NotExclu
 use Rattle.mdl_visits.specs.Redefinitions.{exclusive_fault}
 use Rattle.mdl_shared.specs.Passes.{view_of}
 use Rattle.mdl_shared.specs.SessionViews.{session_at}
-use Rattle.mdl_shared.proofs.MemberFacts.{apart, may-latch, place-within, ticket-known}
+use Rattle.mdl_shared.proofs.MemberFacts.{apart, may-visit, ticket-known}
 use Rattle.mdl_shared.proofs.Members.{done-nothing, done-order, held-seen, kept, lists-done, room-kept, visited}
 use Rattle.mdl_shared.proofs.Props.{member}
 use Rattle.mdl_shared.proofs.ReadCalls.{change-joins, lists-noted, noted-by, noted-order, unchanged-joins, unchanged-shows, unfit-joins}
@@ -34,7 +34,7 @@ change_definition-requires g c =
     let t = c.in-Some.held in
     let its = held-seen m c.args.id c.get.result c.get.ensures.found ∙ c.in-Some.is in
     let own : t.mode ≡ X = search (rules, c.ne.ensures, c.if-ne.false) in
-    record { place = place-within is t.place (ticket-known is c.args.id t its); rising = may-latch is t.place; apart = apart is; held = (c.args.id, t, its, refl, own) }
+    record { at = may-visit is t.place (ticket-known is c.args.id t its); apart = apart is; held = (c.args.id, t, its, refl, own) }
 
 pub invariant_of-member : goal.invariant_of-member
 invariant_of-member g c =

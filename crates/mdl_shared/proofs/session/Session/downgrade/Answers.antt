@@ -9,7 +9,7 @@ use Rattle.mdl_shared.specs.Modes.{is_fit}
 use Rattle.mdl_shared.specs.Passes.{view_of}
 use Rattle.mdl_shared.specs.SessionViews.{Lists}
 use Rattle.mdl_shared.proofs.Fitting.{fit_there}
-use Rattle.mdl_shared.proofs.MemberFacts.{may-latch, place-within, speaks, ticket-known, unwaited}
+use Rattle.mdl_shared.proofs.MemberFacts.{may-visit, speaks, ticket-known, unwaited}
 use Rattle.mdl_shared.proofs.Members.{done-order, held-seen, kept, lists-done, rescheduled, room-kept}
 use Rattle.mdl_shared.proofs.Props.{member}
 use Rattle.mdl_shared.proofs.SameSpace.{refused, same-stays}
@@ -59,8 +59,7 @@ downgrade-requires g c =
     let its = held-seen m c.args.id c.get.result c.get.ensures.found ∙ c.in-Some.is in
     let own = subst (λ (n : ℕ). numbered n m.seat.me.0.slow ≡ Some t) (sym (has_number c.args.id t m.seat.me.0.slow its)) its in
     record {
-      place = place-within is t.place (ticket-known is t.number t own);
-      rising = may-latch is t.place;
+      at = may-visit is t.place (ticket-known is t.number t own);
       unwaited = unwaited is t.number (ap is_some own);
       held = own;
       fits = fit_there t.place c.args.mode m.seat.me.0.known

@@ -5,7 +5,7 @@ use Rattle.mdl_steps.specs.declared.deed.Deed.TheVariants.{Gain}
 use Rattle.mdl_steps.specs.declared.view.Own.{Own}
 use Rattle.mdl_steps.specs.Deeds.{owned}
 use Rattle.mdl_steps.specs.Plays.{Mine}
-use Rattle.mdl_steps.specs.Seats.{IsPlace, IsRising}
+use Rattle.mdl_visits.specs.Visits.{MayVisit}
 use Rattle.mdl_steps.specs.SeatStates.{SeatState}
 use Rattle.mdl_visits.specs.Polls.{state_of}
 use Rattle.mdl_shared.specs.Members.{is_ask_placed}
@@ -14,7 +14,7 @@ use Rattle.mdl_shared.specs.SessionViews.{Lists, SessionView, lists_seen, sessio
 use Rattle.mdl_shared.specs.Waitings.{are_below}
 use Rattle.mdl_shared.proofs.EndCalls.{asked-below, asks-nothing, granted-so, idle-joins, lost-order, lost-so, won-order}
 use Rattle.mdl_shared.proofs.EndSteps.{ended-lost, ended-won, lost-end, told-end, unsettled-end, won-end}
-use Rattle.mdl_shared.proofs.MemberFacts.{awaited, may-latch, place-within}
+use Rattle.mdl_shared.proofs.MemberFacts.{awaited, may-visit}
 use Rattle.mdl_shared.proofs.Members.{done-lists, kept}
 use Rattle.mdl_shared.proofs.Props.{member}
 use Rattle.mdl_shared.proofs.PollCalls.{polls}
@@ -70,8 +70,7 @@ end_lost_wait-requires g c =
     let waits = ap (λ (l : Lists). l.waits) m.lists in
     let so = lost-so m.seat.me.0.number one c.in-Some-lost_end.ended (sym c.lost_end.ensures ∙ c.in-Some-lost_end.is) in
     record {
-      place = subst (λ (x : SessionView). IsPlace x.table ask.place) (sym now) (place-within is ask.place (ap (is_ask_placed m.seat.me.0.known) (sym asks) ∙ awaited is));
-      rising = subst (λ (x : SessionView). IsRising ask.place x.me) (sym now) (may-latch is ask.place);
+      at = subst (λ (x : SessionView). MayVisit ask.place (record { table = x.table; me = x.me })) (sym now) (may-visit is ask.place (ap (is_ask_placed m.seat.me.0.known) (sym asks) ∙ awaited is));
       asks = ap (λ (x : SessionView). x.me.0.asks) now ∙ asks;
       lost = (state_of one, told-end is ask asks c.number-session.result c.read_wait.result.0 c.number-session.ensures c.read_wait.ensures.own now one some, so.2);
       wait = (waits ∙ sym (ap (λ (x : SessionView). x.me.0.waits) now), omega (arith, is.fewer.1, waits));

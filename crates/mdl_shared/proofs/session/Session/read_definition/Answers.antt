@@ -5,7 +5,7 @@ use Rattle.mdl_calls.specs.Words.{Read_definition}
 use Rattle.mdl_visits.proofs.Doing.{does_learns}
 use Rattle.mdl_shared.specs.Passes.{view_of}
 use Rattle.mdl_shared.specs.SessionViews.{Lists, session_at}
-use Rattle.mdl_shared.proofs.MemberFacts.{may-latch, place-within, speaks, ticket-known, ticket-there, unwaited}
+use Rattle.mdl_shared.proofs.MemberFacts.{may-visit, speaks, ticket-known, ticket-there, unwaited}
 use Rattle.mdl_shared.proofs.Members.{done-nothing, done-order, held-seen, kept, lists-done, room-kept, visited}
 use Rattle.mdl_shared.proofs.Props.{member}
 use Rattle.mdl_shared.proofs.ReadCalls.{lists-noted, noted-by, noted-order, read-joins, read-shows, unread-joins}
@@ -28,7 +28,7 @@ read_definition-requires g c =
     let is = member m in
     let t = c.in-Some.held in
     let its = held-seen m c.args.id c.get.result c.get.ensures.found ∙ c.in-Some.is in
-    record { place = place-within is t.place (ticket-known is c.args.id t its); rising = may-latch is t.place }
+    record { at = may-visit is t.place (ticket-known is c.args.id t its) }
 
 pub invariant_of-member : goal.invariant_of-member
 invariant_of-member g c =

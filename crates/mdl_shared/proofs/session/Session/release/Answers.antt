@@ -3,7 +3,7 @@ use Rattle.std.proofs.Common.{false, inr, is_some, refl, ap, ◌∙◌}
 use Rattle.mdl_calls.specs.declared.space_error.SpaceError.TheVariants.{NotHeld}
 use Rattle.mdl_calls.specs.Words.{Release}
 use Rattle.mdl_shared.specs.Passes.{view_of}
-use Rattle.mdl_shared.proofs.MemberFacts.{may-latch, place-known, place-within, speaks, ticket-known, ticket-there, unwaited}
+use Rattle.mdl_shared.proofs.MemberFacts.{may-visit, place-known, speaks, ticket-known, ticket-there, unwaited}
 use Rattle.mdl_shared.proofs.Members.{done-order, held-seen, kept, lists-done, rescheduled, room-kept}
 use Rattle.mdl_shared.proofs.Props.{member}
 use Rattle.mdl_shared.proofs.SameSpace.{refused, same-stays}
@@ -28,8 +28,7 @@ release-requires g c =
     let t = c.in-Some.held in
     let its = held-seen m id c.get.result c.get.ensures.found ∙ c.in-Some.is in
     let known = ticket-known is id t its in record {
-      place = place-within is t.place known;
-      rising = may-latch is t.place;
+      at = may-visit is t.place known;
       known = place-known is t.place known;
       unwaited = unwaited is id (ap is_some its);
       held = ticket-there is id t its;

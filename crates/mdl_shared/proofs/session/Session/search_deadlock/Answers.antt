@@ -23,7 +23,7 @@ pub invariant_of-self-inside : goal.invariant_of-self-inside
 invariant_of-self-inside g c =
     let m = c.self.inside.member in
     let waiting = waits-seen m true (c.is_none.ensures ∙ ap not c.if-is_none.false) in
-    let did = c.search_deadlock.ensures.hears in
+    let did = c.search_deadlock.ensures.reads in
     let done = quietly m.sessions did.0 did.1.now did.1.stays (asked (view_of m) waiting) in
     (∣ still-member done (member m) ∣₁, (m.lists ∙ sym (done-lists done), (m.room, tt)))
 
@@ -31,7 +31,7 @@ pub returns-clause-joined : goal.returns-clause-joined
 returns-clause-joined g c =
     let m = c.self.inside.member in
     let waiting = waits-seen m true (c.is_none.ensures ∙ ap not c.if-is_none.false) in
-    let did = c.search_deadlock.ensures.hears in
+    let did = c.search_deadlock.ensures.reads in
     let stays = done-nothing (quietly m.sessions did.0 did.1.now did.1.stays (asked (view_of m) waiting)) in
     rw (← c.self.view_is) (elim c.match-search_deadlock.branch [
       | in-Ok w ↦ rw w.result-is (search-joins (member m) stays (Ok w.in-Ok.found) w.in-Ok.ensures.own tt)

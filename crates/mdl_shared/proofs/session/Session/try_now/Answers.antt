@@ -34,11 +34,8 @@ pub try_now-requires : goal.try_now-requires
 try_now-requires g c =
     let m = c.self.inside.member in
     let may = may-wish m c.args.place c.in_ok-kind.kind c.args.mode c.in_ok-kind.ensures in record {
-      place = may.within;
-      rising = may.rising;
-      idle = may.idle;
-      kind = may.known;
-      mode = may.fits;
+      at = may.at;
+      wish = may.wish;
       number = ap (λ (l : Lists). l.next) m.lists;
     }
 
@@ -58,7 +55,7 @@ invariant_of-member-in-Ok-Blocked g c =
     record {
       lawful = ∣ still-member done (member m) ∣₁;
       lists = lists-done m done c.reserve.ensures.same;
-      room = unasked m (may-wish m c.args.place c.in_ok-kind.kind c.args.mode c.in_ok-kind.ensures).idle _;
+      room = unasked m (may-wish m c.args.place c.in_ok-kind.kind c.args.mode c.in_ok-kind.ensures).wish.idle _;
     }
 
 pub returns-in-Ok-Blocked : goal.returns-in-Ok-Blocked
@@ -78,7 +75,7 @@ invariant_of-member-in-Err-1 g c =
     record {
       lawful = ∣ still-member done (member m) ∣₁;
       lists = lists-done m done c.reserve.ensures.same;
-      room = unasked m (may-wish m c.args.place c.in_ok-kind.kind c.args.mode c.in_ok-kind.ensures).idle _;
+      room = unasked m (may-wish m c.args.place c.in_ok-kind.kind c.args.mode c.in_ok-kind.ensures).wish.idle _;
     }
 
 pub returns-in-Err-clause-joined : goal.returns-in-Err-clause-joined
@@ -95,9 +92,9 @@ invariant_of-member-2 g c =
     let may = may-wish m c.args.place c.in_ok-kind.kind c.args.mode c.in_ok-kind.ensures in
     let done = visited m.seat c.try_now.new.seat m.sessions (c.try_now.ensures.granted (c.in-Ok-Granted.is ∙ ap Ok c.in-Ok-Granted.field-0-is)).0 in
     record {
-      lawful = ∣ kept (member m) (done-order done (member m) (inl may.idle)) (try-granted (member m) c.args.place c.args.mode may.clear (ap (λ (l : Lists). l.next) m.lists) done) ∣₁;
+      lawful = ∣ kept (member m) (done-order done (member m) (inl may.wish.idle)) (try-granted (member m) c.args.place c.args.mode may.clear (ap (λ (l : Lists). l.next) m.lists) done) ∣₁;
       lists = lists-done m done (gained-seen c.args.place m.next c.args.mode m.tickets.own c.reserve.new.self.own c.push_reserved.new.self.own c.reserve.ensures.same c.push_reserved.ensures.gained);
-      room = unasked m may.idle _;
+      room = unasked m may.wish.idle _;
     }
 
 pub returns : goal.returns
