@@ -1,178 +1,155 @@
 -- The end of a session's wait.
-use Rattle.std.proofs.Common.{◌≡◌, ◌⊎◌, ℕ, ◌-◌, true, is_some, Option, Some, None, Result, Ok, Err, IfSome, [], ◌∷◌, ◌++◌, map, inl, inr, refl, sym, ap, subst, ◌∙◌, arith}
-use Rattle.std.specs.Prelude.{IfOk, IfErr, OnErr}
+use Rattle.std.proofs.Common.{◌≡◌, ℕ, ◌+◌, ◌-◌, true, is_some, List, [], ◌∷◌, Option, Some, None, Ok, refl, sym, ap, subst, ◌∙◌, arith}
+use Rattle.std.proofs.lemmas.Bool.{and_parts}
+use Rattle.std.proofs.lemmas.Bool.Decides.{nat_tests}
 use Rattle.mdl_calls.specs.declared.answers.Ended.{Ended}
+use Rattle.mdl_calls.specs.declared.answers.Ended.TheVariants as ended_as
 use Rattle.mdl_calls.specs.declared.answers.Settled.{Settled}
 use Rattle.mdl_calls.specs.declared.answers.Settled.TheVariants as settled_as
-use Rattle.mdl_calls.specs.declared.space_error.SpaceError.{SpaceError}
 use Rattle.mdl_calls.specs.declared.space_error.SpaceError.TheVariants.{NoWait, Unsettled}
 use Rattle.mdl_calls.specs.Own.{winning}
 use Rattle.mdl_calls.specs.Words.{Granted, Lost, Refused, End_wait, ended, is_answer_of, is_waiting}
+use Rattle.mdl_steps.specs.declared.deed.Deed.TheVariants.{Gain}
 use Rattle.mdl_steps.specs.declared.view.Ask.{Ask}
-use Rattle.mdl_session_laws.specs.SessionJoins.{Joins, met}
-use Rattle.mdl_session_laws.specs.SessionSpaces.{SpeaksFor}
+use Rattle.mdl_steps.specs.declared.view.Met.{Met}
+use Rattle.mdl_steps.specs.declared.view.Own.{Own}
+use Rattle.mdl_steps.specs.declared.view.Settlement.{Settlement}
+use Rattle.mdl_steps.specs.Cells.{note_at}
+use Rattle.mdl_steps.specs.Deeds.{owned}
+use Rattle.mdl_steps.specs.WaitStates.{IsLost}
+use Rattle.mdl_session_laws.specs.SessionJoins.{Joins}
+use Rattle.mdl_visits.specs.Numbers.{is_ask_apart, is_no_number}
 use Rattle.mdl_visits.specs.Polls.{state_of}
-use Rattle.mdl_visits.specs.Readings.{ReadsNothing as ReadNothing}
-use Rattle.mdl_shared.specs.Endings.{EndsWith, end_of, tickets_after, ticket_asked}
-use Rattle.mdl_shared.specs.Keepings.{SeesWait}
-use Rattle.mdl_shared.specs.OwnLists.{told_of}
-use Rattle.mdl_shared.specs.SessionViews.{SessionView, settled_told, space_of}
-use Rattle.mdl_shared.specs.Waitings.{wait_fault}
-use Rattle.mdl_shared.proofs.MemberFacts.{ask-last}
-use Rattle.mdl_shared.proofs.NotedOnce.{one-note}
-use Rattle.mdl_shared.proofs.PollCalls.{asks-none, asks-some, same-settled}
-use Rattle.mdl_shared.proofs.SameSpace.{numbers-same, own_by, own_of, refused, settled-told, wait_by, waits-asks}
-use Rattle.mdl_shared.proofs.SpaceLists.{known_of}
-use Rattle.mdl_shared.proofs.SpaceNotes.{AllNoted, noted-gained, nothing-read, noted_under}
+use Rattle.mdl_shared.specs.Endings.{lost_end}
+use Rattle.mdl_shared.specs.Members.{IsMember}
+use Rattle.mdl_shared.specs.Rememberings.{AreAlike}
+use Rattle.mdl_shared.specs.SessionViews.{SessionView, space_of}
+use Rattle.mdl_shared.specs.Waitings.{are_below}
+use Rattle.mdl_shared.proofs.Alike.{alike_done}
+use Rattle.mdl_shared.proofs.MemberFacts.{apart, ask-last, below, speaks}
+use Rattle.mdl_shared.proofs.Members.{StaysInOrder}
+use Rattle.mdl_shared.proofs.NotedOnce.{one-note, one-note_done}
+use Rattle.mdl_shared.proofs.SameSpace.{Stays, own_of, refused, same-stays, wait_by, waits-asks}
+use Rattle.mdl_shared.proofs.SpaceNotes.{nothing-read}
 use Rattle.mdl_shared.proofs.SpaceTickets.{told-last}
-use Rattle.mdl_shared.proofs.WishFaults.{refusal}
 
--- the causes of a refusal, without what was met
-pub unsettled-of : (X : Type 0) (fault : Option SpaceError) (result : Result Ended SpaceError)
-    → IfErr result (λ why. (fault ≡ Some why) ⊎ ((why ≡ Unsettled) × X)) → IfErr result (λ why. (fault ≡ Some why) ⊎ (why ≡ Unsettled))
-unsettled-of X fault (Ok x) all = tt
-unsettled-of X fault (Err why) (inl is) = inl is
-unsettled-of X fault (Err why) (inr met) = inr met.0
+-- ---- how it ended
 
-abbrev done_so : Ended → Result Ended SpaceError
-done_so x = Ok x
+-- lost, unless it was granted
+pub lost-so : (who : ℕ) (how : Settled) (over : Ended) → lost_end how ≡ Some over
+    → (ended (Ok over) ≡ Lost how) × (is_answer_of (End_wait who) (Lost how) ≡ true) × IsLost (state_of how)
+lost-so who settled_as.Granted over e = cc
+lost-so who settled_as.Victim over e = let is : over ≡ ended_as.Victim = cc in (ap (λ (x : Ended). ended (Ok x)) is, refl, omega arith)
+lost-so who settled_as.Timeout over e = let is : over ≡ ended_as.Timeout = cc in (ap (λ (x : Ended). ended (Ok x)) is, refl, omega arith)
+lost-so who settled_as.Killed over e = let is : over ≡ ended_as.Killed = cc in (ap (λ (x : Ended). ended (Ok x)) is, refl, omega arith)
 
-ok-same : (x y : Ended) → done_so x ≡ done_so y → x ≡ y
-ok-same x y e = cc
+pub granted-so : (how : Settled) → lost_end how ≡ None → how ≡ settled_as.Granted
+granted-so settled_as.Granted e = refl
+granted-so settled_as.Victim e = cc
+granted-so settled_as.Timeout e = cc
+granted-so settled_as.Killed e = cc
 
--- an end tells how the wait was settled
-same-end : (id : ℕ) (one other : Settled) → end_of id one ≡ end_of id other → one ≡ other
-same-end id settled_as.Granted settled_as.Granted e = refl
-same-end id settled_as.Granted settled_as.Victim e = cc
-same-end id settled_as.Granted settled_as.Timeout e = cc
-same-end id settled_as.Granted settled_as.Killed e = cc
-same-end id settled_as.Victim settled_as.Granted e = cc
-same-end id settled_as.Victim settled_as.Victim e = refl
-same-end id settled_as.Victim settled_as.Timeout e = cc
-same-end id settled_as.Victim settled_as.Killed e = cc
-same-end id settled_as.Timeout settled_as.Granted e = cc
-same-end id settled_as.Timeout settled_as.Victim e = cc
-same-end id settled_as.Timeout settled_as.Timeout e = refl
-same-end id settled_as.Timeout settled_as.Killed e = cc
-same-end id settled_as.Killed settled_as.Granted e = cc
-same-end id settled_as.Killed settled_as.Victim e = cc
-same-end id settled_as.Killed settled_as.Timeout e = cc
-same-end id settled_as.Killed settled_as.Killed e = refl
+-- ---- what the session has then
 
-module _ (m m′ : SessionView) (who : ℕ) (number : m′.me.0.number ≡ m.me.0.number) (next : m′.me.0.next ≡ m.me.0.next) (known : m′.me.0.known ≡ m.me.0.known)
-    (reads : ReadNothing m.me m′.me) (speaks : SpeaksFor (space_of m) who) where
-  -- it is met as it was known to be settled
-  agrees : (a : Ask) (how one : Settled)
-      → ((state : ℕ) → m.me.0.told ≡ Some state → (other : Settled) × (end_of a.number how ≡ end_of a.number other) × (state_of other ≡ state))
-      → (space_of m).settled ≡ Some one → how ≡ one
-  agrees a how one stays knows =
-      let h = settled-told m.me.0.told one knows in
-      let other = stays h.0 h.1 in
-      same-end a.number how other.0 other.1 ∙ same-settled h.0 one other.0 h.2 other.2
+-- a session that has ended its wait, with these tickets, after these steps, which settled these waits
+abbrev pub after-end : List Own → List Settlement → List Met → SessionView → SessionView
+after-end tickets settles log s = record s { me = (record s.me.0 { slow = tickets; asks = None; told = None; settles = settles; log = log }, s.me.1) }
 
-  -- won
-  won-joins : (a : Ask) → m.me.0.asks ≡ Some a → EndsWith (tickets_after a settled_as.Granted m.me.0.slow) m m′
-      → ((state : Option Settled) (how : Settled) → met (End_wait who) (Granted a.number) ≡ Some state → (space_of m).settled ≡ Some how → state ≡ Some how)
-      → Joins (space_of m) (End_wait who) (Granted a.number) (space_of m′)
-  won-joins a asks ends agreed =
-      let last = ask-last m a asks in
-      let id : a.number ≡ m.me.0.next - 1 = omega arith in
-      let waits : is_waiting (space_of m).own ≡ true = waits-asks m.me.0.asks m.me.0.waits ∙ ap is_some asks in record {
-        mine = speaks;
-        has = refl;
-        fits = refl;
-        number = number;
-        own = ap (λ x. own_of x (wait_by m′.me.0.waits m′.me.0.asks)) (ap (map told_of) ends.held ∙ told-last m.me.0.slow (ticket_asked a m.me.0.slow))
-            ∙ ap (λ x. own_of (map told_of m.me.0.slow ++ record { id = a.number; place = a.place; mode = a.mode } ∷ []) (wait_by m′.me.0.waits x)) ends.asks
-            ∙ sym (ap (λ x. winning a.number (wait_by m.me.0.waits x) (space_of m).own) asks);
-        numbers = (id, numbers-same m.me.0.next m′.me.0.next m.me.0.waits m′.me.0.waits next ends.waits);
-        explained = waits;
-        gained = tt;
-        learns = ap (map known_of) known;
-        agreed = agreed;
-        told = λ how told. cc;
-        settled = ap settled_told ends.unsettled;
-        reads = nothing-read m m′ reads (λ at.
-            subst (AllNoted at (noted_under at m.me.0.slow)) (sym ends.held)
-            (noted-gained at a.number a.place a.mode m.me.0.slow (one-note m at)));
-        truly = tt;
-      }
+-- nothing else changed
+pub record HasEnded (tickets : List Own) (s s′ : SessionView) : Type 0 where
+  pub settles : List Settlement
+  pub log : List Met
+  pub now : s′ ≡ after-end tickets settles log s
 
-  -- lost
-  lost-joins : (a : Ask) (how : Settled) → m.me.0.asks ≡ Some a → EndsWith m.me.0.slow m m′ → is_answer_of (End_wait who) (Lost how) ≡ true
-      → ((state : Option Settled) (one : Settled) → met (End_wait who) (Lost how) ≡ Some state → (space_of m).settled ≡ Some one → state ≡ Some one)
-      → Joins (space_of m) (End_wait who) (Lost how) (space_of m′)
-  lost-joins a how asks ends fits agreed = record {
-    mine = speaks;
-    has = refl;
-    fits = fits;
-    number = number;
-    own = ap (λ x. own_by x m′.me.0.asks m′.me.0.waits) ends.held ∙ ap (λ x. own_by m.me.0.slow x m′.me.0.waits) ends.asks;
-    numbers = numbers-same m.me.0.next m′.me.0.next m.me.0.waits m′.me.0.waits next ends.waits;
-    explained = waits-asks m.me.0.asks m.me.0.waits ∙ ap is_some asks;
-    gained = tt;
-    learns = ap (map known_of) known;
-    agreed = agreed;
-    told = λ how told. cc;
-    settled = ap settled_told ends.unsettled;
-    reads = nothing-read m m′ reads (λ at. subst (AllNoted at (noted_under at m.me.0.slow)) (sym ends.held) (one-note m at));
-    truly = tt;
-  }
+-- without a wait there is nothing to end
+pub idle-joins : {s : SessionView} → IsMember s → s.me.0.asks ≡ None → Joins (space_of s) (End_wait s.me.0.number) (Refused NoWait) (space_of s)
+idle-joins {s} is idle =
+    refused s s (End_wait s.me.0.number) NoWait (same-stays s) (speaks is) refl refl (waits-asks s.me.0.asks s.me.0.waits ∙ ap is_some idle) (λ state how is. cc) tt
 
-  -- either
-  over-joins : (a : Ask) (how : Settled) → m.me.0.asks ≡ Some a → EndsWith (tickets_after a how m.me.0.slow) m m′
-      → ((one : Settled) → (space_of m).settled ≡ Some one → how ≡ one)
-      → Joins (space_of m) (End_wait who) (ended (Ok (end_of a.number how))) (space_of m′)
-  over-joins a settled_as.Granted asks ends agree =
-      won-joins a asks ends (λ state one is knows. let same = agree one knows in cc)
-  over-joins a settled_as.Victim asks ends agree =
-      lost-joins a settled_as.Victim asks ends refl (λ state one is knows. let same = agree one knows in cc)
-  over-joins a settled_as.Timeout asks ends agree =
-      lost-joins a settled_as.Timeout asks ends refl (λ state one is knows. let same = agree one knows in cc)
-  over-joins a settled_as.Killed asks ends agree =
-      lost-joins a settled_as.Killed asks ends refl (λ state one is knows. let same = agree one knows in cc)
+-- it waits where it asks
+waits : (s : SessionView) (a : Ask) → s.me.0.asks ≡ Some a → is_waiting (space_of s).own ≡ true
+waits s a asks = waits-asks s.me.0.asks s.me.0.waits ∙ ap is_some asks
 
-  -- refused
-  unended : (why : SpaceError) → m′.me.0.slow ≡ m.me.0.slow → SeesWait m m′
-      → ((a : Ask) (state : ℕ) → m.me.0.asks ≡ Some a → m.me.0.told ≡ Some state → ⊥)
-      → (wait_fault m.me.0.asks ≡ Some why) ⊎ ((why ≡ Unsettled) × (wait_fault m.me.0.asks ≡ None))
-      → Joins (space_of m) (End_wait who) (Refused why) (space_of m′)
-  unended why same sees untold (inl fault) =
-      let none = asks-none m.me.0.asks why fault in
-      subst (λ w. Joins (space_of m) (End_wait who) (Refused w) (space_of m′)) (sym none.1)
-      (refused m m′ (End_wait who) NoWait (record { number = number; tickets = same; next = next; known = known; wait = sees; reads = reads }) speaks refl refl
-      (waits-asks m.me.0.asks m.me.0.waits ∙ none.0) (λ state how is. cc) tt)
-  unended why same sees untold (inr (is, clear)) =
-      let some = asks-some m.me.0.asks clear in
-      subst (λ w. Joins (space_of m) (End_wait who) (Refused w) (space_of m′)) (sym is)
-      (refused m m′ (End_wait who) Unsettled (record { number = number; tickets = same; next = next; known = known; wait = sees; reads = reads }) speaks refl refl
-      (waits-asks m.me.0.asks m.me.0.waits ∙ some)
-      (λ state how is knows.
-      let h = settled-told m.me.0.told how knows in absurd (by m.me.0.asks refl some (λ a asks. untold a h.0 asks h.1))) tt)
-    where
-      by : (o : Option Ask) → m.me.0.asks ≡ o → is_some o ≡ true → ((a : Ask) → m.me.0.asks ≡ Some a → ⊥) → ⊥
-      by None asks e never = cc
-      by (Some a) asks e never = never a asks
+-- nothing is asked for then
+pub asks-nothing : (P : Ask → Type 0) (a : Ask) → ◌≡◌ {A = Option Ask} None (Some a) → P a
+asks-nothing P a e = cc
 
-  pub end-joins : (result : Result Ended SpaceError)
-      → IfOk result (λ over. (a : Ask) × (how : Settled) × (m.me.0.asks ≡ Some a) × (over ≡ end_of a.number how) × EndsWith (tickets_after a how m.me.0.slow) m m′)
-      → ((a : Ask) (state : ℕ) → m.me.0.asks ≡ Some a → m.me.0.told ≡ Some state → (how : Settled) × (result ≡ Ok (end_of a.number how)) × (state_of how ≡ state))
-      → OnErr result ((m′.me.0.slow ≡ m.me.0.slow) × SeesWait m m′) → IfSome (wait_fault m.me.0.asks) (λ why. result ≡ Err why)
-      → IfErr result (λ why. (wait_fault m.me.0.asks ≡ Some why) ⊎ (why ≡ Unsettled))
-      → Joins (space_of m) (End_wait who) (ended result) (space_of m′)
-  end-joins (Ok over) over_so stays unchanged unfit causes =
-      let a = over_so.0 in
-      let how = over_so.1 in
-      subst (λ x. Joins (space_of m) (End_wait who) (ended (Ok x)) (space_of m′)) (sym over_so.3)
-      (over-joins a how over_so.2 over_so.4 (λ one knows.
-      agrees a how one (λ state told. let h = stays a state over_so.2 told in (h.0, sym over_so.3 ∙ ok-same over (end_of a.number h.0) h.1, h.2)) knows))
-  end-joins (Err why) over_so stays unchanged unfit causes =
-      unended why unchanged.0 unchanged.1 (λ a state asks told. let h = stays a state asks told in (let e = h.1 in cc)) (by causes)
-    where
-      clear : (o : Option Ask) → m.me.0.asks ≡ o → IfSome (wait_fault o) (λ w. refusal Ended why ≡ Err w) → why ≡ Unsettled → wait_fault o ≡ None
-      clear None asks unfit is = cc
-      clear (Some a) asks unfit is = refl
+-- the ticket that it asks for is above all that it has
+below-asked : (next number : ℕ) (tickets : List Own) → number + 1 ≡ next → is_no_number number tickets ≡ true → are_below next tickets ≡ true → are_below number tickets ≡ true
+below-asked next number [] last apart all = refl
+below-asked next number (t ∷ ts) last apart all = grind (arith, nat_tests, below-asked next number ts)
 
-      by : (wait_fault m.me.0.asks ≡ Some why) ⊎ (why ≡ Unsettled) → (wait_fault m.me.0.asks ≡ Some why) ⊎ ((why ≡ Unsettled) × (wait_fault m.me.0.asks ≡ None))
-      by (inl fault) = inl fault
-      by (inr is) = inr (is, clear m.me.0.asks refl unfit is)
+pub asked-below : {s : SessionView} (is : IsMember s) (a : Ask) → s.me.0.asks ≡ Some a → are_below a.number s.me.0.slow ≡ true
+asked-below {s} is a asks =
+    let none = and_parts _ (is_no_number a.number s.me.0.slow) (ap (is_ask_apart s.me.0.next s.me.0.slow) (sym asks) ∙ apart is) in
+    below-asked s.me.0.next a.number s.me.0.slow (ask-last is a asks) none.1 (below is)
+
+module _ {s s′ : SessionView} (is : IsMember s) where
+  ended-order : {tickets : List Own} → HasEnded tickets s s′ → AreAlike tickets → StaysInOrder s s′
+  ended-order ends alike = subst (λ (x : SessionView). StaysInOrder s x) (sym ends.now) (record {
+    table = refl;
+    sessions = refl;
+    idle = is.idle;
+    slow = is.slow;
+    within = is.within;
+    alike = alike;
+    last = refl;
+    told = refl;
+    fewer = is.fewer;
+  })
+
+  module _ (a : Ask) (asks : s.me.0.asks ≡ Some a) where
+    -- it isn't settled
+    pub unsettled-joins : Stays s s′ → ((how : Settled) → (space_of s).settled ≡ Some how → ⊥) → Joins (space_of s) (End_wait s.me.0.number) (Refused Unsettled) (space_of s′)
+    unsettled-joins stays unsettled =
+        refused s s′ (End_wait s.me.0.number) Unsettled stays (speaks is) refl refl (waits s a asks) (λ state how met knows. absurd (unsettled how knows)) tt
+
+    -- won
+    pub won-order : HasEnded (owned a.place (Gain a.number a.mode) s.me.0.slow) s s′ → StaysInOrder s s′
+    won-order ends = ended-order ends (alike_done a.place (Gain a.number a.mode ∷ []) s.me.0.slow is.alike)
+
+    pub won-joins : ((how : Settled) → (space_of s).settled ≡ Some how → settled_as.Granted ≡ how) → HasEnded (owned a.place (Gain a.number a.mode) s.me.0.slow) s s′
+        → Joins (space_of s) (End_wait s.me.0.number) (Granted a.number) (space_of s′)
+    won-joins agreed ends =
+        let last = ask-last is a asks in
+        let id : a.number ≡ s.me.0.next - 1 = omega arith in
+        subst (λ (x : SessionView). Joins (space_of s) (End_wait s.me.0.number) (Granted a.number) (space_of x)) (sym ends.now) (record {
+          mine = speaks is;
+          has = refl;
+          fits = refl;
+          number = refl;
+          own = ap (λ held. own_of held None) (told-last s.me.0.slow (record { number = a.number; place = a.place; mode = a.mode; noted = note_at a.place s.me.0.slow }))
+              ∙ sym (ap (λ (o : Option Ask). winning a.number (wait_by s.me.0.waits o) (space_of s).own) asks);
+          numbers = (id, refl);
+          explained = waits s a asks;
+          gained = tt;
+          learns = refl;
+          agreed = λ state how met knows. let e : Some settled_as.Granted ≡ state = cc in sym e ∙ ap Some (agreed how knows);
+          told = λ how told. cc;
+          settled = refl;
+          reads = nothing-read s (after-end (owned a.place (Gain a.number a.mode) s.me.0.slow) ends.settles ends.log s) refl (λ at. one-note_done s is at a.place (Gain a.number a.mode));
+          truly = tt;
+        })
+
+    -- lost
+    pub lost-order : HasEnded s.me.0.slow s s′ → StaysInOrder s s′
+    lost-order ends = ended-order ends is.alike
+
+    pub lost-joins : (one : Settled) → is_answer_of (End_wait s.me.0.number) (Lost one) ≡ true → ((how : Settled) → (space_of s).settled ≡ Some how → one ≡ how)
+        → HasEnded s.me.0.slow s s′ → Joins (space_of s) (End_wait s.me.0.number) (Lost one) (space_of s′)
+    lost-joins one fits agreed ends = subst (λ (x : SessionView). Joins (space_of s) (End_wait s.me.0.number) (Lost one) (space_of x)) (sym ends.now) (record {
+      mine = speaks is;
+      has = refl;
+      fits = fits;
+      number = refl;
+      own = refl;
+      numbers = refl;
+      explained = waits s a asks;
+      gained = tt;
+      learns = refl;
+      agreed = λ state how met knows. let e : Some one ≡ state = cc in sym e ∙ ap Some (agreed how knows);
+      told = λ how told. cc;
+      settled = refl;
+      reads = nothing-read s (after-end s.me.0.slow ends.settles ends.log s) refl (λ at. one-note s is at);
+      truly = tt;
+    })

@@ -1,11 +1,7 @@
 pub mod Fitting
 pub mod Membership
-pub mod Telling
 pub mod Awaiting
 pub mod KnownKeys
-pub mod Rising
-pub mod Polling
-pub mod Ends
 pub mod SpaceLists
 pub mod SameSpace
 pub mod SpaceTickets
@@ -15,6 +11,9 @@ pub mod Faults
 pub mod Props
 pub mod MemberFacts
 pub mod Members
+pub mod Refusals
+pub mod WaitSteps
+pub mod SearchCalls
 pub mod PollCalls
 pub mod NotedOnce
 pub mod TicketEdits
@@ -30,6 +29,7 @@ pub mod SpaceReads
 pub mod ReadCalls
 pub mod KillCalls
 pub mod KeyCalls
-pub mod ShowingCalls
 pub mod SessionValues
-pub mod Refusals
+pub mod Wishing
+pub mod WishShows
+pub mod EndSteps

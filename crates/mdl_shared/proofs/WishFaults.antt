@@ -1,7 +1,7 @@
 -- Why wishes for locks and clones are refused, in the words of a lock space.
 use Rattle.std.proofs.Common.{◌≡◌, ◌⊎◌, ℕ, Bool, true, false, not, ◌&&◌, is_some, Option, Some, None, Result, Ok, Err, inl, inr, IfSome, if◌then◌else◌, refl, sym, ap, subst, ◌∙◌}
 use Rattle.std.specs.Prelude.{◌<◌, nat_le}
-use Rattle.std.proofs.lemmas.Bool.{and_parts, lt-leb}
+use Rattle.std.proofs.lemmas.Bool.{and_parts, leb-false}
 use Rattle.mdl_key.specs.declared.mode.Mode.{Mode}
 use Rattle.mdl_key.specs.declared.namespace.Kind.{Kind}
 use Rattle.mdl_key.specs.Words.{is_mode_of}
@@ -9,6 +9,7 @@ use Rattle.mdl_system.specs.Strength.{covers}
 use Rattle.mdl_calls.specs.declared.space_error.SpaceError.{SpaceError}
 use Rattle.mdl_calls.specs.declared.space_error.SpaceError.TheVariants.{AlreadyWaiting, BadMode, CounterFull, Full, NoPlace, NotHeld, OutOfMemory}
 use Rattle.mdl_calls.specs.Words.{IsFit, IsUnfit, IsUnknown, Knowledge, MayClone, MayNotClone, OfHeld, Own as Mine, holds, is_waiting}
+use Rattle.mdl_steps.specs.declared.view.Ask.{Ask}
 use Rattle.mdl_steps.specs.declared.view.Own.{Own}
 use Rattle.mdl_session_laws.specs.SessionSpaces.{Knows, is_known}
 use Rattle.mdl_visits.specs.Numbers.{numbered}
@@ -31,11 +32,11 @@ unfit-clear (Some why) x unfit = cc
 
 -- tests that come one after another
 chain-clear : (waits fits full : Bool) (one two three : SpaceError)
-    → (if waits then Some one else (if not fits then Some two else (if full then Some three else None))) ≡ None → (waits ≡ false) × (fits ≡ true)
+    → (if waits then Some one else (if not fits then Some two else (if full then Some three else None))) ≡ None → (waits ≡ false) × (fits ≡ true) × (full ≡ false)
 chain-clear true fits full one two three e = cc
 chain-clear false false full one two three e = cc
 chain-clear false true true one two three e = cc
-chain-clear false true false one two three e = (refl, refl)
+chain-clear false true false one two three e = (refl, refl, refl)
 
 chain-fault : (P : SpaceError → Type 0) (waits fits full : Bool) (one two three why : SpaceError) → (waits ≡ true → P one) → (waits ≡ false → fits ≡ false → P two)
     → (waits ≡ false → fits ≡ true → P three)
@@ -44,6 +45,10 @@ chain-fault P true fits full one two three why first second third e = let is : o
 chain-fault P false false full one two three why first second third e = let is : two ≡ why = cc in subst P is (second refl refl)
 chain-fault P false true true one two three why first second third e = let is : three ≡ why = cc in subst P is (third refl refl)
 chain-fault P false true false one two three why first second third e = cc
+
+-- the mode is of the kind
+pub wish-mode : (kind : Kind) (asks : Option Ask) (mode : Mode) (next : ℕ) → wish_fault (Some kind) asks mode next ≡ None → is_mode_of kind mode ≡ true
+wish-mode kind asks mode next e = (chain-clear (is_some asks) (is_mode_of kind mode) (nat_le most_numbers next) AlreadyWaiting BadMode CounterFull e).1
 
 -- none of them is that the book is full
 chain-full : (waits fits full : Bool)
@@ -65,30 +70,17 @@ module _ (m : SessionView) where
 
   -- ---- wishes
 
-  -- there is no fault, and so the place is known, and the mode is of its kind
+  -- there is no fault, and so the place is known, the mode is of its kind, and there are numbers left
   pub wish-clear : (place : ℕ) (mode : Mode) → wish_fault (kind_known place m.me.0.known) m.me.0.asks mode m.me.0.next ≡ None
-      → (is_some m.me.0.asks ≡ false) × IsFit knows place mode × (is_known place (space_of m).known ≡ true)
+      → (is_some m.me.0.asks ≡ false) × IsFit knows place mode × (is_known place (space_of m).known ≡ true) × (m.me.0.next < most_numbers)
   wish-clear place mode e = by (kind_known place m.me.0.known) refl e
     where
       by : (o : Option Kind) → kind_known place m.me.0.known ≡ o → wish_fault o m.me.0.asks mode m.me.0.next ≡ None
-          → (is_some m.me.0.asks ≡ false) × IsFit knows place mode × (is_known place (space_of m).known ≡ true)
+          → (is_some m.me.0.asks ≡ false) × IsFit knows place mode × (is_known place (space_of m).known ≡ true) × (m.me.0.next < most_numbers)
       by None is e = cc
       by (Some kind) is e =
           let clear = chain-clear (is_some m.me.0.asks) (is_mode_of kind mode) (nat_le most_numbers m.me.0.next) AlreadyWaiting BadMode CounterFull e in
-          (clear.0, of-kind place m.me.0.known kind mode true is clear.1, kind-is_known place kind m.me.0.known is)
-
-  -- by the tests that are made one after another
-  pub wish-open : (place : ℕ) (kind : Kind) (mode : Mode) → kind_known place m.me.0.known ≡ Some kind → is_some m.me.0.asks ≡ false → is_mode_of kind mode ≡ true
-      → m.me.0.next < most_numbers → wish_fault (kind_known place m.me.0.known) m.me.0.asks mode m.me.0.next ≡ None
-  wish-open place kind mode known asks fits below =
-      ap (λ (o : Option Kind). wish_fault o m.me.0.asks mode m.me.0.next) known ∙ by (is_some m.me.0.asks) (is_mode_of kind mode) (nat_le most_numbers m.me.0.next) asks fits (lt-leb most_numbers m.me.0.next below)
-    where
-      by : (waits fits full : Bool) → waits ≡ false → fits ≡ true → full ≡ false
-          → (if waits then Some AlreadyWaiting else (if not fits then Some BadMode else (if full then Some CounterFull else None))) ≡ None
-      by true fits full asks is below = cc
-      by false false full asks is below = cc
-      by false true true asks is below = cc
-      by false true false asks is below = refl
+          (clear.0, of-kind place m.me.0.known kind mode true is clear.1, kind-is_known place kind m.me.0.known is, leb-false most_numbers m.me.0.next clear.2)
 
   -- the causes of faults
   pub wish-cause : (P : SpaceError → Type 0) (place : ℕ) (mode : Mode) (why : SpaceError) → (IsUnknown knows place → P NoPlace) → (is_waiting own ≡ true → P AlreadyWaiting)
@@ -103,26 +95,6 @@ module _ (m : SessionView) where
           (λ asks. waits (waits-asks m.me.0.asks m.me.0.waits ∙ asks))
           (λ asks fits. unfit (waits-not asks, of-kind place m.me.0.known kind mode false is fits))
           (λ asks fits. full (waits-not asks, of-kind place m.me.0.known kind mode true is fits)) e
-
-  -- the causes of all refusals
-  pub wish-why : (T : Type 0) (P : SpaceError → Type 0) (place : ℕ) (mode : Mode) (why : SpaceError) → (IsUnknown knows place → P NoPlace)
-      → (is_waiting own ≡ true → P AlreadyWaiting) → ((is_waiting own ≡ false) × IsUnfit knows place mode → P BadMode)
-      → ((is_waiting own ≡ false) × IsFit knows place mode → P CounterFull) → P OutOfMemory → ((is_waiting own ≡ false) × IsFit knows place mode → P Full)
-      → IfSome (wish_fault (kind_known place m.me.0.known) m.me.0.asks mode m.me.0.next) (λ w. refusal T why ≡ Err w)
-      → (wish_fault (kind_known place m.me.0.known) m.me.0.asks mode m.me.0.next ≡ Some why) ⊎ ((why ≡ OutOfMemory) ⊎ (why ≡ Full)) → P why
-  wish-why T P place mode why unknown waits unfit counter memory full given (inl fault) = wish-cause P place mode why unknown waits unfit counter fault
-  wish-why T P place mode why unknown waits unfit counter memory full given (inr (inl out)) = subst P (sym out) memory
-  wish-why T P place mode why unknown waits unfit counter memory full given (inr (inr is)) =
-      subst P (sym is) (full (let clear = wish-clear place mode (by (wish_fault (kind_known place m.me.0.known) m.me.0.asks mode m.me.0.next) refl given) in (waits-not clear.0, clear.1)))
-    where
-      none : (o : Option Kind) → wish_fault o m.me.0.asks mode m.me.0.next ≡ Some Full → ⊥
-      none None e = cc
-      none (Some kind) e = chain-full (is_some m.me.0.asks) (is_mode_of kind mode) (nat_le most_numbers m.me.0.next) e
-
-      by : (o : Option SpaceError) → wish_fault (kind_known place m.me.0.known) m.me.0.asks mode m.me.0.next ≡ o → IfSome o (λ w. refusal T why ≡ Err w) → o ≡ None
-      by None e given = refl
-      by (Some w) e given =
-          let same : w ≡ Full = cc in absurd (none (kind_known place m.me.0.known) (e ∙ ap (λ w. Some w) same))
 
   -- ---- clones
 

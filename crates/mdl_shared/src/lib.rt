@@ -37,19 +37,31 @@
 //! ```
 #![tactic(auto)]
 
+mod audit;
+mod begin_wait;
 mod change_definition;
 mod downgrade;
+mod end_wait;
 mod holdings;
 mod key_of;
+mod kill;
 mod manager;
 mod member;
 mod pass;
+mod poll_wait;
 mod read_definition;
 mod release;
+mod reschedule;
 mod resolve;
+mod search;
 mod session;
+mod settle_timeout;
 mod tables_of;
 mod tickets;
+mod try_now;
+mod wait_of;
+mod wait_words;
+mod wishes;
 
 pub use manager::Manager;
 pub use mdl_calls::NewError;

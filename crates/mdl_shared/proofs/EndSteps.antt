@@ -1,0 +1,164 @@
+-- A session reads the word of its wait, and ends the wait where it is settled.
+use Rattle.std.proofs.Common.{◌≡◌, ℕ, true, is_some, [], ◌++◌, Option, Some, None, inr, refl, sym, ap, subst, ◌∙◌}
+use Rattle.atomic_table.specs.Seated.{TableId}
+use Rattle.mdl_calls.specs.declared.answers.Settled.{Settled}
+use Rattle.mdl_calls.specs.declared.answers.Settled.TheVariants as settled_as
+use Rattle.mdl_calls.specs.declared.space_error.SpaceError.TheVariants.{Unsettled}
+use Rattle.mdl_calls.specs.Words.{Granted, Is_settled, Lost, Poll_wait, Refused, End_wait, is_answer_of}
+use Rattle.mdl_steps.specs.declared.deed.Deed.TheVariants.{Gain}
+use Rattle.mdl_steps.specs.declared.step_kind.StepKind.TheVariants.{ReadWait}
+use Rattle.mdl_steps.specs.declared.view.Ask.{Ask}
+use Rattle.mdl_steps.specs.Deeds.{owned}
+use Rattle.mdl_steps.specs.Plays.{Mine}
+use Rattle.mdl_steps.specs.SeatStates.{AtItsTable, SeatState}
+use Rattle.mdl_steps.specs.WaitPlays.{TellsOwn, ended_granted, taken_over}
+use Rattle.mdl_steps.specs.WaitStates.{wait_state}
+use Rattle.mdl_session_laws.specs.SessionJoins.{Joins}
+use Rattle.mdl_visits.specs.Grantings.{HasRescheduled}
+use Rattle.mdl_visits.specs.Polls.{state_of}
+use Rattle.mdl_visits.specs.Visits.{Does}
+use Rattle.mdl_visits.specs.WaitEndings.{EndsLost, idle, without_wait}
+use Rattle.mdl_visits.proofs.Rescheduling.{rescheduled_after}
+use Rattle.mdl_visits.proofs.Steps.{does_then, step_before}
+use Rattle.mdl_shared.specs.Members.{IsMember}
+use Rattle.mdl_shared.specs.SessionViews.{SessionView, lists_seen, session_at, settled_of, space_of}
+use Rattle.mdl_shared.specs.Showings.{MeetsOwnWait, Shows}
+use Rattle.mdl_shared.specs.Waitings.{wait_fault}
+use Rattle.mdl_shared.proofs.EndCalls.{HasEnded, lost-joins, unsettled-joins, won-joins}
+use Rattle.mdl_shared.proofs.Faults.{if-clear}
+use Rattle.mdl_shared.proofs.Members.{done-nothing}
+use Rattle.mdl_shared.proofs.PollCalls.{poll-pending, poll-settled, polls, settled-is, settled-more}
+use Rattle.mdl_shared.proofs.WaitSteps.{told-own, word-step}
+
+module _ {s mid : SessionView} (is : IsMember s) (a : Ask) (asks : s.me.0.asks ≡ Some a) (session found : ℕ) (mine : session ≡ s.me.0.number)
+    (own : TellsOwn s.table.slots session found s.me.0) (now : mid ≡ word-step ReadWait session found found s.me.0.settles s) where
+  waiting : is_some s.me.0.asks ≡ true
+  waiting = ap is_some asks
+
+  clear : wait_fault s.me.0.asks ≡ None
+  clear = ap wait_fault asks
+
+  -- ---- it is not settled
+
+  pub unsettled-end : settled_of (wait_state found) ≡ None
+      → Joins (space_of s) (End_wait s.me.0.number) (Refused Unsettled) (space_of mid) × Shows (End_wait s.me.0.number) (Refused Unsettled) s mid
+  unsettled-end none =
+      let polled = poll-pending is waiting session found mine own now none in
+      let shown = polled.1 in (
+        unsettled-joins is a asks (done-nothing (polls is waiting session found mine own now).done)
+            (λ how knows. let e : None ≡ Some how = polled.0.agreed None how refl knows in cc),
+        record {
+          table = shown.table;
+          sessions = shown.sessions;
+          refused = if-clear _ (wait_fault s.me.0.asks) clear;
+          did = shown.did;
+          settled = shown.settled;
+          told = tt;
+          steps = tt;
+          met = inr (refl, shown.met);
+        },
+      )
+
+  -- ---- it is settled
+
+  module _ (one : Settled) (some : settled_of (wait_state found) ≡ Some one) where
+    polled : Joins (space_of s) (Poll_wait s.me.0.number) (Is_settled one) (space_of mid) × Shows (Poll_wait s.me.0.number) (Is_settled one) s mid
+    polled = poll-settled is waiting session found mine own now one some
+
+    agreed : (how : Settled) → (space_of s).settled ≡ Some how → one ≡ how
+    agreed how knows = let e : Some one ≡ Some how = polled.0.agreed (Some one) how refl knows in cc
+
+    -- the session knows that then
+    pub told-end : mid.me.0.told ≡ Some (state_of one)
+    told-end =
+        let its = settled-is (wait_state found) one some in
+        told-own ReadWait session found found s.me.0.settles s mid now mine (settled-more (wait_state found) one its) ∙ ap Some its
+
+    did : (s′ : SessionView) → Does [] mid.me s′.me → Does [] s.me s′.me
+    did s′ ends = does_then [] [] s.me mid.me s′.me polled.1.did ends
+
+    met : (s′ : SessionView) → Does [] mid.me s′.me → MeetsOwnWait (state_of one) (lists_seen s.me.0) s s′
+    met s′ ends = let e = polled.1.met in (e.0, step_before s.me mid.me s′.me (ends.0, ends.1) e.0 e.1, e.2)
+
+    -- ---- it was lost
+
+    pub lost-end : {s′ : SessionView} → Does [] mid.me s′.me → is_answer_of (End_wait s.me.0.number) (Lost one) ≡ true → HasEnded s.me.0.slow s s′
+        → HasRescheduled mid.table a.place (without_wait mid.me) s′.me
+        → Joins (space_of s) (End_wait s.me.0.number) (Lost one) (space_of s′) × Shows (End_wait s.me.0.number) (Lost one) s s′
+    lost-end {s′} ends fits ended rescheduled =
+        let shown = polled.1 in (
+          lost-joins is a asks one fits agreed ended,
+          record {
+            table = ap (λ (x : SessionView). x.table) ended.now;
+            sessions = ap (λ (x : SessionView). x.sessions) ended.now;
+            refused = if-clear _ (wait_fault s.me.0.asks) clear;
+            did = did s′ ends;
+            settled = tt;
+            told = tt;
+            steps = tt;
+            met = (
+              met s′ ends,
+              (
+                a,
+                asks,
+                rescheduled_after s.table a.place (without_wait s.me) (without_wait mid.me) s′.me shown.steps shown.settled refl
+                    (ap (λ (x : SessionView). x.me.0.number) now) refl
+                    (subst (λ (id : TableId). HasRescheduled id a.place (without_wait mid.me) s′.me) shown.table rescheduled),
+              ),
+            );
+          },
+        )
+
+    -- ---- it was granted
+
+    pub won-end : one ≡ settled_as.Granted → {s′ : SessionView} → Does [] mid.me s′.me → (ended : HasEnded (owned a.place (Gain a.number a.mode) s.me.0.slow) s s′) → ended.settles ≡ s.me.0.settles
+        → Joins (space_of s) (End_wait s.me.0.number) (Granted a.number) (space_of s′) × Shows (End_wait s.me.0.number) (Granted a.number) s s′
+    won-end granted {s′} ends ended settles = (
+      won-joins is a asks (λ how knows. sym granted ∙ agreed how knows) ended,
+      record {
+        table = ap (λ (x : SessionView). x.table) ended.now;
+        sessions = ap (λ (x : SessionView). x.sessions) ended.now;
+        refused = if-clear _ (wait_fault s.me.0.asks) clear;
+        did = did s′ ends;
+        settled = ap (λ (x : SessionView). x.me.0.settles) ended.now ∙ settles;
+        told = tt;
+        steps = tt;
+        met = subst (λ (how : Settled). MeetsOwnWait (state_of how) (lists_seen s.me.0) s s′) granted (met s′ ends);
+      },
+    )
+
+-- ---- the steps that end it
+
+module _ {seat mid seat′ : SeatState} (sessions session found : ℕ)
+    (now : session_at mid sessions ≡ word-step ReadWait session found found seat.me.0.settles (session_at seat sessions)) where
+  -- as lost
+  pub ended-lost : {place : ℕ} → AtItsTable mid seat′ (EndsLost mid.table place) → HasEnded seat.me.0.slow (session_at seat sessions) (session_at seat′ sessions)
+  ended-lost ends =
+      let went = ends.1 in
+      let table : seat′.table ≡ seat.table = ends.0 ∙ ap (λ (x : SessionView). x.table) now in
+      let told : went.told ≡ None = sym (ap (λ (m : Mine). m.0.told) went.now) ∙ went.way.unasked refl in
+      let me : seat′.me ≡ (record seat.me.0 { asks = None; told = None; settles = went.settles; log = mid.me.0.log ++ went.made }, seat.me.1) =
+      went.now
+      ∙ ap (λ (x : SessionView). (record (idle x.me.0) { told = went.told; settles = went.settles; log = mid.me.0.log ++ went.made }, x.me.1)) now
+      ∙ ap (λ (o : Option ℕ). (record (idle seat.me.0) { told = o; settles = went.settles; log = mid.me.0.log ++ went.made }, seat.me.1)) told in
+      record {
+        settles = went.settles;
+        log = mid.me.0.log ++ went.made;
+        now = λ i. record { table = table i; sessions = sessions; me = me i };
+      }
+
+  -- as granted, without settling any wait
+  pub ended-won : (a : Ask) → seat.me.0.asks ≡ Some a → seat′ ≡ record mid { me = ended_granted mid.table.slots mid.me }
+      → (ended : HasEnded (owned a.place (Gain a.number a.mode) seat.me.0.slow) (session_at seat sessions) (session_at seat′ sessions)) × (ended.settles ≡ seat.me.0.settles)
+  ended-won a asks made =
+      let log = (ended_granted mid.table.slots mid.me).0.log in (
+        record {
+          settles = seat.me.0.settles;
+          log = log;
+          now =
+              ap (λ (x : SeatState). session_at x sessions) made
+              ∙ ap (λ (x : SessionView). record x { me = (record x.me.0 { slow = x.me.0.slow ++ taken_over x.me.0.asks x.me.0.slow; asks = None; told = None; log = log }, x.me.1) }) now
+              ∙ ap (λ (o : Option Ask). record (session_at seat sessions) { me = (record seat.me.0 { slow = seat.me.0.slow ++ taken_over o seat.me.0.slow; asks = None; told = None; log = log }, seat.me.1) }) asks;
+        },
+        refl,
+      )

@@ -1,0 +1,166 @@
+-- What becomes of a session that does no deed: it only looks, or it reads the word of a wait, or settles the wait.
+use Rattle.std.proofs.Common.{◌≡◌, ◌⊎◌, ℕ, ◌<◌, ◌≤◌, ◌==◌, ◌&&◌, Bool, true, false, is_some, List, [], ◌∷◌, ◌++◌, Option, Some, None, IfSome, inl, inr, refl, sym, ap, subst, ◌∙◌, append_assoc, append-nil, arith}
+use Rattle.std.specs.Prelude.{nat_lt}
+use Rattle.std.proofs.lemmas.Bool.{and_parts, eq-eqb, eqb-true, false≢true, lt-ltb, ltb-true}
+use Rattle.mdl_calls.specs.Words.{Answer, Call, No_cycle, Refused, Search}
+use Rattle.mdl_steps.specs.declared.step_kind.StepKind.{StepKind}
+use Rattle.mdl_steps.specs.declared.view.Met.{Met}
+use Rattle.mdl_steps.specs.declared.view.Settlement.{Settlement}
+use Rattle.mdl_steps.specs.Layout.{wait_word}
+use Rattle.mdl_steps.specs.Plays.{logged}
+use Rattle.mdl_steps.specs.SeatStates.{SeatState}
+use Rattle.mdl_steps.specs.WaitPlays.{TellsOwn, meeting}
+use Rattle.mdl_steps.specs.WaitSeats.{IsSession}
+use Rattle.mdl_steps.specs.WaitStates.{IsSettled, wait_state}
+use Rattle.mdl_steps.proofs.Views.{by_bool}
+use Rattle.mdl_visits.specs.Grantings.{StaysTold}
+use Rattle.mdl_visits.specs.Polls.{MeetsWord}
+use Rattle.mdl_visits.specs.Visits.{Does, IsStepOf, StaysOn, StaysThere, gives_back, raises_flags}
+use Rattle.mdl_visits.proofs.Steps.{does_then, each_append}
+use Rattle.mdl_shared.specs.declared.member.Member.{Member}
+use Rattle.mdl_shared.specs.Members.{IsMember}
+use Rattle.mdl_shared.specs.SessionViews.{Lists, SessionView, lists_seen, session_at}
+use Rattle.mdl_shared.specs.Showings.{KeepsTold, MakesNoStep, MeetsSo, SettlesSo, Shows, StepsSo, done_by, own_fault}
+use Rattle.mdl_shared.proofs.MemberFacts.{speaks}
+use Rattle.mdl_shared.proofs.Members.{HasDone, done-nothing, done-order, kept}
+use Rattle.mdl_shared.proofs.SameSpace.{joins-still}
+
+-- a visit without a deed
+pub quietly : {seat seat′ : SeatState} {log : List Met} {told : Option ℕ} {settles : List Settlement} (sessions : ℕ) → seat′.table ≡ seat.table
+    → seat′.me ≡ (record seat.me.0 { told = told; settles = settles; log = log }, seat.me.1) → StaysTold seat.me.0.told told
+    → (seat.me.0.asks ≡ None → told ≡ seat.me.0.told) → HasDone 0 [] (session_at seat sessions) (session_at seat′ sessions)
+quietly {log = log} {told = told} {settles = settles} sessions table me stays unasked = record {
+  told = told;
+  settles = settles;
+  log = log;
+  now = λ i. record { table = table i; sessions = sessions; me = me i };
+  stays = stays;
+  unasked = unasked;
+}
+
+-- of a session that waits what is told of no wait is so
+pub asked : {P : Type 0} (s : SessionView) → is_some s.me.0.asks ≡ true → s.me.0.asks ≡ None → P
+asked s waiting none = absurd (false≢true (sym (ap is_some none) ∙ waiting))
+
+-- what is always so of a session stays so where it does no deed
+pub still-member : {place : ℕ} {s s′ : SessionView} → HasDone place [] s s′ → IsMember s → IsMember s′
+still-member {s = s} {s′ = s′} done is =
+    kept {call = Search s.me.0.number} {answer = No_cycle} is (done-order done is (inr refl))
+    (joins-still s s′ (Search s.me.0.number) No_cycle (done-nothing done) (speaks is) refl refl refl refl tt tt refl (λ state how met. cc) (λ how told. cc) refl (λ r. r) tt)
+
+-- the word of a session's wait is one of the table's
+pub session-there : (s : SessionView) → IsMember s → (session : ℕ) → 0 < session → session ≤ s.sessions → IsSession s.table session
+session-there s is session some within = (some, subst (λ (n : ℕ). wait_word s.table.slots session < n) (sym is.words) (omega (arith, within)))
+
+-- whether it waits, by its own lists
+pub waits-seen : (m : Member) (b : Bool) → is_some m.asks ≡ b → is_some m.seat.me.0.asks ≡ b
+waits-seen m b asks = ap (λ (l : Lists). is_some l.asks) (sym m.lists) ∙ asks
+
+-- ---- steps at which it stays
+
+-- it did no deed, and gave nothing up
+pub record Watches (s s′ : SessionView) : Type 0 where
+  pub done : HasDone 0 [] s s′
+  pub did : Does [] s.me s′.me
+  pub stayed : StaysOn s.me s′.me
+
+-- a call shows what its steps show
+pub shows : {call : Call} {answer : Answer} {s s′ : SessionView} → Watches s s′ → IfSome (own_fault call (lists_seen s.me.0)) (λ why. (answer ≡ Refused why) × MakesNoStep s s′)
+    → Does (done_by call answer s.me.0.slow) s.me s′.me → SettlesSo call answer (lists_seen s.me.0) s s′ → KeepsTold call s s′ → StepsSo call s s′
+    → MeetsSo call answer (lists_seen s.me.0) s s′ → Shows call answer s s′
+shows watches refused did settled told steps met = record {
+  table = ap (λ (x : SessionView). x.table) watches.done.now;
+  sessions = ap (λ (x : SessionView). x.sessions) watches.done.now;
+  refused = refused;
+  did = did;
+  settled = settled;
+  told = told;
+  steps = steps;
+  met = met;
+}
+
+pub watches-then : (a b c : SessionView) → Watches a b → Watches b c → Watches a c
+watches-then a b c first later = record {
+  done = record {
+    told = later.done.told;
+    settles = later.done.settles;
+    log = later.done.log;
+    now = later.done.now ∙ ap (λ (x : SessionView). record x { me = (record x.me.0 { told = later.done.told; settles = later.done.settles; log = later.done.log }, x.me.1) }) first.done.now;
+    stays = λ state is. later.done.stays state (ap (λ (x : SessionView). x.me.0.told) first.done.now ∙ first.done.stays state is);
+    unasked = λ none.
+        later.done.unasked (ap (λ (x : SessionView). x.me.0.asks) first.done.now ∙ none) ∙ ap (λ (x : SessionView). x.me.0.told) first.done.now ∙ first.done.unasked none;
+  };
+  did = does_then [] [] a.me b.me c.me first.did later.did;
+  stayed = (
+    first.stayed.0 ++ later.stayed.0,
+    later.stayed.1 ∙ ap (λ (log : List Met). log ++ later.stayed.0) first.stayed.1 ∙ append_assoc a.me.0.log first.stayed.0 later.stayed.0,
+    each_append StaysThere first.stayed.0 later.stayed.0 first.stayed.2 later.stayed.2,
+  );
+}
+
+-- ---- a step on the word of a session's wait, which was found so and left so
+
+-- what the session knows then, with these waits settled
+abbrev pub word-step : StepKind → ℕ → ℕ → ℕ → List Settlement → SessionView → SessionView
+word-step kind session found left settles s =
+    record s { me = (logged kind [] (wait_word s.table.slots session) found s.me.0.latches (record (meeting session left s.me.0) { settles = settles }), s.me.1) }
+
+module _ (kind : StepKind) (session found left : ℕ) (settles : List Settlement) (s s′ : SessionView) (now : s′ ≡ word-step kind session found left settles s) where
+  -- the step met the word
+  pub met-word : (e : Met) × IsStepOf s.me s′.me e × MeetsWord s.table.slots session found e
+  met-word =
+      let e : Met = record { kind = kind; deeds = []; word = wait_word s.table.slots session; found = found; held = s.me.0.latches; directory = s.me.0.directory } in (
+        e,
+        ([], [], ap (λ (x : SessionView). x.me.0.log) now ∙ ap (λ (log : List Met). log ++ e ∷ []) (sym (append-nil s.me.0.log))),
+        record { word_is = refl; found = refl },
+      )
+
+  -- where it is the session's own and settled, the session knows that
+  pub told-own : session ≡ s.me.0.number → IsSettled (wait_state left) → s′.me.0.told ≡ Some (wait_state left)
+  told-own mine settled =
+      ap (λ (x : SessionView). x.me.0.told) now ∙
+      (rw (eq-eqb session s.me.0.number mine) (rw (lt-ltb 1 (wait_state left) settled) refl))
+
+  -- it was settled by this step, or not
+  module _ (own : TellsOwn s.table.slots session found s.me.0) (agrees : (left ≡ found) ⊎ (wait_state found ≡ 1)) where
+    -- what the session knew of its wait it knows
+    told-by : (P : Option ℕ → Type 0) → P s.me.0.told → (session ≡ s.me.0.number → IsSettled (wait_state left) → P (Some (wait_state left)))
+        → P (meeting session left s.me.0).told
+    told-by P same own-told =
+        by_bool (session == s.me.0.number && nat_lt 1 (wait_state left))
+        (λ hit.
+        let parts = and_parts (session == s.me.0.number) (nat_lt 1 (wait_state left)) hit in
+        rw hit (own-told (eqb-true session s.me.0.number parts.0) (ltb-true 1 (wait_state left) parts.1)))
+        (λ miss. rw miss same)
+
+    keeps-told : (state : ℕ) → s.me.0.told ≡ Some state → (meeting session left s.me.0).told ≡ Some state
+    keeps-told state is =
+        told-by (λ o. o ≡ Some state) is (λ mine settled. let told = (own mine).told state is in again agrees settled told.0 told.1)
+      where
+        again : (left ≡ found) ⊎ (wait_state found ≡ 1) → IsSettled (wait_state left) → IsSettled state → wait_state found ≡ state → ◌≡◌ {A = Option ℕ} (Some (wait_state left)) (Some state)
+        again (inl same) settled more its = ap (λ (w : ℕ). Some (wait_state w)) same ∙ ap Some its
+        again (inr odd) settled more its = absurd (omega (arith, odd, more, its))
+
+    keeps-none : s.me.0.asks ≡ None → (meeting session left s.me.0).told ≡ s.me.0.told
+    keeps-none none = told-by (λ o. o ≡ s.me.0.told) refl (λ mine settled. absurd (by agrees settled ((own mine).idle none)))
+      where
+        by : (left ≡ found) ⊎ (wait_state found ≡ 1) → IsSettled (wait_state left) → wait_state found ≡ 0 → ⊥
+        by (inl same) settled idle = let is : wait_state left ≡ 0 = ap wait_state same ∙ idle in omega (arith, settled, is)
+        by (inr odd) settled idle = omega (arith, odd, idle)
+
+    pub watches : gives_back kind ≡ false → raises_flags kind ≡ false → Watches s s′
+    watches keeps quiet =
+        let e : Met = record { kind = kind; deeds = []; word = wait_word s.table.slots session; found = found; held = s.me.0.latches; directory = s.me.0.directory } in
+        let log = ap (λ (x : SessionView). x.me.0.log) now in
+        record {
+          done = record {
+            told = (meeting session left s.me.0).told;
+            settles = settles;
+            log = s.me.0.log ++ e ∷ [];
+            now = now;
+            stays = keeps-told;
+            unasked = keeps-none;
+          };
+          did = (e ∷ [], log, refl);
+          stayed = (e ∷ [], log, ((keeps, quiet), tt));
+        }

@@ -1,0 +1,75 @@
+-- What a session that may wish for a mode at a place gives the visit, by its own lists.
+use Rattle.std.proofs.Common.{◌≡◌, ℕ, ◌+◌, ◌<◌, true, Option, Some, None, List, sym, ap, ◌∙◌}
+use Rattle.mdl_key.specs.declared.mode.Mode.{Mode}
+use Rattle.mdl_key.specs.declared.namespace.Kind.{Kind}
+use Rattle.mdl_key.specs.Words.{is_mode_of}
+use Rattle.mdl_calls.specs.declared.space_error.SpaceError.{SpaceError}
+use Rattle.mdl_steps.specs.declared.deed.Deed.TheVariants.{Gain}
+use Rattle.mdl_steps.specs.declared.view.Ask.{Ask}
+use Rattle.mdl_steps.specs.declared.view.Own.{Own}
+use Rattle.mdl_steps.specs.Deeds.{owned}
+use Rattle.mdl_steps.specs.Seats.{IsPlace, IsRising}
+use Rattle.mdl_visits.specs.Visits.{KnowsKind}
+use Rattle.mdl_visits.specs.WaitOpenings.{awaiting}
+use Rattle.mdl_shared.specs.declared.member.Member.{Member}
+use Rattle.mdl_shared.specs.Members.{kind_known, most_numbers, wish_fault}
+use Rattle.mdl_shared.specs.Passes.{view_of}
+use Rattle.mdl_shared.specs.SessionViews.{Lists, SessionView, lists_seen}
+use Rattle.mdl_shared.specs.Waitings.{are_below}
+use Rattle.mdl_shared.proofs.MemberFacts.{below, may-latch, place-within}
+use Rattle.mdl_shared.proofs.Membership.{kind_place, kind_there}
+use Rattle.mdl_shared.proofs.Props.{member}
+use Rattle.mdl_shared.proofs.SameSpace.{no-asks, waits-asks}
+use Rattle.mdl_shared.proofs.WishFaults.{wish-clear, wish-mode}
+
+-- a session may wish for a mode at a place of a kind: it has no fault of its own, and the visit may be made
+pub record MayWish (place : ℕ) (kind : Kind) (mode : Mode) (s : SessionView) : Type 0 where
+  pub clear : wish_fault (kind_known place s.me.0.known) s.me.0.asks mode s.me.0.next ≡ None
+  pub within : IsPlace s.table place
+  pub rising : IsRising place s.me
+  pub idle : s.me.0.asks ≡ None
+  pub known : KnowsKind s.me.0 place kind
+  pub fits : is_mode_of kind mode ≡ true
+  pub below : s.me.0.next < most_numbers
+
+-- a fault by its own lists is one of its view
+pub fault-seen : (m : Member) (place : ℕ) (mode : Mode) (o : Option SpaceError) → wish_fault (kind_known place m.known.known) m.asks mode m.next ≡ o
+    → wish_fault (kind_known place m.seat.me.0.known) m.seat.me.0.asks mode m.seat.me.0.next ≡ o
+fault-seen m place mode o fault = ap (λ (l : Lists). wish_fault (kind_known place l.known) l.asks mode l.next) (sym m.lists) ∙ fault
+
+pub may-wish : (m : Member) (place : ℕ) (kind : Kind) (mode : Mode) → (kind_known place m.known.known ≡ Some kind) × (wish_fault (Some kind) m.asks mode m.next ≡ None)
+    → MayWish place kind mode (view_of m)
+may-wish m place kind mode wished =
+    let is = member m in
+    let known = ap (λ (l : Lists). kind_known place l.known) (sym m.lists) ∙ wished.0 in
+    let clear = fault-seen m place mode None (ap (λ (o : Option Kind). wish_fault o m.asks mode m.next) wished.0 ∙ wished.1) in
+    let passed = wish-clear (view_of m) place mode clear in record {
+      clear = clear;
+      within = place-within is place (kind_place place kind m.seat.me.0.known known);
+      rising = may-latch is place;
+      idle = no-asks m.seat.me.0.asks m.seat.me.0.waits (waits-asks m.seat.me.0.asks m.seat.me.0.waits ∙ passed.0);
+      known = kind_there place kind m.seat.me.0.known known;
+      fits = wish-mode kind m.asks mode m.next wished.1;
+      below = passed.3;
+    }
+
+-- the numbers of its own list are below the next one
+pub below-seen : (m : Member) (tickets : List Own) → tickets ≡ m.tickets.own → are_below m.next tickets ≡ true
+below-seen m tickets same = ap (are_below m.next) same ∙ ap (λ (l : Lists). are_below l.next l.tickets) m.lists ∙ below (member m)
+
+-- who waits for nothing needs no room for a ticket
+pub unasked : (m : Member) → m.seat.me.0.asks ≡ None → (P : Ask → Type 0) (ask : Ask) → m.asks ≡ Some ask → P ask
+unasked m idle P ask asks = let no = sym asks ∙ ap (λ (l : Lists). l.asks) m.lists ∙ idle in cc
+
+-- the ticket that was gained is the last of its own list
+pub gained-seen : (place number : ℕ) (mode : Mode) (own tickets tickets′ : List Own) → tickets ≡ own → tickets′ ≡ owned place (Gain number mode) tickets
+    → tickets′ ≡ owned place (Gain number mode) own
+gained-seen place number mode own tickets tickets′ same gained = gained ∙ ap (owned place (Gain number mode)) same
+
+-- its own lists as it begins to wait
+pub waiting-lists : (m : Member) (place : ℕ) (mode : Mode) (tickets : List Own) → tickets ≡ m.tickets.own
+    → record { tickets = tickets; known = m.known.known; next = m.next + 1; asks = Some (record { number = m.next; place = place; mode = mode }); waits = m.waits + 1 }
+    ≡ lists_seen (awaiting place mode m.seat.me.0)
+waiting-lists m place mode tickets same =
+    ap (λ (ts : List Own). record { tickets = ts; known = m.known.known; next = m.next + 1; asks = Some (record { number = m.next; place = place; mode = mode }); waits = m.waits + 1 }) same
+    ∙ ap (λ (l : Lists). record l { next = l.next + 1; asks = Some (record { number = l.next; place = place; mode = mode }); waits = l.waits + 1 }) m.lists

@@ -1,0 +1,54 @@
+//! Waits end.
+ghost use Rattle.std.specs.Prelude.{◌≡◌};
+ghost use Rattle.mdl_calls.specs.Words.{End_wait, ended};
+ghost use Rattle.mdl_session_laws.specs.SessionJoins.{Joins};
+ghost use Rattle.mdl_shared.specs.Endings.{lost_end};
+ghost use Rattle.mdl_shared.specs.SessionViews.{space_of};
+ghost use Rattle.mdl_shared.specs.Showings.{Shows};
+
+use crate::Session;
+use crate::wait_words::settled_in;
+use mdl_calls::{Ended, Settled, SpaceError};
+use mdl_visits::end_lost_wait;
+use std::sync::Wait;
+
+// How a wait has ended that was lost so.
+fn lost_end(how: Settled) -> Option<Ended>
+    ensures { result ≡ lost_end how }
+{
+    match how {
+        Settled::Granted => None,
+        Settled::Victim => Some(Ended::Victim),
+        Settled::Timeout => Some(Ended::Timeout),
+        Settled::Killed => Some(Ended::Killed),
+    }
+}
+
+impl<R: Wait> Session<R> {
+    /// Ends the session's wait, which is settled: with the ticket if it was granted, else without, and the waits at its place that can be
+    /// granted then are granted. It takes no memory.
+    pub fn end_wait(&mut self) -> Result<Ended, SpaceError>
+        ensures joined { Joins (space_of self.old) (End_wait self.old.me.0.number) (ended result) (space_of self.new) }
+        ensures shown { Shows (End_wait self.old.me.0.number) (ended result) self.old self.new }
+    {
+        let member = &mut self.member;
+        let Some(ask) = member.asks else {
+            return Err(SpaceError::NoWait);
+        };
+        let session = member.seat.number();
+        let Some(how) = settled_in(member.seat.read_wait(session).state()) else {
+            return Err(SpaceError::Unsettled);
+        };
+        if let Some(ended) = lost_end(how) {
+            end_lost_wait(&self.rt, &mut member.seat, ask, member.waits);
+            member.asks = None;
+            return Ok(ended);
+        }
+        member.seat.end_granted(member.waits);
+        member
+            .tickets
+            .push_reserved(ask.number, ask.place, ask.mode);
+        member.asks = None;
+        Ok(Ended::Granted(ask.number))
+    }
+}

@@ -1,0 +1,27 @@
+//! How the session's own wait stands.
+ghost use Rattle.mdl_calls.specs.Words.{Poll_wait, polled};
+ghost use Rattle.mdl_session_laws.specs.SessionJoins.{Joins};
+ghost use Rattle.mdl_shared.specs.SessionViews.{space_of};
+ghost use Rattle.mdl_shared.specs.Showings.{Shows};
+
+use crate::Session;
+use crate::wait_words::settled_in;
+use mdl_calls::{Poll, SpaceError};
+
+impl<R> Session<R> {
+    /// How the session's wait stands. It takes no memory.
+    pub fn poll_wait(&mut self) -> Result<Poll, SpaceError>
+        ensures joined { Joins (space_of self.old) (Poll_wait self.old.me.0.number) (polled result) (space_of self.new) }
+        ensures shown { Shows (Poll_wait self.old.me.0.number) (polled result) self.old self.new }
+    {
+        if self.member.asks.is_none() {
+            return Err(SpaceError::NoWait);
+        }
+        let session = self.member.seat.number();
+        let word = self.member.seat.read_wait(session);
+        match settled_in(word.state()) {
+            Some(how) => Ok(Poll::Settled(how)),
+            None => Ok(Poll::Pending),
+        }
+    }
+}

@@ -1,0 +1,29 @@
+//! The session's own wait is settled as a timeout.
+ghost use Rattle.mdl_calls.specs.Words.{Settle_timeout, timed_out};
+ghost use Rattle.mdl_session_laws.specs.SessionJoins.{Joins};
+ghost use Rattle.mdl_shared.specs.SessionViews.{space_of};
+ghost use Rattle.mdl_shared.specs.Showings.{Shows};
+
+use crate::Session;
+use crate::wait_words::settled_in;
+use mdl_calls::{SpaceError, TimedOut};
+use mdl_steps::Loss;
+
+impl<R> Session<R> {
+    /// Settles the session's wait as a timeout, unless it is settled. It takes no memory.
+    pub fn settle_timeout(&mut self) -> Result<TimedOut, SpaceError>
+        ensures joined { Joins (space_of self.old) (Settle_timeout self.old.me.0.number) (timed_out result) (space_of self.new) }
+        ensures shown { Shows (Settle_timeout self.old.me.0.number) (timed_out result) self.old self.new }
+    {
+        if self.member.asks.is_none() {
+            return Err(SpaceError::NoWait);
+        }
+        let session = self.member.seat.number();
+        let wait = self.member.waits;
+        let word = self.member.seat.settle_wait(session, wait, Loss::Timeout);
+        match settled_in(word.state()) {
+            Some(how) => Ok(TimedOut::Already(how)),
+            None => Ok(TimedOut::ByThisCall),
+        }
+    }
+}

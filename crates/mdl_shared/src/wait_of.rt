@@ -1,0 +1,35 @@
+//! The number of a wait.
+ghost use Rattle.std.specs.Prelude.{None, Some, ◌<◌, ◌≡◌};
+ghost use Rattle.mdl_visits.specs.Polls.{number_in};
+ghost use Rattle.mdl_shared.specs.SessionViews.{space_of};
+ghost use Rattle.mdl_calls.specs.Words.{Has_wait, Wait_of};
+ghost use Rattle.mdl_session_laws.specs.SessionJoins.{Joins};
+ghost use Rattle.mdl_shared.specs.Showings.{Shows};
+
+use crate::Session;
+use crate::wait_words::is_session;
+use mdl_steps::WaitWord;
+
+// The number of a wait, where a session has one, by its word.
+fn number_in(word: WaitWord) -> Option<u64>
+    ensures { result ≡ number_in word.0 }
+{
+    if word.state() == WaitWord::IDLE {
+        None
+    } else {
+        Some(word.number())
+    }
+}
+
+impl<R> Session<R> {
+    /// The number of any session's wait, if it has one. It takes no memory.
+    pub fn wait_of(&mut self, target: u16) -> Option<u64>
+        ensures joined { Joins (space_of self.old) (Wait_of target) (Has_wait result) (space_of self.new) }
+        ensures shown { Shows (Wait_of target) (Has_wait result) self.old self.new }
+    {
+        if !is_session(target, self.member.sessions) {
+            return None;
+        }
+        number_in(self.member.seat.read_wait(target))
+    }
+}
