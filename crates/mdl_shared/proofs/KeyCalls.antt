@@ -1,5 +1,5 @@
 -- Calls by which a session learns keys: the place of a key, and the tables of a schema.
-use Rattle.std.proofs.Common.{◌≡◌, ℕ, Bool, true, false, ◌&&◌, ◌<◌, get_or, Option, Some, None, Ok, List, [], ◌∷◌, ◌++◌, map, filter, refl, sym, ap, subst, ◌∙◌, arith}
+use Rattle.std.proofs.Common.{◌≡◌, ℕ, true, false, ◌&&◌, ◌<◌, get_or, Option, Some, None, Ok, List, [], ◌∷◌, ◌++◌, map, filter, refl, sym, ap, subst, ◌∙◌, arith}
 use Rattle.std.specs.Prelude.{All, AllPairs}
 use Rattle.std.specs.declared.cmp.Ordering.TheVariants.{Less}
 use Rattle.std.specs.Str.{bytes_eq}
@@ -251,8 +251,7 @@ module _ (seat mid seat′ : SeatState) (sessions : ℕ) (schema : List ℕ) (k 
       asked_after old.0.number tables places old mid.me new (goes_on (knowing_all tables old) mid.me knows)
       (subst (λ (n : ℕ). HasAsked n tables places mid.me new) (ap (λ (m : Mine). m.0.number) knows.1) asked) in
       let known = all_learnt schema k old.0 tables took.1.recorded.known are took.1.recorded.distinct in
-      let none : mid.me.0.directory ≡ None = ap (λ (m : Mine). m.0.directory) knows.1 ∙ sym (no_record old.0.directory is.idle.1) in
-      (
+      let none : mid.me.0.directory ≡ None = ap (λ (m : Mine). m.0.directory) knows.1 ∙ sym (no_record old.0.directory is.idle.1) in (
         tables-joins is schema k tables places are has learnt known all-apart,
         record {
           table = steps.0 ∙ took.0;
