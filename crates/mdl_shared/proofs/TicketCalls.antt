@@ -5,6 +5,8 @@ use Rattle.std.proofs.lemmas.Bool.{and_from, and_parts, eq-eqb, not-true, not_fr
 use Rattle.mdl_key.specs.declared.mode.Mode.{Mode}
 use Rattle.mdl_system.specs.Strength.{covers, may_downgrade}
 use Rattle.mdl_calls.specs.declared.answers.Held.{Held}
+use Rattle.mdl_calls.specs.declared.answers.Upgrade.{Upgrade}
+use Rattle.mdl_calls.specs.declared.answers.Upgrade.TheVariants as upgrade
 use Rattle.mdl_calls.specs.declared.space_error.SpaceError.{SpaceError}
 use Rattle.mdl_calls.specs.Words.{Done, Refused, Upgraded, Would_wait, Release, Downgrade, Upgrade_now, Merge, MayDowngrade, is_number}
 use Rattle.mdl_calls.specs.Own.{merging, upgraded}
@@ -17,17 +19,17 @@ use Rattle.mdl_session_laws.specs.SessionJoins.{Joins, ReadsNothing}
 use Rattle.mdl_visits.specs.Grantings.{VisitsAndReschedules}
 use Rattle.mdl_visits.specs.Leavings.{MeetsOwn}
 use Rattle.mdl_visits.specs.Numbers.{numbered}
-use Rattle.mdl_visits.specs.Visits.{Does, IsStepOf, Visits}
+use Rattle.mdl_visits.specs.Visits.{Does, IsStepOf, MeetsBlocked, MeetsGrantable, Visits}
 use Rattle.mdl_visits.proofs.Doing.{does_reschedule}
 use Rattle.mdl_visits.proofs.Numbers.{has_number}
-use Rattle.mdl_shared.specs.Doings.{merge_deeds}
+use Rattle.mdl_shared.specs.Doings.{merge_deeds, rise_deeds, upgrade_deeds}
 use Rattle.mdl_shared.specs.Members.{IsMember}
 use Rattle.mdl_shared.specs.Modes.{downgrade_fault, is_fit, merge_fault}
 use Rattle.mdl_shared.specs.OwnLists.{told_of}
 use Rattle.mdl_shared.specs.SessionViews.{SessionView, session_at, space_of}
-use Rattle.mdl_shared.specs.Showings.{Shows}
+use Rattle.mdl_shared.specs.Showings.{HasStep, Shows}
 use Rattle.mdl_shared.specs.Upgrades.{upgrade_fault}
-use Rattle.mdl_shared.proofs.ClearCalls.{downgrade-open}
+use Rattle.mdl_shared.proofs.ClearCalls.{downgrade-open, one-ticket}
 use Rattle.mdl_shared.proofs.Faults.{if-clear}
 use Rattle.mdl_shared.proofs.MemberFacts.{speaks}
 use Rattle.mdl_shared.proofs.Members.{HasDone, done-next, done-nothing, done-reads, done-rest, done-slow, rescheduled, visited}
@@ -37,7 +39,7 @@ use Rattle.mdl_shared.proofs.SpaceLists.{fit-known, ticket-told}
 use Rattle.mdl_shared.proofs.SpaceNotes.{AllNoted, noted-less, noted-moded, nothing-read, noted_under}
 use Rattle.mdl_shared.proofs.SpaceTickets.{all_of, given-up, holds-told, in-mode, in_mode_told, is_here, merged-told, of-held, only-one, same-mode}
 use Rattle.mdl_shared.proofs.TicketFaults.{knows, merge-cause, merge-clear, merge-here, upgrade-cause, upgrade-clear}
-use Rattle.mdl_shared.proofs.WishShows.{did, settles, told}
+use Rattle.mdl_shared.proofs.WishShows.{did, settles, shows, told}
 
 -- ---- a call with one deed
 
@@ -90,6 +92,25 @@ module _ {m : SessionView} (is : IsMember m) (id : ℕ) (t : Own) (its : numbere
         (only-one id (λ u. is_here t.place u && not (covers u.mode mode)) m.me.0.slow t is.sound.rising its
         (and_from _ _ (eq-eqb t.place t.place refl) (not_from_false (covers t.mode mode) short))))
         refl (drawn done (done-next done)) (upgrade-clear m id mode t its clear) tt refl (λ state how is. cc) (λ how is. cc) refl (deed-reads is done) tt
+
+    -- the session's view has no fault
+    open-now : upgrade_fault mode m.me.0.known m.me.0.asks (numbered id m.me.0.slow) ≡ None
+    open-now = ap (upgrade_fault mode m.me.0.known m.me.0.asks) its ∙ clear
+
+    deeds : (answer : Upgrade) → covers t.mode mode ≡ false → rise_deeds id mode answer ≡ upgrade_deeds id mode (Ok answer) (numbered id m.me.0.slow)
+    deeds answer short = sym (ap (upgrade_deeds id mode (Ok answer)) its ∙ ap (λ b. if b then [] else rise_deeds id mode answer) short)
+
+    pub upgrade-shows : {m′ : SessionView} → m′.table ≡ m.table → m′.sessions ≡ m.sessions → covers t.mode mode ≡ false → Visits t.place (Alter id mode ∷ []) m.me m′.me
+        → HasStep m m′ (MeetsGrantable t.place m.me.0.number mode (Alter id mode)) → Shows (Upgrade_now m.me.0.number id mode) Upgraded m m′
+    upgrade-shows {m′} table sessions short went met =
+        shows table sessions open-now (subst (λ (ds : List Deed). Does ds m.me m′.me) (deeds upgrade.Upgraded short) (did went)) (settles went) (told went) tt
+        (λ u same less. subst (λ (x : Own). HasStep m m′ (MeetsGrantable x.place m.me.0.number mode (Alter id mode))) (one-ticket (numbered id m.me.0.slow) t u its same) met)
+
+    pub blocked-shows : {m′ : SessionView} → m′.table ≡ m.table → m′.sessions ≡ m.sessions → covers t.mode mode ≡ false → Visits t.place [] m.me m′.me
+        → HasStep m m′ (MeetsBlocked t.place m.me.0.number mode) → Shows (Upgrade_now m.me.0.number id mode) Would_wait m m′
+    blocked-shows {m′} table sessions short went met =
+        shows table sessions open-now (subst (λ (ds : List Deed). Does ds m.me m′.me) (deeds upgrade.WouldWait short) (did went)) (settles went) (told went) tt
+        (t, its, (short, met))
 
     -- that would have to wait
     pub blocked-joins : {m′ : SessionView} → covers t.mode mode ≡ false → HasDone t.place [] m m′ → Joins (space_of m) (Upgrade_now m.me.0.number id mode) Would_wait (space_of m′)
