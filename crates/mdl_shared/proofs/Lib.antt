@@ -37,3 +37,4 @@ pub mod WaitCalls
 pub mod Wishing
 pub mod WishShows
 pub mod EndSteps
+pub mod CloneCalls
