@@ -18,9 +18,8 @@ use Rattle.mdl_visits.specs.Visits.{MeetsFull, Visits}
 use Rattle.mdl_shared.specs.Members.{IsMember}
 use Rattle.mdl_shared.specs.Modes.{clone_fault}
 use Rattle.mdl_shared.specs.OwnLists.{told_of}
-use Rattle.mdl_shared.specs.SessionViews.{SessionView, space_of}
-use Rattle.mdl_shared.specs.Showings.{HasStep, MeetsTicket, Shows}
-use Rattle.mdl_shared.proofs.ClearCalls.{told-full}
+use Rattle.mdl_shared.specs.SessionViews.{SessionView, lists_seen, space_of}
+use Rattle.mdl_shared.specs.Showings.{HasStep, MeetsTicket, OfTicket, Shows}
 use Rattle.mdl_shared.proofs.MemberFacts.{speaks}
 use Rattle.mdl_shared.proofs.Members.{HasDone}
 use Rattle.mdl_shared.proofs.SameSpace.{Stays, refused, same-stays, waits-asks}
@@ -30,10 +29,10 @@ use Rattle.mdl_shared.proofs.WishFaults.{clone-cause, clone-clear}
 use Rattle.mdl_shared.proofs.WishShows.{did, settles, shows, told}
 
 -- why the session is refused, by what the visit met
-pub refusal-met : {X : Type 0} (cause : BookError) (why : SpaceError) → (cause ≡ fault.Full → why ≡ Full) → (cause ≡ fault.OutOfMemory → why ≡ OutOfMemory)
-    → (cause ≡ fault.OutOfMemory) ⊎ ((cause ≡ fault.Full) × X) → (why ≡ OutOfMemory) ⊎ ((why ≡ Full) × X)
-refusal-met cause why full memory (inl is) = inl (memory is)
-refusal-met cause why full memory (inr is) = inr (full is.0, is.1)
+pub refusal-met : {X Y : Type 0} → (X → Y) → (cause : BookError) (why : SpaceError) → (cause ≡ fault.Full → why ≡ Full) → (cause ≡ fault.OutOfMemory → why ≡ OutOfMemory)
+    → (cause ≡ fault.OutOfMemory) ⊎ ((cause ≡ fault.Full) × X) → (why ≡ OutOfMemory) ⊎ ((why ≡ Full) × Y)
+refusal-met more cause why full memory (inl is) = inl (memory is)
+refusal-met more cause why full memory (inr is) = inr (full is.0, more is.1)
 
 module _ {s : SessionView} (is : IsMember s) (id : ℕ) (mode : Mode) where
   -- refused for what the session has
@@ -56,6 +55,11 @@ module _ {s : SessionView} (is : IsMember s) (id : ℕ) (mode : Mode) where
         (by-cause (λ w. IsCause (Knows (space_of s) s.me.0.number) (Clone_ticket s.me.0.number id mode) w (space_of s).own) why tt may-clone causes)
         (λ state how is. cc) tt
 
+    pub refused-shows : {s′ : SessionView} {place : ℕ} {why : SpaceError} → s′.table ≡ s.table → s′.sessions ≡ s.sessions → Visits place [] s.me s′.me
+        → (why ≡ OutOfMemory) ⊎ ((why ≡ Full) × OfTicket id (lists_seen s.me.0) (λ t. HasStep s s′ (MeetsFull t.place)))
+        → Shows (Clone_ticket s.me.0.number id mode) (Refused why) s s′
+    refused-shows table sessions went met = shows table sessions clear (did went) (settles went) (told went) tt (inr met)
+
     -- made
     module _ (t : Own) (its : numbered id s.me.0.slow ≡ Some t) where
       pub clone-joins : {s′ : SessionView} {new : ℕ} → new ≡ s.me.0.next → HasDone t.place (Gain new mode ∷ []) s s′
@@ -68,7 +72,3 @@ module _ {s : SessionView} (is : IsMember s) (id : ℕ) (mode : Mode) where
       pub clone-shows : {s′ : SessionView} {new : ℕ} → s′.table ≡ s.table → s′.sessions ≡ s.sessions → Visits t.place (Gain new mode ∷ []) s.me s′.me
           → MeetsTicket id (Gain new mode ∷ []) s s′ t → Shows (Clone_ticket s.me.0.number id mode) (Granted new) s s′
       clone-shows table sessions went met = shows table sessions clear (did went) (settles went) (told went) tt (t, its, met)
-
-      pub full-shows : {s′ : SessionView} {why : SpaceError} → s′.table ≡ s.table → s′.sessions ≡ s.sessions → Visits t.place [] s.me s′.me
-          → (why ≡ OutOfMemory) ⊎ ((why ≡ Full) × HasStep s s′ (MeetsFull t.place)) → Shows (Clone_ticket s.me.0.number id mode) (Refused why) s s′
-      full-shows table sessions went met = shows table sessions clear (did went) (settles went) (told went) tt (inr (told-full (λ full. (t, its, full)) met))

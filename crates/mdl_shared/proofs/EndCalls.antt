@@ -1,5 +1,7 @@
 -- The end of a session's wait.
 use Rattle.std.proofs.Common.{◌≡◌, ℕ, ◌+◌, ◌-◌, true, is_some, List, [], ◌∷◌, Option, Some, None, Ok, refl, sym, ap, subst, ◌∙◌, arith}
+use Rattle.std.proofs.lemmas.Bool.{and_parts}
+use Rattle.std.proofs.lemmas.Bool.Decides.{nat_tests}
 use Rattle.mdl_calls.specs.declared.answers.Ended.{Ended}
 use Rattle.mdl_calls.specs.declared.answers.Ended.TheVariants as ended_as
 use Rattle.mdl_calls.specs.declared.answers.Settled.{Settled}
@@ -16,14 +18,16 @@ use Rattle.mdl_steps.specs.Cells.{note_at}
 use Rattle.mdl_steps.specs.Deeds.{owned}
 use Rattle.mdl_steps.specs.WaitStates.{IsLost}
 use Rattle.mdl_session_laws.specs.SessionJoins.{Joins}
+use Rattle.mdl_visits.specs.Numbers.{is_ask_apart, is_no_number}
 use Rattle.mdl_visits.specs.Polls.{state_of}
 use Rattle.mdl_shared.specs.Endings.{lost_end}
 use Rattle.mdl_shared.specs.Members.{IsMember}
 use Rattle.mdl_shared.specs.OwnLists.{told_of}
 use Rattle.mdl_shared.specs.Rememberings.{AreAlike}
 use Rattle.mdl_shared.specs.SessionViews.{SessionView, space_of}
+use Rattle.mdl_shared.specs.Waitings.{are_below}
 use Rattle.mdl_shared.proofs.Alike.{alike_done}
-use Rattle.mdl_shared.proofs.MemberFacts.{ask-last, speaks}
+use Rattle.mdl_shared.proofs.MemberFacts.{apart, ask-last, below, speaks}
 use Rattle.mdl_shared.proofs.Members.{StaysInOrder}
 use Rattle.mdl_shared.proofs.NotedOnce.{one-note, one-note_done}
 use Rattle.mdl_shared.proofs.SameSpace.{Stays, own_of, refused, same-stays, wait_by, waits-asks}
@@ -64,8 +68,22 @@ idle-joins {s} is idle =
     refused s s (End_wait s.me.0.number) NoWait (same-stays s) (speaks is) refl refl (waits-asks s.me.0.asks s.me.0.waits ∙ ap is_some idle) (λ state how is. cc) tt
 
 -- it waits where it asks
-waits : {s : SessionView} {a : Ask} → s.me.0.asks ≡ Some a → is_waiting (space_of s).own ≡ true
-waits {s} asks = waits-asks s.me.0.asks s.me.0.waits ∙ ap is_some asks
+waits : (s : SessionView) (a : Ask) → s.me.0.asks ≡ Some a → is_waiting (space_of s).own ≡ true
+waits s a asks = waits-asks s.me.0.asks s.me.0.waits ∙ ap is_some asks
+
+-- nothing is asked for then
+pub asks-nothing : (P : Ask → Type 0) (a : Ask) → ◌≡◌ {A = Option Ask} None (Some a) → P a
+asks-nothing P a e = cc
+
+-- the ticket that it asks for is above all that it has
+below-asked : (next number : ℕ) (tickets : List Own) → number + 1 ≡ next → is_no_number number tickets ≡ true → are_below next tickets ≡ true → are_below number tickets ≡ true
+below-asked next number [] last apart all = refl
+below-asked next number (t ∷ ts) last apart all = grind (arith, nat_tests, below-asked next number ts)
+
+pub asked-below : {s : SessionView} (is : IsMember s) (a : Ask) → s.me.0.asks ≡ Some a → are_below a.number s.me.0.slow ≡ true
+asked-below {s} is a asks =
+    let none = and_parts _ (is_no_number a.number s.me.0.slow) (ap (is_ask_apart s.me.0.next s.me.0.slow) (sym asks) ∙ apart is) in
+    below-asked s.me.0.next a.number s.me.0.slow (ask-last is a asks) none.1 (below is)
 
 module _ {s s′ : SessionView} (is : IsMember s) where
   ended-order : {tickets : List Own} → HasEnded tickets s s′ → AreAlike tickets → StaysInOrder s s′
@@ -85,7 +103,7 @@ module _ {s s′ : SessionView} (is : IsMember s) where
     -- it isn't settled
     pub unsettled-joins : Stays s s′ → ((how : Settled) → (space_of s).settled ≡ Some how → ⊥) → Joins (space_of s) (End_wait s.me.0.number) (Refused Unsettled) (space_of s′)
     unsettled-joins stays unsettled =
-        refused s s′ (End_wait s.me.0.number) Unsettled stays (speaks is) refl refl (waits asks) (λ state how met knows. absurd (unsettled how knows)) tt
+        refused s s′ (End_wait s.me.0.number) Unsettled stays (speaks is) refl refl (waits s a asks) (λ state how met knows. absurd (unsettled how knows)) tt
 
     -- won
     pub won-order : HasEnded (owned a.place (Gain a.number a.mode) s.me.0.slow) s s′ → StaysInOrder s s′
@@ -104,7 +122,7 @@ module _ {s s′ : SessionView} (is : IsMember s) where
           own = ap (λ held. own_of held None) (told-last s.me.0.slow (record { number = a.number; place = a.place; mode = a.mode; noted = note_at a.place s.me.0.slow }))
               ∙ sym (ap (λ (o : Option Ask). winning a.number (wait_by s.me.0.waits o) (space_of s).own) asks);
           numbers = (id, refl);
-          explained = waits asks;
+          explained = waits s a asks;
           gained = tt;
           learns = refl;
           agreed = λ state how met knows. let e : Some settled_as.Granted ≡ state = cc in sym e ∙ ap Some (agreed how knows);
@@ -127,7 +145,7 @@ module _ {s s′ : SessionView} (is : IsMember s) where
       number = refl;
       own = refl;
       numbers = refl;
-      explained = waits asks;
+      explained = waits s a asks;
       gained = tt;
       learns = refl;
       agreed = λ state how met knows. let e : Some one ≡ state = cc in sym e ∙ ap Some (agreed how knows);

@@ -28,7 +28,7 @@ use Rattle.mdl_shared.specs.Waitings.{wait_fault}
 use Rattle.mdl_shared.proofs.EndCalls.{HasEnded, lost-joins, unsettled-joins, won-joins}
 use Rattle.mdl_shared.proofs.Faults.{if-clear}
 use Rattle.mdl_shared.proofs.Members.{done-nothing}
-use Rattle.mdl_shared.proofs.WaitCalls.{poll-pending, poll-settled, polls, settled-is, settled-more}
+use Rattle.mdl_shared.proofs.PollCalls.{poll-pending, poll-settled, polls, settled-is, settled-more}
 use Rattle.mdl_shared.proofs.WaitSteps.{told-own, word-step}
 
 module _ {s mid : SessionView} (is : IsMember s) (a : Ask) (asks : s.me.0.asks ≡ Some a) (session found : ℕ) (mine : session ≡ s.me.0.number)
@@ -47,7 +47,7 @@ module _ {s mid : SessionView} (is : IsMember s) (a : Ask) (asks : s.me.0.asks �
       let polled = poll-pending is waiting session found mine own now none in
       let shown = polled.1 in (
         unsettled-joins is a asks (done-nothing (polls is waiting session found mine own now).done)
-        (λ how knows. let e : None ≡ Some how = polled.0.agreed None how refl knows in cc),
+            (λ how knows. let e : None ≡ Some how = polled.0.agreed None how refl knows in cc),
         record {
           table = shown.table;
           sessions = shown.sessions;
@@ -75,33 +75,40 @@ module _ {s mid : SessionView} (is : IsMember s) (a : Ask) (asks : s.me.0.asks �
         let its = settled-is (wait_state found) one some in
         told-own ReadWait session found found s.me.0.settles s mid now mine (settled-more (wait_state found) one its) ∙ ap Some its
 
-    module _ {s′ : SessionView} (ends : Does [] mid.me s′.me) where
-      did : Does [] s.me s′.me
-      did = does_then [] [] s.me mid.me s′.me polled.1.did ends
+    did : (s′ : SessionView) → Does [] mid.me s′.me → Does [] s.me s′.me
+    did s′ ends = does_then [] [] s.me mid.me s′.me polled.1.did ends
 
-      met : MeetsOwnWait (state_of one) (lists_seen s.me.0) s s′
-      met = let e = polled.1.met in (e.0, step_before s.me mid.me s′.me (ends.0, ends.1) e.0 e.1, e.2)
+    met : (s′ : SessionView) → Does [] mid.me s′.me → MeetsOwnWait (state_of one) (lists_seen s.me.0) s s′
+    met s′ ends = let e = polled.1.met in (e.0, step_before s.me mid.me s′.me (ends.0, ends.1) e.0 e.1, e.2)
 
-      -- ---- it was lost
+    -- ---- it was lost
 
-      pub lost-end : is_answer_of (End_wait s.me.0.number) (Lost one) ≡ true → HasEnded s.me.0.slow s s′ → HasRescheduled mid.table a.place (without_wait mid.me) s′.me
-          → Joins (space_of s) (End_wait s.me.0.number) (Lost one) (space_of s′) × Shows (End_wait s.me.0.number) (Lost one) s s′
-      lost-end fits ended rescheduled =
-          let shown = polled.1 in (
-            lost-joins is a asks one fits agreed ended,
-            record {
-              table = ap (λ (x : SessionView). x.table) ended.now;
-              sessions = ap (λ (x : SessionView). x.sessions) ended.now;
-              refused = if-clear _ (wait_fault s.me.0.asks) clear;
-              did = did;
-              settled = tt;
-              told = tt;
-              steps = tt;
-              met = (met, (a, asks, rescheduled_after s.table a.place (without_wait s.me) (without_wait mid.me) s′.me shown.steps shown.settled refl
-                  (ap (λ (x : SessionView). x.me.0.number) now) refl
-                  (subst (λ (id : TableId). HasRescheduled id a.place (without_wait mid.me) s′.me) shown.table rescheduled)));
-            },
-          )
+    pub lost-end : {s′ : SessionView} → Does [] mid.me s′.me → is_answer_of (End_wait s.me.0.number) (Lost one) ≡ true → HasEnded s.me.0.slow s s′
+        → HasRescheduled mid.table a.place (without_wait mid.me) s′.me
+        → Joins (space_of s) (End_wait s.me.0.number) (Lost one) (space_of s′) × Shows (End_wait s.me.0.number) (Lost one) s s′
+    lost-end {s′} ends fits ended rescheduled =
+        let shown = polled.1 in (
+          lost-joins is a asks one fits agreed ended,
+          record {
+            table = ap (λ (x : SessionView). x.table) ended.now;
+            sessions = ap (λ (x : SessionView). x.sessions) ended.now;
+            refused = if-clear _ (wait_fault s.me.0.asks) clear;
+            did = did s′ ends;
+            settled = tt;
+            told = tt;
+            steps = tt;
+            met = (
+              met s′ ends,
+              (
+                a,
+                asks,
+                rescheduled_after s.table a.place (without_wait s.me) (without_wait mid.me) s′.me shown.steps shown.settled refl
+                    (ap (λ (x : SessionView). x.me.0.number) now) refl
+                    (subst (λ (id : TableId). HasRescheduled id a.place (without_wait mid.me) s′.me) shown.table rescheduled),
+              ),
+            );
+          },
+        )
 
     -- ---- it was granted
 
@@ -113,17 +120,17 @@ module _ {s mid : SessionView} (is : IsMember s) (a : Ask) (asks : s.me.0.asks �
         table = ap (λ (x : SessionView). x.table) ended.now;
         sessions = ap (λ (x : SessionView). x.sessions) ended.now;
         refused = if-clear _ (wait_fault s.me.0.asks) clear;
-        did = did ends;
+        did = did s′ ends;
         settled = ap (λ (x : SessionView). x.me.0.settles) ended.now ∙ settles;
         told = tt;
         steps = tt;
-        met = subst (λ (how : Settled). MeetsOwnWait (state_of how) (lists_seen s.me.0) s s′) granted (met ends);
+        met = subst (λ (how : Settled). MeetsOwnWait (state_of how) (lists_seen s.me.0) s s′) granted (met s′ ends);
       },
     )
 
 -- ---- the steps that end it
 
-module _ {seat mid seat′ : SeatState} (sessions : ℕ) {session found : ℕ}
+module _ {seat mid seat′ : SeatState} (sessions session found : ℕ)
     (now : session_at mid sessions ≡ word-step ReadWait session found found seat.me.0.settles (session_at seat sessions)) where
   -- as lost
   pub ended-lost : {place : ℕ} → AtItsTable mid seat′ (EndsLost mid.table place) → HasEnded seat.me.0.slow (session_at seat sessions) (session_at seat′ sessions)
@@ -141,16 +148,18 @@ module _ {seat mid seat′ : SeatState} (sessions : ℕ) {session found : ℕ}
         now = λ i. record { table = table i; sessions = sessions; me = me i };
       }
 
-  -- as granted
+  -- as granted, without settling any wait
   pub ended-won : (a : Ask) → seat.me.0.asks ≡ Some a → seat′ ≡ record mid { me = ended_granted mid.table.slots mid.me }
-      → HasEnded (owned a.place (Gain a.number a.mode) seat.me.0.slow) (session_at seat sessions) (session_at seat′ sessions)
+      → (ended : HasEnded (owned a.place (Gain a.number a.mode) seat.me.0.slow) (session_at seat sessions) (session_at seat′ sessions)) × (ended.settles ≡ seat.me.0.settles)
   ended-won a asks made =
-      let log = (ended_granted mid.table.slots mid.me).0.log in
-      record {
-        settles = seat.me.0.settles;
-        log = log;
-        now =
-            ap (λ (x : SeatState). session_at x sessions) made
-            ∙ ap (λ (x : SessionView). record x { me = (record x.me.0 { slow = x.me.0.slow ++ taken_over x.me.0.asks x.me.0.slow; asks = None; told = None; log = log }, x.me.1) }) now
-            ∙ ap (λ (o : Option Ask). record (session_at seat sessions) { me = (record seat.me.0 { slow = seat.me.0.slow ++ taken_over o seat.me.0.slow; asks = None; told = None; log = log }, seat.me.1) }) asks;
-      }
+      let log = (ended_granted mid.table.slots mid.me).0.log in (
+        record {
+          settles = seat.me.0.settles;
+          log = log;
+          now =
+              ap (λ (x : SeatState). session_at x sessions) made
+              ∙ ap (λ (x : SessionView). record x { me = (record x.me.0 { slow = x.me.0.slow ++ taken_over x.me.0.asks x.me.0.slow; asks = None; told = None; log = log }, x.me.1) }) now
+              ∙ ap (λ (o : Option Ask). record (session_at seat sessions) { me = (record seat.me.0 { slow = seat.me.0.slow ++ taken_over o seat.me.0.slow; asks = None; told = None; log = log }, seat.me.1) }) asks;
+        },
+        refl,
+      )

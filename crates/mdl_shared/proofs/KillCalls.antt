@@ -1,43 +1,194 @@
--- Calls that settle waits as lost, those of others or the session's own: kills and searches for deadlocks.
-use Rattle.std.proofs.Common.{◌≡◌, ℕ, Bool, true, false, is_some, Some, Result, Ok, Err, refl, sym, ap, subst, ◌∙◌}
-use Rattle.std.specs.Prelude.{IfOk, IfErr}
-use Rattle.mdl_calls.specs.declared.answers.Search.{Search as Found}
-use Rattle.mdl_calls.specs.declared.answers.Search.TheVariants as found
-use Rattle.mdl_calls.specs.declared.answers.Settled.{Settled}
-use Rattle.mdl_calls.specs.declared.answers.Settled.TheVariants.{Killed, Victim}
-use Rattle.mdl_calls.specs.declared.space_error.SpaceError.{SpaceError}
-use Rattle.mdl_calls.specs.declared.space_error.SpaceError.TheVariants.{OutOfMemory}
-use Rattle.mdl_calls.specs.Words.{Has_killed, No_cycle, Victim_is, Kill, Search, IsCause, searched}
+-- Calls on the words of any session's wait: kills, and the number of a wait.
+use Rattle.std.proofs.Common.{◌≡◌, ◌≢◌, ℕ, ◌<◌, ◌≤◌, ◌==◌, Bool, true, false, is_some, List, [], ◌∷◌, ◌++◌, Option, Some, None, inl, inr, refl, sym, ap, subst, ◌∙◌, arith}
+use Rattle.std.proofs.lemmas.Bool.{eq-eqb, eqb-false, eqb-true, false≢true, ne_eqb}
+use Rattle.std.proofs.lemmas.Bool.Decides.{nat_tests}
+use Rattle.std.specs.Option.{option_map}
+use Rattle.atomic_table.specs.Seated.{TableId}
+use Rattle.mdl_calls.specs.declared.answers.Settled.TheVariants.{Killed}
+use Rattle.mdl_calls.specs.Limits.{is_within}
+use Rattle.mdl_calls.specs.Words.{Has_killed, Has_wait, Kill, Wait, Wait_of, wait_number}
+use Rattle.mdl_steps.specs.declared.step_kind.StepKind.{StepKind}
+use Rattle.mdl_steps.specs.declared.step_kind.StepKind.TheVariants.{MissWait, ReadWait, SettleWait}
+use Rattle.mdl_steps.specs.declared.view.Ask.{Ask}
+use Rattle.mdl_steps.specs.declared.view.Settlement.{Settlement}
+use Rattle.mdl_steps.specs.Cells.{waiter_of}
+use Rattle.mdl_steps.specs.Layout.{wait_word}
+use Rattle.mdl_steps.specs.Rule.{WaitOk}
+use Rattle.mdl_steps.specs.WaitPlays.{TellsOwn}
+use Rattle.mdl_steps.specs.WaitSeats.{IsSession}
+use Rattle.mdl_steps.specs.WaitStates.{wait_in, wait_state}
+use Rattle.mdl_steps.proofs.Views.{by_bool}
 use Rattle.mdl_session_laws.specs.SessionJoins.{Joins}
-use Rattle.mdl_session_laws.specs.SessionSpaces.{SpeaksFor, Knows}
-use Rattle.mdl_visits.specs.Polls.{state_of}
-use Rattle.mdl_visits.specs.Searches.{KnowsVictim}
-use Rattle.mdl_shared.specs.SessionViews.{SessionView, space_of}
-use Rattle.mdl_shared.specs.Waitings.{own_number}
-use Rattle.mdl_shared.proofs.SameSpace.{Stays, joins-still, refused, told-settled}
-use Rattle.mdl_shared.proofs.TellingCalls.{number-told}
+use Rattle.mdl_visits.specs.Polls.{MeetsOther, MeetsWait, number_in}
+use Rattle.mdl_visits.proofs.Steps.{goes_staying, step_after}
+use Rattle.mdl_shared.specs.Members.{IsMember}
+use Rattle.mdl_shared.specs.SessionViews.{SessionView, settled_told, space_of}
+use Rattle.mdl_shared.specs.Showings.{HasStep, Shows}
+use Rattle.mdl_shared.proofs.PollCalls.{settled-some}
+use Rattle.mdl_shared.proofs.Members.{done-nothing}
+use Rattle.mdl_shared.proofs.SameSpace.{joins-still, same-stays, told-settled, wait_by}
+use Rattle.mdl_shared.proofs.WaitSteps.{Watches, met-word, shows, session-there, told-own, watches, watches-then, word-step}
 
-pub kill-joins : (m m′ : SessionView) (target number : ℕ) (result : Bool) → Stays m m′
-    → (target ≡ m.me.0.number → result ≡ true → (own_number m.me.0.waits m.me.0.asks ≡ Some number) × (m′.me.0.told ≡ Some 5))
-    → (target ≡ m.me.0.number → result ≡ false → own_number m.me.0.waits m.me.0.asks ≡ Some number
-    → (how : Settled) × (m′.me.0.told ≡ Some (state_of how)))
-    → Joins (space_of m) (Kill target number) (Has_killed result) (space_of m′)
-kill-joins m m′ target number true stays killed settled =
-    joins-still m m′ (Kill target number) (Has_killed true) stays tt refl refl refl refl tt tt refl (λ state how is. cc) (λ how is. cc) refl (λ r. r)
-    (λ mine. let h = killed mine refl in (sym (number-told m.me.0.asks m.me.0.waits) ∙ h.0, told-settled m′.me.0.told Killed h.1))
-kill-joins m m′ target number false stays killed settled =
-    joins-still m m′ (Kill target number) (Has_killed false) stays tt refl refl refl refl tt tt refl (λ state how is. cc) (λ how is. cc) refl (λ r. r)
-    (λ mine waits.
-    let h = settled mine refl (number-told m.me.0.asks m.me.0.waits ∙ waits) in ap is_some (told-settled m′.me.0.told h.0 h.1))
+-- ---- the waits of any session
 
-pub search-joins : (m m′ : SessionView) (who : ℕ) (result : Result Found SpaceError) → Stays m m′ → SpeaksFor (space_of m) who
-    → IfOk result (λ f. KnowsVictim m.me.0.number f m′.me) → IfErr result (λ why. why ≡ OutOfMemory)
-    → Joins (space_of m) (Search who) (searched result) (space_of m′)
-search-joins m m′ who (Ok found.NoCycle) stays speaks falls memory =
-    joins-still m m′ (Search who) No_cycle stays speaks refl refl refl refl tt tt refl (λ state how is. cc) (λ how is. cc) refl (λ r. r) tt
-search-joins m m′ who (Ok (found.Victim victim)) stays speaks falls memory =
-    joins-still m m′ (Search who) (Victim_is victim) stays speaks refl refl refl refl tt tt refl (λ state how is. cc) (λ how is. cc) refl (λ r. r)
-    (λ mine. told-settled m′.me.0.told Victim (falls mine))
-search-joins m m′ who (Err why) stays speaks falls memory =
-    refused m m′ (Search who) why stays speaks refl refl
-    (subst (λ w. IsCause (Knows (space_of m) m.me.0.number) (Search who) w (space_of m).own) (sym memory) tt) (λ state how is. cc) tt
+within-parts : (most n : ℕ) → is_within most n ≡ true → (0 < n) × (n ≤ most)
+within-parts most n e = grind (arith, nat_tests)
+
+within-from : (most n : ℕ) → 0 < n → n ≤ most → is_within most n ≡ true
+within-from most n some few = grind (arith, nat_tests)
+
+module _ {s : SessionView} (is : IsMember s) (target : ℕ) where
+  -- the session itself is one of the space's
+  not-own : is_within s.sessions target ≡ false → target ≡ s.me.0.number → ⊥
+  not-own beyond mine =
+      false≢true (sym beyond ∙ ap (is_within s.sessions) mine ∙ within-from s.sessions s.me.0.number is.counted.0 is.counted.1)
+
+  pub target-there : is_within s.sessions target ≡ true → IsSession s.table target
+  target-there within = let parts = within-parts s.sessions target within in session-there s is target parts.0 parts.1
+
+  -- of a session that there isn't nothing is told
+  pub nobody-waits : is_within s.sessions target ≡ false → Joins (space_of s) (Wait_of target) (Has_wait None) (space_of s)
+  nobody-waits beyond =
+      joins-still s s (Wait_of target) (Has_wait None) (same-stays s) tt refl refl refl refl tt tt refl (λ state how is. cc) (λ how is. cc) refl (λ r. r)
+      (λ mine. absurd (not-own beyond mine))
+
+  pub nobody-killed : (number : ℕ) → is_within s.sessions target ≡ false → Joins (space_of s) (Kill target number) (Has_killed false) (space_of s)
+  nobody-killed number beyond =
+      joins-still s s (Kill target number) (Has_killed false) (same-stays s) tt refl refl refl refl tt tt refl (λ state how is. cc) (λ how is. cc) refl (λ r. r)
+      (λ mine. absurd (not-own beyond mine))
+
+-- ---- the number of a wait
+
+-- its own word has the number of the session's wait
+own-number : (s : SessionView) (found : ℕ) → WaitOk s.table.slots found (waiter_of s.me.0) → number_in found ≡ wait_number (space_of s).own
+own-number s found sound = by s.me.0.asks refl
+  where
+    by : (o : Option Ask) → s.me.0.asks ≡ o → number_in found ≡ option_map (λ (w : Wait). w.number) (wait_by s.me.0.waits o)
+    by None none = rw (eq-eqb (wait_state found) 0 (sound.idle none)) refl
+    by (Some a) some = rw (ne_eqb (wait_state found) 0 (sound.asks a some).0) (ap Some sound.number)
+
+pub number-met : {s s′ : SessionView} (target found : ℕ) → is_within s.sessions target ≡ true → TellsOwn s.table.slots target found s.me.0
+    → s′ ≡ word-step ReadWait target found found s.me.0.settles s
+    → Watches s s′ × Joins (space_of s) (Wait_of target) (Has_wait (number_in found)) (space_of s′) × Shows (Wait_of target) (Has_wait (number_in found)) s s′
+number-met {s} {s′} target found within own now =
+    let did = watches ReadWait target found found s.me.0.settles s s′ now own (inl refl) refl refl in
+    let met = met-word ReadWait target found found s.me.0.settles s s′ now in (
+      did,
+      joins-still s s′ (Wait_of target) (Has_wait (number_in found)) (done-nothing did.done) tt refl refl refl refl tt tt refl (λ state how is. cc) (λ how is. cc) refl (λ r. r)
+          (λ mine. own-number s found (own mine)),
+      shows did tt did.did (ap (λ (x : SessionView). x.me.0.settles) now) tt did.stayed
+          (((λ beyond. absurd (false≢true (sym beyond ∙ within))), (λ w. (met.0, met.1, record { word = met.2.word_is; told = ap number_in (sym met.2.found) })))),
+    )
+
+-- ---- kills
+
+-- the session's own wait of a number that is met and isn't open is settled, and the session knows that
+closed-settled : (kind : StepKind) (s s′ : SessionView) (target number found : ℕ) → target ≡ s.me.0.number → WaitOk s.table.slots found (waiter_of s.me.0)
+    → s′ ≡ word-step kind target found found s.me.0.settles s → found ≢ wait_in number 1 → wait_number (space_of s).own ≡ Some number → is_some (space_of s′).settled ≡ true
+closed-settled kind s s′ target number found mine sound now other its = by s.me.0.asks refl its
+  where
+    by : (o : Option Ask) → s.me.0.asks ≡ o → option_map (λ (w : Wait). w.number) (wait_by s.me.0.waits o) ≡ Some number → is_some (space_of s′).settled ≡ true
+    by None none e = cc
+    by (Some a) some e =
+        let same : s.me.0.waits ≡ number = cc in
+        let busy = (sound.asks a some).0 in
+        let last = sound.number in
+        let closed : wait_state found ≢ 1 = λ one. other (omega (arith, same, last, one)) in
+        let more : 1 < wait_state found = omega (arith, busy, closed) in
+        let how = settled-some (wait_state found) more sound.state in
+        ap is_some (ap settled_told (told-own kind target found found s.me.0.settles s s′ now mine more) ∙ how.1)
+
+module _ {s s′ : SessionView} (target number : ℕ) (within : is_within s.sessions target ≡ true) (did : Watches s s′) where
+  -- whoever met another word settled nothing
+  pub kill-missed : s′.me.0.settles ≡ s.me.0.settles → HasStep s s′ (MeetsOther s.table.slots target (wait_in number 1))
+      → (target ≡ s.me.0.number → wait_number (space_of s).own ≡ Some number → is_some (space_of s′).settled ≡ true)
+      → Joins (space_of s) (Kill target number) (Has_killed false) (space_of s′) × Shows (Kill target number) (Has_killed false) s s′
+  kill-missed settles met known = (
+    joins-still s s′ (Kill target number) (Has_killed false) (done-nothing did.done) tt refl refl refl refl tt tt refl (λ state how is. cc) (λ how is. cc) refl (λ r. r) known,
+    shows did tt did.did (settles) tt did.stayed
+        (((λ beyond. absurd (false≢true (sym beyond ∙ within))), (λ w. met))),
+  )
+
+  pub kill-settled : s′.me.0.settles ≡ s.me.0.settles ++ record { session = target; wait = number; state = 5 } ∷ []
+      → HasStep s s′ (MeetsWait s.table.slots target number 1)
+      → (target ≡ s.me.0.number → (wait_number (space_of s).own ≡ Some number) × (s′.me.0.told ≡ Some 5))
+      → Joins (space_of s) (Kill target number) (Has_killed true) (space_of s′) × Shows (Kill target number) (Has_killed true) s s′
+  kill-settled settles met known = (
+    joins-still s s′ (Kill target number) (Has_killed true) (done-nothing did.done) tt refl refl refl refl tt tt refl (λ state how is. cc) (λ how is. cc) refl (λ r. r)
+        (λ mine. let h = known mine in (h.0, told-settled s′.me.0.told Killed h.1)),
+    shows did tt did.did (settles) tt did.stayed
+        ((within, met)),
+  )
+
+-- a word that was read, and wasn't open, is that of no open wait
+pub kill-closed : {s s′ : SessionView} (target number found : ℕ) → is_within s.sessions target ≡ true → TellsOwn s.table.slots target found s.me.0
+    → s′ ≡ word-step ReadWait target found found s.me.0.settles s → found ≢ wait_in number 1
+    → Watches s s′ × Joins (space_of s) (Kill target number) (Has_killed false) (space_of s′) × Shows (Kill target number) (Has_killed false) s s′
+kill-closed {s} {s′} target number found within own now other =
+    let did = watches ReadWait target found found s.me.0.settles s s′ now own (inl refl) refl refl in
+    let met = met-word ReadWait target found found s.me.0.settles s s′ now in
+    let told = kill-missed target number within did (ap (λ (x : SessionView). x.me.0.settles) now)
+    (met.0, met.1, record { word_is = met.2.word_is; differs = λ same. other (sym met.2.found ∙ same) })
+    (λ mine its. closed-settled ReadWait s s′ target number found mine (own mine) now other its) in (did, told.0, told.1)
+
+-- one that was open as it was read is settled then, or another by then
+module _ (s t s′ : SessionView) (target number first found : ℕ) (within : is_within s.sessions target ≡ true) (own : TellsOwn s.table.slots target first s.me.0)
+    (now : t ≡ word-step ReadWait target first first s.me.0.settles s) (later : TellsOwn t.table.slots target found t.me.0)
+    (hit : found ≡ wait_in number 1
+    → s′ ≡ word-step SettleWait target (wait_in number 1) (wait_in number 5) (t.me.0.settles ++ record { session = target; wait = number; state = 5 } ∷ []) t)
+    (miss : found ≢ wait_in number 1 → s′ ≡ word-step MissWait target found found t.me.0.settles t) where
+  reads : Watches s t
+  reads = watches ReadWait target first first s.me.0.settles s t now own (inl refl) refl refl
+
+  same-number : t.me.0.number ≡ s.me.0.number
+  same-number = ap (λ (x : SessionView). x.me.0.number) now
+
+  same-settles : t.me.0.settles ≡ s.me.0.settles
+  same-settles = ap (λ (x : SessionView). x.me.0.settles) now
+
+  same-table : t.table ≡ s.table
+  same-table = ap (λ (x : SessionView). x.table) now
+
+  same-wait : wait_number (space_of t).own ≡ wait_number (space_of s).own
+  same-wait = ap (λ (x : SessionView). wait_number (space_of x).own) now
+
+  pub kill-done : found ≡ wait_in number 1
+      → Watches s s′ × Joins (space_of s) (Kill target number) (Has_killed true) (space_of s′) × Shows (Kill target number) (Has_killed true) s s′
+  kill-done is_found =
+      let made = hit is_found in
+      let odd : wait_state (wait_in number 1) ≡ 1 = omega arith in
+      let five : wait_state (wait_in number 5) ≡ 5 = omega arith in
+      let all : List Settlement = t.me.0.settles ++ record { session = target; wait = number; state = 5 } ∷ [] in
+      let settles = watches SettleWait target (wait_in number 1) (wait_in number 5) all t s′ made (subst (λ (w : ℕ). TellsOwn t.table.slots target w t.me.0) is_found later) (inr odd) refl refl in
+      let met = met-word SettleWait target (wait_in number 1) (wait_in number 5) all t s′ made in
+      let did = watches-then s t s′ reads settles in
+      let told = kill-settled target number within did
+      (ap (λ (x : SessionView). x.me.0.settles) made ∙ ap (λ (l : List Settlement). l ++ record { session = target; wait = number; state = 5 } ∷ []) same-settles)
+      (met.0, step_after s.me t.me s′.me (goes_staying s.me t.me reads.stayed) met.0 met.1, record { word = met.2.word_is ∙ ap (λ (id : TableId). wait_word id.slots target) same-table; found = met.2.found })
+      (λ mine.
+      let its = mine ∙ sym same-number in
+      let whole : number_in found ≡ Some number = (let state : wait_state found ≡ 1 = (let e = is_found in omega arith) in rw state (ap Some (let e = is_found in omega arith))) in
+      (sym same-wait ∙ sym (own-number t found (later its)) ∙ whole, told-own SettleWait target (wait_in number 1) (wait_in number 5) all t s′ made its (omega (arith, five)) ∙ ap Some five)) in (did, told.0, told.1)
+
+  pub kill-missed-later : found ≢ wait_in number 1
+      → Watches s s′ × Joins (space_of s) (Kill target number) (Has_killed false) (space_of s′) × Shows (Kill target number) (Has_killed false) s s′
+  kill-missed-later other =
+      let made = miss other in
+      let misses = watches MissWait target found found t.me.0.settles t s′ made later (inl refl) refl refl in
+      let met = met-word MissWait target found found t.me.0.settles t s′ made in
+      let did = watches-then s t s′ reads misses in
+      let told = kill-missed target number within did (ap (λ (x : SessionView). x.me.0.settles) made ∙ same-settles) (
+        met.0,
+        step_after s.me t.me s′.me (goes_staying s.me t.me reads.stayed) met.0 met.1,
+        record { word_is = met.2.word_is ∙ ap (λ (id : TableId). wait_word id.slots target) same-table; differs = λ same. other (sym met.2.found ∙ same) },
+      )
+      (λ mine its. let own_later = mine ∙ sym same-number in closed-settled MissWait t s′ target number found own_later (later own_later) made other (same-wait ∙ its)) in (did, told.0, told.1)
+
+  pub kill-either : Watches s s′
+  kill-either =
+      by_bool (found == wait_in number 1) (λ same. (kill-done (eqb-true found (wait_in number 1) same)).0) (λ differ. (kill-missed-later (eqb-false found (wait_in number 1) differ)).0)
+
+  pub kill-ended : (result : Bool) → (result ≡ true → found ≡ wait_in number 1) → (result ≡ false → found ≢ wait_in number 1)
+      → Joins (space_of s) (Kill target number) (Has_killed result) (space_of s′) × Shows (Kill target number) (Has_killed result) s s′
+  kill-ended true same other = let h = kill-done (same refl) in (h.1, h.2)
+  kill-ended false same other = let h = kill-missed-later (other refl) in (h.1, h.2)

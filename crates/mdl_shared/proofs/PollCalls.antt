@@ -1,108 +1,180 @@
 -- Calls on the session's own wait: polls and timeouts.
-use Rattle.std.proofs.Common.{◌≡◌, ℕ, true, false, is_some, Option, Some, None, Result, Ok, Err, IfOk, refl, sym, ap, subst, ◌∙◌}
-use Rattle.mdl_key.specs.Refusals.{RefusesJust}
-use Rattle.mdl_calls.specs.declared.answers.Poll.{Poll}
-use Rattle.mdl_calls.specs.declared.answers.Poll.TheVariants as poll
+use Rattle.std.proofs.Common.{◌≡◌, ◌≢◌, ℕ, ◌<◌, ◌≤◌, true, false, is_some, List, [], ◌∷◌, ◌++◌, Option, Some, None, inl, inr, refl, sym, ap, subst, ◌∙◌, arith}
+use Rattle.std.proofs.lemmas.Bool.Decides.{nat_tests}
 use Rattle.mdl_calls.specs.declared.answers.Settled.{Settled}
-use Rattle.mdl_calls.specs.declared.answers.Settled.TheVariants as settled_as
-use Rattle.mdl_calls.specs.declared.answers.TimedOut.{TimedOut}
+use Rattle.mdl_calls.specs.declared.answers.Settled.TheVariants.{Granted, Victim, Timeout, Killed}
 use Rattle.mdl_calls.specs.declared.answers.TimedOut.TheVariants.{ByThisCall, Already}
-use Rattle.mdl_calls.specs.declared.space_error.SpaceError.{SpaceError}
 use Rattle.mdl_calls.specs.declared.space_error.SpaceError.TheVariants.{NoWait}
-use Rattle.mdl_calls.specs.Words.{Pending, Is_settled, Timed_out, Poll_wait, Settle_timeout, IsCause, polled, timed_out}
+use Rattle.mdl_calls.specs.Words.{Is_settled, Pending, Poll_wait, Refused, Settle_timeout, Timed_out}
+use Rattle.mdl_steps.specs.declared.step_kind.StepKind.TheVariants.{MissWait, ReadWait, SettleWait}
 use Rattle.mdl_steps.specs.declared.view.Ask.{Ask}
+use Rattle.mdl_steps.specs.declared.view.Settlement.{Settlement}
+use Rattle.mdl_steps.specs.Cells.{waiter_of}
+use Rattle.mdl_steps.specs.Layout.{wait_word}
+use Rattle.mdl_steps.specs.Rule.{WaitOk}
+use Rattle.mdl_steps.specs.WaitPlays.{TellsOwn}
+use Rattle.mdl_steps.specs.WaitStates.{IsSettled, wait_in, wait_state}
 use Rattle.mdl_session_laws.specs.SessionJoins.{Joins}
-use Rattle.mdl_session_laws.specs.SessionSpaces.{SpeaksFor, Knows}
 use Rattle.mdl_visits.specs.Polls.{state_of}
-use Rattle.mdl_shared.specs.SessionViews.{SessionView, settled_told, space_of}
+use Rattle.mdl_shared.specs.Members.{IsMember}
+use Rattle.mdl_shared.specs.SessionViews.{SessionView, lists_seen, settled_of, space_of}
+use Rattle.mdl_shared.specs.Showings.{MeetsOwnWait, Shows}
 use Rattle.mdl_shared.specs.Waitings.{wait_fault}
-use Rattle.mdl_shared.proofs.Faults.{just-done, just-refused}
-use Rattle.mdl_shared.proofs.SameSpace.{Stays, joins-still, refused, settled-state, settled-told, told-settled, waits-asks}
+use Rattle.mdl_shared.proofs.Faults.{if-clear}
+use Rattle.mdl_shared.proofs.MemberFacts.{speaks}
+use Rattle.mdl_shared.proofs.Members.{done-nothing}
+use Rattle.mdl_shared.proofs.SameSpace.{joins-still, refused, same-stays, settled-told, told-settled, waits-asks}
+use Rattle.mdl_shared.proofs.WaitSteps.{Watches, met-word, shows, told-own, watches, word-step}
 
--- ---- whether there is a wait
+-- ---- how a wait is settled, by the state of its word
 
-pub asks-some : (asks : Option Ask) → wait_fault asks ≡ None → is_some asks ≡ true
-asks-some None e = cc
-asks-some (Some a) e = refl
+pub settled-is : (state : ℕ) (how : Settled) → settled_of state ≡ Some how → state ≡ state_of how
+settled-is state Granted e = grind (arith, nat_tests)
+settled-is state Victim e = grind (arith, nat_tests)
+settled-is state Timeout e = grind (arith, nat_tests)
+settled-is state Killed e = grind (arith, nat_tests)
 
-pub asks-none : (asks : Option Ask) (why : SpaceError) → wait_fault asks ≡ Some why → (is_some asks ≡ false) × (why ≡ NoWait)
-asks-none None why e = (refl, cc)
-asks-none (Some a) why e = cc
+-- the other states
+unsettled-is : (state : ℕ) → settled_of state ≡ None → state ≢ 0 → state ≤ 5 → state ≡ 1
+unsettled-is state e busy most = grind (arith, nat_tests)
 
-pub asks-clear : (asks : Option Ask) → is_some asks ≡ true → wait_fault asks ≡ None
-asks-clear None e = cc
-asks-clear (Some a) e = refl
+-- a settled one has one
+pub settled-some : (state : ℕ) → 1 < state → state ≤ 5 → (how : Settled) × (settled_of state ≡ Some how)
+settled-some state more most = by (settled_of state) refl
+  where
+    by : (o : Option Settled) → settled_of state ≡ o → (how : Settled) × (settled_of state ≡ Some how)
+    by (Some how) e = (how, e)
+    by None e =
+        let busy : state ≢ 0 = λ none. omega (arith, more, none) in
+        let one = unsettled-is state e busy most in absurd (omega (arith, more, one))
 
--- a wait that was told to be in the state of a settlement is settled so
-pub same-settled : (state : ℕ) (how one : Settled) → settled_told (Some state) ≡ Some how → state_of one ≡ state → one ≡ how
-same-settled state how one knows is =
-    let e : Some one ≡ Some how = sym (settled-state one) ∙ ap (λ n. settled_told (Some n)) is ∙ knows in cc
+pub settled-more : (state : ℕ) (how : Settled) → state ≡ state_of how → IsSettled state
+settled-more state Granted is = omega (arith, is)
+settled-more state Victim is = omega (arith, is)
+settled-more state Timeout is = omega (arith, is)
+settled-more state Killed is = omega (arith, is)
 
--- ---- polls
+-- ---- the session's own wait
 
-module _ (m m′ : SessionView) (who : ℕ) (stays : Stays m m′) (speaks : SpeaksFor (space_of m) who) where
-  pub poll-joins : (result : Result Poll SpaceError)
-      → ((how : Settled) → result ≡ Ok (poll.Settled how) → m′.me.0.told ≡ Some (state_of how))
-      → ((state : ℕ) → m.me.0.told ≡ Some state → IfOk result (λ told. (how : Settled) × (told ≡ poll.Settled how) × (state_of how ≡ state)))
-      → RefusesJust (wait_fault m.me.0.asks) result
-      → Joins (space_of m) (Poll_wait who) (polled result) (space_of m′)
-  poll-joins (Ok poll.Pending) settled again just =
-      joins-still m m′ (Poll_wait who) Pending stays speaks refl refl refl refl
-      (waits-asks m.me.0.asks m.me.0.waits ∙ asks-some m.me.0.asks (just-done (wait_fault m.me.0.asks) poll.Pending just)) tt refl
-      (λ state how is knows.
-      let h = settled-told m.me.0.told how knows in
-      let same = (again h.0 h.1).1 in cc)
-      (λ how is. cc) refl (λ r. r) tt
-  poll-joins (Ok (poll.Settled one)) settled again just =
-      joins-still m m′ (Poll_wait who) (Is_settled one) stays speaks refl refl refl refl
-      (waits-asks m.me.0.asks m.me.0.waits ∙ asks-some m.me.0.asks (just-done (wait_fault m.me.0.asks) (poll.Settled one) just)) tt refl
-      (λ state how is knows.
-      let h = settled-told m.me.0.told how knows in
-      let told = again h.0 h.1 in
-      let its : one ≡ told.0 = (let e = told.1 in cc) in
-      let same : one ≡ how = its ∙ same-settled h.0 how told.0 h.2 told.2 in cc)
-      (λ how is.
-      let e : one ≡ how = cc in
-      told-settled m′.me.0.told how (settled one refl ∙ ap (λ s. Some (state_of s)) e))
-      refl (λ r. r) tt
-  poll-joins (Err why) settled again just =
-      let none = asks-none m.me.0.asks why (just-refused Poll (wait_fault m.me.0.asks) why just) in
-      refused m m′ (Poll_wait who) why stays speaks refl refl
-      (subst (λ w. IsCause (Knows (space_of m) m.me.0.number) (Poll_wait who) w (space_of m).own) (sym none.1)
-      (waits-asks m.me.0.asks m.me.0.waits ∙ none.0)) (λ state how is. cc) tt
+clear-wait : (asks : Option Ask) → is_some asks ≡ true → wait_fault asks ≡ None
+clear-wait None e = cc
+clear-wait (Some a) e = refl
+
+-- without one both calls are refused
+module _ {s : SessionView} (is : IsMember s) (idle : is_some s.me.0.asks ≡ false) where
+  pub poll-refused : Joins (space_of s) (Poll_wait s.me.0.number) (Refused NoWait) (space_of s)
+  poll-refused =
+      refused s s (Poll_wait s.me.0.number) NoWait (same-stays s) (speaks is) refl refl (waits-asks s.me.0.asks s.me.0.waits ∙ idle) (λ state how is. cc) tt
+
+  pub timeout-refused : Joins (space_of s) (Settle_timeout s.me.0.number) (Refused NoWait) (space_of s)
+  timeout-refused =
+      refused s s (Settle_timeout s.me.0.number) NoWait (same-stays s) (speaks is) refl refl (waits-asks s.me.0.asks s.me.0.waits ∙ idle) (λ state how is. cc) tt
+
+module _ {s : SessionView} (is : IsMember s) (waiting : is_some s.me.0.asks ≡ true) (session found : ℕ) (mine : session ≡ s.me.0.number)
+    (own : TellsOwn s.table.slots session found s.me.0) where
+  ok : WaitOk s.table.slots found (waiter_of s.me.0)
+  ok = own mine
+
+  busy : wait_state found ≢ 0
+  busy = by s.me.0.asks refl waiting
+    where
+      by : (o : Option Ask) → s.me.0.asks ≡ o → is_some o ≡ true → wait_state found ≢ 0
+      by None asks some = cc
+      by (Some a) asks some = (ok.asks a asks).0
+
+  -- its word has the number of its last wait
+  in-state : (state : ℕ) → wait_state found ≡ state → found ≡ wait_in s.me.0.waits state
+  in-state state its = let last = ok.number in omega (arith, last, its)
+
+  unsettled : settled_of (wait_state found) ≡ None → found ≡ wait_in s.me.0.waits 1
+  unsettled e = in-state 1 (unsettled-is (wait_state found) e busy ok.state)
+
+  -- what the session knew of it is so
+  agreed : (o : Option Settled) → settled_of (wait_state found) ≡ o → (how : Settled) → (space_of s).settled ≡ Some how → o ≡ Some how
+  agreed o its how knows = let h = settled-told s.me.0.told how knows in sym its ∙ ap settled_of (ok.told h.0 h.1).1 ∙ h.2
+
+  -- ---- polls
+
+  module _ {s′ : SessionView} (now : s′ ≡ word-step ReadWait session found found s.me.0.settles s) where
+    pub polls : Watches s s′
+    polls = watches ReadWait session found found s.me.0.settles s s′ now own (inl refl) refl refl
+
+    polls-own : (state : ℕ) → wait_state found ≡ state → MeetsOwnWait state (lists_seen s.me.0) s s′
+    polls-own state its =
+        let met = met-word ReadWait session found found s.me.0.settles s s′ now in
+        (met.0, met.1, record { word = met.2.word_is ∙ ap (wait_word s.table.slots) mine; found = met.2.found ∙ in-state state its })
+
+    pub poll-pending : settled_of (wait_state found) ≡ None
+        → Joins (space_of s) (Poll_wait s.me.0.number) Pending (space_of s′) × Shows (Poll_wait s.me.0.number) Pending s s′
+    poll-pending none = (
+      joins-still s s′ (Poll_wait s.me.0.number) Pending (done-nothing polls.done) (speaks is) refl refl refl refl
+          (waits-asks s.me.0.asks s.me.0.waits ∙ waiting) tt refl
+          (λ state how met knows. let e : None ≡ state = cc in sym e ∙ agreed None none how knows) (λ how told. cc) refl (λ r. r) tt,
+      shows polls (if-clear _ (wait_fault s.me.0.asks) (clear-wait s.me.0.asks waiting)) polls.did (ap (λ (x : SessionView). x.me.0.settles) now) tt polls.stayed
+          (polls-own 1 (unsettled-is (wait_state found) none busy ok.state)),
+    )
+
+    pub poll-settled : (one : Settled) → settled_of (wait_state found) ≡ Some one
+        → Joins (space_of s) (Poll_wait s.me.0.number) (Is_settled one) (space_of s′) × Shows (Poll_wait s.me.0.number) (Is_settled one) s s′
+    poll-settled one some =
+        let its = settled-is (wait_state found) one some in
+        let told = told-own ReadWait session found found s.me.0.settles s s′ now mine (settled-more (wait_state found) one its) ∙ ap Some its in (
+          joins-still s s′ (Poll_wait s.me.0.number) (Is_settled one) (done-nothing polls.done) (speaks is) refl refl refl refl
+              (waits-asks s.me.0.asks s.me.0.waits ∙ waiting) tt refl
+              (λ state how met knows. let e : Some one ≡ state = cc in sym e ∙ agreed (Some one) some how knows)
+              (λ how tells. let e : one ≡ how = cc in told-settled s′.me.0.told how (told ∙ ap (λ (x : Settled). Some (state_of x)) e)) refl (λ r. r) tt,
+          shows polls (if-clear _ (wait_fault s.me.0.asks) (clear-wait s.me.0.asks waiting)) polls.did (ap (λ (x : SessionView). x.me.0.settles) now) tt polls.stayed
+              (polls-own (state_of one) its),
+        )
 
   -- ---- timeouts
 
-  pub timeout-joins : (result : Result TimedOut SpaceError)
-      → (result ≡ Ok ByThisCall → m′.me.0.told ≡ Some 4)
-      → ((how : Settled) → result ≡ Ok (Already how) → m′.me.0.told ≡ Some (state_of how))
-      → ((state : ℕ) → m.me.0.told ≡ Some state → IfOk result (λ told. (how : Settled) × (told ≡ Already how) × (state_of how ≡ state)))
-      → RefusesJust (wait_fault m.me.0.asks) result
-      → Joins (space_of m) (Settle_timeout who) (timed_out result) (space_of m′)
-  timeout-joins (Ok ByThisCall) now settled again just =
-      joins-still m m′ (Settle_timeout who) (Timed_out ByThisCall) stays speaks refl refl refl refl
-      (waits-asks m.me.0.asks m.me.0.waits ∙ asks-some m.me.0.asks (just-done (wait_fault m.me.0.asks) ByThisCall just)) tt refl
-      (λ state how is knows.
-      let h = settled-told m.me.0.told how knows in
-      let same = (again h.0 h.1).1 in cc)
-      (λ how is.
-      let e : settled_as.Timeout ≡ how = cc in
-      told-settled m′.me.0.told how (now refl ∙ ap (λ s. Some (state_of s)) e))
-      refl (λ r. r) tt
-  timeout-joins (Ok (Already one)) now settled again just =
-      joins-still m m′ (Settle_timeout who) (Timed_out (Already one)) stays speaks refl refl refl refl
-      (waits-asks m.me.0.asks m.me.0.waits ∙ asks-some m.me.0.asks (just-done (wait_fault m.me.0.asks) (Already one) just)) tt refl
-      (λ state how is knows.
-      let h = settled-told m.me.0.told how knows in
-      let told = again h.0 h.1 in
-      let its : one ≡ told.0 = (let e = told.1 in cc) in
-      let same : one ≡ how = its ∙ same-settled h.0 how told.0 h.2 told.2 in cc)
-      (λ how is.
-      let e : one ≡ how = cc in
-      told-settled m′.me.0.told how (settled one refl ∙ ap (λ s. Some (state_of s)) e))
-      refl (λ r. r) tt
-  timeout-joins (Err why) now settled again just =
-      let none = asks-none m.me.0.asks why (just-refused TimedOut (wait_fault m.me.0.asks) why just) in
-      refused m m′ (Settle_timeout who) why stays speaks refl refl
-      (subst (λ w. IsCause (Knows (space_of m) m.me.0.number) (Settle_timeout who) w (space_of m).own) (sym none.1)
-      (waits-asks m.me.0.asks m.me.0.waits ∙ none.0)) (λ state how is. cc) tt
+  module _ {s′ : SessionView} (wait : ℕ) (last : wait ≡ s.me.0.waits)
+      (hit : found ≡ wait_in wait 1
+      → s′ ≡ word-step SettleWait session (wait_in wait 1) (wait_in wait 4) (s.me.0.settles ++ record { session = session; wait = wait; state = 4 } ∷ []) s)
+      (miss : found ≢ wait_in wait 1 → s′ ≡ word-step MissWait session found found s.me.0.settles s) where
+    pub timeout-now : settled_of (wait_state found) ≡ None
+        → Watches s s′ × Joins (space_of s) (Settle_timeout s.me.0.number) (Timed_out ByThisCall) (space_of s′) × Shows (Settle_timeout s.me.0.number) (Timed_out ByThisCall) s s′
+    timeout-now none =
+        let is_found = unsettled none ∙ ap (λ (w : ℕ). wait_in w 1) (sym last) in
+        let now = hit is_found in
+        let odd : wait_state (wait_in wait 1) ≡ 1 = omega arith in
+        let four : wait_state (wait_in wait 4) ≡ 4 = omega arith in
+        let all : List Settlement = s.me.0.settles ++ record { session = session; wait = wait; state = 4 } ∷ [] in
+        let did = watches SettleWait session (wait_in wait 1) (wait_in wait 4) all s s′ now (subst (λ (w : ℕ). TellsOwn s.table.slots session w s.me.0) is_found own) (inr odd) refl refl in
+        let met = met-word SettleWait session (wait_in wait 1) (wait_in wait 4) all s s′ now in
+        let told = told-own SettleWait session (wait_in wait 1) (wait_in wait 4) all s s′ now mine (omega (arith, four)) ∙ ap Some four in (
+          did,
+          joins-still s s′ (Settle_timeout s.me.0.number) (Timed_out ByThisCall) (done-nothing did.done) (speaks is) refl refl refl refl
+              (waits-asks s.me.0.asks s.me.0.waits ∙ waiting) tt refl
+              (λ state how met knows. let e : None ≡ state = cc in sym e ∙ agreed None none how knows)
+              (λ how tells. let e : Timeout ≡ how = cc in told-settled s′.me.0.told how (told ∙ ap (λ (x : Settled). Some (state_of x)) e)) refl (λ r. r) tt,
+          shows did (if-clear _ (wait_fault s.me.0.asks) (clear-wait s.me.0.asks waiting)) did.did (ap (λ (x : SessionView). x.me.0.settles) now ∙ ap (λ (n : ℕ). s.me.0.settles ++ record { session = n; wait = wait; state = 4 } ∷ []) mine
+              ∙ ap (λ (w : ℕ). s.me.0.settles ++ record { session = s.me.0.number; wait = w; state = 4 } ∷ []) last) tt did.stayed
+              ((met.0, met.1, record { word = met.2.word_is ∙ ap (wait_word s.table.slots) mine; found = met.2.found ∙ ap (λ (w : ℕ). wait_in w 1) last })),
+        )
+
+    pub timeout-already : (one : Settled) → settled_of (wait_state found) ≡ Some one
+        → Watches s s′ × Joins (space_of s) (Settle_timeout s.me.0.number) (Timed_out (Already one)) (space_of s′) × Shows (Settle_timeout s.me.0.number) (Timed_out (Already one)) s s′
+    timeout-already one some =
+        let its = settled-is (wait_state found) one some in
+        let more = settled-more (wait_state found) one its in
+        let now = miss (λ open_is. let odd : wait_state found ≡ 1 = (let e = open_is in omega arith) in omega (arith, more, odd)) in
+        let did = watches MissWait session found found s.me.0.settles s s′ now own (inl refl) refl refl in
+        let met = met-word MissWait session found found s.me.0.settles s s′ now in
+        let told = told-own MissWait session found found s.me.0.settles s s′ now mine more ∙ ap Some its in (
+          did,
+          joins-still s s′ (Settle_timeout s.me.0.number) (Timed_out (Already one)) (done-nothing did.done) (speaks is) refl refl refl refl
+              (waits-asks s.me.0.asks s.me.0.waits ∙ waiting) tt refl
+              (λ state how met knows. let e : Some one ≡ state = cc in sym e ∙ agreed (Some one) some how knows)
+              (λ how tells. let e : one ≡ how = cc in told-settled s′.me.0.told how (told ∙ ap (λ (x : Settled). Some (state_of x)) e)) refl (λ r. r) tt,
+          shows did (if-clear _ (wait_fault s.me.0.asks) (clear-wait s.me.0.asks waiting)) did.did (ap (λ (x : SessionView). x.me.0.settles) now) tt did.stayed
+              ((met.0, met.1, record { word = met.2.word_is ∙ ap (wait_word s.table.slots) mine; found = met.2.found ∙ in-state (state_of one) its })),
+        )
+
+    pub timeouts : Watches s s′
+    timeouts = by (settled_of (wait_state found)) refl
+      where
+        by : (o : Option Settled) → settled_of (wait_state found) ≡ o → Watches s s′
+        by None none = (timeout-now none).0
+        by (Some one) some = (timeout-already one some).0

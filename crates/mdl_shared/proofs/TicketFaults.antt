@@ -30,6 +30,10 @@ pub other-false : (x y : Bool) → (x && y) ≡ false → x ≡ true → y ≡ f
 other-false true y e is = e
 other-false false y e is = cc
 
+-- the same ticket is found
+pub one-ticket : {T : Type 0} (o : Option T) (t u : T) → o ≡ Some t → o ≡ Some u → t ≡ u
+one-ticket o t u one other = let e : Some t ≡ Some u = sym one ∙ other in cc
+
 -- neither fault
 two-clear : (can waits : Bool) (one other : SpaceError) → (if not can then Some one else (if waits then Some other else None)) ≡ None → (can ≡ true) × (waits ≡ false)
 two-clear true false one other e = (refl, refl)
@@ -69,6 +73,12 @@ held-clear id tickets e = test-passed (is_some (numbered id tickets)) NotHeld e
 
 pub held-fault : (id : ℕ) (tickets : List Own) (why : SpaceError) → holding_fault id tickets ≡ Some why → (is_some (numbered id tickets) ≡ false) × (why ≡ NotHeld)
 held-fault id tickets why e = test-failed (is_some (numbered id tickets)) NotHeld why e
+
+-- a ticket that is downgraded may be, and the mode fits its lock
+pub downgrade-passed : (t : Own) (mode : Mode) (known : List Known) → downgrade_fault (Some t) mode known ≡ None
+    → (may_downgrade t.mode mode ≡ true) × (is_fit t.place mode known ≡ true)
+downgrade-passed t mode known e =
+    and_parts (may_downgrade t.mode mode) (is_fit t.place mode known) (test-passed (may_downgrade t.mode mode && is_fit t.place mode known) NotUpgradable e)
 
 -- two tickets that are merged are at one place
 pub merge-here : (kept gone : Own) (asks : Option Ask) → merge_fault (Some kept) (Some gone) asks ≡ None → is_here kept.place gone ≡ true

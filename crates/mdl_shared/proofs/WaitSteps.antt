@@ -1,27 +1,46 @@
--- What becomes of a session that reads the word of a wait, or settles the wait.
-use Rattle.std.proofs.Common.{◌≡◌, ◌⊎◌, ℕ, ◌<◌, ◌≤◌, ◌==◌, ◌&&◌, Bool, true, false, is_some, List, [], ◌∷◌, ◌++◌, Option, Some, None, inl, inr, refl, sym, ap, subst, ◌∙◌, append_assoc, append-nil, arith}
-use Rattle.std.specs.Prelude.{◌%◌, nat_lt}
-use Rattle.std.proofs.lemmas.Bool.{and_parts, eq-eqb, eqb-true, lt-ltb, ltb-true}
-use Rattle.mdl_calls.specs.Words.{No_cycle, Search}
+-- What becomes of a session that does no deed: it only looks, or it reads the word of a wait, or settles the wait.
+use Rattle.std.proofs.Common.{◌≡◌, ◌⊎◌, ℕ, ◌<◌, ◌≤◌, ◌==◌, ◌&&◌, Bool, true, false, is_some, List, [], ◌∷◌, ◌++◌, Option, Some, None, IfSome, inl, inr, refl, sym, ap, subst, ◌∙◌, append_assoc, append-nil, arith}
+use Rattle.std.specs.Prelude.{nat_lt}
+use Rattle.std.proofs.lemmas.Bool.{and_parts, eq-eqb, eqb-true, false≢true, lt-ltb, ltb-true}
+use Rattle.mdl_calls.specs.Words.{Answer, Call, No_cycle, Refused, Search}
 use Rattle.mdl_steps.specs.declared.step_kind.StepKind.{StepKind}
 use Rattle.mdl_steps.specs.declared.view.Met.{Met}
 use Rattle.mdl_steps.specs.declared.view.Settlement.{Settlement}
-use Rattle.mdl_steps.specs.declared.view.View.{View}
 use Rattle.mdl_steps.specs.Layout.{wait_word}
-use Rattle.mdl_steps.specs.Plays.{Mine, logged}
+use Rattle.mdl_steps.specs.Plays.{logged}
+use Rattle.mdl_steps.specs.SeatStates.{SeatState}
 use Rattle.mdl_steps.specs.WaitPlays.{TellsOwn, meeting}
 use Rattle.mdl_steps.specs.WaitSeats.{IsSession}
 use Rattle.mdl_steps.specs.WaitStates.{IsSettled, wait_state}
 use Rattle.mdl_steps.proofs.Views.{by_bool}
+use Rattle.mdl_visits.specs.Grantings.{StaysTold}
 use Rattle.mdl_visits.specs.Polls.{MeetsWord}
 use Rattle.mdl_visits.specs.Visits.{Does, IsStepOf, StaysOn, StaysThere, gives_back, raises_flags}
 use Rattle.mdl_visits.proofs.Steps.{does_then, each_append}
 use Rattle.mdl_shared.specs.declared.member.Member.{Member}
 use Rattle.mdl_shared.specs.Members.{IsMember}
-use Rattle.mdl_shared.specs.SessionViews.{Lists, SessionView, space_of}
+use Rattle.mdl_shared.specs.SessionViews.{Lists, SessionView, lists_seen, session_at}
+use Rattle.mdl_shared.specs.Showings.{KeepsTold, MakesNoStep, MeetsSo, SettlesSo, Shows, StepsSo, done_by, own_fault}
 use Rattle.mdl_shared.proofs.MemberFacts.{speaks}
 use Rattle.mdl_shared.proofs.Members.{HasDone, done-nothing, done-order, kept}
 use Rattle.mdl_shared.proofs.SameSpace.{joins-still}
+
+-- a visit without a deed
+pub quietly : {seat seat′ : SeatState} {log : List Met} {told : Option ℕ} {settles : List Settlement} (sessions : ℕ) → seat′.table ≡ seat.table
+    → seat′.me ≡ (record seat.me.0 { told = told; settles = settles; log = log }, seat.me.1) → StaysTold seat.me.0.told told
+    → (seat.me.0.asks ≡ None → told ≡ seat.me.0.told) → HasDone 0 [] (session_at seat sessions) (session_at seat′ sessions)
+quietly {log = log} {told = told} {settles = settles} sessions table me stays unasked = record {
+  told = told;
+  settles = settles;
+  log = log;
+  now = λ i. record { table = table i; sessions = sessions; me = me i };
+  stays = stays;
+  unasked = unasked;
+}
+
+-- of a session that waits what is told of no wait is so
+pub asked : {P : Type 0} (s : SessionView) → is_some s.me.0.asks ≡ true → s.me.0.asks ≡ None → P
+asked s waiting none = absurd (false≢true (sym (ap is_some none) ∙ waiting))
 
 -- what is always so of a session stays so where it does no deed
 pub still-member : {place : ℕ} {s s′ : SessionView} → HasDone place [] s s′ → IsMember s → IsMember s′
@@ -44,6 +63,21 @@ pub record Watches (s s′ : SessionView) : Type 0 where
   pub done : HasDone 0 [] s s′
   pub did : Does [] s.me s′.me
   pub stayed : StaysOn s.me s′.me
+
+-- a call shows what its steps show
+pub shows : {call : Call} {answer : Answer} {s s′ : SessionView} → Watches s s′ → IfSome (own_fault call (lists_seen s.me.0)) (λ why. (answer ≡ Refused why) × MakesNoStep s s′)
+    → Does (done_by call answer s.me.0.slow) s.me s′.me → SettlesSo call answer (lists_seen s.me.0) s s′ → KeepsTold call s s′ → StepsSo call s s′
+    → MeetsSo call answer (lists_seen s.me.0) s s′ → Shows call answer s s′
+shows watches refused did settled told steps met = record {
+  table = ap (λ (x : SessionView). x.table) watches.done.now;
+  sessions = ap (λ (x : SessionView). x.sessions) watches.done.now;
+  refused = refused;
+  did = did;
+  settled = settled;
+  told = told;
+  steps = steps;
+  met = met;
+}
 
 pub watches-then : (a b c : SessionView) → Watches a b → Watches b c → Watches a c
 watches-then a b c first later = record {

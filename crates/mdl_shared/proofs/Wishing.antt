@@ -1,8 +1,7 @@
 -- What a session that may wish for a mode at a place gives the visit, by its own lists.
-use Rattle.std.proofs.Common.{◌≡◌, ℕ, ◌+◌, ◌<◌, true, is_some, Option, Some, None, List, Ok, refl, sym, ap, ◌∙◌}
+use Rattle.std.proofs.Common.{◌≡◌, ℕ, ◌+◌, ◌<◌, true, is_some, Option, Some, None, List, refl, sym, ap, ◌∙◌}
 use Rattle.mdl_key.specs.declared.mode.Mode.{Mode}
 use Rattle.mdl_key.specs.declared.namespace.Kind.{Kind}
-use Rattle.mdl_key.specs.Refusals.{RefusesJust}
 use Rattle.mdl_key.specs.Words.{is_mode_of}
 use Rattle.mdl_calls.specs.declared.space_error.SpaceError.{SpaceError}
 use Rattle.mdl_steps.specs.declared.deed.Deed.TheVariants.{Gain}
@@ -17,7 +16,6 @@ use Rattle.mdl_shared.specs.Members.{kind_known, most_numbers, wish_fault}
 use Rattle.mdl_shared.specs.Passes.{view_of}
 use Rattle.mdl_shared.specs.SessionViews.{Lists, SessionView, lists_seen}
 use Rattle.mdl_shared.specs.Waitings.{are_below}
-use Rattle.mdl_shared.proofs.Faults.{just-done}
 use Rattle.mdl_shared.proofs.MemberFacts.{below, may-latch, place-within}
 use Rattle.mdl_shared.proofs.Membership.{kind_place, kind_there}
 use Rattle.mdl_shared.proofs.Props.{member}
@@ -39,19 +37,19 @@ pub fault-seen : (m : Member) (place : ℕ) (mode : Mode) (o : Option SpaceError
     → wish_fault (kind_known place m.seat.me.0.known) m.seat.me.0.asks mode m.seat.me.0.next ≡ o
 fault-seen m place mode o fault = ap (λ (l : Lists). wish_fault (kind_known place l.known) l.asks mode l.next) (sym m.lists) ∙ fault
 
-pub may-wish : (m : Member) (place : ℕ) (kind : Kind) (mode : Mode) → kind_known place m.known.known ≡ Some kind
-    → RefusesJust (wish_fault (kind_known place m.known.known) m.asks mode m.next) (Ok kind) → MayWish place kind mode (view_of m)
-may-wish m place kind mode known just =
+pub may-wish : (m : Member) (place : ℕ) (kind : Kind) (mode : Mode) → (kind_known place m.known.known ≡ Some kind) × (wish_fault (Some kind) m.asks mode m.next ≡ None)
+    → MayWish place kind mode (view_of m)
+may-wish m place kind mode wished =
     let is = member m in
-    let seen = ap (λ (l : Lists). kind_known place l.known) (sym m.lists) ∙ known in
-    let clear = fault-seen m place mode None (just-done (wish_fault (kind_known place m.known.known) m.asks mode m.next) kind just) in
+    let known = ap (λ (l : Lists). kind_known place l.known) (sym m.lists) ∙ wished.0 in
+    let clear = fault-seen m place mode None (ap (λ (o : Option Kind). wish_fault o m.asks mode m.next) wished.0 ∙ wished.1) in
     let passed = wish-clear (view_of m) place mode clear in record {
       clear = clear;
-      within = place-within is place (kind_place place kind m.seat.me.0.known seen);
+      within = place-within is place (kind_place place kind m.seat.me.0.known known);
       rising = may-latch is place;
       idle = no-asks m.seat.me.0.asks m.seat.me.0.waits (waits-asks m.seat.me.0.asks m.seat.me.0.waits ∙ passed.0);
-      known = kind_there place kind m.seat.me.0.known seen;
-      fits = wish-mode kind m.seat.me.0.asks mode m.seat.me.0.next (ap (λ (o : Option Kind). wish_fault o m.seat.me.0.asks mode m.seat.me.0.next) (sym seen) ∙ clear);
+      known = kind_there place kind m.seat.me.0.known known;
+      fits = wish-mode kind m.asks mode m.next wished.1;
       below = passed.3;
     }
 

@@ -3,33 +3,17 @@
 use Rattle.std.specs.Prelude.{ℕ, List, [], ◌∷◌, Option, Some, Result, Ok, Err, if◌then◌else◌}
 use Rattle.mdl_key.specs.declared.mode.Mode.{Mode}
 use Rattle.mdl_system.specs.Strength.{covers}
-use Rattle.mdl_calls.specs.declared.answers.Attempt.{Attempt}
-use Rattle.mdl_calls.specs.declared.answers.Attempt.TheVariants as attempt
-use Rattle.mdl_calls.specs.declared.answers.Begun.{Begun}
-use Rattle.mdl_calls.specs.declared.answers.Begun.TheVariants as begun
 use Rattle.mdl_calls.specs.declared.answers.Upgrade.{Upgrade}
 use Rattle.mdl_calls.specs.declared.answers.Upgrade.TheVariants.{Upgraded, WouldWait}
 use Rattle.mdl_calls.specs.declared.space_error.SpaceError.{SpaceError}
 use Rattle.mdl_steps.specs.declared.deed.Deed.{Deed}
-use Rattle.mdl_steps.specs.declared.deed.Deed.TheVariants.{Gain, Alter, Lose}
+use Rattle.mdl_steps.specs.declared.deed.Deed.TheVariants.{Alter, Lose}
 use Rattle.mdl_steps.specs.declared.view.Own.{Own}
 
 -- these deeds, where the call isn't refused
 abbrev pub deeds_if_done : {A : Type 0} → List Deed → Result A SpaceError → List Deed
 deeds_if_done ds (Ok _) = ds
 deeds_if_done ds (Err _) = []
-
--- a wish for a mode gains a ticket where it is granted
-abbrev pub wish_deeds : Mode → Result Attempt SpaceError → List Deed
-wish_deeds mode (Ok (attempt.Granted id)) = Gain id mode ∷ []
-wish_deeds mode (Ok attempt.WouldWait) = []
-wish_deeds mode (Err _) = []
-
--- so does one that waits where it can't be granted
-abbrev pub begin_deeds : Mode → Result Begun SpaceError → List Deed
-begin_deeds mode (Ok (begun.Granted id)) = Gain id mode ∷ []
-begin_deeds mode (Ok (begun.Waiting _)) = []
-begin_deeds mode (Err _) = []
 
 -- a ticket of a number rises to a mode
 abbrev pub rise_deeds : ℕ → Mode → Upgrade → List Deed

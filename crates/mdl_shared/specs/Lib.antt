@@ -15,7 +15,6 @@ pub use Rattle.mdl_visits.specs.Tables
 pub use Rattle.mdl_visits.specs.Visits
 pub use Rattle.mdl_visits.specs.WaitEndings
 pub use Rattle.mdl_visits.specs.WaitOpenings
-pub mod Beginnings
 pub mod Doings
 pub mod Endings
 pub mod Members

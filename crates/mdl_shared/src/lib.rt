@@ -37,23 +37,28 @@
 //! ```
 #![tactic(auto)]
 
+mod audit;
 mod begin_wait;
 mod clone_ticket;
 mod downgrade;
 mod end_wait;
 mod held;
 mod holdings;
+mod kill;
 mod manager;
 mod member;
 mod merge;
 mod pass;
 mod poll_wait;
 mod release;
+mod reschedule;
+mod search;
 mod session;
 mod settle_timeout;
 mod tickets;
 mod try_now;
 mod upgrade_now;
+mod wait_of;
 mod wait_words;
 mod wishes;
 

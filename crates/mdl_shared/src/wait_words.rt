@@ -1,4 +1,5 @@
 //! What the words of waits tell.
+ghost use Rattle.mdl_calls.specs.Limits.{is_within};
 ghost use Rattle.std.specs.Prelude.{false, true, ◌≡◌, ◌≢◌};
 ghost use Rattle.mdl_steps.specs.WaitStates.{unsettled_state, wait_in};
 ghost use Rattle.mdl_shared.specs.SessionViews.{settled_of};
@@ -25,4 +26,11 @@ pub(crate) fn is_open(word: WaitWord, number: u64) -> bool
     ensures other { result ≡ false → word.0 ≢ wait_in number unsettled_state }
 {
     word.number() == number && word.state() == WaitWord::UNSETTLED
+}
+
+/// Whether a space of so many sessions has one of this number.
+pub(crate) fn is_session(session: u16, sessions: usize) -> bool
+    ensures { result ≡ is_within sessions session }
+{
+    1 <= session && usize::from(session) <= sessions
 }

@@ -1,8 +1,7 @@
 //! What a wish for a lock has to pass before anything is tried.
-ghost use Rattle.std.specs.Prelude.{IfOk, Some, ◌≡◌};
+ghost use Rattle.std.specs.Prelude.{MatchResult, None, Some, ◌≡◌};
 ghost use Rattle.mdl_book.specs.declared.book_error.BookError.TheVariants as book;
 ghost use Rattle.mdl_calls.specs.declared.space_error.SpaceError.TheVariants as space;
-ghost use Rattle.mdl_key.specs.Refusals.{RefusesJust};
 ghost use Rattle.mdl_shared.specs.Members.{kind_known, wish_fault};
 
 use crate::holdings::MOST_NUMBERS;
@@ -14,8 +13,9 @@ use mdl_key::{Kind, Mode};
 impl Member {
     /// The kind of the lock at a place where the session may wish for a mode.
     pub(crate) fn kind_wished(&self, place: usize, mode: Mode) -> Result<Kind, SpaceError>
-        ensures kind { IfOk result (λ kind. kind_known place self.now.known.known ≡ Some kind) }
-        ensures just { RefusesJust (wish_fault (kind_known place self.now.known.known) self.now.asks mode self.now.next) result }
+        ensures { MatchResult result
+            (λ kind. (kind_known place self.now.known.known ≡ Some kind) × (wish_fault (Some kind) self.now.asks mode self.now.next ≡ None))
+            (λ why. wish_fault (kind_known place self.now.known.known) self.now.asks mode self.now.next ≡ Some why) }
     {
         let Some(kind) = self.known.kind_at(place) else {
             return Err(SpaceError::NoPlace);

@@ -11,7 +11,6 @@ use Rattle.mdl_visits.specs.WaitOpenings.{MeetsOpening}
 use Rattle.mdl_shared.specs.Passes.{view_of}
 use Rattle.mdl_shared.specs.SessionViews.{Lists, SessionView, lists_seen}
 use Rattle.mdl_shared.specs.TicketLists.{HasRoom}
-use Rattle.mdl_shared.proofs.Faults.{just-refused}
 use Rattle.mdl_shared.proofs.Members.{done-nothing, done-order, kept, lists-done, visited}
 use Rattle.mdl_shared.proofs.Props.{member}
 use Rattle.mdl_shared.proofs.Refusals.{own-shows}
@@ -27,7 +26,7 @@ returns-in_err-kind g c =
     let m = c.self.inside.member in
     let why = c.in_err-kind.field-0.0 in
     let refused : c.from_residual.result ≡ Err why = search rules in
-    let fault = fault-seen m c.args.place c.args.mode (Some why) (just-refused _ _ why c.in_err-kind.ensures.just) in
+    let fault = fault-seen m c.args.place c.args.mode (Some why) c.in_err-kind.ensures in
     rw refused (rw (← c.self.view_is) (record {
       joined = begin-unfit (member m) c.args.place c.args.mode why fault;
       shown = own-shows (Begin_wait m.seat.me.0.number c.args.place c.args.mode) why (view_of m) fault;
@@ -36,19 +35,19 @@ returns-in_err-kind g c =
 pub returns-then-is_err-clause-joined : goal.returns-then-is_err-clause-joined
 returns-then-is_err-clause-joined g c =
     let m = c.self.inside.member in
-    let may = may-wish m c.args.place c.in_ok-kind.kind c.args.mode c.in_ok-kind.ensures.kind c.in_ok-kind.ensures.just in
+    let may = may-wish m c.args.place c.in_ok-kind.kind c.args.mode c.in_ok-kind.ensures in
     rw (← c.self.view_is) (begin-refused (member m) c.args.place c.args.mode may.clear (same-stays (view_of m)) (inl refl))
 
 pub overflow_add-wait : goal.overflow_add-wait
 overflow_add-wait g c =
     let m = c.self.inside.member in
-    let may = may-wish m c.args.place c.in_ok-kind.kind c.args.mode c.in_ok-kind.ensures.kind c.in_ok-kind.ensures.just in
+    let may = may-wish m c.args.place c.in_ok-kind.kind c.args.mode c.in_ok-kind.ensures in
     omega (arith, may.below, (member m).fewer.0, ap (λ (l : Lists). l.waits) m.lists)
 
 pub begin_wait-requires : goal.begin_wait-requires
 begin_wait-requires g c =
     let m = c.self.inside.member in
-    let may = may-wish m c.args.place c.in_ok-kind.kind c.args.mode c.in_ok-kind.ensures.kind c.in_ok-kind.ensures.just in
+    let may = may-wish m c.args.place c.in_ok-kind.kind c.args.mode c.in_ok-kind.ensures in
     let waits = ap (λ (l : Lists). l.waits) m.lists in record {
       place = may.within;
       rising = may.rising;
@@ -67,16 +66,16 @@ invariant_of-member-in-Err-1 g c =
     record {
       lawful = ∣ still-member done (member m) ∣₁;
       lists = lists-done m done c.reserve.ensures.same;
-      room = unasked m (may-wish m c.args.place c.in_ok-kind.kind c.args.mode c.in_ok-kind.ensures.kind c.in_ok-kind.ensures.just).idle _;
+      room = unasked m (may-wish m c.args.place c.in_ok-kind.kind c.args.mode c.in_ok-kind.ensures).idle _;
     }
 
 pub returns-in-Err-clause-joined : goal.returns-in-Err-clause-joined
 returns-in-Err-clause-joined g c =
     let m = c.self.inside.member in
-    let may = may-wish m c.args.place c.in_ok-kind.kind c.args.mode c.in_ok-kind.ensures.kind c.in_ok-kind.ensures.just in
+    let may = may-wish m c.args.place c.in_ok-kind.kind c.args.mode c.in_ok-kind.ensures in
     rw (← c.self.view_is) (
-      begin-refused (member m) c.args.place c.args.mode may.clear (done-nothing (visited m.seat c.begin_wait.new.seat m.sessions c.in-Err.ensures.unchanged))
-      (refusal-causes c.in-Err.cause c.refusal.result c.refusal.ensures.full c.refusal.ensures.memory c.in-Err.ensures.refused))
+    begin-refused (member m) c.args.place c.args.mode may.clear (done-nothing (visited m.seat c.begin_wait.new.seat m.sessions c.in-Err.ensures.unchanged))
+    (refusal-causes c.in-Err.cause c.refusal.result c.refusal.ensures.full c.refusal.ensures.memory c.in-Err.ensures.refused))
 
 -- ---- the ticket was granted
 
@@ -86,13 +85,13 @@ push_reserved-requires-clause-below g c = below-seen c.self.inside.member c.rese
 pub overflow_add-member : goal.overflow_add-member
 overflow_add-member g c =
     let m = c.self.inside.member in
-    let may = may-wish m c.args.place c.in_ok-kind.kind c.args.mode c.in_ok-kind.ensures.kind c.in_ok-kind.ensures.just in
+    let may = may-wish m c.args.place c.in_ok-kind.kind c.args.mode c.in_ok-kind.ensures in
     omega (arith, may.below, ap (λ (l : Lists). l.next) m.lists)
 
 pub invariant_of-member-in-Ok-Granted : goal.invariant_of-member-in-Ok-Granted
 invariant_of-member-in-Ok-Granted g c =
     let m = c.self.inside.member in
-    let may = may-wish m c.args.place c.in_ok-kind.kind c.args.mode c.in_ok-kind.ensures.kind c.in_ok-kind.ensures.just in
+    let may = may-wish m c.args.place c.in_ok-kind.kind c.args.mode c.in_ok-kind.ensures in
     let done = visited m.seat c.begin_wait.new.seat m.sessions (c.begin_wait.ensures.granted (c.in-Ok-Granted.is ∙ ap Ok c.in-Ok-Granted.field-0-is)).0 in
     record {
       lawful = ∣ kept (member m) (done-order done (member m) (inl may.idle)) (begin-granted (member m) c.args.place c.args.mode may.clear (ap (λ (l : Lists). l.next) m.lists) done) ∣₁;
@@ -103,7 +102,7 @@ invariant_of-member-in-Ok-Granted g c =
 pub returns-in-Ok-Granted : goal.returns-in-Ok-Granted
 returns-in-Ok-Granted g c =
     let m = c.self.inside.member in
-    let may = may-wish m c.args.place c.in_ok-kind.kind c.args.mode c.in_ok-kind.ensures.kind c.in_ok-kind.ensures.just in
+    let may = may-wish m c.args.place c.in_ok-kind.kind c.args.mode c.in_ok-kind.ensures in
     let went = c.begin_wait.ensures.granted (c.in-Ok-Granted.is ∙ ap Ok c.in-Ok-Granted.field-0-is) in
     rw (← c.self.view_is) (record {
       joined = begin-granted (member m) c.args.place c.args.mode may.clear (ap (λ (l : Lists). l.next) m.lists) (visited m.seat c.begin_wait.new.seat m.sessions went.0);
@@ -115,7 +114,7 @@ returns-in-Ok-Granted g c =
 pub invariant_of-member-2 : goal.invariant_of-member-2
 invariant_of-member-2 g c =
     let m = c.self.inside.member in
-    let may = may-wish m c.args.place c.in_ok-kind.kind c.args.mode c.in_ok-kind.ensures.kind c.in_ok-kind.ensures.just in
+    let may = may-wish m c.args.place c.in_ok-kind.kind c.args.mode c.in_ok-kind.ensures in
     let now = begun m.seat c.begin_wait.new.seat m.sessions (c.begin_wait.ensures.waiting (c.in-Ok-Waiting.is ∙ ap Ok c.in-Ok-Waiting.field-0-is)).0 in
     record {
       lawful = ∣ kept (member m) (begun-order (member m) may.clear now) (begun-joins (member m) may.clear now refl) ∣₁;
@@ -126,7 +125,7 @@ invariant_of-member-2 g c =
 pub returns : goal.returns
 returns g c =
     let m = c.self.inside.member in
-    let may = may-wish m c.args.place c.in_ok-kind.kind c.args.mode c.in_ok-kind.ensures.kind c.in_ok-kind.ensures.just in
+    let may = may-wish m c.args.place c.in_ok-kind.kind c.args.mode c.in_ok-kind.ensures in
     let went = c.begin_wait.ensures.waiting (c.in-Ok-Waiting.is ∙ ap Ok c.in-Ok-Waiting.field-0-is) in
     let number = ap (λ (l : Lists). l.next) m.lists in
     rw (← c.self.view_is) (record {

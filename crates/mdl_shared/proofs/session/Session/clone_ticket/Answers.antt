@@ -4,16 +4,14 @@ use Rattle.mdl_book.specs.declared.book_error.BookError.TheVariants as fault
 use Rattle.mdl_calls.specs.Words.{Clone_ticket}
 use Rattle.mdl_steps.specs.declared.deed.Deed.TheVariants.{Gain}
 use Rattle.mdl_visits.specs.Leavings.{MeetsOwn}
-use Rattle.mdl_visits.specs.Numbers.{numbered}
-use Rattle.mdl_visits.proofs.Numbers.{has_number}
 use Rattle.mdl_shared.specs.Modes.{clone_fault}
 use Rattle.mdl_shared.specs.Passes.{view_of}
 use Rattle.mdl_shared.specs.SessionViews.{Lists}
-use Rattle.mdl_shared.proofs.CloneCalls.{clone-joins, clone-refused, clone-shows, clone-unfit, full-shows, refusal-met}
+use Rattle.mdl_shared.proofs.CloneCalls.{clone-joins, clone-refused, clone-shows, clone-unfit, refusal-met, refused-shows}
 use Rattle.mdl_shared.proofs.Faults.{just-done, just-refused}
 use Rattle.mdl_shared.proofs.Fitting.{fit_there}
-use Rattle.mdl_shared.proofs.MemberFacts.{may-latch, place-within, ticket-known}
-use Rattle.mdl_shared.proofs.Members.{done-nothing, done-order, fault-seen, held-seen, kept, lists-done, visited}
+use Rattle.mdl_shared.proofs.HeldTickets.{holds-ticket}
+use Rattle.mdl_shared.proofs.Members.{done-nothing, done-order, fault-seen, kept, lists-done, visited}
 use Rattle.mdl_shared.proofs.Props.{member}
 use Rattle.mdl_shared.proofs.Refusals.{own-shows}
 use Rattle.mdl_shared.proofs.SameSpace.{same-stays}
@@ -38,10 +36,8 @@ returns-in_err-held g c =
 pub reserve-requires : goal.reserve-requires
 reserve-requires g c =
     let m = c.self.inside.member in
-    let its = held-seen m c.args.id (Some c.in_ok-held.held) (sym c.in_ok-held.ensures.found) in
-    let within = place-within (member m) c.in_ok-held.held.place (ticket-known (member m) c.args.id c.in_ok-held.held its) in
-    let narrow = (member m).narrow in
-    omega (arith, within.1, narrow.1)
+    let held = holds-ticket m c.args.id c.in_ok-held.held c.in_ok-held.ensures.found in
+    omega (arith, held.within.1, (member m).narrow.1)
 
 pub returns-then-is_err-clause-joined : goal.returns-then-is_err-clause-joined
 returns-then-is_err-clause-joined g c =
@@ -50,29 +46,22 @@ returns-then-is_err-clause-joined g c =
     rw (← c.self.view_is) (clone-refused (member m) c.args.id c.args.mode clear (same-stays (view_of m)) (inl refl))
 
 pub clone_ticket-requires-clause-place : goal.clone_ticket-requires-clause-place
-clone_ticket-requires-clause-place g c =
-    let m = c.self.inside.member in
-    let its = held-seen m c.args.id (Some c.in_ok-held.held) (sym c.in_ok-held.ensures.found) in
-    place-within (member m) c.in_ok-held.held.place (ticket-known (member m) c.args.id c.in_ok-held.held its)
+clone_ticket-requires-clause-place g c = (holds-ticket c.self.inside.member c.args.id c.in_ok-held.held c.in_ok-held.ensures.found).within
 
 pub clone_ticket-requires-clause-rising : goal.clone_ticket-requires-clause-rising
-clone_ticket-requires-clause-rising g c = may-latch (member c.self.inside.member) c.in_ok-held.held.place
+clone_ticket-requires-clause-rising g c = (holds-ticket c.self.inside.member c.args.id c.in_ok-held.held c.in_ok-held.ensures.found).rising
 
 pub clone_ticket-requires-clause-held : goal.clone_ticket-requires-clause-held
-clone_ticket-requires-clause-held g c =
-    let m = c.self.inside.member in
-    let t = c.in_ok-held.held in
-    let its = held-seen m c.args.id (Some t) (sym c.in_ok-held.ensures.found) in
-    subst (λ (n : ℕ). numbered n m.seat.me.0.slow ≡ Some t) (sym (has_number c.args.id t m.seat.me.0.slow its)) its
+clone_ticket-requires-clause-held g c = (holds-ticket c.self.inside.member c.args.id c.in_ok-held.held c.in_ok-held.ensures.found).own
 
 pub clone_ticket-requires-clause-fits : goal.clone_ticket-requires-clause-fits
 clone_ticket-requires-clause-fits g c =
     let m = c.self.inside.member in
     let t = c.in_ok-held.held in
-    let its = held-seen m c.args.id (Some t) (sym c.in_ok-held.ensures.found) in
+    let held = holds-ticket m c.args.id t c.in_ok-held.ensures.found in
     let clear = fault-seen m (Clone_ticket m.seat.me.0.number c.args.id c.args.mode) None (just-done _ _ c.in_ok-held.ensures.just) in
     let fits = clone-fits t m.seat.me.0.asks c.args.mode m.seat.me.0.known m.seat.me.0.next
-    (sym (ap (λ o. clone_fault o m.seat.me.0.asks c.args.mode m.seat.me.0.known m.seat.me.0.next) its) ∙ clear) in
+    (sym (ap (λ o. clone_fault o m.seat.me.0.asks c.args.mode m.seat.me.0.known m.seat.me.0.next) held.its) ∙ clear) in
     fit_there t.place c.args.mode m.seat.me.0.known fits.1
 
 -- ---- it can't be made
@@ -81,10 +70,10 @@ pub invariant_of-member-in-Err-1 : goal.invariant_of-member-in-Err-1
 invariant_of-member-in-Err-1 g c =
     let m = c.self.inside.member in
     let t = c.in_ok-held.held in
-    let its = held-seen m c.args.id (Some t) (sym c.in_ok-held.ensures.found) in
+    let held = holds-ticket m c.args.id t c.in_ok-held.ensures.found in
     let clear = fault-seen m (Clone_ticket m.seat.me.0.number c.args.id c.args.mode) None (just-done _ _ c.in_ok-held.ensures.just) in
     let fits = clone-fits t m.seat.me.0.asks c.args.mode m.seat.me.0.known m.seat.me.0.next
-    (sym (ap (λ o. clone_fault o m.seat.me.0.asks c.args.mode m.seat.me.0.known m.seat.me.0.next) its) ∙ clear) in
+    (sym (ap (λ o. clone_fault o m.seat.me.0.asks c.args.mode m.seat.me.0.known m.seat.me.0.next) held.its) ∙ clear) in
     let done = visited m.seat c.clone_ticket.new.seat m.sessions c.in-Err.ensures.unchanged in
     record {
       lawful = ∣ still-member done (member m) ∣₁;
@@ -96,14 +85,14 @@ pub returns-in-Err : goal.returns-in-Err
 returns-in-Err g c =
     let m = c.self.inside.member in
     let t = c.in_ok-held.held in
-    let its = held-seen m c.args.id (Some t) (sym c.in_ok-held.ensures.found) in
+    let held = holds-ticket m c.args.id t c.in_ok-held.ensures.found in
     let clear = fault-seen m (Clone_ticket m.seat.me.0.number c.args.id c.args.mode) None (just-done _ _ c.in_ok-held.ensures.just) in
     let went = c.in-Err.ensures.unchanged in
     rw (← c.self.view_is) (record {
       joined = clone-refused (member m) c.args.id c.args.mode clear (done-nothing (visited m.seat c.clone_ticket.new.seat m.sessions went))
           (refusal-causes c.in-Err.cause c.refusal.result c.refusal.ensures.full c.refusal.ensures.memory c.in-Err.ensures.refused);
-      shown = full-shows (member m) c.args.id c.args.mode clear t its went.0 refl went.1
-          (refusal-met c.in-Err.cause c.refusal.result c.refusal.ensures.full c.refusal.ensures.memory c.in-Err.ensures.refused);
+      shown = refused-shows (member m) c.args.id c.args.mode clear went.0 refl went.1
+          (refusal-met (λ full. (t, held.its, full)) c.in-Err.cause c.refusal.result c.refusal.ensures.full c.refusal.ensures.memory c.in-Err.ensures.refused);
     })
 
 -- ---- it is made
@@ -116,13 +105,13 @@ invariant_of-member-2 g c =
     let m = c.self.inside.member in
     let is = member m in
     let t = c.in_ok-held.held in
-    let its = held-seen m c.args.id (Some t) (sym c.in_ok-held.ensures.found) in
+    let held = holds-ticket m c.args.id t c.in_ok-held.ensures.found in
     let clear = fault-seen m (Clone_ticket m.seat.me.0.number c.args.id c.args.mode) None (just-done _ _ c.in_ok-held.ensures.just) in
     let fits = clone-fits t m.seat.me.0.asks c.args.mode m.seat.me.0.known m.seat.me.0.next
-    (sym (ap (λ o. clone_fault o m.seat.me.0.asks c.args.mode m.seat.me.0.known m.seat.me.0.next) its) ∙ clear) in
+    (sym (ap (λ o. clone_fault o m.seat.me.0.asks c.args.mode m.seat.me.0.known m.seat.me.0.next) held.its) ∙ clear) in
     let done = visited m.seat c.clone_ticket.new.seat m.sessions c.in_default.ensures.cloned in
     record {
-      lawful = ∣ kept is (done-order done is (inl fits.0)) (clone-joins is c.args.id c.args.mode clear t its (ap (λ (l : Lists). l.next) m.lists) done) ∣₁;
+      lawful = ∣ kept is (done-order done is (inl fits.0)) (clone-joins is c.args.id c.args.mode clear t held.its (ap (λ (l : Lists). l.next) m.lists) done) ∣₁;
       lists = lists-done m done (gained-seen t.place m.next c.args.mode m.tickets.own c.reserve.new.self.own c.push_reserved.new.self.own c.reserve.ensures.same c.push_reserved.ensures.gained);
       room = unasked m fits.0 _;
     }
@@ -131,12 +120,12 @@ pub returns : goal.returns
 returns g c =
     let m = c.self.inside.member in
     let t = c.in_ok-held.held in
-    let its = held-seen m c.args.id (Some t) (sym c.in_ok-held.ensures.found) in
+    let held = holds-ticket m c.args.id t c.in_ok-held.ensures.found in
     let clear = fault-seen m (Clone_ticket m.seat.me.0.number c.args.id c.args.mode) None (just-done _ _ c.in_ok-held.ensures.just) in
     let went = c.in_default.ensures.cloned in
     let step = c.in_default.ensures.step in
     rw (← c.self.view_is) (record {
-      joined = clone-joins (member m) c.args.id c.args.mode clear t its (ap (λ (l : Lists). l.next) m.lists) (visited m.seat c.clone_ticket.new.seat m.sessions went);
-      shown = clone-shows (member m) c.args.id c.args.mode clear t its went.0 refl went.1
-          (step.0, step.1, (subst (λ (n : ℕ). MeetsOwn t.place m.seat.me.0.number n step.0) (has_number c.args.id t m.seat.me.0.slow its) step.2, step.3));
+      joined = clone-joins (member m) c.args.id c.args.mode clear t held.its (ap (λ (l : Lists). l.next) m.lists) (visited m.seat c.clone_ticket.new.seat m.sessions went);
+      shown = clone-shows (member m) c.args.id c.args.mode clear t held.its went.0 refl went.1
+          (step.0, step.1, (subst (λ (n : ℕ). MeetsOwn t.place m.seat.me.0.number n step.0) held.number step.2, step.3));
     })

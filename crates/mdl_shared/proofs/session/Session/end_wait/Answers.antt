@@ -1,22 +1,23 @@
 -- The wait is read, and ends where it is settled.
-use Rattle.std.proofs.Common.{◌≡◌, ℕ, ◌+◌, ◌<◌, [], ◌∷◌, Option, Some, None, is_some, refl, sym, ap, subst, ◌∙◌, arith}
-use Rattle.mdl_calls.specs.declared.answers.Ended.{Ended}
-use Rattle.mdl_calls.specs.Words.{Answer, End_wait, Lost}
-use Rattle.mdl_steps.specs.declared.view.Ask.{Ask}
+use Rattle.std.proofs.Common.{[], ◌∷◌, List, None, Some, is_some, refl, sym, ap, subst, ◌∙◌, arith}
+use Rattle.mdl_calls.specs.declared.answers.Settled.{Settled}
+use Rattle.mdl_steps.specs.declared.deed.Deed.TheVariants.{Gain}
+use Rattle.mdl_steps.specs.declared.view.Own.{Own}
+use Rattle.mdl_steps.specs.Deeds.{owned}
 use Rattle.mdl_steps.specs.Plays.{Mine}
+use Rattle.mdl_steps.specs.Seats.{IsPlace, IsRising}
 use Rattle.mdl_steps.specs.SeatStates.{SeatState}
-use Rattle.mdl_steps.specs.WaitStates.{IsLost}
 use Rattle.mdl_visits.specs.Polls.{state_of}
-use Rattle.mdl_session_laws.specs.SessionJoins.{Joins}
+use Rattle.mdl_shared.specs.Members.{is_ask_placed}
 use Rattle.mdl_shared.specs.Passes.{view_of}
-use Rattle.mdl_shared.specs.SessionViews.{Lists, SessionView, lists_seen, session_at, settled_of, space_of}
-use Rattle.mdl_shared.specs.Showings.{Shows}
-use Rattle.mdl_shared.proofs.EndCalls.{granted-so, idle-joins, lost-order, lost-so, won-order}
+use Rattle.mdl_shared.specs.SessionViews.{Lists, SessionView, lists_seen, session_at, settled_of}
+use Rattle.mdl_shared.specs.Waitings.{are_below}
+use Rattle.mdl_shared.proofs.EndCalls.{asked-below, asks-nothing, granted-so, idle-joins, lost-order, lost-so, won-order}
 use Rattle.mdl_shared.proofs.EndSteps.{ended-lost, ended-won, lost-end, told-end, unsettled-end, won-end}
 use Rattle.mdl_shared.proofs.MemberFacts.{awaited, may-latch, place-within}
 use Rattle.mdl_shared.proofs.Members.{done-lists, kept}
 use Rattle.mdl_shared.proofs.Props.{member}
-use Rattle.mdl_shared.proofs.WaitCalls.{polls}
+use Rattle.mdl_shared.proofs.PollCalls.{polls}
 use Rattle.mdl_shared.proofs.WaitSteps.{session-there, still-member}
 use Rattle.mdl_shared.proofs.session.Session.end_wait.Goals as goal
 
@@ -58,24 +59,112 @@ returns-in_default-settled_in g c =
 -- ---- it was lost
 
 pub end_lost_wait-requires : goal.end_lost_wait-requires
-end_lost_wait-requires g c = ?
+end_lost_wait-requires g c =
+    let m = c.self.inside.member in
+    let is = member m in
+    let ask = c.in-Some.ask in
+    let asks = ap (λ (l : Lists). l.asks) (sym m.lists) ∙ c.in-Some.is in
+    let now = ap (λ (x : SeatState). session_at x m.sessions) c.read_wait.ensures.made in
+    let one = c.in-Some-settled_in.how in
+    let some = sym (ap settled_of c.state.ensures) ∙ sym c.settled_in.ensures ∙ c.in-Some-settled_in.is in
+    let waits = ap (λ (l : Lists). l.waits) m.lists in
+    let so = lost-so m.seat.me.0.number one c.in-Some-lost_end.ended (sym c.lost_end.ensures ∙ c.in-Some-lost_end.is) in
+    record {
+      place = subst (λ (x : SessionView). IsPlace x.table ask.place) (sym now) (place-within is ask.place (ap (is_ask_placed m.seat.me.0.known) (sym asks) ∙ awaited is));
+      rising = subst (λ (x : SessionView). IsRising ask.place x.me) (sym now) (may-latch is ask.place);
+      asks = ap (λ (x : SessionView). x.me.0.asks) now ∙ asks;
+      lost = (state_of one, told-end is ask asks c.number-session.result c.read_wait.result.0 c.number-session.ensures c.read_wait.ensures.own now one some, so.2);
+      wait = (waits ∙ sym (ap (λ (x : SessionView). x.me.0.waits) now), omega (arith, is.fewer.1, waits));
+    }
 
 pub invariant_of-member-in-Some-lost_end : goal.invariant_of-member-in-Some-lost_end
-invariant_of-member-in-Some-lost_end g c = ?
+invariant_of-member-in-Some-lost_end g c =
+    let m = c.self.inside.member in
+    let is = member m in
+    let ask = c.in-Some.ask in
+    let asks = ap (λ (l : Lists). l.asks) (sym m.lists) ∙ c.in-Some.is in
+    let now = ap (λ (x : SeatState). session_at x m.sessions) c.read_wait.ensures.made in
+    let one = c.in-Some-settled_in.how in
+    let some = sym (ap settled_of c.state.ensures) ∙ sym c.settled_in.ensures ∙ c.in-Some-settled_in.is in
+    let ends = c.end_lost_wait.ensures.ended in
+    let ended = ended-lost m.sessions c.number-session.result c.read_wait.result.0 now ends in
+    let so = lost-so m.seat.me.0.number one c.in-Some-lost_end.ended (sym c.lost_end.ensures ∙ c.in-Some-lost_end.is) in
+    let h = lost-end is ask asks c.number-session.result c.read_wait.result.0 c.number-session.ensures c.read_wait.ensures.own now one some (ends.1.made, ap (λ (x : Mine). x.0.log) ends.1.now, ends.1.did) so.1 ended ends.1.way in
+    record {
+      lawful = ∣ kept is (lost-order is ask asks ended) h.0 ∣₁;
+      lists = ap (λ (l : Lists). record l { asks = None }) m.lists ∙ sym (ap (λ (x : SessionView). lists_seen x.me.0) ended.now);
+      room = asks-nothing _;
+    }
 
 pub returns-in-Some-lost_end : goal.returns-in-Some-lost_end
-returns-in-Some-lost_end g c = ?
+returns-in-Some-lost_end g c =
+    let m = c.self.inside.member in
+    let is = member m in
+    let ask = c.in-Some.ask in
+    let asks = ap (λ (l : Lists). l.asks) (sym m.lists) ∙ c.in-Some.is in
+    let now = ap (λ (x : SeatState). session_at x m.sessions) c.read_wait.ensures.made in
+    let one = c.in-Some-settled_in.how in
+    let some = sym (ap settled_of c.state.ensures) ∙ sym c.settled_in.ensures ∙ c.in-Some-settled_in.is in
+    let ends = c.end_lost_wait.ensures.ended in
+    let ended = ended-lost m.sessions c.number-session.result c.read_wait.result.0 now ends in
+    let so = lost-so m.seat.me.0.number one c.in-Some-lost_end.ended (sym c.lost_end.ensures ∙ c.in-Some-lost_end.is) in
+    let h = lost-end is ask asks c.number-session.result c.read_wait.result.0 c.number-session.ensures c.read_wait.ensures.own now one some (ends.1.made, ap (λ (x : Mine). x.0.log) ends.1.now, ends.1.did) so.1 ended ends.1.way in
+    rw (← c.self.view_is, so.0) (record { joined = h.0; shown = h.1 })
 
 -- ---- it was granted
 
 pub end_granted-requires : goal.end_granted-requires
-end_granted-requires g c = ?
+end_granted-requires g c =
+    let m = c.self.inside.member in
+    let is = member m in
+    let ask = c.in-Some.ask in
+    let asks = ap (λ (l : Lists). l.asks) (sym m.lists) ∙ c.in-Some.is in
+    let now = ap (λ (x : SeatState). session_at x m.sessions) c.read_wait.ensures.made in
+    let one = c.in-Some-settled_in.how in
+    let some = sym (ap settled_of c.state.ensures) ∙ sym c.settled_in.ensures ∙ c.in-Some-settled_in.is in
+    let waits = ap (λ (l : Lists). l.waits) m.lists in
+    record {
+      told = told-end is ask asks c.number-session.result c.read_wait.result.0 c.number-session.ensures c.read_wait.ensures.own now one some ∙ ap (λ (how : Settled). Some (state_of how)) (granted-so one (sym c.lost_end.ensures ∙ c.in_default-lost_end.is));
+      wait = (waits ∙ sym (ap (λ (x : SessionView). x.me.0.waits) now), omega (arith, is.fewer.1, waits));
+    }
 
 pub push_reserved-requires : goal.push_reserved-requires
-push_reserved-requires g c = ?
+push_reserved-requires g c =
+    let m = c.self.inside.member in
+    let ask = c.in-Some.ask in
+    record {
+      room = m.room ask c.in-Some.is;
+      below = ap (λ (l : Lists). are_below ask.number l.tickets) m.lists ∙ asked-below (member m) ask (ap (λ (l : Lists). l.asks) (sym m.lists) ∙ c.in-Some.is);
+    }
 
 pub invariant_of-member-2 : goal.invariant_of-member-2
-invariant_of-member-2 g c = ?
+invariant_of-member-2 g c =
+    let m = c.self.inside.member in
+    let is = member m in
+    let ask = c.in-Some.ask in
+    let asks = ap (λ (l : Lists). l.asks) (sym m.lists) ∙ c.in-Some.is in
+    let now = ap (λ (x : SeatState). session_at x m.sessions) c.read_wait.ensures.made in
+    let one = c.in-Some-settled_in.how in
+    let some = sym (ap settled_of c.state.ensures) ∙ sym c.settled_in.ensures ∙ c.in-Some-settled_in.is in
+    let ended = ended-won m.sessions c.number-session.result c.read_wait.result.0 now ask asks c.end_granted.ensures.made in
+    let h = won-end is ask asks c.number-session.result c.read_wait.result.0 c.number-session.ensures c.read_wait.ensures.own now one some (granted-so one (sym c.lost_end.ensures ∙ c.in_default-lost_end.is)) (_ ∷ [], ap (λ (x : SeatState). x.me.0.log) c.end_granted.ensures.made, refl) ended.0 ended.1 in
+    record {
+      lawful = ∣ kept is (won-order is ask asks ended.0) h.0 ∣₁;
+      lists = ap (λ (ts : List Own). record { tickets = ts; known = m.known.known; next = m.next; asks = None; waits = m.waits }) c.push_reserved.ensures.gained
+          ∙ ap (λ (l : Lists). record l { tickets = owned ask.place (Gain ask.number ask.mode) l.tickets; asks = None }) m.lists
+          ∙ sym (ap (λ (x : SessionView). lists_seen x.me.0) ended.0.now);
+      room = asks-nothing _;
+    }
 
 pub returns : goal.returns
-returns g c = ?
+returns g c =
+    let m = c.self.inside.member in
+    let is = member m in
+    let ask = c.in-Some.ask in
+    let asks = ap (λ (l : Lists). l.asks) (sym m.lists) ∙ c.in-Some.is in
+    let now = ap (λ (x : SeatState). session_at x m.sessions) c.read_wait.ensures.made in
+    let one = c.in-Some-settled_in.how in
+    let some = sym (ap settled_of c.state.ensures) ∙ sym c.settled_in.ensures ∙ c.in-Some-settled_in.is in
+    let ended = ended-won m.sessions c.number-session.result c.read_wait.result.0 now ask asks c.end_granted.ensures.made in
+    let h = won-end is ask asks c.number-session.result c.read_wait.result.0 c.number-session.ensures c.read_wait.ensures.own now one some (granted-so one (sym c.lost_end.ensures ∙ c.in_default-lost_end.is)) (_ ∷ [], ap (λ (x : SeatState). x.me.0.log) c.end_granted.ensures.made, refl) ended.0 ended.1 in
+    rw (← c.self.view_is) (record { joined = h.0; shown = h.1 })

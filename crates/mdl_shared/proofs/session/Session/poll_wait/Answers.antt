@@ -5,7 +5,7 @@ use Rattle.mdl_shared.specs.Passes.{view_of}
 use Rattle.mdl_shared.specs.SessionViews.{session_at, settled_of}
 use Rattle.mdl_shared.proofs.Members.{done-lists}
 use Rattle.mdl_shared.proofs.Props.{member}
-use Rattle.mdl_shared.proofs.WaitCalls.{poll-pending, poll-refused, poll-settled, polls}
+use Rattle.mdl_shared.proofs.PollCalls.{poll-pending, poll-refused, poll-settled, polls}
 use Rattle.mdl_shared.proofs.WaitSteps.{session-there, still-member, waits-seen}
 use Rattle.mdl_shared.proofs.session.Session.poll_wait.Goals as goal
 use Rattle.mdl_shared.proofs.session.Session.poll_wait.Goals.{in-Some, in-None}
@@ -13,7 +13,7 @@ use Rattle.mdl_shared.proofs.session.Session.poll_wait.Goals.{in-Some, in-None}
 pub returns-then-is_none-clause-joined : goal.returns-then-is_none-clause-joined
 returns-then-is_none-clause-joined g c =
     let m = c.self.inside.member in
-    rw (← c.self.view_is) (poll-refused (member m) (waits-seen m false (c.is_none.ensures ∙ ap not c.if-is_none.true))).0
+    rw (← c.self.view_is) (poll-refused (member m) (waits-seen m false (c.is_none.ensures ∙ ap not c.if-is_none.true)))
 
 pub read_wait-word-requires : goal.read_wait-word-requires
 read_wait-word-requires g c =

@@ -5,7 +5,7 @@ use Rattle.mdl_shared.specs.Passes.{view_of}
 use Rattle.mdl_shared.specs.SessionViews.{Lists, SessionView, session_at, settled_of}
 use Rattle.mdl_shared.proofs.Members.{done-lists}
 use Rattle.mdl_shared.proofs.Props.{member}
-use Rattle.mdl_shared.proofs.WaitCalls.{timeout-already, timeout-now, timeout-refused, timeouts}
+use Rattle.mdl_shared.proofs.PollCalls.{timeout-already, timeout-now, timeout-refused, timeouts}
 use Rattle.mdl_shared.proofs.WaitSteps.{session-there, still-member, waits-seen}
 use Rattle.mdl_shared.proofs.session.Session.settle_timeout.Goals as goal
 use Rattle.mdl_shared.proofs.session.Session.settle_timeout.Goals.{in-Some, in-None}
@@ -13,7 +13,7 @@ use Rattle.mdl_shared.proofs.session.Session.settle_timeout.Goals.{in-Some, in-N
 pub returns-then-is_none-clause-joined : goal.returns-then-is_none-clause-joined
 returns-then-is_none-clause-joined g c =
     let m = c.self.inside.member in
-    rw (← c.self.view_is) (timeout-refused (member m) (waits-seen m false (c.is_none.ensures ∙ ap not c.if-is_none.true))).0
+    rw (← c.self.view_is) (timeout-refused (member m) (waits-seen m false (c.is_none.ensures ∙ ap not c.if-is_none.true)))
 
 pub settle_wait-word-requires : goal.settle_wait-word-requires
 settle_wait-word-requires g c =

@@ -5,7 +5,6 @@ use Rattle.mdl_calls.specs.Words.{Try_now}
 use Rattle.mdl_shared.specs.Members.{kind_known, wish_fault}
 use Rattle.mdl_shared.specs.Passes.{view_of}
 use Rattle.mdl_shared.specs.SessionViews.{Lists}
-use Rattle.mdl_shared.proofs.Faults.{just-refused}
 use Rattle.mdl_shared.proofs.Members.{done-nothing, done-order, kept, lists-done, visited}
 use Rattle.mdl_shared.proofs.Props.{member}
 use Rattle.mdl_shared.proofs.Refusals.{own-shows}
@@ -21,7 +20,7 @@ returns-in_err-kind g c =
     let m = c.self.inside.member in
     let why = c.in_err-kind.field-0.0 in
     let refused : c.from_residual.result ≡ Err why = search rules in
-    let fault = fault-seen m c.args.place c.args.mode (Some why) (just-refused _ _ why c.in_err-kind.ensures.just) in
+    let fault = fault-seen m c.args.place c.args.mode (Some why) c.in_err-kind.ensures in
     rw refused (rw (← c.self.view_is) (record {
       joined = try-unfit (member m) c.args.place c.args.mode why fault;
       shown = own-shows (Try_now m.seat.me.0.number c.args.place c.args.mode) why (view_of m) fault;
@@ -30,13 +29,13 @@ returns-in_err-kind g c =
 pub returns-then-is_err-clause-joined : goal.returns-then-is_err-clause-joined
 returns-then-is_err-clause-joined g c =
     let m = c.self.inside.member in
-    let may = may-wish m c.args.place c.in_ok-kind.kind c.args.mode c.in_ok-kind.ensures.kind c.in_ok-kind.ensures.just in
+    let may = may-wish m c.args.place c.in_ok-kind.kind c.args.mode c.in_ok-kind.ensures in
     rw (← c.self.view_is) (try-refused (member m) c.args.place c.args.mode may.clear (same-stays (view_of m)) (inl refl))
 
 pub try_now-requires : goal.try_now-requires
 try_now-requires g c =
     let m = c.self.inside.member in
-    let may = may-wish m c.args.place c.in_ok-kind.kind c.args.mode c.in_ok-kind.ensures.kind c.in_ok-kind.ensures.just in record {
+    let may = may-wish m c.args.place c.in_ok-kind.kind c.args.mode c.in_ok-kind.ensures in record {
       place = may.within;
       rising = may.rising;
       idle = may.idle;
@@ -51,7 +50,7 @@ push_reserved-requires-clause-below g c = below-seen c.self.inside.member c.rese
 pub overflow_add-member : goal.overflow_add-member
 overflow_add-member g c =
     let m = c.self.inside.member in
-    let may = may-wish m c.args.place c.in_ok-kind.kind c.args.mode c.in_ok-kind.ensures.kind c.in_ok-kind.ensures.just in
+    let may = may-wish m c.args.place c.in_ok-kind.kind c.args.mode c.in_ok-kind.ensures in
     omega (arith, may.below, ap (λ (l : Lists). l.next) m.lists)
 
 pub invariant_of-member-in-Ok-Blocked : goal.invariant_of-member-in-Ok-Blocked
@@ -61,13 +60,13 @@ invariant_of-member-in-Ok-Blocked g c =
     record {
       lawful = ∣ still-member done (member m) ∣₁;
       lists = lists-done m done c.reserve.ensures.same;
-      room = unasked m (may-wish m c.args.place c.in_ok-kind.kind c.args.mode c.in_ok-kind.ensures.kind c.in_ok-kind.ensures.just).idle _;
+      room = unasked m (may-wish m c.args.place c.in_ok-kind.kind c.args.mode c.in_ok-kind.ensures).idle _;
     }
 
 pub returns-in-Ok-Blocked : goal.returns-in-Ok-Blocked
 returns-in-Ok-Blocked g c =
     let m = c.self.inside.member in
-    let may = may-wish m c.args.place c.in_ok-kind.kind c.args.mode c.in_ok-kind.ensures.kind c.in_ok-kind.ensures.just in
+    let may = may-wish m c.args.place c.in_ok-kind.kind c.args.mode c.in_ok-kind.ensures in
     let went = c.try_now.ensures.blocked (c.in-Ok-Blocked.is ∙ ap Ok c.in-Ok-Blocked.field-0-is) in
     rw (← c.self.view_is) (record {
       joined = try-blocked (member m) c.args.place c.args.mode may.clear (done-nothing (visited m.seat c.try_now.new.seat m.sessions went.0));
@@ -81,21 +80,21 @@ invariant_of-member-in-Err-1 g c =
     record {
       lawful = ∣ still-member done (member m) ∣₁;
       lists = lists-done m done c.reserve.ensures.same;
-      room = unasked m (may-wish m c.args.place c.in_ok-kind.kind c.args.mode c.in_ok-kind.ensures.kind c.in_ok-kind.ensures.just).idle _;
+      room = unasked m (may-wish m c.args.place c.in_ok-kind.kind c.args.mode c.in_ok-kind.ensures).idle _;
     }
 
 pub returns-in-Err-clause-joined : goal.returns-in-Err-clause-joined
 returns-in-Err-clause-joined g c =
     let m = c.self.inside.member in
-    let may = may-wish m c.args.place c.in_ok-kind.kind c.args.mode c.in_ok-kind.ensures.kind c.in_ok-kind.ensures.just in
+    let may = may-wish m c.args.place c.in_ok-kind.kind c.args.mode c.in_ok-kind.ensures in
     rw (← c.self.view_is) (
-      try-refused (member m) c.args.place c.args.mode may.clear (done-nothing (visited m.seat c.try_now.new.seat m.sessions c.in-Err.ensures.unchanged))
-      (refusal-causes c.in-Err.cause c.refusal.result c.refusal.ensures.full c.refusal.ensures.memory c.in-Err.ensures.refused))
+    try-refused (member m) c.args.place c.args.mode may.clear (done-nothing (visited m.seat c.try_now.new.seat m.sessions c.in-Err.ensures.unchanged))
+    (refusal-causes c.in-Err.cause c.refusal.result c.refusal.ensures.full c.refusal.ensures.memory c.in-Err.ensures.refused))
 
 pub invariant_of-member-2 : goal.invariant_of-member-2
 invariant_of-member-2 g c =
     let m = c.self.inside.member in
-    let may = may-wish m c.args.place c.in_ok-kind.kind c.args.mode c.in_ok-kind.ensures.kind c.in_ok-kind.ensures.just in
+    let may = may-wish m c.args.place c.in_ok-kind.kind c.args.mode c.in_ok-kind.ensures in
     let done = visited m.seat c.try_now.new.seat m.sessions (c.try_now.ensures.granted (c.in-Ok-Granted.is ∙ ap Ok c.in-Ok-Granted.field-0-is)).0 in
     record {
       lawful = ∣ kept (member m) (done-order done (member m) (inl may.idle)) (try-granted (member m) c.args.place c.args.mode may.clear (ap (λ (l : Lists). l.next) m.lists) done) ∣₁;
@@ -106,7 +105,7 @@ invariant_of-member-2 g c =
 pub returns : goal.returns
 returns g c =
     let m = c.self.inside.member in
-    let may = may-wish m c.args.place c.in_ok-kind.kind c.args.mode c.in_ok-kind.ensures.kind c.in_ok-kind.ensures.just in
+    let may = may-wish m c.args.place c.in_ok-kind.kind c.args.mode c.in_ok-kind.ensures in
     let went = c.try_now.ensures.granted (c.in-Ok-Granted.is ∙ ap Ok c.in-Ok-Granted.field-0-is) in
     rw (← c.self.view_is) (record {
       joined = try-granted (member m) c.args.place c.args.mode may.clear (ap (λ (l : Lists). l.next) m.lists) (visited m.seat c.try_now.new.seat m.sessions went.0);

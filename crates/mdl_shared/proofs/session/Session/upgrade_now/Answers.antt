@@ -4,8 +4,8 @@ use Rattle.mdl_calls.specs.Words.{Upgrade_now}
 use Rattle.mdl_shared.specs.Passes.{view_of}
 use Rattle.mdl_shared.specs.Upgrades.{upgrade_fault}
 use Rattle.mdl_shared.proofs.Faults.{just-done, just-refused}
-use Rattle.mdl_shared.proofs.MemberFacts.{may-latch, place-within, ticket-known, ticket-there}
-use Rattle.mdl_shared.proofs.Members.{done-order, fault-seen, held-seen, kept, lists-done, room-kept, visited}
+use Rattle.mdl_shared.proofs.HeldTickets.{holds-ticket}
+use Rattle.mdl_shared.proofs.Members.{done-order, fault-seen, kept, lists-done, room-kept, visited}
 use Rattle.mdl_shared.proofs.Membership.{kind_there}
 use Rattle.mdl_shared.proofs.Props.{member}
 use Rattle.mdl_shared.proofs.Refusals.{own-shows}
@@ -29,34 +29,29 @@ returns-in_err-held g c =
 pub returns-then-covers-clause-joined : goal.returns-then-covers-clause-joined
 returns-then-covers-clause-joined g c =
     let m = c.self.inside.member in
-    let its = held-seen m c.args.id (Some c.in_ok-held.held) (sym c.in_ok-held.ensures.found) in
+    let its = (holds-ticket m c.args.id c.in_ok-held.held c.in_ok-held.ensures.found).its in
     let fault = fault-seen m (Upgrade_now m.seat.me.0.number c.args.id c.args.mode) None (just-done _ _ c.in_ok-held.ensures.just) in
     let clear = sym (ap (upgrade_fault c.args.mode m.seat.me.0.known m.seat.me.0.asks) its) ∙ fault in
     rw (← c.self.view_is) (covered-joins (member m) c.args.id c.in_ok-held.held its c.args.mode clear (sym c.covers.ensures ∙ c.if-covers.true))
 
 pub upgrade_now-requires-clause-place : goal.upgrade_now-requires-clause-place
-upgrade_now-requires-clause-place g c =
-    let m = c.self.inside.member in
-    let its = held-seen m c.args.id (Some c.in_ok-held.held) (sym c.in_ok-held.ensures.found) in
-    place-within (member m) c.in_ok-held.held.place (ticket-known (member m) c.args.id c.in_ok-held.held its)
+upgrade_now-requires-clause-place g c = (holds-ticket c.self.inside.member c.args.id c.in_ok-held.held c.in_ok-held.ensures.found).within
 
 pub upgrade_now-requires-clause-rising : goal.upgrade_now-requires-clause-rising
-upgrade_now-requires-clause-rising g c = may-latch (member c.self.inside.member) c.in_ok-held.held.place
+upgrade_now-requires-clause-rising g c = (holds-ticket c.self.inside.member c.args.id c.in_ok-held.held c.in_ok-held.ensures.found).rising
+
+pub upgrade_now-requires-clause-held : goal.upgrade_now-requires-clause-held
+upgrade_now-requires-clause-held g c = (holds-ticket c.self.inside.member c.args.id c.in_ok-held.held c.in_ok-held.ensures.found).there
 
 pub upgrade_now-requires-clause-mode : goal.upgrade_now-requires-clause-mode
 upgrade_now-requires-clause-mode g c =
     let m = c.self.inside.member in
     let t = c.in_ok-held.held in
-    let its = held-seen m c.args.id (Some t) (sym c.in_ok-held.ensures.found) in
+    let its = (holds-ticket m c.args.id t c.in_ok-held.ensures.found).its in
     let fault = fault-seen m (Upgrade_now m.seat.me.0.number c.args.id c.args.mode) None (just-done _ _ c.in_ok-held.ensures.just) in
     let clear = sym (ap (upgrade_fault c.args.mode m.seat.me.0.known m.seat.me.0.asks) its) ∙ fault in
     let kind = upgrade-kind c.args.mode m.seat.me.0.known m.seat.me.0.asks t clear (sym c.covers.ensures ∙ c.if-covers.false) in
     (kind.0, kind_there t.place kind.0 m.seat.me.0.known kind.1, kind.2, kind.3)
-
-pub upgrade_now-requires-clause-held : goal.upgrade_now-requires-clause-held
-upgrade_now-requires-clause-held g c =
-    let m = c.self.inside.member in
-    ticket-there (member m) c.args.id c.in_ok-held.held (held-seen m c.args.id (Some c.in_ok-held.held) (sym c.in_ok-held.ensures.found))
 
 -- ---- it would have to wait
 
@@ -74,7 +69,7 @@ pub returns-in-Blocked : goal.returns-in-Blocked
 returns-in-Blocked g c =
     let m = c.self.inside.member in
     let t = c.in_ok-held.held in
-    let its = held-seen m c.args.id (Some t) (sym c.in_ok-held.ensures.found) in
+    let its = (holds-ticket m c.args.id t c.in_ok-held.ensures.found).its in
     let fault = fault-seen m (Upgrade_now m.seat.me.0.number c.args.id c.args.mode) None (just-done _ _ c.in_ok-held.ensures.just) in
     let clear = sym (ap (upgrade_fault c.args.mode m.seat.me.0.known m.seat.me.0.asks) its) ∙ fault in
     let short = sym c.covers.ensures ∙ c.if-covers.false in
@@ -91,7 +86,7 @@ invariant_of-member-2 g c =
     let m = c.self.inside.member in
     let is = member m in
     let t = c.in_ok-held.held in
-    let its = held-seen m c.args.id (Some t) (sym c.in_ok-held.ensures.found) in
+    let its = (holds-ticket m c.args.id t c.in_ok-held.ensures.found).its in
     let fault = fault-seen m (Upgrade_now m.seat.me.0.number c.args.id c.args.mode) None (just-done _ _ c.in_ok-held.ensures.just) in
     let clear = sym (ap (upgrade_fault c.args.mode m.seat.me.0.known m.seat.me.0.asks) its) ∙ fault in
     let done = visited m.seat c.upgrade_now.new.seat m.sessions (c.upgrade_now.ensures.granted c.in-Granted.is).0 in
@@ -105,7 +100,7 @@ pub returns : goal.returns
 returns g c =
     let m = c.self.inside.member in
     let t = c.in_ok-held.held in
-    let its = held-seen m c.args.id (Some t) (sym c.in_ok-held.ensures.found) in
+    let its = (holds-ticket m c.args.id t c.in_ok-held.ensures.found).its in
     let fault = fault-seen m (Upgrade_now m.seat.me.0.number c.args.id c.args.mode) None (just-done _ _ c.in_ok-held.ensures.just) in
     let clear = sym (ap (upgrade_fault c.args.mode m.seat.me.0.known m.seat.me.0.asks) its) ∙ fault in
     let short = sym c.covers.ensures ∙ c.if-covers.false in

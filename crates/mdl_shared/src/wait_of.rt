@@ -7,6 +7,7 @@ ghost use Rattle.mdl_session_laws.specs.SessionJoins.{Joins};
 ghost use Rattle.mdl_shared.specs.Showings.{Shows};
 
 use crate::Session;
+use crate::wait_words::is_session;
 use mdl_steps::WaitWord;
 
 // The number of a wait, where a session has one, by its word.
@@ -26,9 +27,9 @@ impl<R> Session<R> {
         ensures joined { Joins (space_of self.old) (Wait_of target) (Has_wait result) (space_of self.new) }
         ensures shown { Shows (Wait_of target) (Has_wait result) self.old self.new }
     {
-        if target == 0 || usize::from(target) > self.member.sessions {
+        if !is_session(target, self.member.sessions) {
             return None;
         }
-        number_in(self.member.read_wait(target))
+        number_in(self.member.seat.read_wait(target))
     }
 }

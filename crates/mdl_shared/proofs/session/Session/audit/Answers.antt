@@ -1,0 +1,16 @@
+-- An audit only looks.
+use Rattle.std.proofs.Common.{refl, sym, ◌∙◌}
+use Rattle.mdl_shared.proofs.Members.{done-lists}
+use Rattle.mdl_shared.proofs.Props.{member}
+use Rattle.mdl_shared.proofs.WaitSteps.{quietly, still-member}
+use Rattle.mdl_shared.proofs.session.Session.audit.Goals as goal
+
+pub audit-requires : goal.audit-requires
+audit-requires g c = let is = member c.self.inside.member in record { slots = is.narrow.1; idle = is.idle; empty = c.new-audited.ensures.items }
+
+pub invariant_of-self-inside : goal.invariant_of-self-inside
+invariant_of-self-inside g c =
+    let m = c.self.inside.member in
+    let did = c.audit.ensures.steps in
+    let done = quietly m.sessions did.0 did.1.1 (λ state told. told) (λ none. refl) in
+    (∣ still-member done (member m) ∣₁, (m.lists ∙ sym (done-lists done), (m.room, tt)))

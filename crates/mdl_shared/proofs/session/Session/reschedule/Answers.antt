@@ -1,0 +1,23 @@
+-- The place is one of the table's, and the session gives up nothing.
+use Rattle.std.proofs.Common.{◌≡◌, true, sym, subst, ◌∙◌}
+use Rattle.mdl_session_laws.specs.SessionSpaces.{is_known}
+use Rattle.mdl_shared.specs.SessionViews.{SessionView, space_of}
+use Rattle.mdl_shared.proofs.MemberFacts.{may-latch, place-within}
+use Rattle.mdl_shared.proofs.Members.{done-lists, rescheduled}
+use Rattle.mdl_shared.proofs.Props.{member}
+use Rattle.mdl_shared.proofs.SpaceLists.{known-told}
+use Rattle.mdl_shared.proofs.WaitSteps.{still-member}
+use Rattle.mdl_shared.proofs.session.Session.reschedule.Goals as goal
+
+pub reschedule-requires : goal.reschedule-requires
+reschedule-requires g c =
+    let m = c.self.inside.member in
+    let is = member m in
+    let known = subst (λ (s : SessionView). is_known c.args.place (space_of s).known ≡ true) (sym c.self.view_is) c.requires.known in
+    record { place = place-within is c.args.place (sym (known-told c.args.place m.seat.me.0.known) ∙ known); rising = may-latch is c.args.place }
+
+pub invariant_of-self-inside : goal.invariant_of-self-inside
+invariant_of-self-inside g c =
+    let m = c.self.inside.member in
+    let done = rescheduled m.seat c.reschedule.new.seat m.sessions c.reschedule.ensures.rescheduled in
+    (∣ still-member done (member m) ∣₁, (m.lists ∙ sym (done-lists done), (m.room, tt)))

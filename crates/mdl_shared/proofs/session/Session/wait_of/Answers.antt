@@ -1,0 +1,37 @@
+-- The number is that of the word of the other session's wait.
+use Rattle.std.proofs.Common.{sym, ap, ◌∙◌}
+use Rattle.mdl_steps.specs.SeatStates.{SeatState}
+use Rattle.mdl_shared.specs.SessionViews.{session_at}
+use Rattle.mdl_shared.proofs.KillCalls.{nobody-waits, number-met, target-there}
+use Rattle.mdl_shared.proofs.Members.{done-lists}
+use Rattle.mdl_shared.proofs.Props.{member}
+use Rattle.mdl_shared.proofs.WaitSteps.{still-member}
+use Rattle.mdl_shared.proofs.session.Session.wait_of.Goals as goal
+
+pub returns-then-not-is_session-clause-joined : goal.returns-then-not-is_session-clause-joined
+returns-then-not-is_session-clause-joined g c =
+    let m = c.self.inside.member in
+    rw (← c.self.view_is) (nobody-waits (member m) c.args.target (sym c.is_session.ensures ∙ c.if-not-is_session.true))
+
+pub read_wait-requires : goal.read_wait-requires
+read_wait-requires g c =
+    let m = c.self.inside.member in
+    record { session = target-there (member m) c.args.target (sym c.is_session.ensures ∙ c.if-not-is_session.false) }
+
+pub invariant_of-self-inside : goal.invariant_of-self-inside
+invariant_of-self-inside g c =
+    let m = c.self.inside.member in
+    let did = c.read_wait.ensures in
+    let done = (number-met c.args.target c.read_wait.result.0 (sym c.is_session.ensures ∙ c.if-not-is_session.false) did.own (ap (λ (x : SeatState). session_at x m.sessions) did.made)).0.done in
+    record {
+      lawful = ∣ still-member done (member m) ∣₁;
+      lists = m.lists ∙ sym (done-lists done);
+      room = m.room;
+    }
+
+pub returns : goal.returns
+returns g c =
+    let m = c.self.inside.member in
+    let did = c.read_wait.ensures in
+    let h = number-met c.args.target c.read_wait.result.0 (sym c.is_session.ensures ∙ c.if-not-is_session.false) did.own (ap (λ (x : SeatState). session_at x m.sessions) did.made) in
+    rw (← c.self.view_is) (rw c.number_in.ensures (record { joined = h.1; shown = h.2 }))
