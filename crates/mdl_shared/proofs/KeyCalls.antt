@@ -1,5 +1,5 @@
 -- Calls by which a session learns keys: the place of a key, and the tables of a schema.
-use Rattle.std.proofs.Common.{◌≡◌, ℕ, Bool, true, false, ◌&&◌, ◌<◌, get_or, Option, Some, None, Ok, List, [], ◌∷◌, ◌++◌, map, filter, refl, sym, ap, subst, ◌∙◌, arith}
+use Rattle.std.proofs.Common.{◌≡◌, ℕ, true, false, ◌&&◌, ◌<◌, get_or, Option, Some, None, Ok, List, [], ◌∷◌, ◌++◌, map, filter, refl, sym, ap, subst, ◌∙◌, append_assoc, arith}
 use Rattle.std.specs.Prelude.{All, AllPairs}
 use Rattle.std.specs.declared.cmp.Ordering.TheVariants.{Less}
 use Rattle.std.specs.Str.{bytes_eq}
@@ -26,12 +26,12 @@ use Rattle.mdl_session_laws.proofs.KeyLists.{place-of_key}
 use Rattle.mdl_session_laws.proofs.RefusedCalls.{reads-nothing}
 use Rattle.mdl_visits.specs.Lookups.{IsAnswer, TookDirectory, knowing}
 use Rattle.mdl_visits.specs.Tables.{AreTables, AreWithin, Asked, HasAsked, IsTable, knowing_all, told as asked_places}
-use Rattle.mdl_visits.specs.Visits.{MakesSteps, StaysQuiet}
-use Rattle.mdl_visits.proofs.Asking.{asked_after, goes_on, steps_then}
+use Rattle.mdl_visits.specs.Visits.{MakesSteps, StaysQuiet, and_made}
+use Rattle.mdl_visits.proofs.Asking.{asked_after, goes_on}
 use Rattle.mdl_visits.proofs.Doing.{does_steps}
 use Rattle.mdl_visits.proofs.Listing.{took_earlier}
 use Rattle.mdl_visits.proofs.Lookups.{no_record}
-use Rattle.mdl_visits.proofs.Steps.{does_then}
+use Rattle.mdl_visits.proofs.Steps.{does_then, none_then}
 use Rattle.mdl_shared.specs.declared.member.Member.{Member}
 use Rattle.mdl_shared.specs.Members.{AreLearnt, IsMember, are_apart, is_known_place, place_known}
 use Rattle.mdl_shared.specs.OwnLists.{key_known}
@@ -227,6 +227,13 @@ tables-joins {s} {s′} is schema k tables places are asked learnt all apart =
 pub memory-joins : {s s′ : SessionView} → IsMember s → (schema : List ℕ) → Stays s s′ → Joins (space_of s) (Tables_of s.me.0.number schema) (Refused OutOfMemory) (space_of s′)
 memory-joins {s} {s′} is schema stays = refused s s′ (Tables_of s.me.0.number schema) OutOfMemory stays (speaks is) refl refl tt (λ state how met. cc) tt
 
+steps-then : (m m′ m″ : Mine) → MakesSteps m m′ → MakesSteps m′ m″ → MakesSteps m m″
+steps-then m m′ m″ first second = (
+  first.0 ++ second.0,
+  second.1 ∙ ap (and_made second.0) first.1 ∙ (λ i. (record m.0 { log = append_assoc m.0.log first.0 second.0 i }, m.1)),
+  none_then first.0 second.0 [] first.2 second.2,
+)
+
 -- what the directory tells of them, and then the place of each
 module _ (seat mid seat′ : SeatState) (sessions : ℕ) (schema : List ℕ) (k : Keys) (tables : List Known) (is : IsMember (session_at seat sessions))
     (took : AtItsTable seat mid (TookDirectory seat.table.slots k k)) (are : AreTables schema k tables) (knows : MakesSteps (knowing_all tables seat.me) mid.me)
@@ -235,7 +242,7 @@ module _ (seat mid seat′ : SeatState) (sessions : ℕ) (schema : List ℕ) (k 
   all = seat.me.0.known ++ unknown seat.me.0.known tables
 
   pub learnt-all : HasLearnt (unknown seat.me.0.known tables) (session_at seat sessions) (session_at seat′ sessions)
-  learnt-all = learnt-by seat seat′ sessions (unknown seat.me.0.known tables) (steps.0 ∙ took.0) (steps_then (knowing_all tables seat.me) mid.me seat′.me knows steps.1)
+  learnt-all = learnt-by seat seat′ sessions (unknown seat.me.0.known tables) (steps.0 ∙ took.0) (steps-then (knowing_all tables seat.me) mid.me seat′.me knows steps.1)
 
   pub all-apart : are_apart all ≡ true
   all-apart = apart_and schema k seat.me.0 tables took.1.recorded.known are (keys-apart is)
@@ -251,8 +258,7 @@ module _ (seat mid seat′ : SeatState) (sessions : ℕ) (schema : List ℕ) (k 
       asked_after old.0.number tables places old mid.me new (goes_on (knowing_all tables old) mid.me knows)
       (subst (λ (n : ℕ). HasAsked n tables places mid.me new) (ap (λ (m : Mine). m.0.number) knows.1) asked) in
       let known = all_learnt schema k old.0 tables took.1.recorded.known are took.1.recorded.distinct in
-      let none : mid.me.0.directory ≡ None = ap (λ (m : Mine). m.0.directory) knows.1 ∙ sym (no_record old.0.directory is.idle.1) in
-      (
+      let none : mid.me.0.directory ≡ None = ap (λ (m : Mine). m.0.directory) knows.1 ∙ sym (no_record old.0.directory is.idle.1) in (
         tables-joins is schema k tables places are has learnt known all-apart,
         record {
           table = steps.0 ∙ took.0;

@@ -1,5 +1,5 @@
 -- Calls on what stands under keys: reads and changes.
-use Rattle.std.proofs.Common.{◌≡◌, ◌⊎◌, ℕ, ◌+◌, MatchOption, Bool, true, false, is_some, List, [], ◌∷◌, ◌++◌, Option, Some, None, Err, if◌then◌else◌, map, inl, inr, refl, sym, ap, subst, ◌∙◌}
+use Rattle.std.proofs.Common.{◌≡◌, ℕ, ◌+◌, MatchOption, Bool, true, false, is_some, List, [], ◌∷◌, ◌++◌, Option, Some, None, Err, if◌then◌else◌, map, inl, inr, refl, sym, ap, subst, ◌∙◌}
 use Rattle.std.specs.Option.{option_map}
 use Rattle.std.proofs.lemmas.Bool.{false≢true}
 use Rattle.mdl_key.specs.declared.mode.Mode.TheVariants.{X}
@@ -39,7 +39,7 @@ use Rattle.mdl_shared.proofs.Faults.{if-clear, test-failed}
 use Rattle.mdl_shared.proofs.MemberFacts.{speaks}
 use Rattle.mdl_shared.proofs.Members.{StaysInOrder}
 use Rattle.mdl_shared.proofs.Membership.{none_noted}
-use Rattle.mdl_shared.proofs.SameSpace.{KeepsRest, Stays, joins-held, numbers-same, refused, same-stays, sees-same}
+use Rattle.mdl_shared.proofs.SameSpace.{KeepsRest, Stays, joins-held, refused, same-stays, sees-same}
 use Rattle.mdl_shared.proofs.SpaceLists.{key-told, ticket-told}
 use Rattle.mdl_shared.proofs.SpaceNotes.{noting-told}
 use Rattle.mdl_shared.proofs.SpaceReads.{known-there, meets-there, notes-there}
@@ -50,12 +50,17 @@ use Rattle.mdl_shared.proofs.SpaceTickets.{holds-told, of-held}
 -- it has read this, and noted it under each ticket that it has there, and made steps; nothing else changed
 pub record HasNoted (place : ℕ) (standing : Standing) (s s′ : SessionView) : Type 0 where
   pub log : List Met
-  pub now : s′ ≡ record s { me = (record s.me.0 {
-    fast = noting_version place standing.version s.me.0.fast;
-    slow = noting_version place standing.version s.me.0.slow;
-    reads = s.me.0.reads ++ record { place = place; standing = standing } ∷ [];
-    log = log;
-  }, s.me.1) }
+  pub now : s′ ≡ record s {
+    me = (
+      record s.me.0 {
+        fast = noting_version place standing.version s.me.0.fast;
+        slow = noting_version place standing.version s.me.0.slow;
+        reads = s.me.0.reads ++ record { place = place; standing = standing } ∷ [];
+        log = log;
+      },
+      s.me.1,
+    );
+  }
 
 -- what its seat's visit tells
 pub noted-by : {place : ℕ} {standing : Standing} (seat seat′ : SeatState) (sessions : ℕ) → seat′.table ≡ seat.table → Learns place standing seat.me seat′.me

@@ -6,7 +6,6 @@ use Rattle.mdl_steps.specs.declared.deed.Deed.{Deed}
 use Rattle.mdl_steps.specs.declared.view.Own.{Own}
 use Rattle.mdl_steps.specs.Plays.{Mine}
 use Rattle.mdl_visits.specs.Visits.{Does, StaysOn}
-use Rattle.mdl_visits.proofs.Steps.{quiet_none}
 use Rattle.mdl_shared.specs.SessionViews.{Lists, SessionView, lists_seen}
 use Rattle.mdl_shared.specs.Showings.{KeepsTold, MakesNoStep, MeetsSo, SettlesSo, Shows, StepsSo, done_by, own_fault}
 
@@ -42,7 +41,7 @@ steps-none (Poll_wait who) s = stays-on s.me
 steps-none (Settle_timeout who) s = stays-on s.me
 steps-none (Wait_of target) s = stays-on s.me
 steps-none (Kill target number) s = stays-on s.me
-steps-none (Read_definition who id) s = quiet_none s.me s.me refl
+steps-none (Read_definition who id) s = ([], sym (append-nil s.me.0.log), tt)
 steps-none _ s = tt
 
 -- it meets nothing but its own fault

@@ -18,7 +18,13 @@ impl<R: Wait> Session<R> {
     {
         let member = &mut self.member;
         let alloc = member.known.allocator();
-        let Ok((tables, mut places)) = find_tables(&self.rt, &mut member.seat, alloc, &mut member.known, schema) else {
+        let Ok((tables, mut places)) = find_tables(
+            &self.rt,
+            &mut member.seat,
+            alloc,
+            &mut member.known,
+            schema,
+        ) else {
             return Err(SpaceError::OutOfMemory);
         };
         tables_defined(&self.rt, &mut member.seat, &tables, &mut places);

@@ -1,11 +1,10 @@
 -- What stands under an exclusive ticket is changed, or the change is refused.
-use Rattle.std.proofs.Common.{rules, ◌≡◌, ℕ, Bool, false, true, Some, None, Option, if◌then◌else◌, inr, is_some, refl, sym, ap, ◌∙◌}
+use Rattle.std.proofs.Common.{rules, ◌≡◌, Bool, false, Some, None, if◌then◌else◌, inr, refl, ap, ◌∙◌}
 use Rattle.mdl_key.specs.declared.mode.Mode.{Mode}
 use Rattle.mdl_key.specs.declared.mode.Mode.TheVariants.{X}
 use Rattle.mdl_key.specs.Words.{same_mode}
 use Rattle.mdl_calls.specs.declared.space_error.SpaceError.TheVariants.{NotExclusive, NotHeld}
 use Rattle.mdl_visits.specs.Redefinitions.{exclusive_fault}
-use Rattle.mdl_shared.specs.Passes.{view_of}
 use Rattle.mdl_shared.specs.SessionViews.{session_at}
 use Rattle.mdl_shared.proofs.MemberFacts.{apart, may-visit, ticket-known}
 use Rattle.mdl_shared.proofs.Members.{done-nothing, done-order, held-seen, kept, lists-done, room-kept, visited}

@@ -5,7 +5,7 @@ use Rattle.mdl_steps.specs.declared.deed.Deed.TheVariants.{Gain}
 use Rattle.mdl_steps.specs.declared.view.Own.{Own}
 use Rattle.mdl_steps.specs.Deeds.{owned}
 use Rattle.mdl_steps.specs.Plays.{Mine}
-use Rattle.mdl_visits.specs.Visits.{MayVisit}
+use Rattle.mdl_steps.specs.Seats.{IsRising}
 use Rattle.mdl_steps.specs.SeatStates.{SeatState}
 use Rattle.mdl_visits.specs.Polls.{state_of}
 use Rattle.mdl_shared.specs.Members.{is_ask_placed}
@@ -69,8 +69,9 @@ end_lost_wait-requires g c =
     let some = sym (ap settled_of c.state.ensures) ∙ sym c.settled_in.ensures ∙ c.in-Some-settled_in.is in
     let waits = ap (λ (l : Lists). l.waits) m.lists in
     let so = lost-so m.seat.me.0.number one c.in-Some-lost_end.ended (sym c.lost_end.ensures ∙ c.in-Some-lost_end.is) in
+    let at = may-visit is ask.place (ap (is_ask_placed m.seat.me.0.known) (sym asks) ∙ awaited is) in
     record {
-      at = subst (λ (x : SessionView). MayVisit ask.place (record { table = x.table; me = x.me })) (sym now) (may-visit is ask.place (ap (is_ask_placed m.seat.me.0.known) (sym asks) ∙ awaited is));
+      at = record { is_place = at.is_place; rising = subst (λ (x : SessionView). IsRising ask.place x.me) (sym now) at.rising };
       asks = ap (λ (x : SessionView). x.me.0.asks) now ∙ asks;
       lost = (state_of one, told-end is ask asks c.number-session.result c.read_wait.result.0 c.number-session.ensures c.read_wait.ensures.own now one some, so.2);
       wait = (waits ∙ sym (ap (λ (x : SessionView). x.me.0.waits) now), omega (arith, is.fewer.1, waits));

@@ -1,13 +1,11 @@
 -- The ticket has the other one's mode, and that one goes; or they can't be merged.
-use Rattle.std.proofs.Common.{rules, ◌≡◌, None, Err, Some, ℕ, refl, sym, ap, inr, is_some, subst, ◌∙◌}
+use Rattle.std.proofs.Common.{rules, ◌≡◌, None, Err, Some, refl, ap, inr, ◌∙◌}
 use Rattle.mdl_calls.specs.Words.{Merge}
-use Rattle.mdl_visits.specs.Numbers.{numbered}
-use Rattle.mdl_visits.proofs.Numbers.{has_number}
 use Rattle.mdl_shared.specs.Members.{without_at}
 use Rattle.mdl_shared.specs.Passes.{view_of}
 use Rattle.mdl_shared.proofs.Faults.{just-done, just-refused}
-use Rattle.mdl_shared.proofs.MemberFacts.{may-visit, place-known, ticket-known}
-use Rattle.mdl_shared.proofs.Members.{done-order, fault-seen, held-seen, kept, lists-done, room-kept, visited}
+use Rattle.mdl_shared.proofs.HeldTickets.{holds-ticket}
+use Rattle.mdl_shared.proofs.Members.{done-order, fault-seen, kept, lists-done, room-kept, visited}
 use Rattle.mdl_shared.proofs.Props.{member}
 use Rattle.mdl_shared.proofs.Refusals.{own-shows}
 use Rattle.mdl_shared.proofs.TicketCalls.{merge-unfit, merged}
@@ -26,27 +24,16 @@ returns-in_err-kept g c =
     }))
 
 pub merge-requires-clause-at : goal.merge-requires-clause-at
-merge-requires-clause-at g c =
-    let m = c.self.inside.member in
-    let t = c.in_ok-kept.kept in
-    let its = held-seen m c.args.old (Some t) (sym c.in_ok-kept.ensures.found.0) in
-    may-visit (member m) t.place (ticket-known (member m) c.args.old t its)
+merge-requires-clause-at g c = (holds-ticket c.self.inside.member c.args.old c.in_ok-kept.kept c.in_ok-kept.ensures.found.0).at
 
 pub merge-requires-clause-known : goal.merge-requires-clause-known
-merge-requires-clause-known g c =
-    let m = c.self.inside.member in
-    let t = c.in_ok-kept.kept in
-    let its = held-seen m c.args.old (Some t) (sym c.in_ok-kept.ensures.found.0) in
-    place-known (member m) t.place (ticket-known (member m) c.args.old t its)
+merge-requires-clause-known g c = (holds-ticket c.self.inside.member c.args.old c.in_ok-kept.kept c.in_ok-kept.ensures.found.0).known
 
 pub merge-requires-clause-held : goal.merge-requires-clause-held
 merge-requires-clause-held g c =
     let m = c.self.inside.member in
-    let its = held-seen m c.args.old (Some c.in_ok-kept.kept) (sym c.in_ok-kept.ensures.found.0) in
-    let other = held-seen m c.args.new (Some c.in_ok-kept.gone) (sym c.in_ok-kept.ensures.found.1) in (
-      subst (λ (n : ℕ). numbered n m.seat.me.0.slow ≡ Some c.in_ok-kept.kept) (sym (has_number c.args.old c.in_ok-kept.kept m.seat.me.0.slow its)) its,
-      subst (λ (n : ℕ). numbered n m.seat.me.0.slow ≡ Some c.in_ok-kept.gone) (sym (has_number c.args.new c.in_ok-kept.gone m.seat.me.0.slow other)) other,
-    )
+    let found = c.in_ok-kept.ensures.found in
+    ((holds-ticket m c.args.old c.in_ok-kept.kept found.0).own, (holds-ticket m c.args.new c.in_ok-kept.gone found.1).own)
 
 pub invariant_of-member : goal.invariant_of-member
 invariant_of-member g c =
@@ -54,13 +41,13 @@ invariant_of-member g c =
     let is = member m in
     let t = c.in_ok-kept.kept in
     let gone = c.in_ok-kept.gone in
-    let its = held-seen m c.args.old (Some t) (sym c.in_ok-kept.ensures.found.0) in
-    let other = held-seen m c.args.new (Some gone) (sym c.in_ok-kept.ensures.found.1) in
+    let one = holds-ticket m c.args.old t c.in_ok-kept.ensures.found.0 in
+    let other = holds-ticket m c.args.new gone c.in_ok-kept.ensures.found.1 in
     let clear = fault-seen m (Merge m.seat.me.0.number c.args.old c.args.new) None (just-done _ _ c.in_ok-kept.ensures.just) in
     let done = visited m.seat c.merge.new.seat m.sessions c.merge.ensures.merged in
     record {
       lawful = ∣ kept is (done-order done is (inr refl))
-          (merged m.seat c.merge.new.seat m.sessions c.args.old c.args.new t gone is its other clear c.merge.ensures.merged c.merge.ensures.step).0 ∣₁;
+          (merged m.seat c.merge.new.seat m.sessions c.args.old c.args.new t gone is one other clear c.merge.ensures.merged c.merge.ensures.step).0 ∣₁;
       lists = lists-done m done (c.strike.ensures.struck ∙ ap (without_at t.place gone.number) c.set_mode.ensures.changed);
       room = λ ask asks. room-kept c.set_mode.new.self c.strike.new.self c.strike.ensures.room (room-kept m.tickets c.set_mode.new.self c.set_mode.ensures.room (m.room ask asks));
     }
@@ -70,8 +57,8 @@ returns g c =
     let m = c.self.inside.member in
     let t = c.in_ok-kept.kept in
     let gone = c.in_ok-kept.gone in
-    let its = held-seen m c.args.old (Some t) (sym c.in_ok-kept.ensures.found.0) in
-    let other = held-seen m c.args.new (Some gone) (sym c.in_ok-kept.ensures.found.1) in
+    let one = holds-ticket m c.args.old t c.in_ok-kept.ensures.found.0 in
+    let other = holds-ticket m c.args.new gone c.in_ok-kept.ensures.found.1 in
     let clear = fault-seen m (Merge m.seat.me.0.number c.args.old c.args.new) None (just-done _ _ c.in_ok-kept.ensures.just) in
-    let both = merged m.seat c.merge.new.seat m.sessions c.args.old c.args.new t gone (member m) its other clear c.merge.ensures.merged c.merge.ensures.step in
+    let both = merged m.seat c.merge.new.seat m.sessions c.args.old c.args.new t gone (member m) one other clear c.merge.ensures.merged c.merge.ensures.step in
     rw (← c.self.view_is) (record { joined = both.0; shown = both.1 })

@@ -1,5 +1,5 @@
 -- The tables of a schema, by the directory and by the place of each.
-use Rattle.std.proofs.Common.{◌≡◌, ℕ, ◌<◌, ◌≤◌, not, List, [], ◌++◌, inr, refl, sym, ap, subst, ◌∙◌}
+use Rattle.std.proofs.Common.{◌<◌, ◌≤◌, not, List, ◌++◌, inr, refl, sym, ap, subst, ◌∙◌}
 use Rattle.std.proofs.lemmas.List.Elements.{All-filter}
 use Rattle.atomic_table.specs.Seated.{TableId}
 use Rattle.mdl_steps.specs.declared.view.Known.{Known}
