@@ -19,7 +19,7 @@ use Rattle.mdl_shared.specs.Members.{IsMember}
 use Rattle.mdl_shared.specs.Modes.{clone_fault}
 use Rattle.mdl_shared.specs.OwnLists.{told_of}
 use Rattle.mdl_shared.specs.SessionViews.{SessionView, lists_seen, space_of}
-use Rattle.mdl_shared.specs.Showings.{HasStep, MeetsTicket, OfTicket, Shows}
+use Rattle.mdl_shared.specs.Showings.{ShowsStep, MeetsTicket, OfTicket, Shows}
 use Rattle.mdl_shared.proofs.MemberFacts.{speaks}
 use Rattle.mdl_shared.proofs.Members.{HasDone}
 use Rattle.mdl_shared.proofs.SameSpace.{Stays, refused, same-stays, waits-asks}
@@ -56,7 +56,7 @@ module _ {s : SessionView} (is : IsMember s) (id : ℕ) (mode : Mode) where
         (λ state how is. cc) tt
 
     pub refused-shows : {s′ : SessionView} {place : ℕ} {why : SpaceError} → s′.table ≡ s.table → s′.sessions ≡ s.sessions → Visits place [] s.me s′.me
-        → (why ≡ OutOfMemory) ⊎ ((why ≡ Full) × OfTicket id (lists_seen s.me.0) (λ t. HasStep s s′ (MeetsFull t.place)))
+        → (why ≡ OutOfMemory) ⊎ ((why ≡ Full) × OfTicket id (lists_seen s.me.0) (λ t. ShowsStep s s′ (MeetsFull t.place)))
         → Shows (Clone_ticket s.me.0.number id mode) (Refused why) s s′
     refused-shows table sessions went met = shows table sessions clear (did went) (settles went) (told went) tt (inr met)
 

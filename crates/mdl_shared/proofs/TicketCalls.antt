@@ -26,7 +26,7 @@ use Rattle.mdl_shared.specs.Members.{IsMember}
 use Rattle.mdl_shared.specs.Modes.{downgrade_fault, is_fit, merge_fault}
 use Rattle.mdl_shared.specs.OwnLists.{told_of}
 use Rattle.mdl_shared.specs.SessionViews.{SessionView, session_at, space_of}
-use Rattle.mdl_shared.specs.Showings.{HasStep, Shows}
+use Rattle.mdl_shared.specs.Showings.{ShowsStep, Shows}
 use Rattle.mdl_shared.specs.Upgrades.{upgrade_fault}
 use Rattle.mdl_shared.proofs.Faults.{if-clear}
 use Rattle.mdl_shared.proofs.HeldTickets.{HoldsTicket}
@@ -100,13 +100,13 @@ module _ {m : SessionView} (is : IsMember m) (id : ℕ) (t : Own) (its : numbere
     deeds answer short = sym (ap (upgrade_deeds id mode (Ok answer)) its ∙ ap (λ b. if b then [] else rise_deeds id mode answer) short)
 
     pub upgrade-shows : {m′ : SessionView} → m′.table ≡ m.table → m′.sessions ≡ m.sessions → covers t.mode mode ≡ false → Visits t.place (Alter id mode ∷ []) m.me m′.me
-        → HasStep m m′ (MeetsGrantable t.place m.me.0.number mode (Alter id mode)) → Shows (Upgrade_now m.me.0.number id mode) Upgraded m m′
+        → ShowsStep m m′ (MeetsGrantable t.place m.me.0.number mode (Alter id mode)) → Shows (Upgrade_now m.me.0.number id mode) Upgraded m m′
     upgrade-shows {m′} table sessions short went met =
         shows table sessions open-now (subst (λ (ds : List Deed). Does ds m.me m′.me) (deeds upgrade.Upgraded short) (did went)) (settles went) (told went) tt
-        (λ u same less. subst (λ (x : Own). HasStep m m′ (MeetsGrantable x.place m.me.0.number mode (Alter id mode))) (one-ticket (numbered id m.me.0.slow) t u its same) met)
+        (λ u same less. subst (λ (x : Own). ShowsStep m m′ (MeetsGrantable x.place m.me.0.number mode (Alter id mode))) (one-ticket (numbered id m.me.0.slow) t u its same) met)
 
     pub blocked-shows : {m′ : SessionView} → m′.table ≡ m.table → m′.sessions ≡ m.sessions → covers t.mode mode ≡ false → Visits t.place [] m.me m′.me
-        → HasStep m m′ (MeetsBlocked t.place m.me.0.number mode) → Shows (Upgrade_now m.me.0.number id mode) Would_wait m m′
+        → ShowsStep m m′ (MeetsBlocked t.place m.me.0.number mode) → Shows (Upgrade_now m.me.0.number id mode) Would_wait m m′
     blocked-shows {m′} table sessions short went met =
         shows table sessions open-now (subst (λ (ds : List Deed). Does ds m.me m′.me) (deeds upgrade.WouldWait short) (did went)) (settles went) (told went) tt
         (t, its, (short, met))
