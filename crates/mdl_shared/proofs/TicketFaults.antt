@@ -45,12 +45,13 @@ rises : (kind : Kind) (held mode : Mode) → may_upgrade held mode ≡ true → 
 rises kind held mode may = search rules
 
 -- that of a ticket is to one of its lock's kind, unless its mode covers the other one
-pub upgrade-kind : (mode : Mode) (known : List Known) (asks : Option Ask) (t : Own) → upgrade_fault mode known asks (Some t) ≡ None → covers t.mode mode ≡ false
-    → (kind : Kind) × (kind_known t.place known ≡ Some kind) × (is_mode_of kind mode ≡ true) × (is_obtrusive kind mode ≡ true)
-upgrade-kind mode known asks t e short =
-    by (kind_known t.place known) refl (two-clear (can_have mode t (kind_known t.place known)) (is_some asks) NotUpgradable AlreadyWaiting e).0
+pub upgrade-kind : (mode : Mode) (known : List Known) (asks : Option Ask) (o : Option Own) (t : Own) → o ≡ Some t → upgrade_fault mode known asks o ≡ None
+    → covers t.mode mode ≡ false → (kind : Kind) × (kind_known t.place known ≡ Some kind) × (is_mode_of kind mode ≡ true) × (is_obtrusive kind mode ≡ true)
+upgrade-kind mode known asks o t its e short =
+    by (kind_known t.place known) refl
+    (two-clear (can_have mode t (kind_known t.place known)) (is_some asks) NotUpgradable AlreadyWaiting (sym (ap (upgrade_fault mode known asks) its) ∙ e)).0
   where
-    by : (o : Option Kind) → kind_known t.place known ≡ o → can_have mode t o ≡ true
+    by : (k : Option Kind) → kind_known t.place known ≡ k → can_have mode t k ≡ true
         → (kind : Kind) × (kind_known t.place known ≡ Some kind) × (is_mode_of kind mode ≡ true) × (is_obtrusive kind mode ≡ true)
     by None is can = cc
     by (Some kind) is can =
@@ -75,10 +76,11 @@ pub held-fault : (id : ℕ) (tickets : List Own) (why : SpaceError) → holding_
 held-fault id tickets why e = test-failed (is_some (numbered id tickets)) NotHeld why e
 
 -- a ticket that is downgraded may be, and the mode fits its lock
-pub downgrade-passed : (t : Own) (mode : Mode) (known : List Known) → downgrade_fault (Some t) mode known ≡ None
+pub downgrade-passed : (mode : Mode) (known : List Known) (o : Option Own) (t : Own) → o ≡ Some t → downgrade_fault o mode known ≡ None
     → (may_downgrade t.mode mode ≡ true) × (is_fit t.place mode known ≡ true)
-downgrade-passed t mode known e =
-    and_parts (may_downgrade t.mode mode) (is_fit t.place mode known) (test-passed (may_downgrade t.mode mode && is_fit t.place mode known) NotUpgradable e)
+downgrade-passed mode known o t its e =
+    and_parts (may_downgrade t.mode mode) (is_fit t.place mode known)
+    (test-passed (may_downgrade t.mode mode && is_fit t.place mode known) NotUpgradable (sym (ap (λ x. downgrade_fault x mode known) its) ∙ e))
 
 -- two tickets that are merged are at one place
 pub merge-here : (kept gone : Own) (asks : Option Ask) → merge_fault (Some kept) (Some gone) asks ≡ None → is_here kept.place gone ≡ true
