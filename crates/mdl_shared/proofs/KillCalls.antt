@@ -75,9 +75,9 @@ number-met {s} {s′} target found within own now =
     let met = met-word ReadWait target found found s.me.0.settles s s′ now in (
       did,
       joins-still s s′ (Wait_of target) (Has_wait (number_in found)) (done-nothing did.done) tt refl refl refl refl tt tt refl (λ state how is. cc) (λ how is. cc) refl (λ r. r)
-      (λ mine. own-number s found (own mine)),
+          (λ mine. own-number s found (own mine)),
       shows did tt did.did (ap (λ (x : SessionView). x.me.0.settles) now) tt did.stayed
-      (((λ beyond. absurd (false≢true (sym beyond ∙ within))), (λ w. (met.0, met.1, record { word = met.2.word_is; told = ap number_in (sym met.2.found) })))),
+          (((λ beyond. absurd (false≢true (sym beyond ∙ within))), (λ w. (met.0, met.1, record { word = met.2.word_is; told = ap number_in (sym met.2.found) })))),
     )
 
 -- ---- kills
@@ -106,7 +106,7 @@ module _ {s s′ : SessionView} (target number : ℕ) (within : is_within s.sess
   kill-missed settles met known = (
     joins-still s s′ (Kill target number) (Has_killed false) (done-nothing did.done) tt refl refl refl refl tt tt refl (λ state how is. cc) (λ how is. cc) refl (λ r. r) known,
     shows did tt did.did (settles) tt did.stayed
-    (((λ beyond. absurd (false≢true (sym beyond ∙ within))), (λ w. met))),
+        (((λ beyond. absurd (false≢true (sym beyond ∙ within))), (λ w. met))),
   )
 
   pub kill-settled : s′.me.0.settles ≡ s.me.0.settles ++ record { session = target; wait = number; state = 5 } ∷ []
@@ -115,9 +115,9 @@ module _ {s s′ : SessionView} (target number : ℕ) (within : is_within s.sess
       → Joins (space_of s) (Kill target number) (Has_killed true) (space_of s′) × Shows (Kill target number) (Has_killed true) s s′
   kill-settled settles met known = (
     joins-still s s′ (Kill target number) (Has_killed true) (done-nothing did.done) tt refl refl refl refl tt tt refl (λ state how is. cc) (λ how is. cc) refl (λ r. r)
-    (λ mine. let h = known mine in (h.0, told-settled s′.me.0.told Killed h.1)),
+        (λ mine. let h = known mine in (h.0, told-settled s′.me.0.told Killed h.1)),
     shows did tt did.did (settles) tt did.stayed
-    ((within, met)),
+        ((within, met)),
   )
 
 -- a word that was read, and wasn't open, is that of no open wait
@@ -128,14 +128,14 @@ kill-closed {s} {s′} target number found within own now other =
     let did = watches ReadWait target found found s.me.0.settles s s′ now own (inl refl) refl refl in
     let met = met-word ReadWait target found found s.me.0.settles s s′ now in
     let told = kill-missed target number within did (ap (λ (x : SessionView). x.me.0.settles) now)
-      (met.0, met.1, record { word_is = met.2.word_is; differs = λ same. other (sym met.2.found ∙ same) })
-      (λ mine its. closed-settled ReadWait s s′ target number found mine (own mine) now other its) in (did, told.0, told.1)
+    (met.0, met.1, record { word_is = met.2.word_is; differs = λ same. other (sym met.2.found ∙ same) })
+    (λ mine its. closed-settled ReadWait s s′ target number found mine (own mine) now other its) in (did, told.0, told.1)
 
 -- one that was open as it was read is settled then, or another by then
 module _ (s t s′ : SessionView) (target number first found : ℕ) (within : is_within s.sessions target ≡ true) (own : TellsOwn s.table.slots target first s.me.0)
     (now : t ≡ word-step ReadWait target first first s.me.0.settles s) (later : TellsOwn t.table.slots target found t.me.0)
     (hit : found ≡ wait_in number 1
-        → s′ ≡ word-step SettleWait target (wait_in number 1) (wait_in number 5) (t.me.0.settles ++ record { session = target; wait = number; state = 5 } ∷ []) t)
+    → s′ ≡ word-step SettleWait target (wait_in number 1) (wait_in number 5) (t.me.0.settles ++ record { session = target; wait = number; state = 5 } ∷ []) t)
     (miss : found ≢ wait_in number 1 → s′ ≡ word-step MissWait target found found t.me.0.settles t) where
   reads : Watches s t
   reads = watches ReadWait target first first s.me.0.settles s t now own (inl refl) refl refl
@@ -163,12 +163,12 @@ module _ (s t s′ : SessionView) (target number first found : ℕ) (within : is
       let met = met-word SettleWait target (wait_in number 1) (wait_in number 5) all t s′ made in
       let did = watches-then s t s′ reads settles in
       let told = kill-settled target number within did
-        (ap (λ (x : SessionView). x.me.0.settles) made ∙ ap (λ (l : List Settlement). l ++ record { session = target; wait = number; state = 5 } ∷ []) same-settles)
-        (met.0, step_after s.me t.me s′.me (goes_staying s.me t.me reads.stayed) met.0 met.1, record { word = met.2.word_is ∙ ap (λ (id : TableId). wait_word id.slots target) same-table; found = met.2.found })
-        (λ mine.
-        let its = mine ∙ sym same-number in
-        let whole : number_in found ≡ Some number = (let state : wait_state found ≡ 1 = (let e = is_found in omega arith) in rw state (ap Some (let e = is_found in omega arith))) in
-        (sym same-wait ∙ sym (own-number t found (later its)) ∙ whole, told-own SettleWait target (wait_in number 1) (wait_in number 5) all t s′ made its (omega (arith, five)) ∙ ap Some five)) in (did, told.0, told.1)
+      (ap (λ (x : SessionView). x.me.0.settles) made ∙ ap (λ (l : List Settlement). l ++ record { session = target; wait = number; state = 5 } ∷ []) same-settles)
+      (met.0, step_after s.me t.me s′.me (goes_staying s.me t.me reads.stayed) met.0 met.1, record { word = met.2.word_is ∙ ap (λ (id : TableId). wait_word id.slots target) same-table; found = met.2.found })
+      (λ mine.
+      let its = mine ∙ sym same-number in
+      let whole : number_in found ≡ Some number = (let state : wait_state found ≡ 1 = (let e = is_found in omega arith) in rw state (ap Some (let e = is_found in omega arith))) in
+      (sym same-wait ∙ sym (own-number t found (later its)) ∙ whole, told-own SettleWait target (wait_in number 1) (wait_in number 5) all t s′ made its (omega (arith, five)) ∙ ap Some five)) in (did, told.0, told.1)
 
   pub kill-missed-later : found ≢ wait_in number 1
       → Watches s s′ × Joins (space_of s) (Kill target number) (Has_killed false) (space_of s′) × Shows (Kill target number) (Has_killed false) s s′
@@ -177,10 +177,12 @@ module _ (s t s′ : SessionView) (target number first found : ℕ) (within : is
       let misses = watches MissWait target found found t.me.0.settles t s′ made later (inl refl) refl refl in
       let met = met-word MissWait target found found t.me.0.settles t s′ made in
       let did = watches-then s t s′ reads misses in
-      let told = kill-missed target number within did (ap (λ (x : SessionView). x.me.0.settles) made ∙ same-settles)
-        (met.0, step_after s.me t.me s′.me (goes_staying s.me t.me reads.stayed) met.0 met.1,
-        record { word_is = met.2.word_is ∙ ap (λ (id : TableId). wait_word id.slots target) same-table; differs = λ same. other (sym met.2.found ∙ same) })
-        (λ mine its. let own_later = mine ∙ sym same-number in closed-settled MissWait t s′ target number found own_later (later own_later) made other (same-wait ∙ its)) in (did, told.0, told.1)
+      let told = kill-missed target number within did (ap (λ (x : SessionView). x.me.0.settles) made ∙ same-settles) (
+        met.0,
+        step_after s.me t.me s′.me (goes_staying s.me t.me reads.stayed) met.0 met.1,
+        record { word_is = met.2.word_is ∙ ap (λ (id : TableId). wait_word id.slots target) same-table; differs = λ same. other (sym met.2.found ∙ same) },
+      )
+      (λ mine its. let own_later = mine ∙ sym same-number in closed-settled MissWait t s′ target number found own_later (later own_later) made other (same-wait ∙ its)) in (did, told.0, told.1)
 
   pub kill-either : Watches s s′
   kill-either =

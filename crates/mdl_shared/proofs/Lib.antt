@@ -11,6 +11,7 @@ pub mod Faults
 pub mod Props
 pub mod MemberFacts
 pub mod Members
+pub mod HeldTickets
 pub mod Refusals
 pub mod WaitSteps
 pub mod SearchCalls
@@ -19,9 +20,7 @@ pub mod NotedOnce
 pub mod TicketEdits
 pub mod TicketFaults
 pub mod TicketSearch
-pub mod ClearCalls
 pub mod TicketCalls
-pub mod TellingCalls
 pub mod WishFaults
 pub mod WishCalls
 pub mod EndCalls
@@ -33,3 +32,4 @@ pub mod SessionValues
 pub mod Wishing
 pub mod WishShows
 pub mod EndSteps
+pub mod CloneCalls

@@ -1,6 +1,7 @@
 -- What is always so of a session between two calls is so after each call.
 use Rattle.std.proofs.Common.{◌≡◌, ◌⊎◌, inl, inr, ℕ, ◌+◌, ◌≤◌, ◌<◌, true, List, [], ◌∷◌, Option, Some, None, refl, sym, ap, subst, ◌∙◌, arith}
 use Rattle.atomic_table.specs.Seated.{TableId}
+use Rattle.mdl_calls.specs.declared.space_error.SpaceError.{SpaceError}
 use Rattle.mdl_calls.specs.Words.{Answer, Call}
 use Rattle.mdl_steps.specs.declared.deed.Deed.{Deed}
 use Rattle.mdl_steps.specs.declared.deed.Deed.TheVariants.{Gain, Alter, Lose}
@@ -23,6 +24,7 @@ use Rattle.mdl_shared.specs.Members.{IsMember, are_within, most_numbers}
 use Rattle.mdl_shared.specs.Passes.{view_of}
 use Rattle.mdl_shared.specs.Rememberings.{AreAlike}
 use Rattle.mdl_shared.specs.SessionViews.{Lists, SessionView, lists_seen, session_at, space_of}
+use Rattle.mdl_shared.specs.Showings.{own_fault}
 use Rattle.mdl_shared.specs.TicketLists.{HasRoom, TicketList}
 use Rattle.mdl_shared.specs.Waitings.{is_ask_last, is_ask_told}
 use Rattle.mdl_shared.proofs.Alike.{alike_done}
@@ -182,3 +184,8 @@ room-kept {place} list list′ more room =
 -- a ticket of its own list is one of its view
 pub held-seen : (m : Member) (id : ℕ) (o : Option Own) → o ≡ numbered id m.tickets.own → numbered id m.seat.me.0.slow ≡ o
 held-seen m id o found = ap (λ (l : Lists). numbered id l.tickets) (sym m.lists) ∙ sym found
+
+-- a fault by its own lists is one of its view
+pub fault-seen : (m : Member) (call : Call) (o : Option SpaceError)
+    → own_fault call (record { tickets = m.tickets.own; known = m.known.known; next = m.next; asks = m.asks; waits = m.waits }) ≡ o → own_fault call (lists_seen m.seat.me.0) ≡ o
+fault-seen m call o fault = ap (own_fault call) (sym m.lists) ∙ fault

@@ -1,6 +1,6 @@
 -- Calls on the session's own wait: polls and timeouts.
-use Rattle.std.proofs.Common.{◌≡◌, ◌≢◌, ℕ, ◌<◌, ◌≤◌, ◌==◌, true, false, is_some, List, [], ◌∷◌, ◌++◌, Option, Some, None, inl, inr, refl, sym, ap, subst, ◌∙◌, arith}
-use Rattle.std.proofs.lemmas.Bool.{eqb-false, eqb-true}
+use Rattle.std.proofs.Common.{◌≡◌, ◌≢◌, ℕ, ◌<◌, ◌≤◌, true, false, is_some, List, [], ◌∷◌, ◌++◌, Option, Some, None, inl, inr, refl, sym, ap, subst, ◌∙◌, arith}
+use Rattle.std.proofs.lemmas.Bool.Decides.{nat_tests}
 use Rattle.mdl_calls.specs.declared.answers.Settled.{Settled}
 use Rattle.mdl_calls.specs.declared.answers.Settled.TheVariants.{Granted, Victim, Timeout, Killed}
 use Rattle.mdl_calls.specs.declared.answers.TimedOut.TheVariants.{ByThisCall, Already}
@@ -14,7 +14,6 @@ use Rattle.mdl_steps.specs.Layout.{wait_word}
 use Rattle.mdl_steps.specs.Rule.{WaitOk}
 use Rattle.mdl_steps.specs.WaitPlays.{TellsOwn}
 use Rattle.mdl_steps.specs.WaitStates.{IsSettled, wait_in, wait_state}
-use Rattle.mdl_steps.proofs.Views.{by_bool}
 use Rattle.mdl_session_laws.specs.SessionJoins.{Joins}
 use Rattle.mdl_visits.specs.Polls.{state_of}
 use Rattle.mdl_shared.specs.Members.{IsMember}
@@ -30,31 +29,14 @@ use Rattle.mdl_shared.proofs.WaitSteps.{Watches, met-word, shows, told-own, watc
 -- ---- how a wait is settled, by the state of its word
 
 pub settled-is : (state : ℕ) (how : Settled) → settled_of state ≡ Some how → state ≡ state_of how
-settled-is state how e =
-    by_bool (state == 2) (λ two. let now = rw two at e in let same : Granted ≡ how = cc in eqb-true state 2 two ∙ ap state_of same) (λ not_two.
-    let at_three = rw not_two at e in
-    by_bool (state == 3) (λ three. let now = rw three at at_three in let same : Victim ≡ how = cc in eqb-true state 3 three ∙ ap state_of same) (λ not_three.
-    let at_four = rw not_three at at_three in
-    by_bool (state == 4) (λ four. let now = rw four at at_four in let same : Timeout ≡ how = cc in eqb-true state 4 four ∙ ap state_of same) (λ not_four.
-    let at_five = rw not_four at at_four in
-    by_bool (state == 5) (λ five. let now = rw five at at_five in let same : Killed ≡ how = cc in eqb-true state 5 five ∙ ap state_of same) (λ not_five.
-    let now = rw not_five at at_five in cc))))
+settled-is state Granted e = grind (arith, nat_tests)
+settled-is state Victim e = grind (arith, nat_tests)
+settled-is state Timeout e = grind (arith, nat_tests)
+settled-is state Killed e = grind (arith, nat_tests)
 
 -- the other states
 unsettled-is : (state : ℕ) → settled_of state ≡ None → state ≢ 0 → state ≤ 5 → state ≡ 1
-unsettled-is state e busy most =
-    by_bool (state == 2) (λ two. let now = rw two at e in cc) (λ not_two.
-    let at_three = rw not_two at e in
-    by_bool (state == 3) (λ three. let now = rw three at at_three in cc) (λ not_three.
-    let at_four = rw not_three at at_three in
-    by_bool (state == 4) (λ four. let now = rw four at at_four in cc) (λ not_four.
-    let at_five = rw not_four at at_four in
-    by_bool (state == 5) (λ five. let now = rw five at at_five in cc) (λ not_five.
-    let two = eqb-false state 2 not_two in
-    let three = eqb-false state 3 not_three in
-    let four = eqb-false state 4 not_four in
-    let five = eqb-false state 5 not_five in
-    omega (arith, busy, most, two, three, four, five)))))
+unsettled-is state e busy most = grind (arith, nat_tests)
 
 -- a settled one has one
 pub settled-some : (state : ℕ) → 1 < state → state ≤ 5 → (how : Settled) × (settled_of state ≡ Some how)
@@ -126,10 +108,10 @@ module _ {s : SessionView} (is : IsMember s) (waiting : is_some s.me.0.asks ≡ 
         → Joins (space_of s) (Poll_wait s.me.0.number) Pending (space_of s′) × Shows (Poll_wait s.me.0.number) Pending s s′
     poll-pending none = (
       joins-still s s′ (Poll_wait s.me.0.number) Pending (done-nothing polls.done) (speaks is) refl refl refl refl
-      (waits-asks s.me.0.asks s.me.0.waits ∙ waiting) tt refl
-      (λ state how met knows. let e : None ≡ state = cc in sym e ∙ agreed None none how knows) (λ how told. cc) refl (λ r. r) tt,
+          (waits-asks s.me.0.asks s.me.0.waits ∙ waiting) tt refl
+          (λ state how met knows. let e : None ≡ state = cc in sym e ∙ agreed None none how knows) (λ how told. cc) refl (λ r. r) tt,
       shows polls (if-clear _ (wait_fault s.me.0.asks) (clear-wait s.me.0.asks waiting)) polls.did (ap (λ (x : SessionView). x.me.0.settles) now) tt polls.stayed
-      (polls-own 1 (unsettled-is (wait_state found) none busy ok.state)),
+          (polls-own 1 (unsettled-is (wait_state found) none busy ok.state)),
     )
 
     pub poll-settled : (one : Settled) → settled_of (wait_state found) ≡ Some one
@@ -138,18 +120,18 @@ module _ {s : SessionView} (is : IsMember s) (waiting : is_some s.me.0.asks ≡ 
         let its = settled-is (wait_state found) one some in
         let told = told-own ReadWait session found found s.me.0.settles s s′ now mine (settled-more (wait_state found) one its) ∙ ap Some its in (
           joins-still s s′ (Poll_wait s.me.0.number) (Is_settled one) (done-nothing polls.done) (speaks is) refl refl refl refl
-          (waits-asks s.me.0.asks s.me.0.waits ∙ waiting) tt refl
-          (λ state how met knows. let e : Some one ≡ state = cc in sym e ∙ agreed (Some one) some how knows)
-          (λ how tells. let e : one ≡ how = cc in told-settled s′.me.0.told how (told ∙ ap (λ (x : Settled). Some (state_of x)) e)) refl (λ r. r) tt,
+              (waits-asks s.me.0.asks s.me.0.waits ∙ waiting) tt refl
+              (λ state how met knows. let e : Some one ≡ state = cc in sym e ∙ agreed (Some one) some how knows)
+              (λ how tells. let e : one ≡ how = cc in told-settled s′.me.0.told how (told ∙ ap (λ (x : Settled). Some (state_of x)) e)) refl (λ r. r) tt,
           shows polls (if-clear _ (wait_fault s.me.0.asks) (clear-wait s.me.0.asks waiting)) polls.did (ap (λ (x : SessionView). x.me.0.settles) now) tt polls.stayed
-          (polls-own (state_of one) its),
+              (polls-own (state_of one) its),
         )
 
   -- ---- timeouts
 
   module _ {s′ : SessionView} (wait : ℕ) (last : wait ≡ s.me.0.waits)
       (hit : found ≡ wait_in wait 1
-          → s′ ≡ word-step SettleWait session (wait_in wait 1) (wait_in wait 4) (s.me.0.settles ++ record { session = session; wait = wait; state = 4 } ∷ []) s)
+      → s′ ≡ word-step SettleWait session (wait_in wait 1) (wait_in wait 4) (s.me.0.settles ++ record { session = session; wait = wait; state = 4 } ∷ []) s)
       (miss : found ≢ wait_in wait 1 → s′ ≡ word-step MissWait session found found s.me.0.settles s) where
     pub timeout-now : settled_of (wait_state found) ≡ None
         → Watches s s′ × Joins (space_of s) (Settle_timeout s.me.0.number) (Timed_out ByThisCall) (space_of s′) × Shows (Settle_timeout s.me.0.number) (Timed_out ByThisCall) s s′
@@ -164,12 +146,12 @@ module _ {s : SessionView} (is : IsMember s) (waiting : is_some s.me.0.asks ≡ 
         let told = told-own SettleWait session (wait_in wait 1) (wait_in wait 4) all s s′ now mine (omega (arith, four)) ∙ ap Some four in (
           did,
           joins-still s s′ (Settle_timeout s.me.0.number) (Timed_out ByThisCall) (done-nothing did.done) (speaks is) refl refl refl refl
-          (waits-asks s.me.0.asks s.me.0.waits ∙ waiting) tt refl
-          (λ state how met knows. let e : None ≡ state = cc in sym e ∙ agreed None none how knows)
-          (λ how tells. let e : Timeout ≡ how = cc in told-settled s′.me.0.told how (told ∙ ap (λ (x : Settled). Some (state_of x)) e)) refl (λ r. r) tt,
+              (waits-asks s.me.0.asks s.me.0.waits ∙ waiting) tt refl
+              (λ state how met knows. let e : None ≡ state = cc in sym e ∙ agreed None none how knows)
+              (λ how tells. let e : Timeout ≡ how = cc in told-settled s′.me.0.told how (told ∙ ap (λ (x : Settled). Some (state_of x)) e)) refl (λ r. r) tt,
           shows did (if-clear _ (wait_fault s.me.0.asks) (clear-wait s.me.0.asks waiting)) did.did (ap (λ (x : SessionView). x.me.0.settles) now ∙ ap (λ (n : ℕ). s.me.0.settles ++ record { session = n; wait = wait; state = 4 } ∷ []) mine
-                ∙ ap (λ (w : ℕ). s.me.0.settles ++ record { session = s.me.0.number; wait = w; state = 4 } ∷ []) last) tt did.stayed
-          ((met.0, met.1, record { word = met.2.word_is ∙ ap (wait_word s.table.slots) mine; found = met.2.found ∙ ap (λ (w : ℕ). wait_in w 1) last })),
+              ∙ ap (λ (w : ℕ). s.me.0.settles ++ record { session = s.me.0.number; wait = w; state = 4 } ∷ []) last) tt did.stayed
+              ((met.0, met.1, record { word = met.2.word_is ∙ ap (wait_word s.table.slots) mine; found = met.2.found ∙ ap (λ (w : ℕ). wait_in w 1) last })),
         )
 
     pub timeout-already : (one : Settled) → settled_of (wait_state found) ≡ Some one
@@ -183,11 +165,11 @@ module _ {s : SessionView} (is : IsMember s) (waiting : is_some s.me.0.asks ≡ 
         let told = told-own MissWait session found found s.me.0.settles s s′ now mine more ∙ ap Some its in (
           did,
           joins-still s s′ (Settle_timeout s.me.0.number) (Timed_out (Already one)) (done-nothing did.done) (speaks is) refl refl refl refl
-          (waits-asks s.me.0.asks s.me.0.waits ∙ waiting) tt refl
-          (λ state how met knows. let e : Some one ≡ state = cc in sym e ∙ agreed (Some one) some how knows)
-          (λ how tells. let e : one ≡ how = cc in told-settled s′.me.0.told how (told ∙ ap (λ (x : Settled). Some (state_of x)) e)) refl (λ r. r) tt,
+              (waits-asks s.me.0.asks s.me.0.waits ∙ waiting) tt refl
+              (λ state how met knows. let e : Some one ≡ state = cc in sym e ∙ agreed (Some one) some how knows)
+              (λ how tells. let e : one ≡ how = cc in told-settled s′.me.0.told how (told ∙ ap (λ (x : Settled). Some (state_of x)) e)) refl (λ r. r) tt,
           shows did (if-clear _ (wait_fault s.me.0.asks) (clear-wait s.me.0.asks waiting)) did.did (ap (λ (x : SessionView). x.me.0.settles) now) tt did.stayed
-          ((met.0, met.1, record { word = met.2.word_is ∙ ap (wait_word s.table.slots) mine; found = met.2.found ∙ in-state (state_of one) its })),
+              ((met.0, met.1, record { word = met.2.word_is ∙ ap (wait_word s.table.slots) mine; found = met.2.found ∙ in-state (state_of one) its })),
         )
 
     pub timeouts : Watches s s′

@@ -1,10 +1,13 @@
 -- Calls on held tickets: releases, downgrades, upgrades and merges.
-use Rattle.std.proofs.Common.{◌≡◌, ℕ, true, false, not, ◌&&◌, List, [], ◌∷◌, Some, None, map, filter, is_some, if◌then◌else◌, refl, sym, ap, subst, ◌∙◌}
+use Rattle.std.proofs.Common.{◌≡◌, ℕ, true, false, not, ◌&&◌, List, [], ◌∷◌, Option, Some, None, map, filter, is_some, if◌then◌else◌, Ok, refl, sym, ap, subst, ◌∙◌}
 use Rattle.std.specs.Option.{option_map}
 use Rattle.std.proofs.lemmas.Bool.{and_from, and_parts, eq-eqb, not-true, not_from_false}
 use Rattle.mdl_key.specs.declared.mode.Mode.{Mode}
 use Rattle.mdl_system.specs.Strength.{covers, may_downgrade}
 use Rattle.mdl_calls.specs.declared.answers.Held.{Held}
+use Rattle.mdl_calls.specs.declared.answers.Upgrade.{Upgrade}
+use Rattle.mdl_calls.specs.declared.answers.Upgrade.TheVariants as upgrade
+use Rattle.mdl_calls.specs.declared.space_error.SpaceError.{SpaceError}
 use Rattle.mdl_calls.specs.Words.{Done, Refused, Upgraded, Would_wait, Release, Downgrade, Upgrade_now, Merge, MayDowngrade, is_number}
 use Rattle.mdl_calls.specs.Own.{merging, upgraded}
 use Rattle.mdl_steps.specs.declared.deed.Deed.{Deed}
@@ -16,25 +19,26 @@ use Rattle.mdl_session_laws.specs.SessionJoins.{Joins, ReadsNothing}
 use Rattle.mdl_visits.specs.Grantings.{VisitsAndReschedules}
 use Rattle.mdl_visits.specs.Leavings.{MeetsOwn}
 use Rattle.mdl_visits.specs.Numbers.{numbered}
-use Rattle.mdl_visits.specs.Visits.{IsStepOf}
+use Rattle.mdl_visits.specs.Visits.{Does, IsStepOf, MeetsBlocked, MeetsGrantable, Visits}
 use Rattle.mdl_visits.proofs.Doing.{does_reschedule}
-use Rattle.mdl_visits.proofs.Numbers.{has_number}
+use Rattle.mdl_shared.specs.Doings.{merge_deeds, rise_deeds, upgrade_deeds}
 use Rattle.mdl_shared.specs.Members.{IsMember}
 use Rattle.mdl_shared.specs.Modes.{downgrade_fault, is_fit, merge_fault}
 use Rattle.mdl_shared.specs.OwnLists.{told_of}
 use Rattle.mdl_shared.specs.SessionViews.{SessionView, session_at, space_of}
-use Rattle.mdl_shared.specs.Showings.{Shows}
+use Rattle.mdl_shared.specs.Showings.{HasStep, Shows}
 use Rattle.mdl_shared.specs.Upgrades.{upgrade_fault}
-use Rattle.mdl_shared.proofs.ClearCalls.{downgrade-open}
 use Rattle.mdl_shared.proofs.Faults.{if-clear}
+use Rattle.mdl_shared.proofs.HeldTickets.{HoldsTicket}
 use Rattle.mdl_shared.proofs.MemberFacts.{speaks}
-use Rattle.mdl_shared.proofs.Members.{HasDone, done-next, done-nothing, done-reads, done-rest, done-slow, rescheduled}
+use Rattle.mdl_shared.proofs.Members.{HasDone, done-next, done-nothing, done-reads, done-rest, done-slow, rescheduled, visited}
 use Rattle.mdl_shared.proofs.NotedOnce.{one-note, one-note_done}
-use Rattle.mdl_shared.proofs.SameSpace.{joins-held, joins-still, numbers-same, same-rest}
+use Rattle.mdl_shared.proofs.SameSpace.{joins-held, joins-still, numbers-same, refused, same-rest, same-stays}
 use Rattle.mdl_shared.proofs.SpaceLists.{fit-known, ticket-told}
 use Rattle.mdl_shared.proofs.SpaceNotes.{AllNoted, noted-less, noted-moded, nothing-read, noted_under}
 use Rattle.mdl_shared.proofs.SpaceTickets.{all_of, given-up, holds-told, in-mode, in_mode_told, is_here, merged-told, of-held, only-one, same-mode}
-use Rattle.mdl_shared.proofs.TicketFaults.{knows, merge-clear, merge-here, upgrade-clear}
+use Rattle.mdl_shared.proofs.TicketFaults.{downgrade-cause, downgrade-passed, knows, merge-cause, merge-clear, merge-here, one-ticket, upgrade-cause, upgrade-clear}
+use Rattle.mdl_shared.proofs.WishShows.{did, settles, shows, told}
 
 -- ---- a call with one deed
 
@@ -88,6 +92,25 @@ module _ {m : SessionView} (is : IsMember m) (id : ℕ) (t : Own) (its : numbere
         (and_from _ _ (eq-eqb t.place t.place refl) (not_from_false (covers t.mode mode) short))))
         refl (drawn done (done-next done)) (upgrade-clear m id mode t its clear) tt refl (λ state how is. cc) (λ how is. cc) refl (deed-reads is done) tt
 
+    -- the session's view has no fault
+    open-now : upgrade_fault mode m.me.0.known m.me.0.asks (numbered id m.me.0.slow) ≡ None
+    open-now = ap (upgrade_fault mode m.me.0.known m.me.0.asks) its ∙ clear
+
+    deeds : (answer : Upgrade) → covers t.mode mode ≡ false → rise_deeds id mode answer ≡ upgrade_deeds id mode (Ok answer) (numbered id m.me.0.slow)
+    deeds answer short = sym (ap (upgrade_deeds id mode (Ok answer)) its ∙ ap (λ b. if b then [] else rise_deeds id mode answer) short)
+
+    pub upgrade-shows : {m′ : SessionView} → m′.table ≡ m.table → m′.sessions ≡ m.sessions → covers t.mode mode ≡ false → Visits t.place (Alter id mode ∷ []) m.me m′.me
+        → HasStep m m′ (MeetsGrantable t.place m.me.0.number mode (Alter id mode)) → Shows (Upgrade_now m.me.0.number id mode) Upgraded m m′
+    upgrade-shows {m′} table sessions short went met =
+        shows table sessions open-now (subst (λ (ds : List Deed). Does ds m.me m′.me) (deeds upgrade.Upgraded short) (did went)) (settles went) (told went) tt
+        (λ u same less. subst (λ (x : Own). HasStep m m′ (MeetsGrantable x.place m.me.0.number mode (Alter id mode))) (one-ticket (numbered id m.me.0.slow) t u its same) met)
+
+    pub blocked-shows : {m′ : SessionView} → m′.table ≡ m.table → m′.sessions ≡ m.sessions → covers t.mode mode ≡ false → Visits t.place [] m.me m′.me
+        → HasStep m m′ (MeetsBlocked t.place m.me.0.number mode) → Shows (Upgrade_now m.me.0.number id mode) Would_wait m m′
+    blocked-shows {m′} table sessions short went met =
+        shows table sessions open-now (subst (λ (ds : List Deed). Does ds m.me m′.me) (deeds upgrade.WouldWait short) (did went)) (settles went) (told went) tt
+        (t, its, (short, met))
+
     -- that would have to wait
     pub blocked-joins : {m′ : SessionView} → covers t.mode mode ≡ false → HasDone t.place [] m m′ → Joins (space_of m) (Upgrade_now m.me.0.number id mode) Would_wait (space_of m′)
     blocked-joins {m′} short done =
@@ -111,29 +134,80 @@ module _ {m : SessionView} (is : IsMember m) (id : ℕ) (t : Own) (its : numbere
       (noted-less at (noted_under at m.me.0.slow) _ _ (noted-moded at t.place id (noted_under at m.me.0.slow) gone.mode m.me.0.slow (one-note m is at)))))
       tt
 
+-- ---- refused for what the session has
+
+module _ {s : SessionView} (is : IsMember s) (why : SpaceError) where
+  pub downgrade-unfit : (id : ℕ) (mode : Mode) → downgrade_fault (numbered id s.me.0.slow) mode s.me.0.known ≡ Some why
+      → Joins (space_of s) (Downgrade s.me.0.number id mode) (Refused why) (space_of s)
+  downgrade-unfit id mode fault =
+      refused s s (Downgrade s.me.0.number id mode) why (same-stays s) (speaks is) refl refl
+      (downgrade-cause s s.me.0.number id mode why (numbered id s.me.0.slow) refl fault) (λ state how is. cc) tt
+
+  pub upgrade-unfit : (id : ℕ) (mode : Mode) → upgrade_fault mode s.me.0.known s.me.0.asks (numbered id s.me.0.slow) ≡ Some why
+      → Joins (space_of s) (Upgrade_now s.me.0.number id mode) (Refused why) (space_of s)
+  upgrade-unfit id mode fault =
+      refused s s (Upgrade_now s.me.0.number id mode) why (same-stays s) (speaks is) refl refl
+      (upgrade-cause s s.me.0.number id mode why (numbered id s.me.0.slow) refl fault) (λ state how is. cc) tt
+
+  pub merge-unfit : (old new : ℕ) → merge_fault (numbered old s.me.0.slow) (numbered new s.me.0.slow) s.me.0.asks ≡ Some why
+      → Joins (space_of s) (Merge s.me.0.number old new) (Refused why) (space_of s)
+  merge-unfit old new fault =
+      refused s s (Merge s.me.0.number old new) why (same-stays s) (speaks is) refl refl
+      (merge-cause s s.me.0.number old new why (numbered old s.me.0.slow) (numbered new s.me.0.slow) refl refl fault) (λ state how is. cc) tt
+
 -- ---- what a downgrade comes to
 
-pub downgraded : (seat seat′ : SeatState) (sessions id : ℕ) (mode : Mode) (t : Own) → IsMember (session_at seat sessions) → numbered id seat.me.0.slow ≡ Some t
-    → may_downgrade t.mode mode ≡ true → is_fit t.place mode seat.me.0.known ≡ true
+pub downgraded : (seat seat′ : SeatState) (sessions id : ℕ) (mode : Mode) (t : Own) → IsMember (session_at seat sessions) → HoldsTicket id t (session_at seat sessions)
+    → downgrade_fault (numbered id seat.me.0.slow) mode seat.me.0.known ≡ None
     → AtItsTable seat seat′ (VisitsAndReschedules seat.table t.place (Alter t.number mode ∷ []))
     → ((e : Met) × IsStepOf seat.me seat′.me e × MeetsOwn t.place seat.me.0.number t.number e × (e.deeds ≡ Alter t.number mode ∷ []))
     → Joins (space_of (session_at seat sessions)) (Downgrade seat.me.0.number id mode) Done (space_of (session_at seat′ sessions))
     × Shows (Downgrade seat.me.0.number id mode) Done (session_at seat sessions) (session_at seat′ sessions)
-downgraded seat seat′ sessions id mode t is its may fits visit step =
-    let number = has_number id t seat.me.0.slow its in
-    let own = subst (λ (n : ℕ). numbered n seat.me.0.slow ≡ Some t) (sym number) its in
-    let clear : downgrade_fault (numbered t.number seat.me.0.slow) mode seat.me.0.known ≡ None = downgrade-open mode seat.me.0.known (numbered t.number seat.me.0.slow) t own may fits in
+downgraded seat seat′ sessions id mode t is held clear visit step =
+    let open-now = sym (ap (λ o. downgrade_fault o mode seat.me.0.known) held.its) ∙ clear in
+    let may = downgrade-passed t mode seat.me.0.known open-now in
     subst (λ (n : ℕ). Joins (space_of (session_at seat sessions)) (Downgrade seat.me.0.number n mode) Done (space_of (session_at seat′ sessions))
-    × Shows (Downgrade seat.me.0.number n mode) Done (session_at seat sessions) (session_at seat′ sessions)) number (
-      downgrade-joins is t.number t own mode may fits (rescheduled seat seat′ sessions visit),
+    × Shows (Downgrade seat.me.0.number n mode) Done (session_at seat sessions) (session_at seat′ sessions)) held.number (
+      downgrade-joins is t.number t held.own mode may.0 may.1 (rescheduled seat seat′ sessions visit),
       record {
         table = visit.0;
         sessions = refl;
-        refused = if-clear (λ why. Done ≡ Refused why) (downgrade_fault (numbered t.number seat.me.0.slow) mode seat.me.0.known) clear;
+        refused = if-clear _ _ (ap (λ o. downgrade_fault o mode seat.me.0.known) held.own ∙ open-now);
         did = does_reschedule seat.me seat′.me seat.table t.place (Alter t.number mode ∷ []) visit.1;
         settled = tt;
         told = tt;
         steps = tt;
-        met = ((t, own, (step.0, step.1, (step.2, step.3))), (t, own, visit.1.way));
+        met = ((t, held.own, (step.0, step.1, (step.2, step.3))), (t, held.own, visit.1.way));
       },
     )
+
+-- ---- what a merge comes to
+
+pub merged : (seat seat′ : SeatState) (sessions old new : ℕ) (kept gone : Own) → IsMember (session_at seat sessions)
+    → HoldsTicket old kept (session_at seat sessions) → HoldsTicket new gone (session_at seat sessions) → merge_fault (numbered old seat.me.0.slow) (numbered new seat.me.0.slow) seat.me.0.asks ≡ None
+    → AtItsTable seat seat′ (Visits kept.place (Alter kept.number gone.mode ∷ Lose gone.number ∷ []))
+    → ((e : Met) × IsStepOf seat.me seat′.me e × MeetsOwn kept.place seat.me.0.number kept.number e × MeetsOwn kept.place seat.me.0.number gone.number e
+    × (e.deeds ≡ Alter kept.number gone.mode ∷ Lose gone.number ∷ []))
+    → Joins (space_of (session_at seat sessions)) (Merge seat.me.0.number old new) Done (space_of (session_at seat′ sessions))
+    × Shows (Merge seat.me.0.number old new) Done (session_at seat sessions) (session_at seat′ sessions)
+merged seat seat′ sessions old new kept gone is one other clear visit step =
+    let fault : (n p : ℕ) → numbered n seat.me.0.slow ≡ Some kept → numbered p seat.me.0.slow ≡ Some gone
+        → merge_fault (numbered n seat.me.0.slow) (numbered p seat.me.0.slow) seat.me.0.asks ≡ merge_fault (Some kept) (Some gone) seat.me.0.asks =
+    λ n p x y. ap (λ o. merge_fault o (numbered p seat.me.0.slow) seat.me.0.asks) x ∙ ap (λ o. merge_fault (Some kept) o seat.me.0.asks) y in
+    let free = sym (fault old new one.its other.its) ∙ clear in
+    subst (λ (n : ℕ). Joins (space_of (session_at seat sessions)) (Merge seat.me.0.number n new) Done (space_of (session_at seat′ sessions))
+    × Shows (Merge seat.me.0.number n new) Done (session_at seat sessions) (session_at seat′ sessions)) one.number
+    (subst (λ (n : ℕ). Joins (space_of (session_at seat sessions)) (Merge seat.me.0.number kept.number n) Done (space_of (session_at seat′ sessions))
+    × Shows (Merge seat.me.0.number kept.number n) Done (session_at seat sessions) (session_at seat′ sessions)) other.number (
+      merge-joins is kept.number kept one.own gone.number gone other.own free (visited seat seat′ sessions visit),
+      record {
+        table = visit.0;
+        sessions = refl;
+        refused = if-clear _ _ (fault kept.number gone.number one.own other.own ∙ free);
+        did = subst (λ (o : Option Own). Does (merge_deeds kept.number gone.number (Ok tt) o) seat.me seat′.me) (sym other.own) (did visit.1);
+        settled = settles visit.1;
+        told = told visit.1;
+        steps = tt;
+        met = (kept, one.own, (gone, other.own, (step.0, step.1, (step.2, step.3, step.4))));
+      },
+    ))

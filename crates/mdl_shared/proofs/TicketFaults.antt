@@ -1,14 +1,15 @@
 -- Why calls on held tickets are refused, in the words of a lock space.
-use Rattle.std.proofs.Common.{◌≡◌, ℕ, Bool, true, false, not, ◌==◌, ◌&&◌, ◌||◌, is_some, Option, Some, None, List, if◌then◌else◌, refl, sym, ap, subst, ◌∙◌}
+use Rattle.std.proofs.Common.{rules, ◌≡◌, ℕ, Bool, true, false, not, ◌==◌, ◌&&◌, ◌||◌, is_some, Option, Some, None, List, if◌then◌else◌, refl, sym, ap, subst, ◌∙◌}
 use Rattle.std.proofs.lemmas.Bool.{and_from, and_left, and_parts, and_right, eq-eqb, eqb-true}
 use Rattle.mdl_key.specs.declared.mode.Mode.{Mode}
 use Rattle.mdl_key.specs.declared.namespace.Kind.{Kind}
-use Rattle.mdl_key.specs.Words.{is_mode_of, kind_of}
+use Rattle.mdl_key.specs.Words.{is_mode_of, is_obtrusive, kind_of}
 use Rattle.mdl_system.specs.Strength.{covers, may_downgrade, may_upgrade}
 use Rattle.mdl_calls.specs.declared.space_error.SpaceError.{SpaceError}
 use Rattle.mdl_calls.specs.declared.space_error.SpaceError.TheVariants.{AlreadyWaiting, BadMode, NotHeld, NotUpgradable}
 use Rattle.mdl_calls.specs.Words.{Downgrade, Upgrade_now, Merge, IsCause, Knowledge, MayDowngrade, MayNotDowngrade, MayUpgrade, MayNotUpgrade, Mergeable, OfHeld, Own as Mine, holds, is_waiting, may_merge as may_merge_told}
 use Rattle.mdl_steps.specs.declared.view.Ask.{Ask}
+use Rattle.mdl_steps.specs.declared.view.Known.{Known}
 use Rattle.mdl_steps.specs.declared.view.Own.{Own}
 use Rattle.mdl_session_laws.specs.SessionSpaces.{Knows}
 use Rattle.mdl_visits.specs.Numbers.{numbered}
@@ -29,11 +30,32 @@ pub other-false : (x y : Bool) → (x && y) ≡ false → x ≡ true → y ≡ f
 other-false true y e is = e
 other-false false y e is = cc
 
+-- the same ticket is found
+pub one-ticket : {T : Type 0} (o : Option T) (t u : T) → o ≡ Some t → o ≡ Some u → t ≡ u
+one-ticket o t u one other = let e : Some t ≡ Some u = sym one ∙ other in cc
+
 -- neither fault
 two-clear : (can waits : Bool) (one other : SpaceError) → (if not can then Some one else (if waits then Some other else None)) ≡ None → (can ≡ true) × (waits ≡ false)
 two-clear true false one other e = (refl, refl)
 two-clear true true one other e = cc
 two-clear false waits one other e = cc
+
+-- an upgrade is to an obtrusive mode
+rises : (kind : Kind) (held mode : Mode) → may_upgrade held mode ≡ true → is_obtrusive kind mode ≡ true
+rises kind held mode may = search rules
+
+-- that of a ticket is to one of its lock's kind, unless its mode covers the other one
+pub upgrade-kind : (mode : Mode) (known : List Known) (asks : Option Ask) (t : Own) → upgrade_fault mode known asks (Some t) ≡ None → covers t.mode mode ≡ false
+    → (kind : Kind) × (kind_known t.place known ≡ Some kind) × (is_mode_of kind mode ≡ true) × (is_obtrusive kind mode ≡ true)
+upgrade-kind mode known asks t e short =
+    by (kind_known t.place known) refl (two-clear (can_have mode t (kind_known t.place known)) (is_some asks) NotUpgradable AlreadyWaiting e).0
+  where
+    by : (o : Option Kind) → kind_known t.place known ≡ o → can_have mode t o ≡ true
+        → (kind : Kind) × (kind_known t.place known ≡ Some kind) × (is_mode_of kind mode ≡ true) × (is_obtrusive kind mode ≡ true)
+    by None is can = cc
+    by (Some kind) is can =
+        let parts = and_parts (covers t.mode mode || may_upgrade t.mode mode) (is_mode_of kind mode) can in
+        (kind, is, parts.1, rises kind t.mode mode (ap (λ b. b || may_upgrade t.mode mode) (sym short) ∙ parts.0))
 
 -- whether two tickets may be merged, as they are told
 merge-told : (kept gone : Own) → may_merge_told (told_of kept) (told_of gone) ≡ may_merge kept gone
@@ -51,6 +73,12 @@ held-clear id tickets e = test-passed (is_some (numbered id tickets)) NotHeld e
 
 pub held-fault : (id : ℕ) (tickets : List Own) (why : SpaceError) → holding_fault id tickets ≡ Some why → (is_some (numbered id tickets) ≡ false) × (why ≡ NotHeld)
 held-fault id tickets why e = test-failed (is_some (numbered id tickets)) NotHeld why e
+
+-- a ticket that is downgraded may be, and the mode fits its lock
+pub downgrade-passed : (t : Own) (mode : Mode) (known : List Known) → downgrade_fault (Some t) mode known ≡ None
+    → (may_downgrade t.mode mode ≡ true) × (is_fit t.place mode known ≡ true)
+downgrade-passed t mode known e =
+    and_parts (may_downgrade t.mode mode) (is_fit t.place mode known) (test-passed (may_downgrade t.mode mode && is_fit t.place mode known) NotUpgradable e)
 
 -- two tickets that are merged are at one place
 pub merge-here : (kept gone : Own) (asks : Option Ask) → merge_fault (Some kept) (Some gone) asks ≡ None → is_here kept.place gone ≡ true

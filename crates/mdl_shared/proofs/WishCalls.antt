@@ -67,7 +67,7 @@ gain-joins {s} {s′} is {place} {id} {mode} first done call mine has fits own d
 -- ---- wishes
 
 -- the causes that the session doesn't have of its own
-by-cause : (P : SpaceError → Type 0) (why : SpaceError) → P OutOfMemory → P Full → (why ≡ OutOfMemory) ⊎ (why ≡ Full) → P why
+pub by-cause : (P : SpaceError → Type 0) (why : SpaceError) → P OutOfMemory → P Full → (why ≡ OutOfMemory) ⊎ (why ≡ Full) → P why
 by-cause P why memory full (inl is) = subst P (sym is) memory
 by-cause P why memory full (inr is) = subst P (sym is) full
 

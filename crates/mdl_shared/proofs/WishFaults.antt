@@ -1,5 +1,5 @@
 -- Why wishes for locks and clones are refused, in the words of a lock space.
-use Rattle.std.proofs.Common.{◌≡◌, ◌⊎◌, ℕ, Bool, true, false, not, ◌&&◌, is_some, Option, Some, None, Result, Ok, Err, inl, inr, IfSome, if◌then◌else◌, refl, sym, ap, subst, ◌∙◌}
+use Rattle.std.proofs.Common.{◌≡◌, ◌⊎◌, ℕ, Bool, true, false, not, ◌&&◌, is_some, List, Option, Some, None, Result, Ok, Err, inl, inr, IfSome, if◌then◌else◌, refl, sym, ap, subst, ◌∙◌}
 use Rattle.std.specs.Prelude.{◌<◌, nat_le}
 use Rattle.std.proofs.lemmas.Bool.{and_parts, leb-false}
 use Rattle.mdl_key.specs.declared.mode.Mode.{Mode}
@@ -10,25 +10,17 @@ use Rattle.mdl_calls.specs.declared.space_error.SpaceError.{SpaceError}
 use Rattle.mdl_calls.specs.declared.space_error.SpaceError.TheVariants.{AlreadyWaiting, BadMode, CounterFull, Full, NoPlace, NotHeld, OutOfMemory}
 use Rattle.mdl_calls.specs.Words.{IsFit, IsUnfit, IsUnknown, Knowledge, MayClone, MayNotClone, OfHeld, Own as Mine, holds, is_waiting}
 use Rattle.mdl_steps.specs.declared.view.Ask.{Ask}
+use Rattle.mdl_steps.specs.declared.view.Known.{Known}
 use Rattle.mdl_steps.specs.declared.view.Own.{Own}
 use Rattle.mdl_session_laws.specs.SessionSpaces.{Knows, is_known}
 use Rattle.mdl_visits.specs.Numbers.{numbered}
 use Rattle.mdl_shared.specs.Members.{kind_known, most_numbers, wish_fault}
 use Rattle.mdl_shared.specs.Modes.{clone_fault, is_fit}
 use Rattle.mdl_shared.specs.SessionViews.{SessionView, space_of}
-use Rattle.mdl_shared.proofs.SameSpace.{waits-asks}
+use Rattle.mdl_shared.proofs.SameSpace.{no-asks, waits-asks}
 use Rattle.mdl_shared.proofs.SpaceLists.{fit-known, kind-is_known, no-kind, of-kind}
 use Rattle.mdl_shared.proofs.SpaceTickets.{holds-told, of-held}
 use Rattle.mdl_shared.proofs.TicketFaults.{other-false}
-
--- a refusal of this type
-abbrev pub refusal : (T : Type 0) → SpaceError → Result T SpaceError
-refusal T why = Err why
-
--- done, and so there was no fault
-pub unfit-clear : {T E : Type 0} (fault : Option E) (x : T) → IfSome fault (λ why. Ok x ≡ Err why) → fault ≡ None
-unfit-clear None x unfit = refl
-unfit-clear (Some why) x unfit = cc
 
 -- tests that come one after another
 chain-clear : (waits fits full : Bool) (one two three : SpaceError)
@@ -50,13 +42,12 @@ chain-fault P false true false one two three why first second third e = cc
 pub wish-mode : (kind : Kind) (asks : Option Ask) (mode : Mode) (next : ℕ) → wish_fault (Some kind) asks mode next ≡ None → is_mode_of kind mode ≡ true
 wish-mode kind asks mode next e = (chain-clear (is_some asks) (is_mode_of kind mode) (nat_le most_numbers next) AlreadyWaiting BadMode CounterFull e).1
 
--- none of them is that the book is full
-chain-full : (waits fits full : Bool)
-    → (if waits then Some AlreadyWaiting else (if not fits then Some BadMode else (if full then Some CounterFull else None))) ≡ Some Full → ⊥
-chain-full true fits full e = cc
-chain-full false false full e = cc
-chain-full false true true e = cc
-chain-full false true false e = cc
+-- the mode fits the lock that is cloned, and there are numbers left
+pub clone-fits : (t : Own) (asks : Option Ask) (mode : Mode) (known : List Known) (next : ℕ) → clone_fault (Some t) asks mode known next ≡ None
+    → (asks ≡ None) × (is_fit t.place mode known ≡ true) × (next < most_numbers)
+clone-fits t asks mode known next e =
+    let clear = chain-clear (is_some asks) (covers t.mode mode && is_fit t.place mode known) (nat_le most_numbers next) AlreadyWaiting BadMode CounterFull e in
+    (no-asks asks 0 (waits-asks asks 0 ∙ clear.0), (and_parts (covers t.mode mode) (is_fit t.place mode known) clear.1).1, leb-false most_numbers next clear.2)
 
 module _ (m : SessionView) where
   abbrev knows : Knowledge
@@ -129,28 +120,3 @@ module _ (m : SessionView) where
       (λ asks. waits (holds-told id m.me.0.slow true (ap is_some its), waits-asks m.me.0.asks m.me.0.waits ∙ asks))
       (λ asks can. unfit (waits-not asks, may-not_clone id mode t its can))
       (λ asks can. full (waits-not asks, may-clone id mode t its can)) e
-
-  -- the causes of all refusals
-  pub clone-why : (T : Type 0) (P : SpaceError → Type 0) (id : ℕ) (mode : Mode) (why : SpaceError) → (holds id own ≡ false → P NotHeld)
-      → ((holds id own ≡ true) × (is_waiting own ≡ true) → P AlreadyWaiting) → ((is_waiting own ≡ false) × OfHeld id own (MayNotClone knows mode) → P BadMode)
-      → ((is_waiting own ≡ false) × OfHeld id own (MayClone knows mode) → P CounterFull) → P OutOfMemory
-      → ((is_waiting own ≡ false) × OfHeld id own (MayClone knows mode) → P Full)
-      → IfSome (clone_fault (numbered id m.me.0.slow) m.me.0.asks mode m.me.0.known m.me.0.next) (λ w. refusal T why ≡ Err w)
-      → (clone_fault (numbered id m.me.0.slow) m.me.0.asks mode m.me.0.known m.me.0.next ≡ Some why) ⊎ ((why ≡ OutOfMemory) ⊎ (why ≡ Full)) → P why
-  clone-why T P id mode why unheld waits unfit counter memory full given (inl fault) =
-      clone-cause P id mode why (numbered id m.me.0.slow) refl unheld waits unfit counter fault
-  clone-why T P id mode why unheld waits unfit counter memory full given (inr (inl out)) = subst P (sym out) memory
-  clone-why T P id mode why unheld waits unfit counter memory full given (inr (inr is)) =
-      subst P (sym is) (full (
-      let clear = clone-clear id mode (numbered id m.me.0.slow) refl
-      (by (clone_fault (numbered id m.me.0.slow) m.me.0.asks mode m.me.0.known m.me.0.next) refl given) in
-      (waits-not clear.0, clear.1)))
-    where
-      none : (o : Option Own) → clone_fault o m.me.0.asks mode m.me.0.known m.me.0.next ≡ Some Full → ⊥
-      none None e = cc
-      none (Some t) e = chain-full (is_some m.me.0.asks) (covers t.mode mode && is_fit t.place mode m.me.0.known) (nat_le most_numbers m.me.0.next) e
-
-      by : (o : Option SpaceError) → clone_fault (numbered id m.me.0.slow) m.me.0.asks mode m.me.0.known m.me.0.next ≡ o → IfSome o (λ w. refusal T why ≡ Err w) → o ≡ None
-      by None e given = refl
-      by (Some w) e given =
-          let same : w ≡ Full = cc in absurd (none (numbered id m.me.0.slow) (e ∙ ap (λ w. Some w) same))

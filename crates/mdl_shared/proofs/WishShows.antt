@@ -15,13 +15,13 @@ use Rattle.mdl_shared.specs.Showings.{HasStep, KeepsTold, MeetsSo, SettlesSo, Sh
 use Rattle.mdl_shared.proofs.Faults.{if-clear}
 
 -- what a visit did
-did : {place : ℕ} {ds : List Deed} {m m′ : Mine} → Visits place ds m m′ → Does ds m m′
+pub did : {place : ℕ} {ds : List Deed} {m m′ : Mine} → Visits place ds m m′ → Does ds m m′
 did went = (went.made, ap (λ (m : Mine). m.0.log) went.now, went.did)
 
-settles : {place : ℕ} {ds : List Deed} {m m′ : Mine} → Visits place ds m m′ → SettlesNothing m m′
+pub settles : {place : ℕ} {ds : List Deed} {m m′ : Mine} → Visits place ds m m′ → SettlesNothing m m′
 settles went = ap (λ (m : Mine). m.0.settles) went.now
 
-told : {place : ℕ} {ds : List Deed} {m m′ : Mine} → Visits place ds m m′ → m′.0.told ≡ m.0.told
+pub told : {place : ℕ} {ds : List Deed} {m m′ : Mine} → Visits place ds m m′ → m′.0.told ≡ m.0.told
 told went = ap (λ (m : Mine). m.0.told) went.now
 
 module _ {s s′ : SessionView} (table : s′.table ≡ s.table) (sessions : s′.sessions ≡ s.sessions) where

@@ -1,6 +1,6 @@
 -- The wait of a session, as the session keeps it of its own between two calls.
 use Rattle.std.specs.Prelude.{ℕ, ◌+◌, ◌==◌, Bool, true, not, ◌&&◌, nat_lt, List, [], ◌∷◌, Option, Some, None, is_some}
-use Rattle.std.specs.Option.{option_map, option_map_or}
+use Rattle.std.specs.Option.{option_map_or}
 use Rattle.mdl_calls.specs.declared.space_error.SpaceError.{SpaceError}
 use Rattle.mdl_calls.specs.declared.space_error.SpaceError.TheVariants.{NoWait}
 use Rattle.mdl_steps.specs.declared.view.Ask.{Ask}
@@ -29,7 +29,3 @@ is_ask_told (Some a) told = true
 abbrev pub wait_fault : Option Ask → Option SpaceError
 wait_fault None = Some NoWait
 wait_fault (Some a) = None
-
--- the number of its wait, where it has one
-abbrev pub own_number : ℕ → Option Ask → Option ℕ
-own_number waits asks = option_map (λ (a : Ask). waits) asks

@@ -1,12 +1,18 @@
 //! A ticket gets a weaker mode.
+ghost use Rattle.std.specs.Prelude.{IfOk, Some, ◌≡◌};
+ghost use Rattle.mdl_key.specs.Refusals.{RefusesJust};
 ghost use Rattle.mdl_calls.specs.Words.{Downgrade, done};
 ghost use Rattle.mdl_session_laws.specs.SessionJoins.{Joins};
+ghost use Rattle.mdl_visits.specs.Numbers.{numbered};
+ghost use Rattle.mdl_shared.specs.Modes.{downgrade_fault};
 ghost use Rattle.mdl_shared.specs.SessionViews.{space_of};
 ghost use Rattle.mdl_shared.specs.Showings.{Shows};
 
 use crate::Session;
+use crate::member::Member;
 use mdl_calls::{SpaceError, TicketId};
 use mdl_key::Mode;
+use mdl_steps::Own;
 use mdl_system::may_downgrade;
 use mdl_visits::downgrade;
 use std::sync::Wait;
@@ -18,15 +24,26 @@ impl<R: Wait> Session<R> {
         ensures joined { Joins (space_of self.old) (Downgrade self.old.me.0.number id mode) (done result) (space_of self.new) }
         ensures shown { Shows (Downgrade self.old.me.0.number id mode) (done result) self.old self.new }
     {
-        let Some(held) = self.member.tickets.get(id) else {
-            return Err(SpaceError::NotHeld);
-        };
-        if !may_downgrade(held.mode, mode) || !self.member.is_fit(held.place, mode) {
-            return Err(SpaceError::NotUpgradable);
-        }
+        let held = self.member.downgradable(id, mode)?;
         let member = &mut self.member;
         downgrade(&self.rt, &mut member.seat, held, mode);
         member.tickets.set_mode(held.place, held.number, mode);
         Ok(())
+    }
+}
+
+impl Member {
+    // The ticket of a number, where it may have a weaker mode.
+    fn downgradable(&self, id: TicketId, mode: Mode) -> Result<Own, SpaceError>
+        ensures found { IfOk result (λ held. numbered id self.now.tickets.own ≡ Some held) }
+        ensures just { RefusesJust (downgrade_fault (numbered id self.now.tickets.own) mode self.now.known.known) result }
+    {
+        let Some(held) = self.tickets.get(id) else {
+            return Err(SpaceError::NotHeld);
+        };
+        if !may_downgrade(held.mode, mode) || !self.is_fit(held.place, mode) {
+            return Err(SpaceError::NotUpgradable);
+        }
+        Ok(held)
     }
 }

@@ -1,9 +1,11 @@
 -- The ticket goes, or there is none.
-use Rattle.std.proofs.Common.{false, inr, is_some, refl, ap, ◌∙◌}
+use Rattle.std.proofs.Common.{false, inr, is_some, refl, sym, ap, subst, ◌∙◌}
 use Rattle.mdl_calls.specs.declared.space_error.SpaceError.TheVariants.{NotHeld}
 use Rattle.mdl_calls.specs.Words.{Release}
+use Rattle.mdl_steps.specs.Deeds.{NotWaited}
 use Rattle.mdl_shared.specs.Passes.{view_of}
-use Rattle.mdl_shared.proofs.MemberFacts.{may-latch, place-known, place-within, speaks, ticket-known, ticket-there, unwaited}
+use Rattle.mdl_shared.proofs.HeldTickets.{holds-ticket}
+use Rattle.mdl_shared.proofs.MemberFacts.{speaks}
 use Rattle.mdl_shared.proofs.Members.{done-order, held-seen, kept, lists-done, rescheduled, room-kept}
 use Rattle.mdl_shared.proofs.Props.{member}
 use Rattle.mdl_shared.proofs.SameSpace.{refused, same-stays}
@@ -23,16 +25,12 @@ returns-in_default-clause-joined g c =
 pub release-requires : goal.release-requires
 release-requires g c =
     let m = c.self.inside.member in
-    let is = member m in
-    let id = c.args.id in
-    let t = c.in-Some.held in
-    let its = held-seen m id c.get.result c.get.ensures.found ∙ c.in-Some.is in
-    let known = ticket-known is id t its in record {
-      place = place-within is t.place known;
-      rising = may-latch is t.place;
-      known = place-known is t.place known;
-      unwaited = unwaited is id (ap is_some its);
-      held = ticket-there is id t its;
+    let held = holds-ticket m c.args.id c.in-Some.held (sym c.get.ensures.found ∙ c.in-Some.is) in record {
+      place = held.within;
+      rising = held.rising;
+      known = held.known;
+      unwaited = subst (NotWaited m.seat.me.0) held.number held.unwaited;
+      held = held.there;
     }
 
 pub invariant_of-member : goal.invariant_of-member

@@ -1,5 +1,5 @@
 -- A search does no deed.
-use Rattle.std.proofs.Common.{◌≡◌, false, true, not, Ok, Err, refl, sym, ap, ◌∙◌}
+use Rattle.std.proofs.Common.{true, not, Ok, Err, refl, sym, ap, ◌∙◌}
 use Rattle.mdl_calls.specs.declared.answers.Search.TheVariants as found
 use Rattle.mdl_calls.specs.declared.space_error.SpaceError.TheVariants.{OutOfMemory}
 use Rattle.mdl_shared.specs.Passes.{view_of}

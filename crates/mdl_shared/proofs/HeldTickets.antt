@@ -1,0 +1,42 @@
+-- A ticket that a session holds, as its calls need it.
+use Rattle.std.proofs.Common.{◌≡◌, ℕ, is_some, Some, sym, ap, subst}
+use Rattle.mdl_steps.specs.declared.view.Own.{Own}
+use Rattle.mdl_steps.specs.Deeds.{KnowsPlace, NotWaited}
+use Rattle.mdl_steps.specs.Seats.{IsPlace, IsRising}
+use Rattle.mdl_visits.specs.Leavings.{HasTicket}
+use Rattle.mdl_visits.specs.Numbers.{numbered}
+use Rattle.mdl_visits.proofs.Numbers.{has_number}
+use Rattle.mdl_shared.specs.declared.member.Member.{Member}
+use Rattle.mdl_shared.specs.Passes.{view_of}
+use Rattle.mdl_shared.specs.SessionViews.{SessionView}
+use Rattle.mdl_shared.proofs.MemberFacts.{may-latch, place-known, place-within, ticket-known, ticket-there, unwaited}
+use Rattle.mdl_shared.proofs.Members.{held-seen}
+use Rattle.mdl_shared.proofs.Props.{member}
+
+-- the session holds a ticket of this number, and may visit its place
+pub record HoldsTicket (id : ℕ) (t : Own) (s : SessionView) : Type 0 where
+  pub its : numbered id s.me.0.slow ≡ Some t
+  pub number : t.number ≡ id
+  pub own : numbered t.number s.me.0.slow ≡ Some t
+  pub there : HasTicket t.place id s.me.0.slow
+  pub unwaited : NotWaited s.me.0 t.number
+  pub within : IsPlace s.table t.place
+  pub rising : IsRising t.place s.me
+  pub known : KnowsPlace s.me.0 t.place
+
+pub holds-ticket : (m : Member) (id : ℕ) (t : Own) → numbered id m.tickets.own ≡ Some t → HoldsTicket id t (view_of m)
+holds-ticket m id t found =
+    let is = member m in
+    let its = held-seen m id (Some t) (sym found) in
+    let number = has_number id t m.seat.me.0.slow its in
+    let own = subst (λ (n : ℕ). numbered n m.seat.me.0.slow ≡ Some t) (sym number) its in
+    let known = ticket-known is id t its in record {
+      its = its;
+      number = number;
+      own = own;
+      there = ticket-there is id t its;
+      unwaited = unwaited is t.number (ap is_some own);
+      within = place-within is t.place known;
+      rising = may-latch is t.place;
+      known = place-known is t.place known;
+    }

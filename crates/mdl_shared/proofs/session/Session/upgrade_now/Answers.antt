@@ -1,0 +1,111 @@
+-- The ticket has the stronger mode, or would have to wait for it, or can't have it.
+use Rattle.std.proofs.Common.{rules, ◌≡◌, None, Err, Some, refl, sym, ap, inr, ◌∙◌}
+use Rattle.mdl_calls.specs.Words.{Upgrade_now}
+use Rattle.mdl_shared.specs.Passes.{view_of}
+use Rattle.mdl_shared.specs.Upgrades.{upgrade_fault}
+use Rattle.mdl_shared.proofs.Faults.{just-done, just-refused}
+use Rattle.mdl_shared.proofs.HeldTickets.{holds-ticket}
+use Rattle.mdl_shared.proofs.Members.{done-order, fault-seen, kept, lists-done, room-kept, visited}
+use Rattle.mdl_shared.proofs.Membership.{kind_there}
+use Rattle.mdl_shared.proofs.Props.{member}
+use Rattle.mdl_shared.proofs.Refusals.{own-shows}
+use Rattle.mdl_shared.proofs.TicketCalls.{blocked-joins, blocked-shows, covered-joins, upgrade-joins, upgrade-shows, upgrade-unfit}
+use Rattle.mdl_shared.proofs.TicketFaults.{upgrade-kind}
+use Rattle.mdl_shared.proofs.WaitSteps.{still-member}
+use Rattle.mdl_shared.proofs.session.Session.upgrade_now.Goals as goal
+
+pub returns-in_err-held : goal.returns-in_err-held
+returns-in_err-held g c =
+    let m = c.self.inside.member in
+    let why = c.in_err-held.field-0.0 in
+    let refused : c.from_residual.result ≡ Err why = search rules in
+    let call = Upgrade_now m.seat.me.0.number c.args.id c.args.mode in
+    let fault = fault-seen m call (Some why) (just-refused _ _ why c.in_err-held.ensures.just) in
+    rw refused (rw (← c.self.view_is) (record {
+      joined = upgrade-unfit (member m) why c.args.id c.args.mode fault;
+      shown = own-shows call why (view_of m) fault;
+    }))
+
+pub returns-then-covers-clause-joined : goal.returns-then-covers-clause-joined
+returns-then-covers-clause-joined g c =
+    let m = c.self.inside.member in
+    let its = (holds-ticket m c.args.id c.in_ok-held.held c.in_ok-held.ensures.found).its in
+    let fault = fault-seen m (Upgrade_now m.seat.me.0.number c.args.id c.args.mode) None (just-done _ _ c.in_ok-held.ensures.just) in
+    let clear = sym (ap (upgrade_fault c.args.mode m.seat.me.0.known m.seat.me.0.asks) its) ∙ fault in
+    rw (← c.self.view_is) (covered-joins (member m) c.args.id c.in_ok-held.held its c.args.mode clear (sym c.covers.ensures ∙ c.if-covers.true))
+
+pub upgrade_now-requires-clause-place : goal.upgrade_now-requires-clause-place
+upgrade_now-requires-clause-place g c = (holds-ticket c.self.inside.member c.args.id c.in_ok-held.held c.in_ok-held.ensures.found).within
+
+pub upgrade_now-requires-clause-rising : goal.upgrade_now-requires-clause-rising
+upgrade_now-requires-clause-rising g c = (holds-ticket c.self.inside.member c.args.id c.in_ok-held.held c.in_ok-held.ensures.found).rising
+
+pub upgrade_now-requires-clause-held : goal.upgrade_now-requires-clause-held
+upgrade_now-requires-clause-held g c = (holds-ticket c.self.inside.member c.args.id c.in_ok-held.held c.in_ok-held.ensures.found).there
+
+pub upgrade_now-requires-clause-mode : goal.upgrade_now-requires-clause-mode
+upgrade_now-requires-clause-mode g c =
+    let m = c.self.inside.member in
+    let t = c.in_ok-held.held in
+    let its = (holds-ticket m c.args.id t c.in_ok-held.ensures.found).its in
+    let fault = fault-seen m (Upgrade_now m.seat.me.0.number c.args.id c.args.mode) None (just-done _ _ c.in_ok-held.ensures.just) in
+    let clear = sym (ap (upgrade_fault c.args.mode m.seat.me.0.known m.seat.me.0.asks) its) ∙ fault in
+    let kind = upgrade-kind c.args.mode m.seat.me.0.known m.seat.me.0.asks t clear (sym c.covers.ensures ∙ c.if-covers.false) in
+    (kind.0, kind_there t.place kind.0 m.seat.me.0.known kind.1, kind.2, kind.3)
+
+-- ---- it would have to wait
+
+pub invariant_of-member : goal.invariant_of-member
+invariant_of-member g c =
+    let m = c.self.inside.member in
+    let done = visited m.seat c.upgrade_now.new.seat m.sessions (c.upgrade_now.ensures.blocked c.in-Blocked.is).0 in
+    record {
+      lawful = ∣ still-member done (member m) ∣₁;
+      lists = lists-done m done refl;
+      room = m.room;
+    }
+
+pub returns-in-Blocked : goal.returns-in-Blocked
+returns-in-Blocked g c =
+    let m = c.self.inside.member in
+    let t = c.in_ok-held.held in
+    let its = (holds-ticket m c.args.id t c.in_ok-held.ensures.found).its in
+    let fault = fault-seen m (Upgrade_now m.seat.me.0.number c.args.id c.args.mode) None (just-done _ _ c.in_ok-held.ensures.just) in
+    let clear = sym (ap (upgrade_fault c.args.mode m.seat.me.0.known m.seat.me.0.asks) its) ∙ fault in
+    let short = sym c.covers.ensures ∙ c.if-covers.false in
+    let went = c.upgrade_now.ensures.blocked c.in-Blocked.is in
+    rw (← c.self.view_is) (record {
+      joined = blocked-joins (member m) c.args.id t its c.args.mode clear short (visited m.seat c.upgrade_now.new.seat m.sessions went.0);
+      shown = blocked-shows (member m) c.args.id t its c.args.mode clear went.0.0 refl short went.0.1 went.1;
+    })
+
+-- ---- it has the mode
+
+pub invariant_of-member-2 : goal.invariant_of-member-2
+invariant_of-member-2 g c =
+    let m = c.self.inside.member in
+    let is = member m in
+    let t = c.in_ok-held.held in
+    let its = (holds-ticket m c.args.id t c.in_ok-held.ensures.found).its in
+    let fault = fault-seen m (Upgrade_now m.seat.me.0.number c.args.id c.args.mode) None (just-done _ _ c.in_ok-held.ensures.just) in
+    let clear = sym (ap (upgrade_fault c.args.mode m.seat.me.0.known m.seat.me.0.asks) its) ∙ fault in
+    let done = visited m.seat c.upgrade_now.new.seat m.sessions (c.upgrade_now.ensures.granted c.in-Granted.is).0 in
+    record {
+      lawful = ∣ kept is (done-order done is (inr refl)) (upgrade-joins is c.args.id t its c.args.mode clear (sym c.covers.ensures ∙ c.if-covers.false) done) ∣₁;
+      lists = lists-done m done c.set_mode.ensures.changed;
+      room = λ ask asks. room-kept m.tickets c.set_mode.new.self c.set_mode.ensures.room (m.room ask asks);
+    }
+
+pub returns : goal.returns
+returns g c =
+    let m = c.self.inside.member in
+    let t = c.in_ok-held.held in
+    let its = (holds-ticket m c.args.id t c.in_ok-held.ensures.found).its in
+    let fault = fault-seen m (Upgrade_now m.seat.me.0.number c.args.id c.args.mode) None (just-done _ _ c.in_ok-held.ensures.just) in
+    let clear = sym (ap (upgrade_fault c.args.mode m.seat.me.0.known m.seat.me.0.asks) its) ∙ fault in
+    let short = sym c.covers.ensures ∙ c.if-covers.false in
+    let went = c.upgrade_now.ensures.granted c.in-Granted.is in
+    rw (← c.self.view_is) (record {
+      joined = upgrade-joins (member m) c.args.id t its c.args.mode clear short (visited m.seat c.upgrade_now.new.seat m.sessions went.0);
+      shown = upgrade-shows (member m) c.args.id t its c.args.mode clear went.0.0 refl short went.0.1 went.1;
+    })

@@ -1,0 +1,22 @@
+//! The tickets that a session holds. No step is needed to tell them.
+ghost use Rattle.mdl_calls.specs.Words.{List_held, listed};
+ghost use Rattle.mdl_session_laws.specs.SessionJoins.{Joins};
+ghost use Rattle.mdl_shared.specs.SessionViews.{space_of};
+ghost use Rattle.mdl_shared.specs.Showings.{Shows};
+
+use crate::Session;
+use mdl_calls::{Held, SpaceError};
+use std::alloc::AllocError;
+
+impl<R> Session<R> {
+    /// The tickets that the session holds, in order of gain.
+    pub fn held(&self) -> Result<Vec<Held>, SpaceError>
+        ensures joined { Joins (space_of self.now) (List_held self.now.me.0.number) (listed result) (space_of self.now) }
+        ensures shown { Shows (List_held self.now.me.0.number) (listed result) self.now self.now }
+    {
+        match self.member.tickets.held() {
+            Ok(held) => Ok(held),
+            Err(AllocError) => Err(SpaceError::OutOfMemory),
+        }
+    }
+}

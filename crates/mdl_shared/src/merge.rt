@@ -1,0 +1,62 @@
+//! Two tickets become one.
+ghost use Rattle.std.specs.Prelude.{IfOk, Some, ◌≡◌};
+ghost use Rattle.mdl_key.specs.Refusals.{RefusesJust};
+ghost use Rattle.mdl_calls.specs.Words.{Merge, done};
+ghost use Rattle.mdl_session_laws.specs.SessionJoins.{Joins};
+ghost use Rattle.mdl_visits.specs.Numbers.{numbered};
+ghost use Rattle.mdl_shared.specs.Modes.{may_merge, merge_fault};
+ghost use Rattle.mdl_shared.specs.SessionViews.{space_of};
+ghost use Rattle.mdl_shared.specs.Showings.{Shows};
+
+use crate::Session;
+use crate::member::Member;
+use mdl_calls::{SpaceError, TicketId};
+use mdl_steps::Own;
+use mdl_system::covers;
+use mdl_visits::merge;
+use std::sync::Wait;
+
+impl<R: Wait> Session<R> {
+    /// Lets a held ticket have the mode of another one of its place, which is at least as strong, and gives that one up. The first ticket keeps
+    /// its number. It takes no memory.
+    pub fn merge(&mut self, old: TicketId, new: TicketId) -> Result<(), SpaceError>
+        ensures joined { Joins (space_of self.old) (Merge self.old.me.0.number old new) (done result) (space_of self.new) }
+        ensures shown { Shows (Merge self.old.me.0.number old new) (done result) self.old self.new }
+    {
+        let (kept, gone) = self.member.mergeable(old, new)?;
+        let member = &mut self.member;
+        merge(&self.rt, &mut member.seat, kept, gone);
+        member.tickets.set_mode(kept.place, kept.number, gone.mode);
+        member.tickets.strike(kept.place, gone.number);
+        Ok(())
+    }
+}
+
+impl Member {
+    // The tickets of two numbers, where the first may take the mode of the second.
+    fn mergeable(&self, old: TicketId, new: TicketId) -> Result<(Own, Own), SpaceError>
+        ensures found { IfOk result (λ two. (numbered old self.now.tickets.own ≡ Some two.0) × (numbered new self.now.tickets.own ≡ Some two.1)) }
+        ensures just { RefusesJust (merge_fault (numbered old self.now.tickets.own) (numbered new self.now.tickets.own) self.now.asks) result }
+    {
+        let Some(kept) = self.tickets.get(old) else {
+            return Err(SpaceError::NotHeld);
+        };
+        let Some(gone) = self.tickets.get(new) else {
+            return Err(SpaceError::NotHeld);
+        };
+        if self.asks.is_some() {
+            return Err(SpaceError::AlreadyWaiting);
+        }
+        if !may_merge(kept, gone) {
+            return Err(SpaceError::BadMode);
+        }
+        Ok((kept, gone))
+    }
+}
+
+// Whether a ticket may take the mode of another.
+fn may_merge(kept: Own, gone: Own) -> bool
+    ensures { result ≡ may_merge kept gone }
+{
+    kept.number != gone.number && kept.place == gone.place && covers(gone.mode, kept.mode)
+}

@@ -1,0 +1,69 @@
+//! A ticket gets a stronger mode, without waiting.
+ghost use Rattle.std.specs.Prelude.{IfOk, Some, ◌≡◌};
+ghost use Rattle.mdl_key.specs.Refusals.{RefusesJust};
+ghost use Rattle.mdl_calls.specs.Words.{Upgrade_now, upgrade_tried};
+ghost use Rattle.mdl_session_laws.specs.SessionJoins.{Joins};
+ghost use Rattle.mdl_visits.specs.Numbers.{numbered};
+ghost use Rattle.mdl_shared.specs.Members.{kind_known};
+ghost use Rattle.mdl_shared.specs.SessionViews.{space_of};
+ghost use Rattle.mdl_shared.specs.Showings.{Shows};
+ghost use Rattle.mdl_shared.specs.Upgrades.{can_have, upgrade_fault};
+
+use crate::Session;
+use crate::member::Member;
+use mdl_calls::{SpaceError, TicketId, Upgrade};
+use mdl_key::Mode;
+use mdl_steps::Own;
+use mdl_system::{covers, may_upgrade};
+use mdl_visits::{Tried, upgrade_now};
+use std::sync::Wait;
+
+impl<R: Wait> Session<R> {
+    /// Asks for a stronger mode of a ticket, without waiting: of SU for SNW, SNRW or X, of SNW for SNRW or X, of SNRW for X. A mode that
+    /// the ticket's covers it has already. The session's other tickets don't stand in the way. It takes no memory.
+    pub fn upgrade_now(&mut self, id: TicketId, mode: Mode) -> Result<Upgrade, SpaceError>
+        ensures joined { Joins (space_of self.old) (Upgrade_now self.old.me.0.number id mode) (upgrade_tried result) (space_of self.new) }
+        ensures shown { Shows (Upgrade_now self.old.me.0.number id mode) (upgrade_tried result) self.old self.new }
+    {
+        let held = self.member.upgradable(id, mode)?;
+        if covers(held.mode, mode) {
+            return Ok(Upgrade::Upgraded);
+        }
+        let member = &mut self.member;
+        match upgrade_now(&self.rt, &mut member.seat, held.place, id, mode) {
+            Tried::Granted => {}
+            Tried::Blocked => return Ok(Upgrade::WouldWait),
+        }
+        member.tickets.set_mode(held.place, id, mode);
+        Ok(Upgrade::Upgraded)
+    }
+}
+
+impl Member {
+    // The ticket of a number, where it has a mode or may be upgraded to it.
+    fn upgradable(&self, id: TicketId, mode: Mode) -> Result<Own, SpaceError>
+        ensures found { IfOk result (λ held. numbered id self.now.tickets.own ≡ Some held) }
+        ensures just { RefusesJust (upgrade_fault mode self.now.known.known self.now.asks (numbered id self.now.tickets.own)) result }
+    {
+        let Some(held) = self.tickets.get(id) else {
+            return Err(SpaceError::NotHeld);
+        };
+        if !self.can_have(held, mode) {
+            return Err(SpaceError::NotUpgradable);
+        }
+        if self.asks.is_some() {
+            return Err(SpaceError::AlreadyWaiting);
+        }
+        Ok(held)
+    }
+
+    // Whether a ticket can have a mode, by the kind of its lock.
+    fn can_have(&self, held: Own, mode: Mode) -> bool
+        ensures { result ≡ can_have mode held (kind_known held.place self.now.known.known) }
+    {
+        match self.known.kind_at(held.place) {
+            Some(kind) => (covers(held.mode, mode) || may_upgrade(held.mode, mode)) && kind.has_mode(mode),
+            None => false,
+        }
+    }
+}
