@@ -1,14 +1,13 @@
 -- A session reads the word of its wait, and ends the wait where it is settled.
-use Rattle.std.proofs.Common.{◌≡◌, ℕ, true, is_some, List, [], ◌∷◌, ◌++◌, Option, Some, None, inr, refl, sym, ap, subst, ◌∙◌}
+use Rattle.std.proofs.Common.{◌≡◌, ℕ, true, is_some, [], ◌++◌, Option, Some, None, inr, refl, sym, ap, subst, ◌∙◌}
 use Rattle.atomic_table.specs.Seated.{TableId}
 use Rattle.mdl_calls.specs.declared.answers.Settled.{Settled}
 use Rattle.mdl_calls.specs.declared.answers.Settled.TheVariants as settled_as
 use Rattle.mdl_calls.specs.declared.space_error.SpaceError.TheVariants.{Unsettled}
-use Rattle.mdl_calls.specs.Words.{Granted, Is_settled, Lost, Pending, Poll_wait, Refused, End_wait, is_answer_of}
+use Rattle.mdl_calls.specs.Words.{Granted, Is_settled, Lost, Poll_wait, Refused, End_wait, is_answer_of}
 use Rattle.mdl_steps.specs.declared.deed.Deed.TheVariants.{Gain}
 use Rattle.mdl_steps.specs.declared.step_kind.StepKind.TheVariants.{ReadWait}
 use Rattle.mdl_steps.specs.declared.view.Ask.{Ask}
-use Rattle.mdl_steps.specs.declared.view.Met.{Met}
 use Rattle.mdl_steps.specs.Deeds.{owned}
 use Rattle.mdl_steps.specs.Plays.{Mine}
 use Rattle.mdl_steps.specs.SeatStates.{AtItsTable, SeatState}
@@ -17,7 +16,7 @@ use Rattle.mdl_steps.specs.WaitStates.{wait_state}
 use Rattle.mdl_session_laws.specs.SessionJoins.{Joins}
 use Rattle.mdl_visits.specs.Grantings.{HasRescheduled}
 use Rattle.mdl_visits.specs.Polls.{state_of}
-use Rattle.mdl_visits.specs.Visits.{Does, GoesOn}
+use Rattle.mdl_visits.specs.Visits.{Does}
 use Rattle.mdl_visits.specs.WaitEndings.{EndsLost, idle, without_wait}
 use Rattle.mdl_visits.proofs.Rescheduling.{rescheduled_after}
 use Rattle.mdl_visits.proofs.Steps.{does_then, step_before}

@@ -1,8 +1,6 @@
 -- Calls by which a session learns keys: the place of a key, and the tables of a schema.
-use Rattle.std.proofs.Common.{◌≡◌, ◌⊎◌, ℕ, Bool, true, false, ◌&&◌, ◌||◌, ◌==◌, ◌<◌, get_or, if◌then◌else◌, is_some, Option, Some, None, Result, Ok, Err, List, [], ◌∷◌, ◌++◌, map, filter, inl, inr, refl, sym, ap, subst, ◌∙◌, arith}
-use Rattle.std.specs.Prelude.{All, AllPairs, filter_map, IfOk, IfErr, IsOkUnless, OnErr, Vec}
-use Rattle.std.specs.List.{find, list_all}
-use Rattle.std.specs.Option.{option_map}
+use Rattle.std.proofs.Common.{◌≡◌, ℕ, true, false, ◌&&◌, ◌<◌, get_or, Option, Some, None, Ok, List, [], ◌∷◌, ◌++◌, map, filter, refl, sym, ap, subst, ◌∙◌, arith}
+use Rattle.std.specs.Prelude.{All, AllPairs}
 use Rattle.std.specs.declared.cmp.Ordering.TheVariants.{Less}
 use Rattle.std.specs.Str.{bytes_eq}
 use Rattle.std.proofs.lemmas.List.{get_or-map, length-map, map-append}
@@ -12,69 +10,137 @@ use Rattle.mdl_key.specs.declared.namespace.Namespace.{Namespace}
 use Rattle.mdl_key.specs.declared.namespace.Namespace.TheVariants as of
 use Rattle.mdl_key.specs.Keys.{key_cmp}
 use Rattle.mdl_key.specs.Words.{KeyName}
-use Rattle.mdl_calls.specs.declared.space_error.SpaceError.{SpaceError}
 use Rattle.mdl_calls.specs.declared.space_error.SpaceError.TheVariants.{NoPlace, OutOfMemory}
-use Rattle.mdl_calls.specs.Words.{Resolve, Tables_of, IsCause, is_table_of as is_table_told, placed, tables_told}
+use Rattle.mdl_calls.specs.Words.{At_place, Refused, Resolve, Tables, Tables_of, is_table_of as is_table_told}
 use Rattle.mdl_calls.specs.Reads.{is_of_tables as is_of_tables_told}
 use Rattle.mdl_calls.proofs.MappedLists.{pairs-map}
 use Rattle.mdl_steps.specs.declared.view.Keys.{Keys}
 use Rattle.mdl_steps.specs.declared.view.Known.{Known}
+use Rattle.mdl_steps.specs.declared.view.Met.{Met}
 use Rattle.mdl_steps.specs.Schemas.{is_of_tables, is_table_of, unknown}
+use Rattle.mdl_steps.specs.Plays.{Mine}
+use Rattle.mdl_steps.specs.SeatStates.{AtItsTable, SeatState}
 use Rattle.mdl_session_laws.specs.SessionJoins.{Joins, LearnsPlace as LearnsAt, LearnsTables}
-use Rattle.mdl_session_laws.specs.SessionSpaces.{KnownKey, SpeaksFor, Knows, are_apart as are_apart_in, is_known as is_known_in, key_known as key_known_in}
+use Rattle.mdl_session_laws.specs.SessionSpaces.{KnownKey, key_known as key_known_in}
 use Rattle.mdl_session_laws.proofs.KeyLists.{place-of_key}
 use Rattle.mdl_session_laws.proofs.RefusedCalls.{reads-nothing}
-use Rattle.mdl_visits.specs.Readings.{ReadsNothing as ReadNothing}
-use Rattle.mdl_visits.specs.Tables.{AreTables, Asked, HasAsked, IsTable, told as asked_places}
-use Rattle.mdl_shared.specs.Members.{AreLearnt, IsMember, LearnsPlace, are_apart, is_known_place, place_known}
+use Rattle.mdl_visits.specs.Lookups.{IsAnswer, TookDirectory, knowing}
+use Rattle.mdl_visits.specs.Tables.{AreTables, AreWithin, Asked, HasAsked, IsTable, knowing_all, told as asked_places}
+use Rattle.mdl_visits.specs.Visits.{MakesSteps, StaysQuiet}
+use Rattle.mdl_visits.proofs.Asking.{asked_after, goes_on, steps_then}
+use Rattle.mdl_visits.proofs.Doing.{does_steps}
+use Rattle.mdl_visits.proofs.Listing.{took_earlier}
+use Rattle.mdl_visits.proofs.Lookups.{no_record}
+use Rattle.mdl_visits.proofs.Steps.{does_then}
+use Rattle.mdl_shared.specs.declared.member.Member.{Member}
+use Rattle.mdl_shared.specs.Members.{AreLearnt, IsMember, are_apart, is_known_place, place_known}
 use Rattle.mdl_shared.specs.OwnLists.{key_known}
-use Rattle.mdl_shared.specs.SessionViews.{SessionView, note_of, space_of}
-use Rattle.mdl_shared.proofs.SameSpace.{SeesWait, keeps-settled, numbers-same, own-same, reading_of, refused}
+use Rattle.mdl_shared.specs.Passes.{view_of}
+use Rattle.mdl_shared.specs.SessionViews.{Lists, SessionView, lists_seen, session_at, space_of}
+use Rattle.mdl_shared.specs.Showings.{Shows}
+use Rattle.mdl_shared.proofs.KnownKeys.{all_learnt, apart_and, new_place}
+use Rattle.mdl_shared.proofs.MemberFacts.{keys-apart, speaks}
+use Rattle.mdl_shared.proofs.Members.{HasDone, StaysInOrder, visited}
+use Rattle.mdl_shared.proofs.Membership.{within_and}
+use Rattle.mdl_shared.proofs.SameSpace.{Stays, joins-still, keeps-settled, refused, same-stays, sees-same}
 use Rattle.mdl_shared.proofs.SpaceLists.{apart-told, key-told, known-told, known_of, place-told}
+
+-- ---- a session that learns keys
+
+-- it knows these keys, too, and made steps; nothing else changed
+pub record HasLearnt (more : List Known) (s s′ : SessionView) : Type 0 where
+  pub log : List Met
+  pub now : s′ ≡ record s { me = (record s.me.0 { known = s.me.0.known ++ more; log = log }, s.me.1) }
+
+-- what its seat's visit tells
+pub learnt-by : (seat seat′ : SeatState) (sessions : ℕ) (more : List Known) → seat′.table ≡ seat.table
+    → MakesSteps (record seat.me.0 { known = seat.me.0.known ++ more }, seat.me.1) seat′.me → HasLearnt more (session_at seat sessions) (session_at seat′ sessions)
+learnt-by seat seat′ sessions more table steps = record {
+  log = seat.me.0.log ++ steps.0;
+  now = λ i. record { table = table i; sessions = sessions; me = steps.1 i };
+}
+
+pub learnt-order : {more : List Known} {s s′ : SessionView} → HasLearnt more s s′ → IsMember s → AreWithin s.table.slots more → StaysInOrder s s′
+learnt-order {more} {s} {s′} learnt is within = subst (λ (x : SessionView). StaysInOrder s x) (sym learnt.now) (record {
+  table = refl;
+  sessions = refl;
+  idle = is.idle;
+  slow = is.slow;
+  within = within_and s.table.slots s.me.0.known more is.within within;
+  alike = is.alike;
+  last = is.last;
+  told = is.told;
+  fewer = is.fewer;
+})
+
+-- steps alone
+pub stepped : (seat seat′ : SeatState) (sessions : ℕ) → seat′.table ≡ seat.table → MakesSteps seat.me seat′.me → HasDone 0 [] (session_at seat sessions) (session_at seat′ sessions)
+stepped seat seat′ sessions table steps = visited seat seat′ sessions (table, record { made = steps.0; now = steps.1; did = steps.2 })
+
+-- its own lists are those of its view still
+pub lists-learnt : (m : Member) {more known : List Known} {s : SessionView} → HasLearnt more (view_of m) s → known ≡ m.known.known ++ more
+    → record { tickets = m.tickets.own; known = known; next = m.next; asks = m.asks; waits = m.waits } ≡ lists_seen s.me.0
+lists-learnt m {more} {known} {s} learnt same =
+    ap (λ (ks : List Known). record { tickets = m.tickets.own; known = ks; next = m.next; asks = m.asks; waits = m.waits }) same
+    ∙ ap (λ (l : Lists). record l { known = l.known ++ more }) m.lists ∙ sym (ap (λ (x : SessionView). lists_seen x.me.0) learnt.now)
 
 -- ---- the place of a key
 
-pub resolve-joins : (m m′ : SessionView) (who : ℕ) (key : KeyName) (result : Result ℕ SpaceError) → m′.me.0.number ≡ m.me.0.number → m′.me.0.next ≡ m.me.0.next
-    → m′.me.0.slow ≡ m.me.0.slow → SeesWait m m′ → ReadNothing m.me m′.me → SpeaksFor (space_of m) who
-    → IfOk result (λ place. LearnsPlace key place (place_known key m.me.0.known) m.me.0.known m′.me.0.known)
-    → OnErr result (m′.me.0.known ≡ m.me.0.known)
-    → IfErr result (λ why. (place_known key m.me.0.known ≡ None) × ((why ≡ NoPlace) ⊎ (why ≡ OutOfMemory)))
-    → Joins (space_of m) (Resolve who key) (placed result) (space_of m′)
-resolve-joins m m′ who key (Ok place) number next tickets sees reads speaks learns unchanged causes = record {
-  mine = speaks;
-  has = refl;
-  fits = refl;
-  number = number;
-  own = own-same m.me.0.slow m′.me.0.slow m.me.0.asks m′.me.0.asks m.me.0.waits m′.me.0.waits tickets sees.asks sees.waits;
-  numbers = numbers-same m.me.0.next m′.me.0.next m.me.0.waits m′.me.0.waits next sees.waits;
-  explained = tt;
-  gained = tt;
-  learns = subst (λ o. LearnsAt key place o (map known_of m.me.0.known) (map known_of m′.me.0.known)) (sym (place-told key m.me.0.known))
-      (by (place_known key m.me.0.known) learns);
-  agreed = λ state how is. cc;
-  told = λ how is. cc;
-  settled = keeps-settled m m′ sees;
-  reads = reads-nothing (space_of m) (space_of m′) (ap (map reading_of) reads) (ap (filter_map note_of) tickets);
-  truly = tt;
-}
-  where
-    by : (o : Option ℕ) → LearnsPlace key place o m.me.0.known m′.me.0.known → LearnsAt key place o (map known_of m.me.0.known) (map known_of m′.me.0.known)
-    by (Some known) h = (h.0, ap (map known_of) h.1)
-    by None h = (
-      known-told place m.me.0.known ∙ h.0,
-      ap (map known_of) h.1 ∙ map-append known_of m.me.0.known (record { key = key; place = place } ∷ []),
-    )
-resolve-joins m m′ who key (Err why) number next tickets sees reads speaks learns unchanged causes =
-    refused m m′ (Resolve who key) why (record { number = number; tickets = tickets; next = next; known = unchanged; wait = sees; reads = reads }) speaks refl refl
-    (by causes.1) (λ state how is. cc) tt
-  where
-    by : (why ≡ NoPlace) ⊎ (why ≡ OutOfMemory) → IsCause (Knows (space_of m) m.me.0.number) (Resolve who key) why (space_of m).own
-    by (inl none) =
-        subst (λ w. IsCause (Knows (space_of m) m.me.0.number) (Resolve who key) w (space_of m).own) (sym none)
+module _ {s : SessionView} (is : IsMember s) (key : KeyName) where
+  -- that it knows
+  pub known-joins : (place : ℕ) → place_known key s.me.0.known ≡ Some place → Joins (space_of s) (Resolve s.me.0.number key) (At_place place) (space_of s)
+  known-joins place found =
+      joins-still s s (Resolve s.me.0.number key) (At_place place) (same-stays s) (speaks is) refl refl refl refl tt tt
+      (subst (λ (o : Option ℕ). LearnsAt key place o (map known_of s.me.0.known) (map known_of s.me.0.known)) (sym (place-told key s.me.0.known ∙ found)) (refl, refl))
+      (λ state how met. cc) (λ how told. cc) refl (λ r. r) tt
+
+  module _ (none : place_known key s.me.0.known ≡ None) where
+    -- that it learns
+    pub resolve-joins : {s′ : SessionView} (place : ℕ) → is_known_place s.me.0.known place ≡ false → HasLearnt (record { key = key; place = place } ∷ []) s s′
+        → Joins (space_of s) (Resolve s.me.0.number key) (At_place place) (space_of s′)
+    resolve-joins {s′} place new learnt =
+        let one : Known = record { key = key; place = place } in
+        let x : SessionView = record s { me = (record s.me.0 { known = s.me.0.known ++ one ∷ []; log = learnt.log }, s.me.1) } in
+        subst (λ (t : SessionView). Joins (space_of s) (Resolve s.me.0.number key) (At_place place) (space_of t)) (sym learnt.now) (record {
+          mine = speaks is;
+          has = refl;
+          fits = refl;
+          number = refl;
+          own = refl;
+          numbers = refl;
+          explained = tt;
+          gained = tt;
+          learns = subst (λ (o : Option ℕ). LearnsAt key place o (map known_of s.me.0.known) (map known_of (s.me.0.known ++ one ∷ []))) (sym (place-told key s.me.0.known ∙ none))
+              (known-told place s.me.0.known ∙ new, map-append known_of s.me.0.known (one ∷ []));
+          agreed = λ state how met. cc;
+          told = λ how told. cc;
+          settled = keeps-settled s x (sees-same s x refl refl refl);
+          reads = reads-nothing (space_of s) (space_of x) refl refl;
+          truly = tt;
+        })
+
+    -- that has none
+    pub no_place-joins : {s′ : SessionView} → Stays s s′ → Joins (space_of s) (Resolve s.me.0.number key) (Refused NoPlace) (space_of s′)
+    no_place-joins {s′} stays =
+        refused s s′ (Resolve s.me.0.number key) NoPlace stays (speaks is) refl refl
         (λ place knows.
-        let there = place-of_key (space_of m).known place key speaks.1.apart knows in
-        let e : Some place ≡ None = sym there ∙ place-told key m.me.0.known ∙ causes.0 in cc)
-    by (inr memory) = subst (λ w. IsCause (Knows (space_of m) m.me.0.number) (Resolve who key) w (space_of m).own) (sym memory) tt
+        let there = place-of_key (space_of s).known place key is.sound.apart knows in
+        let e : Some place ≡ None = sym there ∙ place-told key s.me.0.known ∙ none in cc)
+        (λ state how met. cc) tt
+
+-- what the directory answers of a key that it doesn't know
+pub resolved : (seat seat′ : SeatState) (sessions place : ℕ) (key : KeyName) → place_known key seat.me.0.known ≡ None
+    → ((0 < place) × (place < seat.table.slots) × MakesSteps (knowing (record { key = key; place = place }) seat.me) seat′.me)
+    → ((k left : Keys) × AtItsTable seat seat′ (TookDirectory seat.table.slots k left) × IsAnswer seat.table.slots key k left (Ok place))
+    → HasLearnt (record { key = key; place = place } ∷ []) (session_at seat sessions) (session_at seat′ sessions)
+    × AreWithin seat.table.slots (record { key = key; place = place } ∷ []) × (is_known_place seat.me.0.known place ≡ false)
+resolved seat seat′ sessions place key none knows answer =
+    let one : Known = record { key = key; place = place } in
+    let inside : Known → Type 0 = λ k. (0 < k.place) × (k.place < seat.table.slots) in (
+      learnt-by seat seat′ sessions (one ∷ []) answer.2.0 knows.2,
+      All-cons inside one [] (knows.0, knows.1) (All-nil inside),
+      new_place seat.table.slots place key answer.0 answer.1 seat.me.0 answer.2.1.recorded.known answer.3 none,
+    )
 
 -- ---- tables
 
@@ -133,31 +199,72 @@ tables-learnt schema k before after tables more asked places are same those grow
 
 -- ---- the tables of a schema
 
-pub tables-joins : {Z : Type 0} (m m′ : SessionView) (who : ℕ) (schema : List ℕ) (result : Result (Vec ℕ Z) SpaceError) → m′.me.0.number ≡ m.me.0.number
-    → m′.me.0.next ≡ m.me.0.next → m′.me.0.slow ≡ m.me.0.slow → SeesWait m m′ → ReadNothing m.me m′.me → SpeaksFor (space_of m) who
-    → IfOk result (λ places. (k : Keys) × (tables : List Known) × AreTables schema k tables
-    × HasAsked m.me.0.number tables places.items m.me m′.me
-    × (m′.me.0.known ≡ m.me.0.known ++ unknown m.me.0.known tables) × AreLearnt tables m′.me.0.known)
-    → are_apart m′.me.0.known ≡ true → OnErr result (m′.me.0.known ≡ m.me.0.known) → IsOkUnless result OutOfMemory
-    → Joins (space_of m) (Tables_of who schema) (tables_told result) (space_of m′)
-tables-joins m m′ who schema (Ok places) number next tickets sees reads speaks learns apart unchanged memory = record {
-  mine = speaks;
-  has = refl;
-  fits = refl;
-  number = number;
-  own = own-same m.me.0.slow m′.me.0.slow m.me.0.asks m′.me.0.asks m.me.0.waits m′.me.0.waits tickets sees.asks sees.waits;
-  numbers = numbers-same m.me.0.next m′.me.0.next m.me.0.waits m′.me.0.waits next sees.waits;
-  explained = tt;
-  gained = tt;
-  learns = tables-learnt schema learns.0 m.me.0.known m′.me.0.known learns.1 (unknown m.me.0.known learns.1) learns.3.asked places.items learns.2
-      learns.3.same learns.3.those learns.4 learns.5 apart;
-  agreed = λ state how is. cc;
-  told = λ how is. cc;
-  settled = keeps-settled m m′ sees;
-  reads = reads-nothing (space_of m) (space_of m′) (ap (map reading_of) reads) (ap (filter_map note_of) tickets);
-  truly = tt;
-}
-tables-joins m m′ who schema (Err why) number next tickets sees reads speaks learns apart unchanged memory =
-    refused m m′ (Tables_of who schema) why (record { number = number; tickets = tickets; next = next; known = unchanged; wait = sees; reads = reads }) speaks refl refl
-    (subst (λ w. IsCause (Knows (space_of m) m.me.0.number) (Tables_of who schema) w (space_of m).own) (sym memory) tt)
-    (λ state how is. cc) tt
+pub tables-joins : {s s′ : SessionView} → IsMember s → (schema : List ℕ) (k : Keys) (tables : List Known) (places : List ℕ) → AreTables schema k tables
+    → HasAsked s.me.0.number tables places s.me s′.me → HasLearnt (unknown s.me.0.known tables) s s′
+    → AreLearnt tables (s.me.0.known ++ unknown s.me.0.known tables) → are_apart (s.me.0.known ++ unknown s.me.0.known tables) ≡ true
+    → Joins (space_of s) (Tables_of s.me.0.number schema) (Tables places) (space_of s′)
+tables-joins {s} {s′} is schema k tables places are asked learnt all apart =
+    let more : List Known = unknown s.me.0.known tables in
+    let x : SessionView = record s { me = (record s.me.0 { known = s.me.0.known ++ more; log = learnt.log }, s.me.1) } in
+    subst (λ (t : SessionView). Joins (space_of s) (Tables_of s.me.0.number schema) (Tables places) (space_of t)) (sym learnt.now) (record {
+      mine = speaks is;
+      has = refl;
+      fits = refl;
+      number = refl;
+      own = refl;
+      numbers = refl;
+      explained = tt;
+      gained = tt;
+      learns = tables-learnt schema k s.me.0.known (s.me.0.known ++ more) tables more asked.asked places are asked.same asked.those refl all apart;
+      agreed = λ state how met. cc;
+      told = λ how told. cc;
+      settled = keeps-settled s x (sees-same s x refl refl refl);
+      reads = reads-nothing (space_of s) (space_of x) refl refl;
+      truly = tt;
+    })
+
+-- refused, since memory ran out
+pub memory-joins : {s s′ : SessionView} → IsMember s → (schema : List ℕ) → Stays s s′ → Joins (space_of s) (Tables_of s.me.0.number schema) (Refused OutOfMemory) (space_of s′)
+memory-joins {s} {s′} is schema stays = refused s s′ (Tables_of s.me.0.number schema) OutOfMemory stays (speaks is) refl refl tt (λ state how met. cc) tt
+
+-- what the directory tells of them, and then the place of each
+module _ (seat mid seat′ : SeatState) (sessions : ℕ) (schema : List ℕ) (k : Keys) (tables : List Known) (is : IsMember (session_at seat sessions))
+    (took : AtItsTable seat mid (TookDirectory seat.table.slots k k)) (are : AreTables schema k tables) (knows : MakesSteps (knowing_all tables seat.me) mid.me)
+    (steps : AtItsTable mid seat′ MakesSteps) where
+  abbrev all : List Known
+  all = seat.me.0.known ++ unknown seat.me.0.known tables
+
+  pub learnt-all : HasLearnt (unknown seat.me.0.known tables) (session_at seat sessions) (session_at seat′ sessions)
+  learnt-all = learnt-by seat seat′ sessions (unknown seat.me.0.known tables) (steps.0 ∙ took.0) (steps_then (knowing_all tables seat.me) mid.me seat′.me knows steps.1)
+
+  pub all-apart : are_apart all ≡ true
+  all-apart = apart_and schema k seat.me.0 tables took.1.recorded.known are (keys-apart is)
+
+  pub told-tables : (places : List ℕ) → StaysQuiet mid.me seat′.me → HasAsked mid.me.0.number tables places mid.me seat′.me
+      → Joins (space_of (session_at seat sessions)) (Tables_of seat.me.0.number schema) (Tables places) (space_of (session_at seat′ sessions))
+      × Shows (Tables_of seat.me.0.number schema) (Tables places) (session_at seat sessions) (session_at seat′ sessions)
+  told-tables places quiet asked =
+      let old : Mine = seat.me in
+      let new : Mine = seat′.me in
+      let learnt = learnt-all in
+      let has : HasAsked old.0.number tables places old new =
+      asked_after old.0.number tables places old mid.me new (goes_on (knowing_all tables old) mid.me knows)
+      (subst (λ (n : ℕ). HasAsked n tables places mid.me new) (ap (λ (m : Mine). m.0.number) knows.1) asked) in
+      let known = all_learnt schema k old.0 tables took.1.recorded.known are took.1.recorded.distinct in
+      let none : mid.me.0.directory ≡ None = ap (λ (m : Mine). m.0.directory) knows.1 ∙ sym (no_record old.0.directory is.idle.1) in (
+        tables-joins is schema k tables places are has learnt known all-apart,
+        record {
+          table = steps.0 ∙ took.0;
+          sessions = refl;
+          refused = tt;
+          did = does_then [] [] old mid.me new (does_steps (knowing_all tables old) mid.me knows) (does_steps mid.me new steps.1);
+          settled = ap (λ (x : SessionView). x.me.0.settles) learnt.now;
+          told = ap (λ (x : SessionView). x.me.0.told) learnt.now;
+          steps = tt;
+          met = (
+            k,
+            took_earlier seat.table.slots k k old mid.me new took.1 quiet none,
+            (tables, are, has, ap (λ (x : SessionView). x.me.0.known) learnt.now, subst (AreLearnt tables) (sym (ap (λ (x : SessionView). x.me.0.known) learnt.now)) known),
+          );
+        },
+      )

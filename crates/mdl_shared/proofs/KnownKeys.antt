@@ -28,13 +28,6 @@ use Rattle.mdl_shared.specs.OwnLists.{key_known}
 
 -- ---- one key more
 
--- whose key and place weren't known
-pub apart_more : (known : List Known) (one : Known) → are_apart known ≡ true → place_known one.key known ≡ None → is_known_place known one.place ≡ false
-    → are_apart (known ++ one ∷ []) ≡ true
-apart_more [] one apart key place = refl
-apart_more (k ∷ ks) one apart key place =
-    grind (arith, nat_tests, list_all-append (are_two k) ks (one ∷ []), apart_more ks one)
-
 -- the directory has it at this place
 abbrev IsThere : List KeyName → Known → Type 0
 IsThere keys x = (0 < x.place) × (key_at keys x.place ≡ Some x.key)

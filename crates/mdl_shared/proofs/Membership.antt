@@ -1,5 +1,5 @@
 -- A session's own lists: its tickets are of places that it knows, and these are places of the table.
-use Rattle.std.proofs.Common.{◌≡◌, ℕ, zero, suc, ◌<◌, ◌==◌, ◌&&◌, true, List, [], ◌∷◌, ◌++◌, Some, None, length, get_or, refl, sym, ap, ◌∙◌, arith, append_assoc, append-nil}
+use Rattle.std.proofs.Common.{◌≡◌, ℕ, zero, suc, ◌<◌, ◌==◌, ◌&&◌, true, List, [], ◌∷◌, ◌++◌, Some, None, length, refl, sym, ap, ◌∙◌, arith, append_assoc, append-nil}
 use Rattle.std.specs.Prelude.{nat_lt}
 use Rattle.std.specs.Option.{option_map}
 use Rattle.std.proofs.lemmas.List.Elements.{All-head, All-tail}
@@ -11,11 +11,10 @@ use Rattle.mdl_key.specs.Words.{KeyName, key_eq, kind_of}
 use Rattle.mdl_steps.specs.declared.view.Known.{Known}
 use Rattle.mdl_steps.specs.declared.view.Own.{Own}
 use Rattle.mdl_key.specs.declared.mode.Mode.TheVariants.{IX}
-use Rattle.mdl_steps.specs.Deeds.{is_own}
 use Rattle.mdl_steps.specs.Plays.{noting_version}
 use Rattle.mdl_steps.proofs.Views.{by_bool}
 use Rattle.mdl_visits.specs.Leavings.{HasTicket}
-use Rattle.mdl_shared.specs.Members.{is_known_place, are_placed, are_within, kind_known, place_known, without_at}
+use Rattle.mdl_shared.specs.Members.{is_known_place, are_placed, are_within, kind_known, place_known}
 use Rattle.mdl_visits.specs.Numbers.{numbered}
 use Rattle.mdl_visits.specs.Tables.{AreWithin}
 
@@ -58,15 +57,6 @@ placed_at known tickets place number all has = at tickets all has.0 has.1 has.2 
         ap (is_known_place known) (sym (ap (λ (o : Own). o.place) is ∙ here)) ∙ (and_parts (is_known_place known x.place) (are_placed known xs) all).0
     at (x ∷ xs) all (suc k) t there here = at xs (and_parts (is_known_place known x.place) (are_placed known xs) all).1 k t there here
 
--- with one ticket less the others are placed still
-pub still_placed : (known : List Known) (tickets : List Own) (place number : ℕ) → are_placed known tickets ≡ true → are_placed known (without_at place number tickets) ≡ true
-still_placed known [] place number all = refl
-still_placed known (t ∷ ts) place number all =
-    let parts = and_parts (is_known_place known t.place) (are_placed known ts) all in
-    by_bool (is_own place number t)
-    (λ gone. rw gone (still_placed known ts place number parts.1))
-    (λ stays. rw stays (and_from _ _ parts.0 (still_placed known ts place number parts.1)))
-
 -- a known kind is that of a key that the session has looked up
 pub kind_there : (place : ℕ) (kind : Kind) (known : List Known) → kind_known place known ≡ Some kind
     → (i : ℕ) × (k : Known) × (get_elem? known i ≡ some k) × (k.place ≡ place) × (kind_of k.key.namespace ≡ kind)
@@ -80,25 +70,12 @@ pub kind_place : (place : ℕ) (kind : Kind) (known : List Known) → kind_known
 kind_place place kind [] e = absurd (cc)
 kind_place place kind (k ∷ ks) e = by_bool (k.place == place) (λ hit. rw hit refl) (λ miss. rw miss (kind_place place kind ks (rw miss at e)))
 
--- a ticket at a known place is placed
-pub one_placed : (known : List Known) (tickets : List Own) (t : Own) → are_placed known tickets ≡ true → is_known_place known t.place ≡ true → are_placed known (tickets ++ t ∷ []) ≡ true
-one_placed known [] t all here = and_from _ _ here refl
-one_placed known (x ∷ xs) t all here =
-    let parts = and_parts (is_known_place known x.place) (are_placed known xs) all in
-    and_from _ _ parts.0 (one_placed known xs t parts.1 here)
-
 -- ---- with one key more that the session knows
 
 pub still_known : (known : List Known) (one : Known) (place : ℕ) → is_known_place known place ≡ true → is_known_place (known ++ one ∷ []) place ≡ true
 still_known [] one place e = absurd (cc)
 still_known (k ∷ ks) one place e =
     by_bool (k.place == place) (λ hit. rw hit refl) (λ miss. rw miss (still_known ks one place (rw miss at e)))
-
-pub known_more : (known : List Known) (one : Known) (tickets : List Own) → are_placed known tickets ≡ true → are_placed (known ++ one ∷ []) tickets ≡ true
-known_more known one [] all = refl
-known_more known one (t ∷ ts) all =
-    let parts = and_parts (is_known_place known t.place) (are_placed known ts) all in
-    and_from _ _ (still_known known one t.place parts.0) (known_more known one ts parts.1)
 
 pub within_more : (slots : ℕ) (known : List Known) (one : Known) → are_within slots known ≡ true → (0 < one.place) × (one.place < slots) → are_within slots (known ++ one ∷ []) ≡ true
 within_more slots [] one all here = and_from _ _ (and_from _ _ (lt-ltb 0 one.place here.0) (lt-ltb one.place slots here.1)) refl
@@ -119,36 +96,15 @@ place_within slots place key (k ∷ ks) all e =
     rw (sym is) (ltb-true 0 k.place here.0, ltb-true k.place slots here.1))
     (λ miss. place_within slots place key ks parts.1 (rw miss at e))
 
--- ---- with a version noted under some of its tickets
-
+-- what is read of a list of tickets where it has none
 abbrev pub no_ticket : Own
 no_ticket = record { number = 0; place = 0; mode = IX; noted = None }
-
--- an element is the one that is there
-pub item_there : {X : Type 0} (xs : List X) (i : ℕ) (d : X) → i < length xs → get_or xs i d ≡ get_or xs i (get_or xs i d)
-item_there [] i d inside = absurd (omega arith)
-item_there (x ∷ xs) zero d inside = refl
-item_there (x ∷ xs) (suc i) d inside = item_there xs i d (omega (arith, inside))
-
--- each stays at its place
-pub noted_placed : (known : List Known) (tickets : List Own) (place version : ℕ) → are_placed known tickets ≡ true → are_placed known (noting_version place version tickets) ≡ true
-noted_placed known [] place version all = refl
-noted_placed known (t ∷ ts) place version all =
-    let parts = and_parts (is_known_place known t.place) (are_placed known ts) all in
-    by_bool (t.place == place)
-    (λ here. rw here (and_from _ _ parts.0 (noted_placed known ts place version parts.1)))
-    (λ elsewhere. rw elsewhere (and_from _ _ parts.0 (noted_placed known ts place version parts.1)))
 
 pub none_noted : (place version : ℕ) (tickets : List Own) → length tickets ≡ 0 → length (noting_version place version tickets) ≡ 0
 none_noted place version [] none = refl
 none_noted place version (t ∷ ts) none = absurd (omega arith)
 
 -- ---- with several keys more
-
-pub known_and : (known more : List Known) (tickets : List Own) → are_placed known tickets ≡ true → are_placed (known ++ more) tickets ≡ true
-known_and known [] tickets all = ap (λ (ks : List Known). are_placed ks tickets) (append-nil known) ∙ all
-known_and known (x ∷ xs) tickets all =
-    ap (λ (ks : List Known). are_placed ks tickets) (sym (append_assoc known (x ∷ []) xs)) ∙ known_and (known ++ x ∷ []) xs tickets (known_more known x tickets all)
 
 pub within_and : (slots : ℕ) (known more : List Known) → are_within slots known ≡ true → AreWithin slots more → are_within slots (known ++ more) ≡ true
 within_and slots known [] all here = ap (are_within slots) (append-nil known) ∙ all

@@ -1,11 +1,9 @@
 -- Calls on what stands under keys: reads and changes.
-use Rattle.std.proofs.Common.{◌≡◌, ◌⊎◌, ℕ, ◌+◌, MatchOption, true, false, is_some, Option, Some, None, Result, Ok, Err, IfSome, map, inl, inr, refl, sym, ap, subst, ◌∙◌}
-use Rattle.std.specs.Prelude.{IfOk, IfErr, OnErr}
+use Rattle.std.proofs.Common.{◌≡◌, ℕ, ◌+◌, MatchOption, Bool, true, false, is_some, List, [], ◌∷◌, ◌++◌, Option, Some, None, Err, if◌then◌else◌, map, inl, inr, refl, sym, ap, subst, ◌∙◌}
 use Rattle.std.specs.Option.{option_map}
 use Rattle.std.proofs.lemmas.Bool.{false≢true}
-use lib.ListN.{get_elem?}
 use Rattle.mdl_key.specs.declared.mode.Mode.TheVariants.{X}
-use Rattle.mdl_key.specs.Refusals.{Refuses, RefusesJust}
+use Rattle.mdl_key.specs.Refusals.{RefusesJust}
 use Rattle.mdl_key.specs.Words.{KeyName, same_mode}
 use Rattle.mdl_defs.specs.declared.change.Change.{Change}
 use Rattle.mdl_defs.specs.declared.change.Change.TheVariants.{Drop}
@@ -16,211 +14,242 @@ use Rattle.mdl_defs.specs.Standings.{standing_after, standing_fault}
 use Rattle.mdl_calls.specs.declared.answers.Held.{Held}
 use Rattle.mdl_calls.specs.declared.space_error.SpaceError.{SpaceError}
 use Rattle.mdl_calls.specs.declared.space_error.SpaceError.TheVariants.{NotExclusive, NotHeld, OutOfMemory}
-use Rattle.mdl_calls.specs.Words.{Changed, Reads, Refused, Change_definition, Read_definition, IsCause, cause_of, change_takes_memory, read, redefined, ticket_held}
+use Rattle.mdl_calls.specs.Words.{Changed, Reads, Refused, Change_definition, Read_definition, IsCause, cause_of, change_takes_memory, ticket_held}
 use Rattle.mdl_calls.proofs.StandingLemmas.{drop-memory, redefined-cause}
+use Rattle.mdl_steps.specs.declared.view.Met.{Met}
 use Rattle.mdl_steps.specs.declared.view.Own.{Own}
-use Rattle.mdl_steps.specs.Plays.{noting_version}
+use Rattle.mdl_steps.specs.Plays.{Mine, noting_version}
+use Rattle.mdl_steps.specs.SeatStates.{SeatState}
 use Rattle.mdl_session_laws.specs.SessionJoins.{ChangesThere, Joins, MeetsFault as Faulty, ReadsThere as Read_so, TellsTruly}
-use Rattle.mdl_session_laws.specs.SessionSpaces.{SpeaksFor, Knows, key_known as key_known_in}
+use Rattle.mdl_session_laws.specs.SessionSpaces.{Knows, key_known as key_known_in}
+use Rattle.mdl_visits.specs.Leavings.{Learns}
 use Rattle.mdl_visits.specs.Numbers.{numbered}
-use Rattle.mdl_visits.specs.Readings.{Follows, ReadsNothing as ReadNothing, ReadsThere}
-use Rattle.mdl_visits.specs.Redefinitions.{IsNamed, IsRefusedAs, IsRefusedFor, Redefines, exclusive_fault}
-use Rattle.mdl_shared.specs.Members.{holding_fault}
+use Rattle.mdl_visits.specs.Readings.{Follows, MeetsRead}
+use Rattle.mdl_visits.specs.Redefinitions.{IsNamed, IsRefusedFor, Redefines, exclusive_fault}
+use Rattle.mdl_visits.specs.Visits.{Does, StaysQuiet, Visits}
+use Rattle.mdl_visits.proofs.Doing.{does_visits}
+use Rattle.mdl_shared.specs.declared.member.Member.{Member}
+use Rattle.mdl_shared.specs.Members.{IsMember, holding_fault}
 use Rattle.mdl_shared.specs.OwnLists.{told_of}
-use Rattle.mdl_shared.specs.SessionViews.{SessionView, space_of}
-use Rattle.mdl_shared.proofs.Faults.{done-clear, refused-for, test-failed, test-passed}
-use Rattle.mdl_shared.proofs.SameSpace.{KeepsRest, Stays, joins-held, numbers-same, refused}
+use Rattle.mdl_shared.specs.Passes.{view_of}
+use Rattle.mdl_shared.specs.SessionViews.{Lists, SessionView, lists_seen, session_at, space_of}
+use Rattle.mdl_shared.specs.Showings.{HasStep, Shows}
+use Rattle.mdl_shared.proofs.Alike.{alike_noting}
+use Rattle.mdl_shared.proofs.Faults.{if-clear, test-failed}
+use Rattle.mdl_shared.proofs.MemberFacts.{speaks}
+use Rattle.mdl_shared.proofs.Members.{StaysInOrder}
+use Rattle.mdl_shared.proofs.Membership.{none_noted}
+use Rattle.mdl_shared.proofs.SameSpace.{KeepsRest, Stays, joins-held, refused, same-stays, sees-same}
 use Rattle.mdl_shared.proofs.SpaceLists.{key-told, ticket-told}
 use Rattle.mdl_shared.proofs.SpaceNotes.{noting-told}
 use Rattle.mdl_shared.proofs.SpaceReads.{known-there, meets-there, notes-there}
 use Rattle.mdl_shared.proofs.SpaceTickets.{holds-told, of-held}
-use Rattle.mdl_shared.proofs.TicketFaults.{held-clear, held-fault}
 
--- refusals of these types
-abbrev refusal_in : (T : Type 0) → ChangeError → Result T ChangeError
-refusal_in T why = Err why
+-- ---- a session that reads what stands at a place
 
-abbrev refusal_of : (T : Type 0) → SpaceError → Result T SpaceError
-refusal_of T why = Err why
+-- it has read this, and noted it under each ticket that it has there, and made steps; nothing else changed
+pub record HasNoted (place : ℕ) (standing : Standing) (s s′ : SessionView) : Type 0 where
+  pub log : List Met
+  pub now : s′ ≡ record s {
+    me = (
+      record s.me.0 {
+        fast = noting_version place standing.version s.me.0.fast;
+        slow = noting_version place standing.version s.me.0.slow;
+        reads = s.me.0.reads ++ record { place = place; standing = standing } ∷ [];
+        log = log;
+      },
+      s.me.1,
+    );
+  }
 
-module _ (m m′ : SessionView) (who id : ℕ) (rest : KeepsRest m m′) (next : m′.me.0.next ≡ m.me.0.next) (speaks : SpeaksFor (space_of m) who) where
-  still : m′.me.0.slow ≡ m.me.0.slow → ReadNothing m.me m′.me → Stays m m′
-  still same reads = record { number = rest.number; tickets = same; next = next; known = rest.known; wait = rest.wait; reads = reads }
+-- what its seat's visit tells
+pub noted-by : {place : ℕ} {standing : Standing} (seat seat′ : SeatState) (sessions : ℕ) → seat′.table ≡ seat.table → Learns place standing seat.me seat′.me
+    → HasNoted place standing (session_at seat sessions) (session_at seat′ sessions)
+noted-by seat seat′ sessions table learns = record {
+  log = seat.me.0.log ++ learns.0;
+  now = λ i. record { table = table i; sessions = sessions; me = learns.1 i };
+}
 
-  drawn : (space_of m′).numbers ≡ (space_of m).numbers
-  drawn = numbers-same m.me.0.next m′.me.0.next m.me.0.waits m′.me.0.waits next rest.wait.waits
+module _ {place : ℕ} {standing : Standing} {s s′ : SessionView} (noted : HasNoted place standing s s′) where
+  pub noted-order : IsMember s → StaysInOrder s s′
+  noted-order is = subst (λ (x : SessionView). StaysInOrder s x) (sym noted.now) (record {
+    table = refl;
+    sessions = refl;
+    idle = is.idle;
+    slow = none_noted place standing.version s.me.0.fast is.slow;
+    within = is.within;
+    alike = alike_noting place standing.version s.me.0.slow is.alike;
+    last = is.last;
+    told = is.told;
+    fewer = is.fewer;
+  })
 
-  -- ---- reads
+  noted-rest : KeepsRest s s′
+  noted-rest = subst (λ (x : SessionView). KeepsRest s x) (sym noted.now) (record { number = refl; known = refl; wait = sees-same s _ refl refl refl })
 
-  pub read-joins : (result : Result Standing SpaceError)
-      → IfOk result (λ standing. (t : Own) × (numbered id m.me.0.slow ≡ Some t)
-      × (m′.me.0.slow ≡ noting_version t.place standing.version m.me.0.slow) × ReadsThere t.place standing m.me m′.me)
-      → IfOk result (λ standing. (t : Own) → numbered id m.me.0.slow ≡ Some t → Follows t.place standing m.me)
-      → OnErr result ((m′.me.0.slow ≡ m.me.0.slow) × ReadNothing m.me m′.me)
-      → Refuses (holding_fault id m.me.0.slow) OutOfMemory result
-      → Joins (space_of m) (Read_definition who id) (read result) (space_of m′)
-  read-joins (Ok standing) told follows unchanged refuses =
-      let t = told.0 in
-      joins-held m m′ (Read_definition who id) (Reads standing.version standing.definition) (map told_of m.me.0.slow) rest speaks refl refl
-      (ap (map told_of) told.2 ∙ noting-told t.place standing.version m.me.0.slow) refl drawn
-      (holds-told id m.me.0.slow true (held-clear id m.me.0.slow (done-clear (holding_fault id m.me.0.slow) OutOfMemory standing refuses))) tt refl
-      (λ state how is. cc) (λ how is. cc) refl
-      (of-held id m.me.0.slow t (λ (h : Held). Read_so standing (space_of m) (space_of m′) h.place) told.1
-      (meets-there m t.place standing (follows t told.1), notes-there m m′ id t.place t standing told.1 refl told.2 told.3))
+  noted-slow : s′.me.0.slow ≡ noting_version place standing.version s.me.0.slow
+  noted-slow = ap (λ (x : SessionView). x.me.0.slow) noted.now
+
+  noted-drawn : (space_of s′).numbers ≡ (space_of s).numbers
+  noted-drawn = ap (λ (x : SessionView). (space_of x).numbers) noted.now
+
+-- its own lists are those of its view still
+pub lists-noted : (m : Member) {place version : ℕ} {standing : Standing} {tickets : List Own} {s : SessionView} → HasNoted place standing (view_of m) s → standing.version ≡ version
+    → tickets ≡ noting_version place version m.tickets.own
+    → record { tickets = tickets; known = m.known.known; next = m.next; asks = m.asks; waits = m.waits } ≡ lists_seen s.me.0
+lists-noted m {place} {version} {standing} {tickets} {s} noted is same =
+    ap (λ (ts : List Own). record { tickets = ts; known = m.known.known; next = m.next; asks = m.asks; waits = m.waits })
+    (same ∙ ap (λ (n : ℕ). noting_version place n m.tickets.own) (sym is))
+    ∙ ap (λ (l : Lists). record l { tickets = noting_version place standing.version l.tickets }) m.lists ∙ sym (ap (λ (x : SessionView). lists_seen x.me.0) noted.now)
+
+-- a session without the ticket, or without an exclusive one
+pub unfit-joins : {s : SessionView} → IsMember s → (id : ℕ) (change : Change) (why : SpaceError) → exclusive_fault (numbered id s.me.0.slow) ≡ Some why
+    → Joins (space_of s) (Change_definition s.me.0.number id change) (Refused why) (space_of s)
+unfit-joins {s} is id change why fault =
+    let told = by (numbered id s.me.0.slow) refl fault in
+    refused s s (Change_definition s.me.0.number id change) why (same-stays s) (speaks is) refl refl told.0 (λ state how met. cc) told.1
+  where
+    by : (o : Option Own) → numbered id s.me.0.slow ≡ o → exclusive_fault o ≡ Some why
+        → IsCause (Knows (space_of s) s.me.0.number) (Change_definition s.me.0.number id change) why (space_of s).own
+        × TellsTruly (Change_definition s.me.0.number id change) (Refused why) (space_of s) (space_of s)
+    by None its e =
+        let none : why ≡ NotHeld = cc in (
+          subst (λ w. IsCause (Knows (space_of s) s.me.0.number) (Change_definition s.me.0.number id change) w (space_of s).own) (sym none)
+              (holds-told id s.me.0.slow false (ap is_some its)),
+          λ ticket held exclusive. let e = sym held ∙ ticket-told id s.me.0.slow ∙ ap (option_map told_of) its in cc,
+        )
+    by (Some t) its e =
+        let b = test-failed (same_mode t.mode X) NotExclusive why e in (
+          subst (λ w. IsCause (Knows (space_of s) s.me.0.number) (Change_definition s.me.0.number id change) w (space_of s).own) (sym b.1)
+              (of-held id s.me.0.slow t (λ (h : Held). same_mode h.mode X ≡ false) its b.0),
+          λ ticket held exclusive.
+              let same : Some ticket ≡ Some (told_of t) = sym held ∙ ticket-told id s.me.0.slow ∙ ap (option_map told_of) its in
+              let one : ticket ≡ told_of t = cc in
+              absurd (false≢true (sym b.0 ∙ ap (λ (h : Held). same_mode h.mode X) (sym one) ∙ exclusive)),
+        )
+
+-- ---- under a ticket that it has
+
+module _ {s : SessionView} (is : IsMember s) (id : ℕ) (t : Own) (its : numbered id s.me.0.slow ≡ Some t) where
+  -- reads
+  pub read-joins : {s′ : SessionView} (standing : Standing) → HasNoted t.place standing s s′ → Follows t.place standing s.me
+      → Joins (space_of s) (Read_definition s.me.0.number id) (Reads standing.version standing.definition) (space_of s′)
+  read-joins {s′} standing noted follows =
+      joins-held s s′ (Read_definition s.me.0.number id) (Reads standing.version standing.definition) (map told_of s.me.0.slow) (noted-rest noted) (speaks is) refl refl
+      (ap (map told_of) (noted-slow noted) ∙ noting-told t.place standing.version s.me.0.slow) refl (noted-drawn noted) (holds-told id s.me.0.slow true (ap is_some its)) tt refl
+      (λ state how met. cc) (λ how told. cc) refl
+      (of-held id s.me.0.slow t (λ (h : Held). Read_so standing (space_of s) (space_of s′) h.place) its
+      (meets-there s t.place standing follows, notes-there s s′ id t.place t standing its refl (noted-slow noted) (ap (λ (x : SessionView). x.me.0.reads) noted.now)))
       tt
-  read-joins (Err why) told follows unchanged refuses =
-      refused m m′ (Read_definition who id) why (still unchanged.0 unchanged.1) speaks refl refl
-      (by (refused-for Standing (holding_fault id m.me.0.slow) OutOfMemory why refuses)) (λ state how is. cc) tt
-    where
-      by : (holding_fault id m.me.0.slow ≡ Some why) ⊎ (why ≡ OutOfMemory)
-          → IsCause (Knows (space_of m) m.me.0.number) (Read_definition who id) why (space_of m).own
-      by (inl fault) =
-          let none = held-fault id m.me.0.slow why fault in
-          subst (λ w. IsCause (Knows (space_of m) m.me.0.number) (Read_definition who id) w (space_of m).own) (sym none.1)
-          (holds-told id m.me.0.slow false none.0)
-      by (inr memory) = subst (λ w. IsCause (Knows (space_of m) m.me.0.number) (Read_definition who id) w (space_of m).own) (sym memory) tt
 
-  -- ---- changes
+  pub read-shows : {s′ : SessionView} (standing : Standing) → HasNoted t.place standing s s′ → Follows t.place standing s.me → Does [] s.me s′.me → StaysQuiet s.me s′.me
+      → HasStep s s′ (MeetsRead t.place s.me.0.number id standing) → Shows (Read_definition s.me.0.number id) (Reads standing.version standing.definition) s s′
+  read-shows {s′} standing noted follows did quiet met = record {
+    table = ap (λ (x : SessionView). x.table) noted.now;
+    sessions = ap (λ (x : SessionView). x.sessions) noted.now;
+    refused = if-clear _ (holding_fault id s.me.0.slow) (ap (λ (o : Option Own). if is_some o then None else Some NotHeld) its);
+    did = did;
+    settled = ap (λ (x : SessionView). x.me.0.settles) noted.now;
+    told = ap (λ (x : SessionView). x.me.0.told) noted.now;
+    steps = quiet;
+    met = (t, its, (follows, ap (λ (x : SessionView). x.me.0.reads) noted.now, met));
+  }
+
+  pub unread-joins : {s′ : SessionView} → Stays s s′ → Joins (space_of s) (Read_definition s.me.0.number id) (Refused OutOfMemory) (space_of s′)
+  unread-joins {s′} stays = refused s s′ (Read_definition s.me.0.number id) OutOfMemory stays (speaks is) refl refl tt (λ state how met. cc) tt
 
   -- the key that the session knows at a place is that of the book which it met
-  named-there : (place : ℕ) (met key : KeyName) → IsNamed place met m.me → key_known_in place (space_of m).known ≡ Some key → met ≡ key
-  named-there place met key named knows =
-      let there = known-there place key m.me.0.known (sym (key-told place m.me.0.known) ∙ knows) in
+  named-there : (met key : KeyName) → IsNamed t.place met s.me → key_known_in t.place (space_of s).known ≡ Some key → met ≡ key
+  named-there met key named knows =
+      let there = known-there t.place key s.me.0.known (sym (key-told t.place s.me.0.known) ∙ knows) in
       named there.0 there.1 there.2 there.3 ∙ there.4
 
   -- of the ticket that is held
-  told-one : (t : Own) (ticket : Held) → numbered id m.me.0.slow ≡ Some t → ticket_held id (space_of m).own ≡ Some ticket → ticket ≡ told_of t
-  told-one t ticket its held =
-      let e : Some ticket ≡ Some (told_of t) = sym held ∙ ticket-told id m.me.0.slow ∙ ap (option_map told_of) its in cc
+  told-one : (ticket : Held) → ticket_held id (space_of s).own ≡ Some ticket → ticket ≡ told_of t
+  told-one ticket held = let e : Some ticket ≡ Some (told_of t) = sym held ∙ ticket-told id s.me.0.slow ∙ ap (option_map told_of) its in cc
 
-  abbrev cause-so : Change → SpaceError → Type 0
-  cause-so change w = IsCause (Knows (space_of m) m.me.0.number) (Change_definition who id change) w (space_of m).own
+  -- changes
+  module _ (s′ : SessionView) (change : Change) (exclusive : same_mode t.mode X ≡ true) where
+    pub change-joins : (standing : Standing) (version : ℕ) → HasNoted t.place standing s s′ → standing.version ≡ version → Redefines t.place change version s.me s′.me
+        → Joins (space_of s) (Change_definition s.me.0.number id change) (Changed version) (space_of s′)
+    change-joins standing version noted same redefines =
+        let stood = redefines.meets.latch.book.standing in
+        let newer = redefines.meets.newer in
+        joins-held s s′ (Change_definition s.me.0.number id change) (Changed version) (map told_of s.me.0.slow) (noted-rest noted) (speaks is) refl refl
+        (ap (map told_of) (noted-slow noted) ∙ noting-told t.place standing.version s.me.0.slow) refl (noted-drawn noted)
+        (of-held id s.me.0.slow t (λ (h : Held). same_mode h.mode X ≡ true) its exclusive) tt refl
+        (λ state how met. cc) (λ how told. cc) refl
+        (of-held id s.me.0.slow t (λ (h : Held). ChangesThere change version (space_of s) (space_of s′) h.place) its (record {
+          stood = stood;
+          meets = meets-there s t.place stood redefines.follows;
+          allowed = λ key knows. subst (λ (k : KeyName). standing_fault k.namespace change stood ≡ None)
+              (named-there redefines.meets.latch.book.key key redefines.named knows) redefines.meets.allowed;
+          newer = newer;
+          notes = notes-there s s′ id t.place t (standing_after change stood) its refl
+              (noted-slow noted ∙ ap (λ v. noting_version t.place v s.me.0.slow) (same ∙ newer)) redefines.learnt;
+        }))
+        tt
 
-  -- refused before anything was met
-  unfit-cause : (change : Change) (why : SpaceError) (o : Option Own) → numbered id m.me.0.slow ≡ o → exclusive_fault o ≡ Some why
-      → cause-so change why × TellsTruly (Change_definition who id change) (Refused why) (space_of m) (space_of m′)
-  unfit-cause change why None its e =
-      let is : why ≡ NotHeld = cc in (
-        subst (cause-so change) (sym is) (holds-told id m.me.0.slow false (ap is_some its)),
-        λ ticket held exclusive. let none = sym held ∙ ticket-told id m.me.0.slow ∙ ap (option_map told_of) its in cc,
-      )
-  unfit-cause change why (Some t) its e =
-      let b = test-failed (same_mode t.mode X) NotExclusive why e in (
-        subst (cause-so change) (sym b.1) (of-held id m.me.0.slow t (λ (h : Held). same_mode h.mode X ≡ false) its b.0),
-        λ ticket held exclusive.
-            let same = told-one t ticket its held in
-            absurd (false≢true (sym b.0 ∙ ap (λ (h : Held). same_mode h.mode X) (sym same) ∙ exclusive)),
-      )
+    abbrev IsToldSo : SpaceError → Type 0
+    IsToldSo w = IsCause (Knows (space_of s) s.me.0.number) (Change_definition s.me.0.number id change) w (space_of s).own
+        × TellsTruly (Change_definition s.me.0.number id change) (Refused w) (space_of s) (space_of s′)
 
-  -- the ticket is exclusive
-  fit-mode : (t : Own) → numbered id m.me.0.slow ≡ Some t → exclusive_fault (numbered id m.me.0.slow) ≡ None → same_mode t.mode X ≡ true
-  fit-mode t its clear = test-passed (same_mode t.mode X) NotExclusive (subst (λ o. exclusive_fault o ≡ None) its clear)
+    -- refused for what was met, or since memory ran out
+    refused-so : (w : ChangeError) → IsRefusedFor t.place s.me.0.number change w s.me s′.me → IsToldSo (cause_of w)
+    refused-so w (inl met) =
+        let fault = met.2.fault in
+        let latch = met.2.latch in (
+          redefined-cause (Knows (space_of s) s.me.0.number) s.me.0.number id change (space_of s).own latch.book.key latch.book.standing (cause_of w)
+              (of-held id s.me.0.slow t (λ (h : Held). same_mode h.mode X ≡ true) its exclusive)
+              (inr (subst (λ o. MatchOption o (Refused (cause_of w) ≡ Changed (latch.book.standing.version + 1)) (λ why. Refused (cause_of w) ≡ Refused (cause_of why))) (sym fault) refl))
+              (memory-cause w latch.book.key latch.book.standing fault),
+          λ ticket held so.
+              inr (subst (λ (h : Held). Faulty change (cause_of w) (space_of s) h.place) (sym (told-one ticket held)) (record {
+                stood = latch.book.standing;
+                meets = meets-there s t.place latch.book.standing met.3;
+                why = w;
+                fault = λ key knows. subst (λ (k : KeyName). standing_fault k.namespace change latch.book.standing ≡ Some w)
+                    (named-there latch.book.key key met.4 knows) fault;
+                told = refl;
+              })),
+        )
+      where
+        out : (w : ChangeError) → cause_of w ≡ OutOfMemory → w ≡ error.OutOfMemory
+        out error.VersionFull e = cc
+        out error.WrongKind e = cc
+        out (error.Def d) e = cc
+        out error.OutOfMemory e = refl
 
-  -- no fault is wanting of memory, or that the ticket isn't exclusive
-  never-unfit : (w : ChangeError) (o : Option Own) → exclusive_fault o ≡ Some (cause_of w) → ⊥
-  never-unfit error.VersionFull None e = cc
-  never-unfit error.WrongKind None e = cc
-  never-unfit (error.Def d) None e = cc
-  never-unfit error.OutOfMemory None e = cc
-  never-unfit w (Some t) e = let b = (test-failed (same_mode t.mode X) NotExclusive (cause_of w) e).1 in not_exclusive w b
-    where
-      not_exclusive : (w : ChangeError) → cause_of w ≡ NotExclusive → ⊥
-      not_exclusive error.VersionFull e = cc
-      not_exclusive error.WrongKind e = cc
-      not_exclusive (error.Def d) e = cc
-      not_exclusive error.OutOfMemory e = cc
+        memory-cause : (w : ChangeError) (key : KeyName) (standing : Standing) → standing_fault key.namespace change standing ≡ Some w
+            → cause_of w ≡ OutOfMemory → change_takes_memory change ≡ true
+        memory-cause w key standing fault e =
+            drop-memory key.namespace change standing (Err error.OutOfMemory)
+            (λ drop. subst (λ o. RefusesJust {T = ℕ} o (Err error.OutOfMemory)) (sym (fault ∙ ap (λ x. Some x) (out w e))) refl) refl
+    refused-so w (inr memory) =
+        let is_out : cause_of w ≡ OutOfMemory = ap cause_of memory.0 in (
+          subst (λ x. IsCause (Knows (space_of s) s.me.0.number) (Change_definition s.me.0.number id change) x (space_of s).own) (sym is_out) (takes change memory.1),
+          λ ticket held so. inl is_out,
+        )
+      where
+        takes : (change : Change) → (change ≡ Drop → ⊥) → change_takes_memory change ≡ true
+        takes Drop apart = absurd (apart refl)
+        takes _ apart = refl
 
-  -- refused for what was met, or since memory ran out
-  met-cause : (change : Change) (w : ChangeError) (t : Own) → numbered id m.me.0.slow ≡ Some t → same_mode t.mode X ≡ true
-      → IsRefusedFor t.place m.me.0.number change w m.me m′.me
-      → cause-so change (cause_of w) × TellsTruly (Change_definition who id change) (Refused (cause_of w)) (space_of m) (space_of m′)
-  met-cause change w t its exclusive (inl met) =
-      let fault = met.2.fault in
-      let latch = met.2.latch in (
-        redefined-cause (Knows (space_of m) m.me.0.number) who id change (space_of m).own latch.book.key latch.book.standing (cause_of w)
-            (of-held id m.me.0.slow t (λ (h : Held). same_mode h.mode X ≡ true) its exclusive)
-            (inr (subst (λ o. MatchOption o (Refused (cause_of w) ≡ Changed (latch.book.standing.version + 1)) (λ why. Refused (cause_of w) ≡ Refused (cause_of why))) (sym fault) refl))
-            (memory-cause change w latch.book.key latch.book.standing fault),
-        λ ticket held so.
-            let same = told-one t ticket its held in
-            inr (subst (λ (h : Held). Faulty change (cause_of w) (space_of m) h.place) (sym same) (record {
-              stood = latch.book.standing;
-              meets = meets-there m t.place latch.book.standing met.3;
-              why = w;
-              fault = λ key knows. subst (λ (k : KeyName). standing_fault k.namespace change latch.book.standing ≡ Some w)
-                  (named-there t.place latch.book.key key met.4 knows) fault;
-              told = refl;
-            })),
-      )
-    where
-      out : (w : ChangeError) → cause_of w ≡ OutOfMemory → w ≡ error.OutOfMemory
-      out error.VersionFull e = cc
-      out error.WrongKind e = cc
-      out (error.Def d) e = cc
-      out error.OutOfMemory e = refl
+    pub unchanged-joins : Stays s s′ → (w : ChangeError) → IsRefusedFor t.place s.me.0.number change w s.me s′.me
+        → Joins (space_of s) (Change_definition s.me.0.number id change) (Refused (cause_of w)) (space_of s′)
+    unchanged-joins stays w why =
+        let told = refused-so w why in
+        refused s s′ (Change_definition s.me.0.number id change) (cause_of w) stays (speaks is) refl refl told.0 (λ state how met. cc) told.1
 
-      memory-cause : (change : Change) (w : ChangeError) (key : KeyName) (standing : Standing) → standing_fault key.namespace change standing ≡ Some w
-          → cause_of w ≡ OutOfMemory → change_takes_memory change ≡ true
-      memory-cause change w key standing fault e =
-          drop-memory key.namespace change standing (Err error.OutOfMemory)
-          (λ drop. subst (λ o. RefusesJust o (refusal_in ℕ error.OutOfMemory)) (sym (fault ∙ ap (λ x. Some x) (out w e))) refl) refl
-  met-cause change w t its exclusive (inr memory) =
-      let is : cause_of w ≡ OutOfMemory = ap cause_of memory.0 in (
-        subst (cause-so change) (sym is) (takes change memory.1),
-        λ ticket held so. inl is,
-      )
-    where
-      takes : (change : Change) → (change ≡ Drop → ⊥) → change_takes_memory change ≡ true
-      takes Drop apart = absurd (apart refl)
-      takes _ apart = refl
-
-  pub change-joins : (change : Change) (result : Result ℕ SpaceError)
-      → IfOk result (λ version. (t : Own) × (numbered id m.me.0.slow ≡ Some t) × (t.mode ≡ X)
-      × (m′.me.0.slow ≡ noting_version t.place version m.me.0.slow) × Redefines t.place change version m.me m′.me)
-      → OnErr result ((m′.me.0.slow ≡ m.me.0.slow) × ReadNothing m.me m′.me)
-      → IfSome (exclusive_fault (numbered id m.me.0.slow)) (λ why. result ≡ Err why)
-      → IfErr result (λ why. (exclusive_fault (numbered id m.me.0.slow) ≡ Some why)
-      ⊎ ((t : Own) × (numbered id m.me.0.slow ≡ Some t) × IsRefusedAs t.place m.me.0.number change why m.me m′.me))
-      → Joins (space_of m) (Change_definition who id change) (redefined result) (space_of m′)
-  change-joins change (Ok version) changed unchanged unfit causes =
-      let t = changed.0 in
-      let its = changed.1 in
-      let redefines = changed.4 in
-      let stood = redefines.meets.latch.book.standing in
-      let newer = redefines.meets.newer in
-      joins-held m m′ (Change_definition who id change) (Changed version) (map told_of m.me.0.slow) rest speaks refl refl
-      (ap (map told_of) changed.3 ∙ noting-told t.place version m.me.0.slow) refl drawn
-      (of-held id m.me.0.slow t (λ (h : Held). same_mode h.mode X ≡ true) its (ap (λ mode. same_mode mode X) changed.2)) tt refl
-      (λ state how is. cc) (λ how is. cc) refl
-      (of-held id m.me.0.slow t (λ (h : Held). ChangesThere change version (space_of m) (space_of m′) h.place) its (record {
-        stood = stood;
-        meets = meets-there m t.place stood redefines.follows;
-        allowed = λ key knows. subst (λ (k : KeyName). standing_fault k.namespace change stood ≡ None)
-            (named-there t.place redefines.meets.latch.book.key key redefines.named knows) redefines.meets.allowed;
-        newer = newer;
-        notes = notes-there m m′ id t.place t (standing_after change stood) its refl
-            (changed.3 ∙ ap (λ v. noting_version t.place v m.me.0.slow) newer) redefines.learnt;
-      }))
-      tt
-  change-joins change (Err why) changed unchanged unfit causes = by causes
-    where
-      joined : (w : SpaceError) → cause-so change w × TellsTruly (Change_definition who id change) (Refused w) (space_of m) (space_of m′)
-          → Joins (space_of m) (Change_definition who id change) (Refused w) (space_of m′)
-      joined w told = refused m m′ (Change_definition who id change) w (still unchanged.0 unchanged.1) speaks refl refl told.0 (λ state how is. cc) told.1
-
-      clear : (w : ChangeError) (o : Option SpaceError) → why ≡ cause_of w → exclusive_fault (numbered id m.me.0.slow) ≡ o
-          → IfSome o (λ x. refusal_of ℕ why ≡ Err x) → o ≡ None
-      clear w None is e given = refl
-      clear w (Some x) is e given =
-          let same : x ≡ cause_of w = cc in absurd (never-unfit w (numbered id m.me.0.slow) (e ∙ ap (λ s. Some s) same))
-
-      by : (exclusive_fault (numbered id m.me.0.slow) ≡ Some why)
-          ⊎ ((t : Own) × (numbered id m.me.0.slow ≡ Some t) × IsRefusedAs t.place m.me.0.number change why m.me m′.me)
-          → Joins (space_of m) (Change_definition who id change) (Refused why) (space_of m′)
-      by (inl fault) = joined why (unfit-cause change why (numbered id m.me.0.slow) refl fault)
-      by (inr met) =
-          let w = met.2.0 in
-          let is = met.2.1 in
-          let mode = fit-mode met.0 met.1 (clear w (exclusive_fault (numbered id m.me.0.slow)) is refl unfit) in
-          subst (λ x. Joins (space_of m) (Change_definition who id change) (Refused x) (space_of m′)) (sym is)
-          (joined (cause_of w) (met-cause change w met.0 met.1 mode met.2.2))
+    pub unchanged-shows : s′.table ≡ s.table → s′.sessions ≡ s.sessions → Visits t.place [] s.me s′.me → (w : ChangeError) → IsRefusedFor t.place s.me.0.number change w s.me s′.me
+        → Shows (Change_definition s.me.0.number id change) (Refused (cause_of w)) s s′
+    unchanged-shows table sessions visit w why = record {
+      table = table;
+      sessions = sessions;
+      refused = if-clear _ (exclusive_fault (numbered id s.me.0.slow)) (ap exclusive_fault its ∙ ap (λ (b : Bool). if b then None else Some NotExclusive) exclusive);
+      did = does_visits s.me s′.me t.place [] visit;
+      settled = ap (λ (m : Mine). m.0.settles) visit.now;
+      told = ap (λ (m : Mine). m.0.told) visit.now;
+      steps = tt;
+      met = inr (t, its, (w, refl, why));
+    }

@@ -1,5 +1,5 @@
 -- What calls that ask for tickets show.
-use Rattle.std.proofs.Common.{◌≡◌, ℕ, None, List, [], ◌∷◌, refl, sym, ap, ◌∙◌}
+use Rattle.std.proofs.Common.{◌≡◌, ℕ, None, List, [], ◌∷◌, sym, ap, ◌∙◌}
 use Rattle.mdl_key.specs.declared.mode.Mode.{Mode}
 use Rattle.mdl_calls.specs.Words.{Answer, Call, Granted, Waits, Would_wait, Begin_wait, Try_now}
 use Rattle.mdl_steps.specs.declared.deed.Deed.{Deed}

@@ -1,11 +1,11 @@
 -- What a session keeps of its own between two calls.
 pub use Rattle.mdl_visits.specs.KnownLists.{are_apart, are_two, is_known_place, kind_known, place_known}
-use Rattle.std.specs.Prelude.{◌≡◌, ◌<◌, ◌≤◌, ◌++◌, ◌∷◌, [], ℕ, ◌^◌, Bool, true, false, ◌==◌, ◌&&◌, not, nat_le, nat_lt, List, All, Option, Some, None, find, filter, is_some, if◌then◌else◌}
-use Rattle.std.specs.List.{list_all, list_any}
-use Rattle.std.specs.Option.{option_map, option_map_or}
+use Rattle.std.specs.Prelude.{◌≡◌, ◌<◌, ◌≤◌, ℕ, ◌^◌, Bool, true, ◌&&◌, not, nat_le, nat_lt, List, All, Option, Some, None, filter, is_some, if◌then◌else◌}
+use Rattle.std.specs.List.{list_all}
+use Rattle.std.specs.Option.{option_map_or}
 use Rattle.mdl_key.specs.declared.mode.Mode.{Mode}
 use Rattle.mdl_key.specs.declared.namespace.Kind.{Kind}
-use Rattle.mdl_key.specs.Words.{KeyName, is_mode_of, key_eq, kind_of}
+use Rattle.mdl_key.specs.Words.{is_mode_of}
 use Rattle.mdl_calls.specs.declared.space_error.SpaceError.{SpaceError}
 use Rattle.mdl_calls.specs.declared.space_error.SpaceError.TheVariants.{NoPlace, NotHeld, AlreadyWaiting, BadMode, CounterFull}
 use Rattle.mdl_steps.specs.declared.view.Ask.{Ask}
@@ -68,11 +68,6 @@ wish_fault None asks mode next = Some NoPlace
 wish_fault (Some kind) asks mode next =
     if is_some asks then Some AlreadyWaiting
     else (if not (is_mode_of kind mode) then Some BadMode else (if nat_le most_numbers next then Some CounterFull else None))
-
--- a key is at this place by what the session knew of it, or was looked up and is the last that it knows, at a place that it didn't know
-abbrev pub LearnsPlace : KeyName → ℕ → Option ℕ → List Known → List Known → Type 0
-LearnsPlace key place (Some known) before after = (place ≡ known) × (after ≡ before)
-LearnsPlace key place None before after = (is_known_place before place ≡ false) × (after ≡ before ++ record { key = key; place = place } ∷ [])
 
 -- each of these keys is known at its place
 abbrev pub AreLearnt : List Known → List Known → Type 0

@@ -2,6 +2,7 @@
 use Rattle.std.specs.Prelude.{◌≡◌, ℕ, ◌+◌, ◌<◌, List, length, slice_index_or}
 use Rattle.std.specs.Arc.{arc_value}
 use Rattle.atomic_table.specs.Seated.{TableId}
+use Rattle.mdl_steps.specs.Layout.{session_count}
 use Rattle.mdl_steps.specs.SeatStates.{enrolled_seat}
 use Rattle.mdl_shared.specs.declared.manager.Manager.{Manager}
 use Rattle.mdl_shared.specs.declared.member.Member.{Member}
@@ -28,10 +29,12 @@ pass_table pass = (pass_view pass).table
 abbrev pub pass_number : Pass → ℕ
 pass_number pass = (pass_view pass).me.0.number
 
--- a pass of a session of this number at this table, which knows and has nothing, and has made no step but that by which its number was drawn
+-- a pass of a session of this number at this table, in a space of as many sessions as the table has words for. The session knows and has nothing, and has
+-- made no step but that by which its number was drawn
 pub record IsPass (table : TableId) (number : ℕ) (pass : Pass) : Type 0 where
   pub theirs : pass_table pass ≡ table
   pub numbered : pass_number pass ≡ number
+  pub sessions : (pass_view pass).sessions ≡ session_count table.slots table.words
   pub fresh : (pass_view pass).me ≡ (enrolled_seat table number).me
 
 -- the passes of the sessions from 1 on, in order

@@ -39,22 +39,27 @@
 
 mod audit;
 mod begin_wait;
+mod change_definition;
 mod clone_ticket;
 mod downgrade;
 mod end_wait;
 mod held;
 mod holdings;
+mod key_of;
 mod kill;
 mod manager;
 mod member;
 mod merge;
 mod pass;
 mod poll_wait;
+mod read_definition;
 mod release;
 mod reschedule;
+mod resolve;
 mod search;
 mod session;
 mod settle_timeout;
+mod tables_of;
 mod tickets;
 mod try_now;
 mod upgrade_now;

@@ -1,13 +1,17 @@
--- The next pass is that of the next number.
+-- The next pass is that of the next number, and there are as many sessions as the table has words for.
 use Rattle.std.proofs.Common.{◌≡◌, ◌+◌, ◌++◌, ◌∷◌, [], ◌<◌, ℕ, rules, arith, ltb, true, false, List, length, get_or, subst, sym, ap, refl, ◌∙◌}
 use Rattle.std.specs.Arc.{arc_value}
 use Rattle.std.proofs.lemmas.Bool.Decides.{nat_tests}
 use Rattle.std.proofs.lemmas.List.{get_or_append_left, get_or_push, length_push}
 use Rattle.atomic_table.specs.Seated.{TableId}
+use Rattle.mdl_steps.specs.Layout.{session_count, word_count}
 use Rattle.mdl_steps.specs.SeatStates.{SeatState, enrolled_seat}
 use Rattle.mdl_shared.specs.declared.pass.Pass.{Pass}
 use Rattle.mdl_shared.specs.Passes.{ArePasses, IsPass}
 use Rattle.mdl_shared.proofs.manager.Manager.enrol_all.Goals as goal
+
+counted : (slots words sessions : ℕ) → words ≡ word_count slots sessions → sessions ≡ session_count slots words
+counted slots words sessions is = omega (arith, is)
 
 passes_more : (table : TableId) (passes : List Pass) (next : Pass) → ArePasses table passes → IsPass table (length passes + 1) next → ArePasses table (passes ++ next ∷ [])
 passes_more table passes next are is k d inside =
@@ -29,6 +33,7 @@ loop-passes-preserved c =
       passes = rw c.in_ok-push.ensures.items (passes_more _ c.loop-passes.passes.items _ c.loop-passes.invariant.passes (record {
         theirs = ap (λ (s : SeatState). s.table) is;
         numbered = ap (λ (s : SeatState). s.me.0.number) is;
+        sessions = c.new-member.ensures.made.1 ∙ counted _ _ c.args.sessions c.requires.sessions.1;
         fresh = ap (λ (s : SeatState). s.me) is;
       }));
     }

@@ -1,8 +1,6 @@
 -- The session may wish so, and what became of the wish is told by the visit.
-use Rattle.std.proofs.Common.{rules, ◌≡◌, ◌+◌, ◌⊎◌, inl, inr, ℕ, Option, Some, None, List, [], ◌∷◌, Err, Ok, refl, sym, ap, ◌∙◌, arith}
-use Rattle.mdl_calls.specs.declared.space_error.SpaceError.TheVariants.{OutOfMemory}
+use Rattle.std.proofs.Common.{rules, ◌≡◌, inl, Some, Err, Ok, refl, ap, ◌∙◌, arith}
 use Rattle.mdl_calls.specs.Words.{Try_now}
-use Rattle.mdl_shared.specs.Members.{kind_known, wish_fault}
 use Rattle.mdl_shared.specs.Passes.{view_of}
 use Rattle.mdl_shared.specs.SessionViews.{Lists}
 use Rattle.mdl_shared.proofs.Members.{done-nothing, done-order, kept, lists-done, visited}

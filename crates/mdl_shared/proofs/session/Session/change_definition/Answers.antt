@@ -1,0 +1,91 @@
+-- What stands under an exclusive ticket is changed, or the change is refused.
+use Rattle.std.proofs.Common.{rules, ◌≡◌, Bool, false, Some, None, if◌then◌else◌, inr, refl, ap, ◌∙◌}
+use Rattle.mdl_key.specs.declared.mode.Mode.{Mode}
+use Rattle.mdl_key.specs.declared.mode.Mode.TheVariants.{X}
+use Rattle.mdl_key.specs.Words.{same_mode}
+use Rattle.mdl_calls.specs.declared.space_error.SpaceError.TheVariants.{NotExclusive, NotHeld}
+use Rattle.mdl_visits.specs.Redefinitions.{exclusive_fault}
+use Rattle.mdl_shared.specs.SessionViews.{session_at}
+use Rattle.mdl_shared.proofs.MemberFacts.{apart, may-latch, place-within, ticket-known}
+use Rattle.mdl_shared.proofs.Members.{done-nothing, done-order, held-seen, kept, lists-done, room-kept, visited}
+use Rattle.mdl_shared.proofs.Props.{member}
+use Rattle.mdl_shared.proofs.ReadCalls.{change-joins, lists-noted, noted-by, noted-order, unchanged-joins, unchanged-shows, unfit-joins}
+use Rattle.mdl_shared.proofs.session.Session.change_definition.Goals as goal
+
+pub returns-in_default-clause-joined : goal.returns-in_default-clause-joined
+returns-in_default-clause-joined g c =
+    let m = c.self.inside.member in
+    let none = held-seen m c.args.id c.get.result c.get.ensures.found ∙ c.in_default.is in
+    rw (← c.self.view_is) (unfit-joins (member m) c.args.id c.args.change.now NotHeld (ap exclusive_fault none))
+
+pub returns-then-ne-clause-joined : goal.returns-then-ne-clause-joined
+returns-then-ne-clause-joined g c =
+    let m = c.self.inside.member in
+    let its = held-seen m c.args.id c.get.result c.get.ensures.found ∙ c.in-Some.is in
+    let other : same_mode c.in-Some.held.mode X ≡ false = search (rules, c.ne.ensures, c.if-ne.true) in
+    rw (← c.self.view_is)
+    (unfit-joins (member m) c.args.id c.args.change.now NotExclusive (ap exclusive_fault its ∙ ap (λ (b : Bool). if b then None else Some NotExclusive) other))
+
+pub change_definition-requires : goal.change_definition-requires
+change_definition-requires g c =
+    let m = c.self.inside.member in
+    let is = member m in
+    let t = c.in-Some.held in
+    let its = held-seen m c.args.id c.get.result c.get.ensures.found ∙ c.in-Some.is in
+    let own : t.mode ≡ X = search (rules, c.ne.ensures, c.if-ne.false) in
+    record { place = place-within is t.place (ticket-known is c.args.id t its); rising = may-latch is t.place; apart = apart is; held = (c.args.id, t, its, refl, own) }
+
+pub invariant_of-member : goal.invariant_of-member
+invariant_of-member g c =
+    let m = c.self.inside.member in
+    let is = member m in
+    let t = c.in-Some.held in
+    let its = held-seen m c.args.id c.get.result c.get.ensures.found ∙ c.in-Some.is in
+    let own : t.mode ≡ X = search (rules, c.ne.ensures, c.if-ne.false) in
+    let did = c.in-Err.ensures in
+    let done = visited m.seat c.change_definition.new.seat m.sessions did.unchanged in
+    let joins = unchanged-joins is c.args.id t its (session_at c.change_definition.new.seat m.sessions) c.args.change.now (ap (λ (mode : Mode). same_mode mode X) own) (done-nothing done) c.in-Err.why did.refused in
+    record { lawful = ∣ kept is (done-order done is (inr refl)) joins ∣₁; lists = lists-done m done refl; room = m.room }
+
+pub returns-in-Err : goal.returns-in-Err
+returns-in-Err g c =
+    let m = c.self.inside.member in
+    let is = member m in
+    let t = c.in-Some.held in
+    let its = held-seen m c.args.id c.get.result c.get.ensures.found ∙ c.in-Some.is in
+    let own : t.mode ≡ X = search (rules, c.ne.ensures, c.if-ne.false) in
+    let exclusive = ap (λ (mode : Mode). same_mode mode X) own in
+    let did = c.in-Err.ensures in
+    let s′ = session_at c.change_definition.new.seat m.sessions in
+    let done = visited m.seat c.change_definition.new.seat m.sessions did.unchanged in
+    rw (c.from.ensures, ← c.self.view_is) (record {
+      joined = unchanged-joins is c.args.id t its s′ c.args.change.now exclusive (done-nothing done) c.in-Err.why did.refused;
+      shown = unchanged-shows is c.args.id t its s′ c.args.change.now exclusive did.unchanged.0 refl did.unchanged.1 c.in-Err.why did.refused;
+    })
+
+pub invariant_of-member-2 : goal.invariant_of-member-2
+invariant_of-member-2 g c =
+    let m = c.self.inside.member in
+    let is = member m in
+    let t = c.in-Some.held in
+    let its = held-seen m c.args.id c.get.result c.get.ensures.found ∙ c.in-Some.is in
+    let own : t.mode ≡ X = search (rules, c.ne.ensures, c.if-ne.false) in
+    let changed = c.in-Ok.ensures.changed in
+    let noted = noted-by m.seat c.change_definition.new.seat m.sessions changed.0.0 changed.1.2 in
+    let joins = change-joins is c.args.id t its (session_at c.change_definition.new.seat m.sessions) c.args.change.now (ap (λ (mode : Mode). same_mode mode X) own) changed.1.0 c.in-Ok.version noted changed.1.1 changed.0.1 in
+    record {
+      lawful = ∣ kept is (noted-order noted is) joins ∣₁;
+      lists = lists-noted m noted changed.1.1 c.note_all.ensures.noted;
+      room = λ ask asks. room-kept m.tickets c.note_all.new.self c.note_all.ensures.room (m.room ask asks);
+    }
+
+pub returns-clause-joined : goal.returns-clause-joined
+returns-clause-joined g c =
+    let m = c.self.inside.member in
+    let t = c.in-Some.held in
+    let its = held-seen m c.args.id c.get.result c.get.ensures.found ∙ c.in-Some.is in
+    let own : t.mode ≡ X = search (rules, c.ne.ensures, c.if-ne.false) in
+    let changed = c.in-Ok.ensures.changed in
+    let noted = noted-by m.seat c.change_definition.new.seat m.sessions changed.0.0 changed.1.2 in
+    rw (← c.self.view_is)
+    (change-joins (member m) c.args.id t its (session_at c.change_definition.new.seat m.sessions) c.args.change.now (ap (λ (mode : Mode). same_mode mode X) own) changed.1.0 c.in-Ok.version noted changed.1.1 changed.0.1)

@@ -1,0 +1,80 @@
+-- What stands under a ticket is read, and noted under each ticket of its place.
+use Rattle.std.proofs.Common.{◌≡◌, ℕ, ◌<◌, List, false, inr, is_some, refl, sym, ap, subst, ◌∙◌}
+use Rattle.mdl_calls.specs.declared.space_error.SpaceError.TheVariants.{NotHeld}
+use Rattle.mdl_calls.specs.Words.{Read_definition}
+use Rattle.mdl_visits.proofs.Doing.{does_learns}
+use Rattle.mdl_shared.specs.Passes.{view_of}
+use Rattle.mdl_shared.specs.SessionViews.{Lists, session_at}
+use Rattle.mdl_shared.proofs.MemberFacts.{may-latch, place-within, speaks, ticket-known, ticket-there, unwaited}
+use Rattle.mdl_shared.proofs.Members.{done-nothing, done-order, held-seen, kept, lists-done, room-kept, visited}
+use Rattle.mdl_shared.proofs.Props.{member}
+use Rattle.mdl_shared.proofs.ReadCalls.{lists-noted, noted-by, noted-order, read-joins, read-shows, unread-joins}
+use Rattle.mdl_shared.proofs.SameSpace.{refused, same-stays}
+use Rattle.mdl_shared.proofs.SpaceTickets.{holds-told}
+use Rattle.mdl_shared.proofs.session.Session.read_definition.Goals as goal
+
+pub returns-in_default-clause-joined : goal.returns-in_default-clause-joined
+returns-in_default-clause-joined g c =
+    let m = c.self.inside.member in
+    let s = view_of m in
+    let none = held-seen m c.args.id c.get.result c.get.ensures.found ∙ c.in_default.is in
+    rw (← c.self.view_is)
+    (refused s s (Read_definition s.me.0.number c.args.id) NotHeld (same-stays s) (speaks (member m)) refl refl
+    (holds-told c.args.id s.me.0.slow false (ap is_some none)) (λ state how is. cc) tt)
+
+pub read_definition-requires : goal.read_definition-requires
+read_definition-requires g c =
+    let m = c.self.inside.member in
+    let is = member m in
+    let t = c.in-Some.held in
+    let its = held-seen m c.args.id c.get.result c.get.ensures.found ∙ c.in-Some.is in
+    record { place = place-within is t.place (ticket-known is c.args.id t its); rising = may-latch is t.place }
+
+pub invariant_of-member : goal.invariant_of-member
+invariant_of-member g c =
+    let m = c.self.inside.member in
+    let is = member m in
+    let its = held-seen m c.args.id c.get.result c.get.ensures.found ∙ c.in-Some.is in
+    let did = c.in_default-read_definition.ensures in
+    let done = visited m.seat c.read_definition.new.seat m.sessions (did.quiet.0, did.unchanged) in
+    record {
+      lawful = ∣ kept is (done-order done is (inr refl)) (unread-joins is c.args.id c.in-Some.held its (done-nothing done)) ∣₁;
+      lists = lists-done m done refl;
+      room = m.room;
+    }
+
+pub returns-in_default-read_definition-clause-joined : goal.returns-in_default-read_definition-clause-joined
+returns-in_default-read_definition-clause-joined g c =
+    let m = c.self.inside.member in
+    let its = held-seen m c.args.id c.get.result c.get.ensures.found ∙ c.in-Some.is in
+    let did = c.in_default-read_definition.ensures in
+    rw (← c.self.view_is) (unread-joins (member m) c.args.id c.in-Some.held its (done-nothing (visited m.seat c.read_definition.new.seat m.sessions (did.quiet.0, did.unchanged))))
+
+pub invariant_of-member-2 : goal.invariant_of-member-2
+invariant_of-member-2 g c =
+    let m = c.self.inside.member in
+    let is = member m in
+    let its = held-seen m c.args.id c.get.result c.get.ensures.found ∙ c.in-Some.is in
+    let did = c.in-Ok.ensures in
+    let noted = noted-by m.seat c.read_definition.new.seat m.sessions did.quiet.0 did.learnt.0 in
+    record {
+      lawful = ∣ kept is (noted-order noted is) (read-joins is c.args.id c.in-Some.held its c.in-Ok.standing noted did.follows) ∣₁;
+      lists = lists-noted m noted refl c.note_all.ensures.noted;
+      room = λ ask asks. room-kept m.tickets c.note_all.new.self c.note_all.ensures.room (m.room ask asks);
+    }
+
+pub returns : goal.returns
+returns g c =
+    let m = c.self.inside.member in
+    let is = member m in
+    let id = c.args.id in
+    let t = c.in-Some.held in
+    let its = held-seen m id c.get.result c.get.ensures.found ∙ c.in-Some.is in
+    let did = c.in-Ok.ensures in
+    let step = did.learnt.1 in
+    let noted = noted-by m.seat c.read_definition.new.seat m.sessions did.quiet.0 did.learnt.0 in
+    rw (← c.self.view_is) (record {
+      joined = read-joins is id t its c.in-Ok.standing noted did.follows;
+      shown = read-shows is id t its c.in-Ok.standing noted did.follows (does_learns m.seat.me c.read_definition.new.seat.me t.place c.in-Ok.standing did.learnt.0) did.quiet.1
+          (step.0, step.1, (step.2, step.3 id (ticket-there is id t its) (unwaited is id (ap is_some its))));
+    })

@@ -1,0 +1,82 @@
+-- The tables of a schema, by the directory and by the place of each.
+use Rattle.std.proofs.Common.{◌<◌, ◌≤◌, not, List, ◌++◌, inr, refl, sym, ap, subst, ◌∙◌}
+use Rattle.std.proofs.lemmas.List.Elements.{All-filter}
+use Rattle.atomic_table.specs.Seated.{TableId}
+use Rattle.mdl_steps.specs.declared.view.Known.{Known}
+use Rattle.mdl_steps.specs.Schemas.{is_known, unknown}
+use Rattle.mdl_visits.specs.Idle.{IsIdle}
+use Rattle.mdl_visits.specs.Tables.{AreWithin, HasAsked}
+use Rattle.mdl_shared.specs.Members.{are_apart}
+use Rattle.mdl_shared.specs.Passes.{view_of}
+use Rattle.mdl_shared.specs.SessionViews.{Lists}
+use Rattle.mdl_shared.proofs.KeyCalls.{all-apart, learnt-all, learnt-order, lists-learnt, memory-joins, stepped, told-tables}
+use Rattle.mdl_shared.proofs.Members.{done-nothing, done-order, kept, lists-done}
+use Rattle.mdl_shared.proofs.Props.{member}
+use Rattle.mdl_shared.proofs.session.Session.tables_of.Goals as goal
+
+pub find_tables-requires : goal.find_tables-requires
+find_tables-requires g c = record { idle = (member c.self.inside.member).idle }
+
+pub invariant_of-member : goal.invariant_of-member
+invariant_of-member g c =
+    let m = c.self.inside.member in
+    let s = view_of m in
+    let is = member m in
+    let did = c.in_default.ensures in
+    let done = stepped m.seat c.find_tables.new.seat m.sessions did.found.1.0 did.unchanged in record {
+      lawful = ∣ kept is (done-order done is (inr refl)) (memory-joins is c.args.schema.now (done-nothing done)) ∣₁;
+      lists = ap (λ (ks : List Known). record { tickets = m.tickets.own; known = ks; next = m.next; asks = m.asks; waits = m.waits }) did.same ∙ lists-done m done refl;
+      room = m.room;
+    }
+
+pub returns-in_default-clause-joined : goal.returns-in_default-clause-joined
+returns-in_default-clause-joined g c =
+    let m = c.self.inside.member in
+    let did = c.in_default.ensures in
+    rw (← c.self.view_is) (memory-joins (member m) c.args.schema.now (done-nothing (stepped m.seat c.find_tables.new.seat m.sessions did.found.1.0 did.unchanged)))
+
+pub tables_defined-requires-clause-within : goal.tables_defined-requires-clause-within
+tables_defined-requires-clause-within g c =
+    let m = c.self.inside.member in
+    let did = c.in-Ok.ensures in
+    let narrow = (member m).narrow in
+    subst (λ (t : TableId). AreWithin t.slots c.deref.result.now × (t.slots ≤ 65536)) (sym did.found.1.0)
+    (subst (λ (ts : List Known). AreWithin m.seat.table.slots ts) (sym c.deref.ensures.value) did.within, narrow.1)
+
+pub tables_defined-requires-clause-idle : goal.tables_defined-requires-clause-idle
+tables_defined-requires-clause-idle g c = subst IsIdle (sym c.in-Ok.ensures.found.2.1.1) (member c.self.inside.member).idle
+
+pub learn-requires-clause-apart : goal.learn-requires-clause-apart
+learn-requires-clause-apart g c =
+    let m = c.self.inside.member in
+    let did = c.in-Ok.ensures in
+    let tables = c.in-Ok.tables.items in
+    ap (λ (ks : List Known). are_apart (ks ++ unknown ks tables)) did.same ∙ ap (λ (l : Lists). are_apart (l.known ++ unknown l.known tables)) m.lists
+    ∙ all-apart m.seat c.find_tables.new.seat c.tables_defined.new.seat m.sessions c.args.schema.now did.found.0 tables (member m) did.found.1 did.found.2.0 did.found.2.1 c.tables_defined.ensures.steps
+
+pub invariant_of-member-2 : goal.invariant_of-member-2
+invariant_of-member-2 g c =
+    let m = c.self.inside.member in
+    let is = member m in
+    let did = c.in-Ok.ensures in
+    let tables = c.in-Ok.tables.items in
+    let new = c.tables_defined.new in
+    let learnt = learnt-all m.seat c.find_tables.new.seat new.seat m.sessions c.args.schema.now did.found.0 tables is did.found.1 did.found.2.0 did.found.2.1 c.tables_defined.ensures.steps in
+    let told = told-tables m.seat c.find_tables.new.seat new.seat m.sessions c.args.schema.now did.found.0 tables is did.found.1 did.found.2.0 did.found.2.1 c.tables_defined.ensures.steps
+    new.places.items c.tables_defined.ensures.directory (subst (λ (ts : List Known). HasAsked c.find_tables.new.seat.me.0.number ts new.places.items c.find_tables.new.seat.me new.seat.me) c.deref.ensures.value c.tables_defined.ensures.asked) in
+    record {
+      lawful = ∣ kept is (learnt-order learnt is
+          (All-filter (λ (k : Known). not (is_known m.seat.me.0.known k.key)) (λ (x : Known). (0 < x.place) × (x.place < m.seat.table.slots)) tables did.within)) told.0 ∣₁;
+      lists = lists-learnt m learnt (c.learn.ensures.known ∙ ap (λ (ks : List Known). ks ++ unknown ks tables) did.same
+          ∙ ap (λ (l : Lists). m.known.known ++ unknown l.known tables) m.lists);
+      room = m.room;
+    }
+
+pub returns : goal.returns
+returns g c =
+    let m = c.self.inside.member in
+    let did = c.in-Ok.ensures in
+    let new = c.tables_defined.new in
+    let told = told-tables m.seat c.find_tables.new.seat new.seat m.sessions c.args.schema.now did.found.0 c.in-Ok.tables.items (member m) did.found.1 did.found.2.0 did.found.2.1 c.tables_defined.ensures.steps
+    new.places.items c.tables_defined.ensures.directory (subst (λ (ts : List Known). HasAsked c.find_tables.new.seat.me.0.number ts new.places.items c.find_tables.new.seat.me new.seat.me) c.deref.ensures.value c.tables_defined.ensures.asked) in
+    rw (← c.self.view_is) (record { joined = told.0; shown = told.1 })

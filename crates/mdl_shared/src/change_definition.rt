@@ -1,0 +1,35 @@
+//! What a session changes under its exclusive tickets.
+ghost use Rattle.mdl_calls.specs.Words.{Change_definition, redefined};
+ghost use Rattle.mdl_session_laws.specs.SessionJoins.{Joins};
+ghost use Rattle.mdl_shared.specs.SessionViews.{space_of};
+ghost use Rattle.mdl_shared.specs.Showings.{Shows};
+
+use crate::Session;
+use mdl_calls::{SpaceError, TicketId};
+use mdl_defs::Change;
+use mdl_key::Mode;
+use mdl_visits::change_definition;
+use std::sync::Wait;
+
+impl<R: Wait> Session<R> {
+    /// Changes what stands under the key of the place of an exclusive ticket, and answers the new version, one greater than before. `Drop`
+    /// takes no memory.
+    pub fn change_definition(&mut self, id: TicketId, change: &Change) -> Result<u64, SpaceError>
+        ensures joined { Joins (space_of self.old) (Change_definition self.old.me.0.number id change.now) (redefined result) (space_of self.new) }
+        ensures shown { Shows (Change_definition self.old.me.0.number id change.now) (redefined result) self.old self.new }
+    {
+        let Some(held) = self.member.tickets.get(id) else {
+            return Err(SpaceError::NotHeld);
+        };
+        if held.mode != Mode::X {
+            return Err(SpaceError::NotExclusive);
+        }
+        let member = &mut self.member;
+        let version = match change_definition(&self.rt, &mut member.seat, held.place, change) {
+            Ok(version) => version,
+            Err(why) => return Err(SpaceError::from(why)),
+        };
+        member.tickets.note_all(held.place, version);
+        Ok(version)
+    }
+}

@@ -1,0 +1,29 @@
+//! What a session reads under its tickets.
+ghost use Rattle.mdl_calls.specs.Words.{Read_definition, read};
+ghost use Rattle.mdl_session_laws.specs.SessionJoins.{Joins};
+ghost use Rattle.mdl_shared.specs.SessionViews.{space_of};
+ghost use Rattle.mdl_shared.specs.Showings.{Shows};
+
+use crate::Session;
+use mdl_calls::{SpaceError, TicketId};
+use mdl_defs::Standing;
+use mdl_visits::read_definition;
+use std::sync::Wait;
+
+impl<R: Wait> Session<R> {
+    /// What stands under the key of a ticket's place, and its version.
+    pub fn read_definition(&mut self, id: TicketId) -> Result<Standing, SpaceError>
+        ensures joined { Joins (space_of self.old) (Read_definition self.old.me.0.number id) (read result) (space_of self.new) }
+        ensures shown { Shows (Read_definition self.old.me.0.number id) (read result) self.old self.new }
+    {
+        let Some(held) = self.member.tickets.get(id) else {
+            return Err(SpaceError::NotHeld);
+        };
+        let member = &mut self.member;
+        let Ok(standing) = read_definition(&self.rt, &mut member.seat, held.place) else {
+            return Err(SpaceError::OutOfMemory);
+        };
+        member.tickets.note_all(held.place, standing.version);
+        Ok(standing)
+    }
+}

@@ -1,0 +1,43 @@
+//! The places of keys, as a session looks them up.
+ghost use Rattle.mdl_calls.specs.Words.{Resolve, placed};
+ghost use Rattle.mdl_session_laws.specs.SessionJoins.{Joins};
+ghost use Rattle.mdl_shared.specs.SessionViews.{space_of};
+ghost use Rattle.mdl_shared.specs.Showings.{Shows};
+
+use crate::Session;
+use mdl_calls::{Place, SpaceError};
+use mdl_key::Key;
+use mdl_visits::{ResolveError, resolve};
+use std::sync::Wait;
+
+impl<R: Wait> Session<R> {
+    /// The place of a key, which stays its place. A new key takes the next place that is free. The directory is looked at once for a key.
+    pub fn resolve(&mut self, key: &Key) -> Result<Place, SpaceError>
+        ensures joined { Joins (space_of self.old) (Resolve self.old.me.0.number key.now) (placed result) (space_of self.new) }
+        ensures shown { Shows (Resolve self.old.me.0.number key.now) (placed result) self.old self.new }
+    {
+        if let Some(place) = self.member.known.place_of(key) {
+            return Ok(place as u16);
+        }
+        let member = &mut self.member;
+        let alloc = member.known.allocator();
+        let slots = member.seat.slot_count();
+        if member.known.reserve(1, slots).is_err() {
+            return Err(SpaceError::OutOfMemory);
+        }
+        let Ok(key_kept) = key.clone() else {
+            return Err(SpaceError::OutOfMemory);
+        };
+        let place = match resolve(&self.rt, &mut member.seat, alloc, key) {
+            Ok(place) => place,
+            Err(why) => {
+                return match why {
+                    ResolveError::NoPlace => Err(SpaceError::NoPlace),
+                    ResolveError::OutOfMemory => Err(SpaceError::OutOfMemory),
+                };
+            }
+        };
+        member.known.push_reserved(key_kept, place);
+        Ok(place as u16)
+    }
+}

@@ -1,0 +1,34 @@
+//! Which tables of a schema have a definition.
+ghost use Rattle.mdl_calls.specs.Words.{Tables_of, tables_told};
+ghost use Rattle.mdl_session_laws.specs.SessionJoins.{Joins};
+ghost use Rattle.mdl_shared.specs.SessionViews.{space_of};
+ghost use Rattle.mdl_shared.specs.Showings.{Shows};
+
+use crate::Session;
+use mdl_calls::{Place, SpaceError};
+use mdl_visits::{find_tables, tables_defined};
+use std::sync::Wait;
+
+impl<R: Wait> Session<R> {
+    /// The places of a schema's tables that have a definition, in the order of their keys. The session knows the schema's tables from
+    /// then on. The directory is looked at once, and then each table's place.
+    pub fn tables_of(&mut self, schema: &str) -> Result<Vec<Place>, SpaceError>
+        ensures joined { Joins (space_of self.old) (Tables_of self.old.me.0.number schema.now) (tables_told result) (space_of self.new) }
+        ensures shown { Shows (Tables_of self.old.me.0.number schema.now) (tables_told result) self.old self.new }
+    {
+        let member = &mut self.member;
+        let alloc = member.known.allocator();
+        let Ok((tables, mut places)) = find_tables(
+            &self.rt,
+            &mut member.seat,
+            alloc,
+            &mut member.known,
+            schema,
+        ) else {
+            return Err(SpaceError::OutOfMemory);
+        };
+        tables_defined(&self.rt, &mut member.seat, &tables, &mut places);
+        member.known.learn(tables);
+        Ok(places)
+    }
+}
