@@ -13,7 +13,7 @@ use Rattle.mdl_steps.specs.declared.view.Known.{Known}
 use Rattle.mdl_steps.specs.declared.view.Own.{Own}
 use Rattle.mdl_session_laws.specs.SessionSpaces.{Knows}
 use Rattle.mdl_visits.specs.Numbers.{numbered}
-use Rattle.mdl_shared.specs.Members.{holding_fault, kind_known}
+use Rattle.mdl_shared.specs.Members.{kind_known}
 use Rattle.mdl_shared.specs.Modes.{downgrade_fault, is_fit, may_merge, merge_fault}
 use Rattle.mdl_shared.specs.OwnLists.{told_of}
 use Rattle.mdl_shared.specs.SessionViews.{SessionView, space_of}
@@ -68,13 +68,6 @@ merge-told kept gone = and-same (not (kept.number == gone.number)) (kept.place =
 
 -- ---- why they are refused
 
--- no ticket has the number
-pub held-clear : (id : ℕ) (tickets : List Own) → holding_fault id tickets ≡ None → is_some (numbered id tickets) ≡ true
-held-clear id tickets e = test-passed (is_some (numbered id tickets)) NotHeld e
-
-pub held-fault : (id : ℕ) (tickets : List Own) (why : SpaceError) → holding_fault id tickets ≡ Some why → (is_some (numbered id tickets) ≡ false) × (why ≡ NotHeld)
-held-fault id tickets why e = test-failed (is_some (numbered id tickets)) NotHeld why e
-
 -- a ticket that is downgraded may be, and the mode fits its lock
 pub downgrade-passed : (mode : Mode) (known : List Known) (o : Option Own) (t : Own) → o ≡ Some t → downgrade_fault o mode known ≡ None
     → (may_downgrade t.mode mode ≡ true) × (is_fit t.place mode known ≡ true)
@@ -102,12 +95,11 @@ module _ (m : SessionView) where
   own = (space_of m).own
 
   -- a downgrade
-  pub downgrade-clear : (id : ℕ) (mode : Mode) (t : Own) → numbered id m.me.0.slow ≡ Some t → downgrade_fault (Some t) mode m.me.0.known ≡ None
+  pub downgrade-clear : (id : ℕ) (mode : Mode) (t : Own) → numbered id m.me.0.slow ≡ Some t → downgrade_fault (numbered id m.me.0.slow) mode m.me.0.known ≡ None
       → OfHeld id own (MayDowngrade knows mode)
   downgrade-clear id mode t its e =
-      let b = test-passed (may_downgrade t.mode mode && is_fit t.place mode m.me.0.known) NotUpgradable e in
-      let parts = and_parts (may_downgrade t.mode mode) (is_fit t.place mode m.me.0.known) b in
-      of-held id m.me.0.slow t (MayDowngrade knows mode) its (parts.0, fit-known t.place mode m.me.0.known true parts.1)
+      let may = downgrade-passed mode m.me.0.known (numbered id m.me.0.slow) t its e in
+      of-held id m.me.0.slow t (MayDowngrade knows mode) its (may.0, fit-known t.place mode m.me.0.known true may.1)
 
   pub downgrade-cause : (who id : ℕ) (mode : Mode) (why : SpaceError) (o : Option Own) → numbered id m.me.0.slow ≡ o → downgrade_fault o mode m.me.0.known ≡ Some why
       → IsCause knows (Downgrade who id mode) why own
