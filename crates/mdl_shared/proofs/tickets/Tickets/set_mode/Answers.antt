@@ -1,6 +1,5 @@
 -- The numbers and the places are as they were.
-use Rattle.std.proofs.Common.{refl, ◌≡◌, Some, rules}
-use Rattle.mdl_shared.specs.OwnTickets.{StandsAt}
+use Rattle.std.proofs.Common.{rules}
 use Rattle.mdl_shared.proofs.TicketEdits.{kept_mode, mode_at, mode_none}
 use Rattle.mdl_shared.proofs.tickets.Tickets.set_mode.Goals as goal
 
