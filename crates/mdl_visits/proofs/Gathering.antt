@@ -19,7 +19,7 @@ use Rattle.mdl_visits.specs.declared.audited.Audited.{Audited}
 use Rattle.mdl_visits.specs.Audits.{Gathers, HadLatches, MayTakeAll}
 use Rattle.mdl_visits.specs.Idle.{IsIdle}
 use Rattle.mdl_visits.specs.Searches.{ReadsWaits, ReadsWaitsQuietly, with_waits_read}
-use Rattle.mdl_visits.specs.Visits.{AllQuiet, GoesOn, HasStep, IsQuiet, MakesQuietSteps, MayVisit, and_made, deeds_of}
+use Rattle.mdl_visits.specs.Visits.{AllQuiet, MakesMoreSteps, HasStep, IsQuiet, MakesQuietSteps, MayVisit, and_made, deeds_of}
 use Rattle.mdl_visits.proofs.Asking.{step_within}
 use Rattle.mdl_visits.proofs.Lookups.{no_latches}
 use Rattle.mdl_visits.proofs.Seats.{mine, table_of}
@@ -104,7 +104,7 @@ module _ (place q : ℕ) (a b c : SeatState) (at : q ≡ place) (taken : HasTake
             (let here = taken.1.here in (omega arith, each_below a.me.0.latches place (place + 1) (omega arith) may.rising));
       }
 
-  goes_before : GoesOn a.me c.me
+  goes_before : MakesMoreSteps a.me c.me
   goes_before = (made ++ took ∷ [], ap (λ (m : Mine). m.0.log) came ∙ append_assoc a.me.0.log made (took ∷ []))
 
   recorded : held_at place c.me.0.latches ≡ Some h
@@ -189,7 +189,7 @@ module _ (place q : ℕ) (a b c : SeatState) (at : q ≡ place) (taken : HasTake
         shows,
       )
 
-      goes_after : GoesOn d.me e.me
+      goes_after : MakesMoreSteps d.me e.me
       goes_after = (_ ∷ [], ap (λ (s : SeatState). s.me.0.log) put)
 
       had_all : (latches : List LatchRecord) → HadLatches latches c.me d.me → HadLatches latches a.me e.me

@@ -20,7 +20,7 @@ use Rattle.mdl_visits.specs.Audits.{AreKeyed, AreRecorded, Audits, Gathers, HadL
 use Rattle.mdl_visits.specs.Idle.{IsIdle}
 use Rattle.mdl_visits.specs.Lookups.{HadEither, TookDirectory}
 use Rattle.mdl_visits.specs.Searches.{AreQueuesOf, EndsSearch, Finds, FindsFrom, Judges, KnowsVictim, ReadsWaits, ReadsWaitsQuietly, Searched, Searches, if_waited, with_waits_read}
-use Rattle.mdl_visits.specs.Visits.{GoesOn, IsQuiet, IsStepOf, MakesSteps, and_made}
+use Rattle.mdl_visits.specs.Visits.{MakesMoreSteps, IsQuiet, IsStepOf, MakesSteps, and_made}
 use Rattle.mdl_visits.proofs.Asking.{step_within}
 use Rattle.mdl_visits.proofs.Gathering.{HasTaken, as_steps, back, gathers_more, gathers_none}
 use Rattle.mdl_visits.proofs.Lookups.{HasConsulted, had_none, no_latches, no_record}
@@ -133,10 +133,10 @@ module _ (a b c : SeatState) (taken : HasConsulted a b) (same : c ≡ b) (idle :
         none_after = tt;
       }
 
-      pub goes_first : GoesOn a.me c.me
+      pub goes_first : MakesMoreSteps a.me c.me
       goes_first = (made ++ first ∷ [], ap (λ (m : Mine). m.0.log) came ∙ append_assoc a.me.0.log made (first ∷ []))
 
-      pub goes_last : GoesOn d.me e.me
+      pub goes_last : MakesMoreSteps d.me e.me
       goes_last = (_ ∷ [], ap (λ (s : SeatState). s.me.0.log) put)
 
       moment_of : (latches : List LatchRecord) → HadLatches latches c.me d.me → (x : Met) × IsStepOf a.me e.me x × (x.held ≡ latches) × (x.directory ≡ Some k)
@@ -180,10 +180,10 @@ module _ (place q last : ℕ) (a b c d e : SeatState) (at : q ≡ place) (taken 
   abbrev came_there : c.me ≡ latched place taken.0 (and_made taken.3.0 a.me)
   came_there = mine same ∙ taken.3.1
 
-  goes_in : GoesOn a.me c.me
+  goes_in : MakesMoreSteps a.me c.me
   goes_in = (taken.3.0 ++ _ ∷ [], ap (λ (m : Mine). m.0.log) came_there ∙ append_assoc a.me.0.log taken.3.0 (_ ∷ []))
 
-  goes_out : GoesOn d.me e.me
+  goes_out : MakesMoreSteps d.me e.me
   goes_out = (_ ∷ [], ap (λ (s : SeatState). s.me.0.log) put)
 
   searches_more : (found : Search) → ((copied : List Audited) → AreQueuesOf copied more → Searches c.table c.me.0.number (place + 1) last copied found c.me d.me)

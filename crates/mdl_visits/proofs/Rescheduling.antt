@@ -17,14 +17,14 @@ use Rattle.mdl_steps.specs.Plays.{Mine, unlatched}
 use Rattle.mdl_steps.specs.Seats.{Holds, elsewhere, rest}
 use Rattle.mdl_steps.proofs.Hands.{elsewhere-settled}
 use Rattle.mdl_visits.specs.Grantings.{ForgetsNobody, IsLowered, ReschedulesAndLeaves, HasRescheduled, Reschedules, VisitsAndReschedules}
-use Rattle.mdl_visits.specs.Visits.{GoesOn, IsInside, IsStepOf, StaysOn}
+use Rattle.mdl_visits.specs.Visits.{MakesMoreSteps, IsInside, IsStepOf, StaysOn}
 use Rattle.mdl_visits.proofs.Steps.{goes_staying, leaves_after, none_then, step_after, step_before}
 use Rattle.mdl_visits.proofs.Way.{granted_after, granted_before, granted_since, looked_within, stays_of}
 
 -- ---- of what went before
 
 module _ (id : TableId) (place : ℕ) (a b c : Mine) (stays : StaysOn a b) where
-  more : GoesOn a b
+  more : MakesMoreSteps a b
   more = goes_staying a b stays
 
   nobody_left_after : (latch : LatchRecord) → (latch.book.waiting ≡ []) ⊎ ForgetsNobody id place latch b c → (latch.book.waiting ≡ []) ⊎ ForgetsNobody id place latch a c
@@ -79,7 +79,7 @@ module _ (id : TableId) (place : ℕ) (g : LatchRecord) (m b c : Mine) (way : Re
   abbrev frees : Met
   frees = record { kind = PutLatch; deeds = []; word = latch_word place; found = b.0.number; held = b.0.latches; directory = b.0.directory }
 
-  b_c : GoesOn b c
+  b_c : MakesMoreSteps b c
   b_c = (frees ∷ [], ap (λ (x : Mine). x.0.log) put)
 
   m_b : StaysOn m b

@@ -25,7 +25,7 @@ use Rattle.mdl_steps.specs.WaitPlays.{met_wait_by, settled_granted, wait_in, wit
 use Rattle.mdl_steps.proofs.Hands.{holds_written}
 use Rattle.mdl_steps.proofs.Views.{other}
 use Rattle.mdl_visits.specs.Grantings.{AreTried, ForgetsNobody, HasJustMet, IsGrantedFrom, IsLookedThrough, IsGrantableTicket, IsTriedOrGranted, IsTried, ReschedulesInTurn, MayReschedule, MeetsWaiter, OnlyMeets, ahead_of}
-use Rattle.mdl_visits.specs.Visits.{GoesOn, IsStepOf}
+use Rattle.mdl_visits.specs.Visits.{MakesMoreSteps, IsStepOf}
 use Rattle.mdl_visits.proofs.Losing.{taken_out}
 use Rattle.mdl_visits.proofs.Steps.{goes_by, step_after, step_before}
 use Rattle.mdl_visits.proofs.Waiting.{found_number, gone, nobody_next, none_ahead, not_ready, only_one, grants_on, waits_ahead, waits_still}
@@ -95,7 +95,7 @@ module _ (kind : StepKind) (only : OnlyMeets kind) (id : TableId) (place session
 
   -- ---- the read before it
 
-  goes : GoesOn m a
+  goes : MakesMoreSteps m a
   goes = (record { kind = kind; deeds = []; word = wait_word id.slots session; found = word; held = m.0.latches; directory = m.0.directory } ∷ [], ap (λ (x : Mine). x.0.log) is)
 
   pub just_met : kind ≡ ReadWait → HasJustMet id.slots place session h a
@@ -165,7 +165,7 @@ fewer_untried untried session there =
     let some : set.len untried ≢ 0 = λ none. (let empty = ap (λ s. set.contains s session) (set.empty_of_len untried none) ∙ set.contains-empty nat_cmp session in absurd (cc)) in
     omega arith
 
-module _ (id : TableId) (place session number word : ℕ) (h : LatchRecord) (m a b : Mine) (untried : set.FinSet nat_cmp) (before : GoesOn m a) (more : GoesOn a b) (has : Holds place h h.book a) (may : MayReschedule word h)
+module _ (id : TableId) (place session number word : ℕ) (h : LatchRecord) (m a b : Mine) (untried : set.FinSet nat_cmp) (before : MakesMoreSteps m a) (more : MakesMoreSteps a b) (has : Holds place h h.book a) (may : MayReschedule word h)
     (ready : IsGrantableTicket session number h) (served : IsTriedOrGranted id place session number h a b) (tried : AreTried id place untried h m a) where
   -- who was tried before was tried
   still : (who its : ℕ) → IsTried id place who its m a → IsTried id place who its m b
@@ -211,7 +211,7 @@ read_first place word m m′ is =
     let e : Met = record { kind = ReadWord; deeds = []; word = lock_word place; found = word; held = (changed place (noting word) m.0).latches; directory = m.0.directory } in
     (e, ([], [], ap (λ (x : Mine). x.0.log) is ∙ ap (λ (log : List Met). log ++ e ∷ []) (sym (append-nil m.0.log))), refl, refl, refl)
 
-pub read_before : (place word : ℕ) (a b c : Mine) → GoesOn b c → WasRead place word a b → WasRead place word a c
+pub read_before : (place word : ℕ) (a b c : Mine) → MakesMoreSteps b c → WasRead place word a b → WasRead place word a c
 read_before place word a b c more read = (read.0, step_before a b c more read.0 read.1, read.2, read.3, read.4)
 
 module _ (id : TableId) (place word : ℕ) (untried : set.FinSet nat_cmp) (h : LatchRecord) (m a : Mine) (may : MayReschedule word h) (read : WasRead place word m a) (tried : AreTried id place untried h m a) where

@@ -19,7 +19,7 @@ use Rattle.mdl_steps.specs.WaitPlays.{wait_in, met_wait_by, meeting, settled_gra
 use Rattle.mdl_steps.proofs.Hands.{elsewhere-stepped}
 use Rattle.mdl_steps.proofs.Views.{by_bool, held_at-changed}
 use Rattle.mdl_visits.specs.Grantings.{AreGranted, ArePassedOver, HasJustMet, IsLookedThrough, IsGrantableTicket, Reschedules, MeetsGranted, OnlyMeets, StaysTold, WasSettled, ahead_of}
-use Rattle.mdl_visits.specs.Visits.{GoesOn, IsStepAfter, IsStepOf, StaysOn, StaysThere, gives_back, raises_flags}
+use Rattle.mdl_visits.specs.Visits.{MakesMoreSteps, IsStepAfter, IsStepOf, StaysOn, StaysThere, gives_back, raises_flags}
 use Rattle.mdl_visits.proofs.Steps.{each_append, each_map, goes_on, none_then, step_after}
 
 -- ---- what is told of one's own wait
@@ -100,7 +100,7 @@ module _ (a b c d : Mine) (wider : (e : Met) → IsStepOf a b e → IsStepOf c d
 
 module _ (id : TableId) (place : ℕ) (grants : List Settlement) (start a b c : Mine) where
   -- more steps follow
-  pub granted_before : GoesOn b c → AreGranted id place grants start a b → AreGranted id place grants start a c
+  pub granted_before : MakesMoreSteps b c → AreGranted id place grants start a b → AreGranted id place grants start a c
   granted_before more =
       each_map (λ (g : Settlement). (e : Met) × (x : Mine) × IsStepAfter a x b e × MeetsGranted id place start x g e) (λ (g : Settlement). (e : Met) × (x : Mine) × IsStepAfter a x c e × MeetsGranted id place start x g e)
       (λ g met. (
@@ -112,13 +112,13 @@ module _ (id : TableId) (place : ℕ) (grants : List Settlement) (start a b c : 
       grants
 
   -- or went before
-  pub granted_after : GoesOn a b → AreGranted id place grants start b c → AreGranted id place grants start a c
+  pub granted_after : MakesMoreSteps a b → AreGranted id place grants start b c → AreGranted id place grants start a c
   granted_after more =
       each_map (λ (g : Settlement). (e : Met) × (x : Mine) × IsStepAfter b x c e × MeetsGranted id place start x g e) (λ (g : Settlement). (e : Met) × (x : Mine) × IsStepAfter a x c e × MeetsGranted id place start x g e)
       (λ g met. (met.0, met.1, (goes_on a b met.1 more met.2.0, met.2.1, met.2.2), met.3)) grants
 
 -- it is told from an earlier start on
-meets_since : (id : TableId) (place : ℕ) (first start x : Mine) (g : Settlement) (e : Met) → GoesOn first start → MeetsGranted id place start x g e → MeetsGranted id place first x g e
+meets_since : (id : TableId) (place : ℕ) (first start x : Mine) (g : Settlement) (e : Met) → MakesMoreSteps first start → MeetsGranted id place start x g e → MeetsGranted id place first x g e
 meets_since id place first start x g e more met = record {
   state = met.state;
   kind = met.kind;
@@ -134,7 +134,7 @@ meets_since id place first start x g e more met = record {
   earliest = looked_within start x first x (step_after first start x more) id place met.before (ahead_of g.session met.wish.number met.before.book.waiting) met.earliest;
 }
 
-pub granted_since : (id : TableId) (place : ℕ) (grants : List Settlement) (first start a b : Mine) → GoesOn first start → AreGranted id place grants start a b → AreGranted id place grants first a b
+pub granted_since : (id : TableId) (place : ℕ) (grants : List Settlement) (first start a b : Mine) → MakesMoreSteps first start → AreGranted id place grants start a b → AreGranted id place grants first a b
 granted_since id place grants first start a b more =
     each_map (λ (g : Settlement). (e : Met) × (x : Mine) × IsStepAfter a x b e × MeetsGranted id place start x g e) (λ (g : Settlement). (e : Met) × (x : Mine) × IsStepAfter a x b e × MeetsGranted id place first x g e)
     (λ g met. (met.0, met.1, met.2, meets_since id place first start met.1 g met.0 more met.3)) grants
@@ -266,7 +266,7 @@ module _ (id : TableId) (place : ℕ) (start : Mine) where
 
   -- ---- one after another
 
-  pub steps_of : (m m′ : Mine) → Reschedules id place start m m′ → GoesOn m m′
+  pub steps_of : (m m′ : Mine) → Reschedules id place start m m′ → MakesMoreSteps m m′
   steps_of m m′ way = (way.made, ap (λ (x : Mine). x.0.log) way.now)
 
   pub stays_of : (m m′ : Mine) → Reschedules id place start m m′ → StaysOn m m′

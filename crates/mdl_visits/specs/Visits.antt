@@ -90,8 +90,8 @@ abbrev pub StaysQuiet : Mine → Mine → Type 0
 StaysQuiet m m′ = (made : List Met) × (m′.0.log ≡ m.0.log ++ made) × AllQuiet m.0.directory made
 
 -- the list of steps grew between the two
-abbrev pub GoesOn : Mine → Mine → Type 0
-GoesOn m m′ = (made : List Met) × (m′.0.log ≡ m.0.log ++ made)
+abbrev pub MakesMoreSteps : Mine → Mine → Type 0
+MakesMoreSteps m m′ = (made : List Met) × (m′.0.log ≡ m.0.log ++ made)
 
 -- it grew by steps at which the session stayed
 abbrev pub StaysOn : Mine → Mine → Type 0
@@ -103,7 +103,7 @@ IsStepOf m m′ e = (before : List Met) × (after : List Met) × (m′.0.log ≡
 
 -- likewise, with the list of steps that there was just before it
 abbrev pub IsStepAfter : Mine → Mine → Mine → Met → Type 0
-IsStepAfter m a m′ e = GoesOn m a × (after : List Met) × (m′.0.log ≡ a.0.log ++ e ∷ after)
+IsStepAfter m a m′ e = MakesMoreSteps m a × (after : List Met) × (m′.0.log ≡ a.0.log ++ e ∷ after)
 
 -- the last of those that were made, before which the session stayed
 abbrev pub LeavesBy : Mine → Mine → Met → Type 0
