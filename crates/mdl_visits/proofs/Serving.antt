@@ -78,7 +78,7 @@ module _ (id : TableId) (place session number wait count : ℕ) (h : LatchRecord
       (rescheduled_granted id place start session number count h h.book m a has ready just
       (subst (λ (x : LatchRecord). IsLookedThrough id place x (ahead_of session number x.book.waiting) start m) (one_record place g h m mine has) looked)
       made (found_number session number h.book.waiting ready.wish ready.waits) own)
-      (rescheduled_written id place start h.book (admitting session number h.book) a b keeps.carried admitted)
+      (rescheduled_written id place start (admitting session number h.book) a b admitted)
 
 module _ (kind : StepKind) (only : OnlyMeets kind) (id : TableId) (place session number word : ℕ) (h : LatchRecord) (m a : Mine) (has : Holds place h h.book m) (ready : IsGrantableTicket session number h)
     (is : a ≡ met_wait_by kind id.slots session word m) where

@@ -149,6 +149,15 @@ pub record MayVisit (place : ℕ) (s : SeatState) : Type 0 where
 abbrev pub CameTo : ℕ → SeatState → SeatState → Type 0
 CameTo place s s′ = (s′.table ≡ s.table) × IsInside place s.me s′.me × StaysOn s.me s′.me
 
+-- the session came to a place, of whose latch, that of the place q, it has a fresh record then
+pub record Arrives (place : ℕ) (s : SeatState) (q : ℕ) (c : SeatState) : Type 0 where
+  pub at : q ≡ place
+  pub is_place : IsPlace c.table q
+  pub latch : LatchRecord
+  pub fresh : IsFresh place latch s.me
+  pub holds : Holds q latch latch.book c.me
+  pub came : CameTo q s c
+
 -- the session holds the latch of a place, and has the book that the latch's record tells in hand. The record is so
 pub record HasLatched (place : ℕ) (s : SeatState) (IsSo : LatchRecord → Type 0) : Type 0 where
   pub is_place : IsPlace s.table place
