@@ -81,10 +81,6 @@ MakesQuietSteps m m′ = (made : List Met) × (m′ ≡ and_made made m) × (dee
 abbrev pub StaysThere : Met → Type 0
 StaysThere e = (gives_back e.kind ≡ false) × (raises_flags e.kind ≡ false)
 
--- steps were made between the two that only met something
-abbrev pub Lingers : Mine → Mine → Type 0
-Lingers m m′ = (made : List Met) × (m′ ≡ and_made made m) × AllQuiet m.0.directory made × (deeds_of made ≡ []) × Each StaysThere made
-
 -- at each step that was made between the two the session had of the directory what it had before, and it raised no flag
 abbrev pub StaysQuiet : Mine → Mine → Type 0
 StaysQuiet m m′ = (made : List Met) × (m′.0.log ≡ m.0.log ++ made) × AllQuiet m.0.directory made
