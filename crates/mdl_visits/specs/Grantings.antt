@@ -1,8 +1,6 @@
 -- How a session reschedules at a place whose latch it holds: it grants the waits there that can be granted, the first in order of arrival first.
 use Rattle.std.specs.Prelude.{◌≡◌, ◌≢◌, ℕ, ◌==◌, not, Bool, true, false, List, [], ◌∷◌, ◌++◌, Contains, filter, is_some, Option, Some, None, ◌⊎◌}
 use Rattle.std.specs.List.{before_first}
-use Rattle.std.specs.FinSet as set
-use Rattle.std.specs.Ordering.{nat_cmp}
 use Rattle.atomic_table.specs.Seated.{TableId}
 use Rattle.mdl_book.specs.declared.book_view.BookView.{BookView}
 use Rattle.mdl_book.specs.declared.ticket.Ticket.{Ticket}

@@ -1,6 +1,6 @@
 -- What was listed and what the place gets are copies of the key. Nobody has ever been at the next place, so that the empty book of the key may be
 -- left there.
-use Rattle.std.proofs.Common.{sym, ap, ◌∙◌}
+use Rattle.std.proofs.Common.{ap, ◌∙◌}
 use Rattle.mdl_book.specs.Books.{empty_book}
 use Rattle.mdl_steps.specs.Plays.{Mine}
 use Rattle.mdl_steps.specs.SeatStates.{SeatState}
