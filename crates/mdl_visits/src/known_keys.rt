@@ -13,7 +13,8 @@ use std::marker::Model;
 
 /// The keys that a session looked up, with their places, in order of the look-ups.
 ///
-/// A key's place is found by a hash of the key, and what stands at a place by an array, so neither walks the keys.
+/// The place of a key is found by a hash of the key, and the key of a place by an array, so neither walks the keys. The key that was learnt
+/// last is compared first, without a hash.
 #[derive(Drop)]
 pub struct KnownKeys {
     places: IndexMap<Key, usize>,
@@ -54,6 +55,12 @@ impl KnownKeys {
     pub fn place_of(&self, key: &Key) -> Option<usize>
         ensures { result ≡ place_known key.now self.now.known }
     {
+        let newest = self.places.len().saturating_sub(1);
+        if let Some((last, place)) = self.places.get_index(newest) {
+            if *last == *key {
+                return Some(*place);
+            }
+        }
         self.places.get(key).copied()
     }
 
