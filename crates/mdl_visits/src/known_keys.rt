@@ -52,6 +52,7 @@ impl KnownKeys {
     }
 
     /// The place of a key.
+    #[tactic(auto, using(crate::proofs::KeyLists::place_found, crate::proofs::KeyLists::found_like))]
     pub fn place_of(&self, key: &Key) -> Option<usize>
         ensures { result ≡ place_known key.now self.now.known }
     {
@@ -65,6 +66,7 @@ impl KnownKeys {
     }
 
     /// The key of a place.
+    #[tactic(auto, using(crate::proofs::KeyLists::none_under, crate::proofs::KeyLists::none_at, crate::proofs::KeyLists::other_at, crate::proofs::KeyLists::found_at))]
     pub fn key_at(&self, place: usize) -> Option<&Key>
         ensures { option_copied result ≡ key_known place self.now.known }
     {
@@ -90,6 +92,7 @@ impl KnownKeys {
     }
 
     /// Puts a new key last, with its place. It takes no memory.
+    #[tactic(auto, using(crate::proofs::KeyLists::inserted, std::proofs::lemmas::List::map_push))]
     pub fn push_reserved(&mut self, key: Key, place: usize)
         requires room { (1 ≤ self.old.room) × (place < self.old.reach) }
         requires unknown { (place_known key self.old.known ≡ None) × (is_known_place self.old.known place ≡ false) }
@@ -113,6 +116,7 @@ impl KnownKeys {
     }
 
     // Whether a key is known.
+    #[tactic(auto, using(crate::proofs::KeyLists::known_found))]
     fn is_known(&self, key: &Key) -> bool
         ensures { result ≡ is_known self.now.known key.now }
     {
