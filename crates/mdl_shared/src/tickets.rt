@@ -27,8 +27,8 @@ pub(crate) struct OfPlace {
     pub(crate) noted: Option<u64>,
 }
 
-/// A session's tickets, in order of gain. A ticket is found by its number by a search by halves, and the note of a place in a list
-/// by places, so no call walks the tickets.
+/// A session's tickets, in order of gain. A ticket is found by its number: the last one is looked at first, and the others are searched by
+/// halves. The note of a place is found in an array, so no call walks the tickets.
 #[derive(Drop)]
 pub(crate) struct Tickets {
     gained: Vec<Held>,
@@ -148,6 +148,11 @@ fn index_of(tickets: &[Held], id: TicketId) -> Option<usize>
     requires { AreRising tickets.now }
     ensures { MatchOption result (list_all (λ t. not (t.id == id)) tickets.now ≡ true) (λ at. StandsAt id at tickets.now) }
 {
+    if let Some(last) = tickets.last() {
+        if last.id == id {
+            return Some(tickets.len() - 1);
+        }
+    }
     tickets.binary_search_by_key(&id, |ticket| ticket.id).ok()
 }
 

@@ -18,8 +18,8 @@ use Rattle.mdl_steps.specs.Seats.{Holds, elsewhere, rest}
 use Rattle.mdl_steps.proofs.Hands.{elsewhere-settled}
 use Rattle.mdl_visits.specs.Grantings.{ForgetsNobody, IsLowered, ReschedulesAndLeaves, HasRescheduled, Reschedules, VisitsAndReschedules}
 use Rattle.mdl_visits.specs.Visits.{MakesMoreSteps, IsInside, IsStepOf, StaysOn}
-use Rattle.mdl_visits.proofs.Steps.{goes_staying, leaves_after, none_then, step_after, step_before}
-use Rattle.mdl_visits.proofs.Way.{granted_after, granted_before, granted_since, looked_within, stays_of}
+use Rattle.mdl_visits.proofs.Steps.{goes_none, goes_staying, leaves_after, none_then, step_after, step_before}
+use Rattle.mdl_visits.proofs.Way.{granted_within, looked_within, stays_of}
 
 -- ---- of what went before
 
@@ -39,7 +39,7 @@ module _ (id : TableId) (place : ℕ) (a b c : Mine) (stays : StaysOn a b) where
       record {
         grants = way.grants;
         settles = way.settles ∙ ap (λ (xs : List Settlement). xs ++ way.grants) settles;
-        granted = granted_since id place way.grants a b a c more (granted_after id place way.grants b a b c more way.granted);
+        granted = granted_within id place a b a b c c more more (goes_none c) way.grants way.granted;
         served = (s.0, leaves_after a b c stays s.0 s.1, record { kind = m.kind; did = m.did; word = m.word; freed = m.freed ∙ number; latch = m.latch; held = m.held; served = nobody_left_after m.latch m.served });
         stays = λ state e. way.stays state (told ∙ e);
         unasked = λ none. way.unasked (asks ∙ none) ∙ told;
@@ -99,7 +99,7 @@ module _ (id : TableId) (place : ℕ) (g : LatchRecord) (m b c : Mine) (way : Re
     way = record {
       grants = way.grants;
       settles = ap (λ (x : Mine). x.0.settles) put ∙ ap (λ (x : Mine). x.0.settles) way.now;
-      granted = granted_before id place way.grants m m b c b_c way.granted;
+      granted = granted_within id place m m m m b c (goes_none m) (goes_none m) b_c way.grants way.granted;
       served = (
         frees,
         leaves_after m b c m_b frees ([], ap (λ (x : Mine). x.0.log) put ∙ ap (λ (log : List Met). log ++ frees ∷ []) (sym (append-nil b.0.log)), tt),

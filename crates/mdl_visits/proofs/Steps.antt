@@ -1,5 +1,5 @@
 -- Steps between two of a session's views are steps between any two that are farther apart.
-use Rattle.std.proofs.Common.{◌≡◌, ℕ, List, [], ◌∷◌, ◌++◌, refl, sym, ap, ◌∙◌, subst, append_assoc}
+use Rattle.std.proofs.Common.{◌≡◌, ℕ, List, [], ◌∷◌, ◌++◌, refl, sym, ap, ◌∙◌, subst, append_assoc, append-nil}
 use Rattle.std.specs.Prelude.{Option}
 use Rattle.mdl_steps.specs.declared.deed.Deed.{Deed}
 use Rattle.mdl_steps.specs.declared.step_kind.StepKind.TheVariants.{TakeLatch}
@@ -27,6 +27,10 @@ module _ {X : Type 0} where
 -- the list grew by a step and those beside it
 pub goes_by : (a b : Mine) (e : Met) → IsStepOf a b e → MakesMoreSteps a b
 goes_by a b e step = (step.0 ++ e ∷ step.1, step.2 ∙ append_assoc a.0.log step.0 (e ∷ step.1))
+
+-- or by none
+pub goes_none : (m : Mine) → MakesMoreSteps m m
+goes_none m = ([], sym (append-nil m.0.log))
 
 module _ (a b c : Mine) where
   -- more steps follow

@@ -21,7 +21,7 @@ use Rattle.mdl_visits.specs.Visits.{AllQuiet, MakesMoreSteps, IsQuiet, raises_fl
 use Rattle.mdl_visits.proofs.Asking.{goes_nowhere, step_within}
 use Rattle.mdl_visits.proofs.Seats.{mine, table_of}
 use Rattle.mdl_visits.proofs.Steps.{each_append, none_then}
-use Rattle.mdl_visits.proofs.Way.{stays_met}
+use Rattle.mdl_visits.proofs.Way.{own_told}
 
 -- ---- what becomes of the session
 
@@ -82,7 +82,7 @@ reads_word kind none slots session found m m′ own met = record {
     settles = m.0.settles;
     now = met;
     did = refl;
-    stays = stays_met slots session found m.0 own;
+    stays = (own_told slots session found found m.0 own (λ _. refl)).0;
   };
   had = ((refl, none), tt);
 }
