@@ -73,6 +73,7 @@ impl Tickets {
     }
 
     /// The ticket of a number.
+    #[tactic(auto, using(crate::proofs::TicketEdits::find_at))]
     pub(crate) fn get(&self, id: TicketId) -> Option<Own>
         ensures found { result ≡ numbered id self.now.own }
     {
@@ -117,6 +118,7 @@ impl Tickets {
     }
 
     /// Writes another mode of the ticket of a number at a place, if there is one.
+    #[tactic(auto, using(crate::proofs::TicketEdits::mode_at))]
     pub(crate) fn set_mode(&mut self, place: usize, id: TicketId, mode: Mode)
         ensures changed { self.new.own ≡ in_mode_at place id mode self.old.own }
         ensures room { (self.old.spare ≤ self.new.spare) × (self.new.reach ≡ self.old.reach) }
@@ -127,6 +129,7 @@ impl Tickets {
     }
 
     /// Notes a version under each ticket at a place.
+    #[tactic(auto, using(crate::proofs::TicketEdits::note_places))]
     pub(crate) fn note_all(&mut self, place: usize, version: u64)
         ensures noted { self.new.own ≡ noting_version place version self.old.own }
         ensures room { (self.old.spare ≤ self.new.spare) × (self.new.reach ≡ self.old.reach) }
