@@ -4,7 +4,7 @@ use Rattle.std.specs.Option.{IfSome, option_map}
 use Rattle.std.proofs.lemmas.Bool.{and_from, eqb-true, lt-ltb}
 use Rattle.std.proofs.lemmas.List.Folds.{list_all-map}
 use Rattle.mdl_calls.specs.declared.answers.Held.{Held}
-use Rattle.mdl_calls.specs.Words.{Wait, are_rising as are_rising_told}
+use Rattle.mdl_calls.specs.Words.{Wait}
 use Rattle.mdl_steps.specs.declared.view.Ask.{Ask}
 use Rattle.mdl_steps.specs.declared.view.Known.{Known}
 use Rattle.mdl_steps.specs.declared.view.LatchRecord.{LatchRecord}
@@ -15,25 +15,18 @@ use Rattle.mdl_steps.specs.Seats.{IsPlace, IsRising}
 use Rattle.mdl_session_laws.specs.SessionSpaces.{SpeaksFor, are_below as are_below_told, are_placed as are_placed_told, first_free, is_known as is_known_in}
 use Rattle.mdl_visits.specs.Leavings.{HasTicket}
 use Rattle.mdl_visits.specs.Visits.{MayVisit}
-use Rattle.mdl_visits.specs.Numbers.{all_numbers, is_ask_apart, numbered}
+use Rattle.mdl_visits.specs.Numbers.{is_ask_apart, numbered}
 use Rattle.mdl_visits.proofs.Numbers.{not_waited}
-use Rattle.mdl_shared.specs.Members.{IsMember, are_apart, are_placed, is_ask_placed, is_known_place}
+use Rattle.mdl_shared.specs.Members.{IsMember, are_apart, is_known_place}
 use Rattle.mdl_shared.specs.OwnLists.{told_of}
 use Rattle.mdl_shared.specs.SessionViews.{SessionView, space_of}
-use Rattle.mdl_shared.specs.Waitings.{are_below, are_rising, is_ask_last, is_ask_told}
+use Rattle.mdl_shared.specs.Waitings.{are_below, is_ask_last, is_ask_told}
 use Rattle.mdl_shared.proofs.Awaiting.{below_more, next_apart}
-use Rattle.mdl_shared.proofs.Membership.{has_numbered, known_within, placed_at, some_key}
+use Rattle.mdl_shared.proofs.Membership.{are_placed, has_numbered, known_within, placed_at, some_key}
 use Rattle.mdl_shared.proofs.SameSpace.{numbers_by, wait_by}
 use Rattle.mdl_shared.proofs.SpaceLists.{apart-told, known-told, known_of}
 
 -- ---- its lists, as they are told
-
--- numbers that rise
-rising-told : (tickets : List Own) → are_rising_told (map told_of tickets) ≡ are_rising tickets
-rising-told [] = refl
-rising-told (t ∷ ts) =
-    ap (λ b. b && are_rising_told (map told_of ts)) (list_all-map (λ (h : Held). nat_lt t.number h.id) told_of ts)
-    ∙ ap (λ b. all_numbers (λ n. nat_lt t.number n) ts && b) (rising-told ts)
 
 -- numbers below one
 below-told : (number : ℕ) (tickets : List Own) → are_below_told number (map told_of tickets) ≡ are_below number tickets
@@ -45,12 +38,6 @@ placed-told known [] = refl
 placed-told known (t ∷ ts) =
     ap (λ b. b && are_placed_told (map known_of known) (map told_of ts)) (known-told t.place known)
     ∙ ap (λ b. is_known_place known t.place && b) (placed-told known ts)
-
--- the place that is waited for
-awaited-told : (known : List Known) (asks : Option Ask) (waits : ℕ)
-    → IfSome (wait_by waits asks) (λ (w : Wait). is_known_in w.place (map known_of known) ≡ true) → is_ask_placed known asks ≡ true
-awaited-told known None waits at = refl
-awaited-told known (Some a) waits at = sym (known-told a.place known) ∙ at
 
 module _ {s : SessionView} (is : IsMember s) where
   -- it speaks for its number
@@ -73,11 +60,7 @@ module _ {s : SessionView} (is : IsMember s) where
 
   -- ---- its tickets
 
-  -- their numbers rise
-  pub rising : are_rising s.me.0.slow ≡ true
-  rising = sym (rising-told s.me.0.slow) ∙ is.sound.rising
-
-  -- and are below the next one, which is greater than 0
+  -- their numbers are below the next one, which is greater than 0
   pub next-some : 0 < s.me.0.next
   next-some = let fewer = is.fewer.0 in omega arith
 
@@ -110,8 +93,10 @@ module _ {s : SessionView} (is : IsMember s) where
   placed = sym (placed-told s.me.0.known s.me.0.slow) ∙ is.sound.placed
 
   -- so is the one that it waits for
-  pub awaited : is_ask_placed s.me.0.known s.me.0.asks ≡ true
-  awaited = awaited-told s.me.0.known s.me.0.asks s.me.0.waits is.sound.awaited
+  pub awaited : (a : Ask) → s.me.0.asks ≡ Some a → is_known_place s.me.0.known a.place ≡ true
+  awaited a asks =
+      sym (known-told a.place s.me.0.known)
+      ∙ subst (λ (o : Option Ask). IfSome (wait_by s.me.0.waits o) (λ (w : Wait). is_known_in w.place (map known_of s.me.0.known) ≡ true)) asks is.sound.awaited
 
   -- ---- its places
 
