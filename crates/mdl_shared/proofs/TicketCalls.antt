@@ -190,7 +190,7 @@ pub merged : (seat seat′ : SeatState) (sessions old new : ℕ) (kept gone : Ow
     × Shows (Merge seat.me.0.number old new) Done (session_at seat sessions) (session_at seat′ sessions)
 merged seat seat′ sessions old new kept gone is one other clear visit step =
     let fault : (n p : ℕ) → numbered n seat.me.0.slow ≡ Some kept → numbered p seat.me.0.slow ≡ Some gone
-        → merge_fault (numbered n seat.me.0.slow) (numbered p seat.me.0.slow) seat.me.0.asks ≡ merge_fault (Some kept) (Some gone) seat.me.0.asks =
+    → merge_fault (numbered n seat.me.0.slow) (numbered p seat.me.0.slow) seat.me.0.asks ≡ merge_fault (Some kept) (Some gone) seat.me.0.asks =
     λ n p x y. ap (λ o. merge_fault o (numbered p seat.me.0.slow) seat.me.0.asks) x ∙ ap (λ o. merge_fault (Some kept) o seat.me.0.asks) y in
     let free = sym (fault old new one.its other.its) ∙ clear in
     subst (λ (n : ℕ). Joins (space_of (session_at seat sessions)) (Merge seat.me.0.number n new) Done (space_of (session_at seat′ sessions))

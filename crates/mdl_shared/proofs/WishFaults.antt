@@ -1,5 +1,5 @@
 -- Why wishes for locks and clones are refused, in the words of a lock space.
-use Rattle.std.proofs.Common.{◌≡◌, ◌⊎◌, ℕ, Bool, true, false, not, ◌&&◌, is_some, List, Option, Some, None, Result, Ok, Err, inl, inr, IfSome, if◌then◌else◌, refl, sym, ap, subst, ◌∙◌}
+use Rattle.std.proofs.Common.{◌≡◌, ℕ, Bool, true, false, not, ◌&&◌, is_some, List, Option, Some, None, if◌then◌else◌, refl, sym, ap, subst, ◌∙◌}
 use Rattle.std.specs.Prelude.{◌<◌, nat_le}
 use Rattle.std.proofs.lemmas.Bool.{and_parts, leb-false}
 use Rattle.mdl_key.specs.declared.mode.Mode.{Mode}
@@ -7,7 +7,7 @@ use Rattle.mdl_key.specs.declared.namespace.Kind.{Kind}
 use Rattle.mdl_key.specs.Words.{is_mode_of}
 use Rattle.mdl_system.specs.Strength.{covers}
 use Rattle.mdl_calls.specs.declared.space_error.SpaceError.{SpaceError}
-use Rattle.mdl_calls.specs.declared.space_error.SpaceError.TheVariants.{AlreadyWaiting, BadMode, CounterFull, Full, NoPlace, NotHeld, OutOfMemory}
+use Rattle.mdl_calls.specs.declared.space_error.SpaceError.TheVariants.{AlreadyWaiting, BadMode, CounterFull, NoPlace, NotHeld}
 use Rattle.mdl_calls.specs.Words.{IsFit, IsUnfit, IsUnknown, Knowledge, MayClone, MayNotClone, OfHeld, Own as Mine, holds, is_waiting}
 use Rattle.mdl_steps.specs.declared.view.Ask.{Ask}
 use Rattle.mdl_steps.specs.declared.view.Known.{Known}

@@ -18,8 +18,8 @@ passes_more table passes next are is k d inside =
     elim (ltb k (length passes)) as (λ b. ltb k (length passes) ≡ b → IsPass table (k + 1) (get_or (passes ++ next ∷ []) k d)) [
       | true ↦ λ e. let old : k < length passes = grind (arith, nat_tests) in rw (get_or_append_left passes (next ∷ []) d k old) (are k d old)
       | false ↦ λ e. let longer = length_push passes next in
-        let last : length passes ≡ k = grind (arith, nat_tests, longer, inside) in
-        rw (get_or_push passes next d k last) (subst (λ (n : ℕ). IsPass table (n + 1) next) last is)
+          let last : length passes ≡ k = grind (arith, nat_tests, longer, inside) in
+          rw (get_or_push passes next d k last) (subst (λ (n : ℕ). IsPass table (n + 1) next) last is)
     ] refl
 
 pub loop-passes-preserved : goal.loop-passes-preserved

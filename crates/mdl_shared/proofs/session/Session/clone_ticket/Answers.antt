@@ -1,8 +1,6 @@
 -- The mode is one of the lock's kind that the ticket's own covers, and the second ticket is the last of the session's.
-use Rattle.std.proofs.Common.{rules, ◌≡◌, ◌+◌, ◌⊎◌, inl, inr, ℕ, None, Err, Some, refl, sym, ap, subst, ◌∙◌, arith}
-use Rattle.mdl_book.specs.declared.book_error.BookError.TheVariants as fault
+use Rattle.std.proofs.Common.{rules, ◌≡◌, inl, ℕ, None, Err, Some, refl, ap, subst, arith}
 use Rattle.mdl_calls.specs.Words.{Clone_ticket}
-use Rattle.mdl_steps.specs.declared.deed.Deed.TheVariants.{Gain}
 use Rattle.mdl_visits.specs.Leavings.{MeetsOwn}
 use Rattle.mdl_visits.specs.Numbers.{numbered}
 use Rattle.mdl_shared.specs.Passes.{view_of}
