@@ -1,6 +1,5 @@
 pub mod Fitting
 pub mod Membership
-pub mod Awaiting
 pub mod KnownKeys
 pub mod SpaceLists
 pub mod SameSpace

@@ -1,7 +1,7 @@
 -- What is always so of a session between two calls, in the words that its calls need.
-use Rattle.std.proofs.Common.{◌≡◌, ℕ, ◌<◌, ◌+◌, ◌-◌, true, ◌&&◌, nat_lt, List, [], ◌∷◌, length, map, is_some, Option, Some, None, refl, sym, ap, subst, ◌∙◌, arith}
+use Rattle.std.proofs.Common.{◌≡◌, ℕ, ◌<◌, ◌+◌, ◌-◌, ◌==◌, Bool, true, not, ◌&&◌, nat_lt, List, [], ◌∷◌, length, map, is_some, Option, Some, None, refl, sym, ap, subst, ◌∙◌, arith}
 use Rattle.std.specs.Option.{IfSome, option_map}
-use Rattle.std.proofs.lemmas.Bool.{and_from, eqb-true, lt-ltb}
+use Rattle.std.proofs.lemmas.Bool.{and_from, and_parts, eqb-true, lt-ltb, ltb-true}
 use Rattle.std.proofs.lemmas.List.Folds.{list_all-map}
 use Rattle.mdl_calls.specs.declared.answers.Held.{Held}
 use Rattle.mdl_calls.specs.Words.{Wait}
@@ -12,19 +12,39 @@ use Rattle.mdl_steps.specs.declared.view.Own.{Own}
 use Rattle.mdl_steps.specs.Deeds.{KnowsPlace, NotWaited}
 use Rattle.mdl_steps.specs.Lists.{Each}
 use Rattle.mdl_steps.specs.Seats.{IsPlace, IsRising}
+use Rattle.mdl_steps.proofs.Views.{by_bool}
 use Rattle.mdl_session_laws.specs.SessionSpaces.{SpeaksFor, are_below as are_below_told, are_placed as are_placed_told, first_free, is_known as is_known_in}
 use Rattle.mdl_visits.specs.Leavings.{HasTicket}
 use Rattle.mdl_visits.specs.Visits.{MayVisit}
-use Rattle.mdl_visits.specs.Numbers.{is_ask_apart, numbered}
+use Rattle.mdl_visits.specs.Numbers.{all_numbers, is_ask_apart, is_no_number, numbered}
 use Rattle.mdl_visits.proofs.Numbers.{not_waited}
 use Rattle.mdl_shared.specs.Members.{IsMember, are_apart, is_known_place}
 use Rattle.mdl_shared.specs.OwnLists.{told_of}
 use Rattle.mdl_shared.specs.SessionViews.{SessionView, space_of}
 use Rattle.mdl_shared.specs.Waitings.{are_below, is_ask_last, is_ask_told}
-use Rattle.mdl_shared.proofs.Awaiting.{below_more, next_apart}
 use Rattle.mdl_shared.proofs.Membership.{are_placed, has_numbered, known_within, placed_at, some_key}
 use Rattle.mdl_shared.proofs.SameSpace.{numbers_by, wait_by}
 use Rattle.mdl_shared.proofs.SpaceLists.{apart-told, known-told, known_of}
+
+-- ---- numbers
+
+-- what passes a test passes a weaker one
+weaker : (test other : ℕ → Bool) (tickets : List Own) → ((n : ℕ) → test n ≡ true → other n ≡ true) → all_numbers test tickets ≡ true → all_numbers other tickets ≡ true
+weaker test other [] follows all = refl
+weaker test other (t ∷ ts) follows all =
+    let parts = and_parts (test t.number) (all_numbers test ts) all in
+    and_from _ _ (follows t.number parts.0) (weaker test other ts follows parts.1)
+
+-- with one number more that is given out
+below_more : (next : ℕ) (tickets : List Own) → are_below next tickets ≡ true → are_below (next + 1) tickets ≡ true
+below_more next tickets all = weaker (λ n. nat_lt n next) (λ n. nat_lt n (next + 1)) tickets (λ n e. let less = ltb-true n next e in lt-ltb n (next + 1) (omega arith)) all
+
+-- the next number is none of theirs
+next_apart : (next : ℕ) (tickets : List Own) → are_below next tickets ≡ true → is_no_number next tickets ≡ true
+next_apart next tickets all = weaker (λ n. nat_lt n next) (λ n. not (n == next)) tickets other all
+  where
+    other : (n : ℕ) → nat_lt n next ≡ true → not (n == next) ≡ true
+    other n e = by_bool (n == next) (λ same. (let less = ltb-true n next e in let is = eqb-true n next same in absurd (omega arith))) (λ differ. rw differ refl)
 
 -- ---- its lists, as they are told
 
