@@ -27,7 +27,6 @@ pub mod SpaceReads
 pub mod ReadCalls
 pub mod KillCalls
 pub mod KeyCalls
-pub mod SessionValues
 pub mod Wishing
 pub mod WishShows
 pub mod EndSteps
