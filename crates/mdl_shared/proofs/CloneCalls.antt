@@ -1,8 +1,7 @@
 -- Second tickets that are made of held ones.
-use Rattle.std.proofs.Common.{◌≡◌, ◌⊎◌, inl, inr, ℕ, ◌<◌, true, false, ◌&&◌, is_some, Option, Some, None, List, [], ◌∷◌, refl, sym, ap, subst, ◌∙◌}
+use Rattle.std.proofs.Common.{◌≡◌, ◌⊎◌, inl, inr, ℕ, false, Some, None, [], ◌∷◌, refl, ap, ◌∙◌}
 use Rattle.std.specs.Option.{option_map}
 use Rattle.mdl_key.specs.declared.mode.Mode.{Mode}
-use Rattle.mdl_system.specs.Strength.{covers}
 use Rattle.mdl_book.specs.declared.book_error.BookError.{BookError}
 use Rattle.mdl_book.specs.declared.book_error.BookError.TheVariants as fault
 use Rattle.mdl_calls.specs.declared.space_error.SpaceError.{SpaceError}
@@ -19,7 +18,7 @@ use Rattle.mdl_shared.specs.Members.{IsMember}
 use Rattle.mdl_shared.specs.Modes.{clone_fault}
 use Rattle.mdl_shared.specs.OwnLists.{told_of}
 use Rattle.mdl_shared.specs.SessionViews.{SessionView, lists_seen, space_of}
-use Rattle.mdl_shared.specs.Showings.{HasStep, MeetsTicket, OfTicket, Shows}
+use Rattle.mdl_shared.specs.Showings.{ShowsStep, MeetsTicket, OfTicket, Shows}
 use Rattle.mdl_shared.proofs.MemberFacts.{speaks}
 use Rattle.mdl_shared.proofs.Members.{HasDone}
 use Rattle.mdl_shared.proofs.SameSpace.{Stays, refused, same-stays, waits-asks}
@@ -56,7 +55,7 @@ module _ {s : SessionView} (is : IsMember s) (id : ℕ) (mode : Mode) where
         (λ state how is. cc) tt
 
     pub refused-shows : {s′ : SessionView} {place : ℕ} {why : SpaceError} → s′.table ≡ s.table → s′.sessions ≡ s.sessions → Visits place [] s.me s′.me
-        → (why ≡ OutOfMemory) ⊎ ((why ≡ Full) × OfTicket id (lists_seen s.me.0) (λ t. HasStep s s′ (MeetsFull t.place)))
+        → (why ≡ OutOfMemory) ⊎ ((why ≡ Full) × OfTicket id (lists_seen s.me.0) (λ t. ShowsStep s s′ (MeetsFull t.place)))
         → Shows (Clone_ticket s.me.0.number id mode) (Refused why) s s′
     refused-shows table sessions went met = shows table sessions clear (did went) (settles went) (told went) tt (inr met)
 

@@ -3,12 +3,12 @@ use Rattle.std.proofs.Common.{◌≡◌, ℕ, true, false, not, ◌&&◌, List, 
 use Rattle.std.specs.Option.{option_map}
 use Rattle.std.proofs.lemmas.Bool.{and_from, and_parts, eq-eqb, not-true, not_from_false}
 use Rattle.mdl_key.specs.declared.mode.Mode.{Mode}
-use Rattle.mdl_system.specs.Strength.{covers, may_downgrade}
+use Rattle.mdl_system.specs.Strength.{covers}
 use Rattle.mdl_calls.specs.declared.answers.Held.{Held}
 use Rattle.mdl_calls.specs.declared.answers.Upgrade.{Upgrade}
 use Rattle.mdl_calls.specs.declared.answers.Upgrade.TheVariants as upgrade
 use Rattle.mdl_calls.specs.declared.space_error.SpaceError.{SpaceError}
-use Rattle.mdl_calls.specs.Words.{Done, Refused, Upgraded, Would_wait, Release, Downgrade, Upgrade_now, Merge, MayDowngrade, is_number}
+use Rattle.mdl_calls.specs.Words.{Done, Refused, Upgraded, Would_wait, Release, Downgrade, Upgrade_now, Merge, MayUpgrade, OfHeld, is_number, is_waiting}
 use Rattle.mdl_calls.specs.Own.{merging, upgraded}
 use Rattle.mdl_steps.specs.declared.deed.Deed.{Deed}
 use Rattle.mdl_steps.specs.declared.deed.Deed.TheVariants.{Alter, Lose}
@@ -23,10 +23,10 @@ use Rattle.mdl_visits.specs.Visits.{Does, IsStepOf, MeetsBlocked, MeetsGrantable
 use Rattle.mdl_visits.proofs.Doing.{does_reschedule}
 use Rattle.mdl_shared.specs.Doings.{merge_deeds, rise_deeds, upgrade_deeds}
 use Rattle.mdl_shared.specs.Members.{IsMember}
-use Rattle.mdl_shared.specs.Modes.{downgrade_fault, is_fit, merge_fault}
+use Rattle.mdl_shared.specs.Modes.{downgrade_fault, merge_fault}
 use Rattle.mdl_shared.specs.OwnLists.{told_of}
 use Rattle.mdl_shared.specs.SessionViews.{SessionView, session_at, space_of}
-use Rattle.mdl_shared.specs.Showings.{HasStep, Shows}
+use Rattle.mdl_shared.specs.Showings.{ShowsStep, Shows}
 use Rattle.mdl_shared.specs.Upgrades.{upgrade_fault}
 use Rattle.mdl_shared.proofs.Faults.{if-clear}
 use Rattle.mdl_shared.proofs.HeldTickets.{HoldsTicket}
@@ -34,10 +34,10 @@ use Rattle.mdl_shared.proofs.MemberFacts.{speaks}
 use Rattle.mdl_shared.proofs.Members.{HasDone, done-next, done-nothing, done-reads, done-rest, done-slow, rescheduled, visited}
 use Rattle.mdl_shared.proofs.NotedOnce.{one-note, one-note_done}
 use Rattle.mdl_shared.proofs.SameSpace.{joins-held, joins-still, numbers-same, refused, same-rest, same-stays}
-use Rattle.mdl_shared.proofs.SpaceLists.{fit-known, ticket-told}
+use Rattle.mdl_shared.proofs.SpaceLists.{ticket-told}
 use Rattle.mdl_shared.proofs.SpaceNotes.{AllNoted, noted-less, noted-moded, nothing-read, noted_under}
 use Rattle.mdl_shared.proofs.SpaceTickets.{all_of, given-up, holds-told, in-mode, in_mode_told, is_here, merged-told, of-held, only-one, same-mode}
-use Rattle.mdl_shared.proofs.TicketFaults.{downgrade-cause, downgrade-passed, knows, merge-cause, merge-clear, merge-here, one-ticket, upgrade-cause, upgrade-clear}
+use Rattle.mdl_shared.proofs.TicketFaults.{downgrade-cause, downgrade-clear, knows, merge-cause, merge-clear, merge-here, one-ticket, upgrade-cause, upgrade-clear}
 use Rattle.mdl_shared.proofs.WishShows.{did, settles, shows, told}
 
 -- ---- a call with one deed
@@ -62,24 +62,27 @@ module _ {m : SessionView} (is : IsMember m) (id : ℕ) (t : Own) (its : numbere
       (ap (map told_of) (done-slow done) ∙ given-up t.place id m.me.0.slow here) refl (drawn done (done-next done))
       (holds-told id m.me.0.slow true (ap is_some its)) tt refl (λ state how is. cc) (λ how is. cc) refl (deed-reads is done) tt
 
-  pub downgrade-joins : {m′ : SessionView} (mode : Mode) → may_downgrade t.mode mode ≡ true → is_fit t.place mode m.me.0.known ≡ true → HasDone t.place (Alter id mode ∷ []) m m′
+  downgrade-joins : {m′ : SessionView} (mode : Mode) → downgrade_fault (numbered id m.me.0.slow) mode m.me.0.known ≡ None → HasDone t.place (Alter id mode ∷ []) m m′
       → Joins (space_of m) (Downgrade m.me.0.number id mode) Done (space_of m′)
-  downgrade-joins {m′} mode may fits done =
+  downgrade-joins {m′} mode clear done =
       joins-held m m′ (Downgrade m.me.0.number id mode) Done (map (in_mode_told id (λ _. mode)) (map told_of m.me.0.slow)) (done-rest done) (speaks is) refl refl
       (ap (map told_of) (done-slow done) ∙ in-mode t.place id mode (λ _. mode) (is_here t.place) m.me.0.slow (λ u there. (there, refl)) here) refl
-      (drawn done (done-next done)) (of-held id m.me.0.slow t (MayDowngrade (knows m) mode) its (may, fit-known t.place mode m.me.0.known true fits)) tt refl
+      (drawn done (done-next done)) (downgrade-clear m id mode t its clear) tt refl
       (λ state how is. cc) (λ how is. cc) refl (deed-reads is done) tt
 
   -- ---- upgrades
 
-  module _ (mode : Mode) (clear : upgrade_fault mode m.me.0.known m.me.0.asks (Some t) ≡ None) where
+  module _ (mode : Mode) (clear : upgrade_fault mode m.me.0.known m.me.0.asks (numbered id m.me.0.slow) ≡ None) where
+    may-rise : (is_waiting (space_of m).own ≡ false) × OfHeld id (space_of m).own (MayUpgrade (knows m) mode)
+    may-rise = upgrade-clear m id mode t its (sym (ap (upgrade_fault mode m.me.0.known m.me.0.asks) its) ∙ clear)
+
     -- to a mode that its own covers
     pub covered-joins : covers t.mode mode ≡ true → Joins (space_of m) (Upgrade_now m.me.0.number id mode) Upgraded (space_of m)
     covered-joins has =
         joins-held m m (Upgrade_now m.me.0.number id mode) Upgraded (map (in_mode_told id (upgraded mode)) (map told_of m.me.0.slow)) (same-rest m) (speaks is) refl refl
         (same-mode id (upgraded mode) (λ u. covers u.mode mode) m.me.0.slow (λ u h. ap (λ b. if b then u.mode else mode) h)
         (only-one id (λ u. covers u.mode mode) m.me.0.slow t is.sound.rising its has))
-        refl refl (upgrade-clear m id mode t its clear) tt refl (λ state how is. cc) (λ how is. cc) refl (nothing-read m m refl (one-note m is)) tt
+        refl refl may-rise tt refl (λ state how is. cc) (λ how is. cc) refl (nothing-read m m refl (one-note m is)) tt
 
     -- to another
     pub upgrade-joins : {m′ : SessionView} → covers t.mode mode ≡ false → HasDone t.place (Alter id mode ∷ []) m m′ → Joins (space_of m) (Upgrade_now m.me.0.number id mode) Upgraded (space_of m′)
@@ -90,37 +93,33 @@ module _ {m : SessionView} (is : IsMember m) (id : ℕ) (t : Own) (its : numbere
         (parts.0, ap (λ b. if b then u.mode else mode) (not-true (covers u.mode mode) parts.1)))
         (only-one id (λ u. is_here t.place u && not (covers u.mode mode)) m.me.0.slow t is.sound.rising its
         (and_from _ _ (eq-eqb t.place t.place refl) (not_from_false (covers t.mode mode) short))))
-        refl (drawn done (done-next done)) (upgrade-clear m id mode t its clear) tt refl (λ state how is. cc) (λ how is. cc) refl (deed-reads is done) tt
-
-    -- the session's view has no fault
-    open-now : upgrade_fault mode m.me.0.known m.me.0.asks (numbered id m.me.0.slow) ≡ None
-    open-now = ap (upgrade_fault mode m.me.0.known m.me.0.asks) its ∙ clear
+        refl (drawn done (done-next done)) may-rise tt refl (λ state how is. cc) (λ how is. cc) refl (deed-reads is done) tt
 
     deeds : (answer : Upgrade) → covers t.mode mode ≡ false → rise_deeds id mode answer ≡ upgrade_deeds id mode (Ok answer) (numbered id m.me.0.slow)
     deeds answer short = sym (ap (upgrade_deeds id mode (Ok answer)) its ∙ ap (λ b. if b then [] else rise_deeds id mode answer) short)
 
     pub upgrade-shows : {m′ : SessionView} → m′.table ≡ m.table → m′.sessions ≡ m.sessions → covers t.mode mode ≡ false → Visits t.place (Alter id mode ∷ []) m.me m′.me
-        → HasStep m m′ (MeetsGrantable t.place m.me.0.number mode (Alter id mode)) → Shows (Upgrade_now m.me.0.number id mode) Upgraded m m′
+        → ShowsStep m m′ (MeetsGrantable t.place m.me.0.number mode (Alter id mode)) → Shows (Upgrade_now m.me.0.number id mode) Upgraded m m′
     upgrade-shows {m′} table sessions short went met =
-        shows table sessions open-now (subst (λ (ds : List Deed). Does ds m.me m′.me) (deeds upgrade.Upgraded short) (did went)) (settles went) (told went) tt
-        (λ u same less. subst (λ (x : Own). HasStep m m′ (MeetsGrantable x.place m.me.0.number mode (Alter id mode))) (one-ticket (numbered id m.me.0.slow) t u its same) met)
+        shows table sessions clear (subst (λ (ds : List Deed). Does ds m.me m′.me) (deeds upgrade.Upgraded short) (did went)) (settles went) (told went) tt
+        (λ u same less. subst (λ (x : Own). ShowsStep m m′ (MeetsGrantable x.place m.me.0.number mode (Alter id mode))) (one-ticket (numbered id m.me.0.slow) t u its same) met)
 
     pub blocked-shows : {m′ : SessionView} → m′.table ≡ m.table → m′.sessions ≡ m.sessions → covers t.mode mode ≡ false → Visits t.place [] m.me m′.me
-        → HasStep m m′ (MeetsBlocked t.place m.me.0.number mode) → Shows (Upgrade_now m.me.0.number id mode) Would_wait m m′
+        → ShowsStep m m′ (MeetsBlocked t.place m.me.0.number mode) → Shows (Upgrade_now m.me.0.number id mode) Would_wait m m′
     blocked-shows {m′} table sessions short went met =
-        shows table sessions open-now (subst (λ (ds : List Deed). Does ds m.me m′.me) (deeds upgrade.WouldWait short) (did went)) (settles went) (told went) tt
+        shows table sessions clear (subst (λ (ds : List Deed). Does ds m.me m′.me) (deeds upgrade.WouldWait short) (did went)) (settles went) (told went) tt
         (t, its, (short, met))
 
     -- that would have to wait
     pub blocked-joins : {m′ : SessionView} → covers t.mode mode ≡ false → HasDone t.place [] m m′ → Joins (space_of m) (Upgrade_now m.me.0.number id mode) Would_wait (space_of m′)
     blocked-joins {m′} short done =
         joins-still m m′ (Upgrade_now m.me.0.number id mode) Would_wait (done-nothing done) (speaks is) refl refl refl refl
-        (upgrade-clear m id mode t its clear) tt refl (λ state how is. cc) (λ how is. cc) refl (λ r. r)
+        may-rise tt refl (λ state how is. cc) (λ how is. cc) refl (λ r. r)
         (of-held id m.me.0.slow t (λ (h : Held). covers h.mode mode ≡ false) its short)
 
   -- ---- merges, the ticket being kept
 
-  pub merge-joins : {m′ : SessionView} (new : ℕ) (gone : Own) → numbered new m.me.0.slow ≡ Some gone → merge_fault (Some t) (Some gone) m.me.0.asks ≡ None
+  merge-joins : {m′ : SessionView} (new : ℕ) (gone : Own) → numbered new m.me.0.slow ≡ Some gone → merge_fault (Some t) (Some gone) m.me.0.asks ≡ None
       → HasDone t.place (Alter id gone.mode ∷ Lose new ∷ []) m m′ → Joins (space_of m) (Merge m.me.0.number id new) Done (space_of m′)
   merge-joins {m′} new gone other clear done =
       joins-held m m′ (Merge m.me.0.number id new) Done (map (in_mode_told id (λ _. gone.mode)) (filter (λ (h : Held). not (is_number new h)) (map told_of m.me.0.slow)))
@@ -164,15 +163,14 @@ pub downgraded : (seat seat′ : SeatState) (sessions id : ℕ) (mode : Mode) (t
     → Joins (space_of (session_at seat sessions)) (Downgrade seat.me.0.number id mode) Done (space_of (session_at seat′ sessions))
     × Shows (Downgrade seat.me.0.number id mode) Done (session_at seat sessions) (session_at seat′ sessions)
 downgraded seat seat′ sessions id mode t is held clear visit step =
-    let open-now = sym (ap (λ o. downgrade_fault o mode seat.me.0.known) held.its) ∙ clear in
-    let may = downgrade-passed t mode seat.me.0.known open-now in
+    let free = ap (λ o. downgrade_fault o mode seat.me.0.known) (held.own ∙ sym held.its) ∙ clear in
     subst (λ (n : ℕ). Joins (space_of (session_at seat sessions)) (Downgrade seat.me.0.number n mode) Done (space_of (session_at seat′ sessions))
     × Shows (Downgrade seat.me.0.number n mode) Done (session_at seat sessions) (session_at seat′ sessions)) held.number (
-      downgrade-joins is t.number t held.own mode may.0 may.1 (rescheduled seat seat′ sessions visit),
+      downgrade-joins is t.number t held.own mode free (rescheduled seat seat′ sessions visit),
       record {
         table = visit.0;
         sessions = refl;
-        refused = if-clear _ _ (ap (λ o. downgrade_fault o mode seat.me.0.known) held.own ∙ open-now);
+        refused = if-clear _ _ free;
         did = does_reschedule seat.me seat′.me seat.table t.place (Alter t.number mode ∷ []) visit.1;
         settled = tt;
         told = tt;
@@ -192,7 +190,7 @@ pub merged : (seat seat′ : SeatState) (sessions old new : ℕ) (kept gone : Ow
     × Shows (Merge seat.me.0.number old new) Done (session_at seat sessions) (session_at seat′ sessions)
 merged seat seat′ sessions old new kept gone is one other clear visit step =
     let fault : (n p : ℕ) → numbered n seat.me.0.slow ≡ Some kept → numbered p seat.me.0.slow ≡ Some gone
-        → merge_fault (numbered n seat.me.0.slow) (numbered p seat.me.0.slow) seat.me.0.asks ≡ merge_fault (Some kept) (Some gone) seat.me.0.asks =
+    → merge_fault (numbered n seat.me.0.slow) (numbered p seat.me.0.slow) seat.me.0.asks ≡ merge_fault (Some kept) (Some gone) seat.me.0.asks =
     λ n p x y. ap (λ o. merge_fault o (numbered p seat.me.0.slow) seat.me.0.asks) x ∙ ap (λ o. merge_fault (Some kept) o seat.me.0.asks) y in
     let free = sym (fault old new one.its other.its) ∙ clear in
     subst (λ (n : ℕ). Joins (space_of (session_at seat sessions)) (Merge seat.me.0.number n new) Done (space_of (session_at seat′ sessions))

@@ -13,7 +13,7 @@ use Rattle.mdl_steps.specs.declared.view.Known.{Known}
 use Rattle.mdl_steps.specs.declared.view.Own.{Own}
 use Rattle.mdl_session_laws.specs.SessionSpaces.{Knows}
 use Rattle.mdl_visits.specs.Numbers.{numbered}
-use Rattle.mdl_shared.specs.Members.{holding_fault, kind_known}
+use Rattle.mdl_shared.specs.Members.{kind_known}
 use Rattle.mdl_shared.specs.Modes.{downgrade_fault, is_fit, may_merge, merge_fault}
 use Rattle.mdl_shared.specs.OwnLists.{told_of}
 use Rattle.mdl_shared.specs.SessionViews.{SessionView, space_of}
@@ -45,15 +45,15 @@ rises : (kind : Kind) (held mode : Mode) → may_upgrade held mode ≡ true → 
 rises kind held mode may = search rules
 
 -- that of a ticket is to one of its lock's kind, unless its mode covers the other one
-pub upgrade-kind : (mode : Mode) (known : List Known) (asks : Option Ask) (t : Own) → upgrade_fault mode known asks (Some t) ≡ None → covers t.mode mode ≡ false
-    → (kind : Kind) × (kind_known t.place known ≡ Some kind) × (is_mode_of kind mode ≡ true) × (is_obtrusive kind mode ≡ true) × (asks ≡ None)
-upgrade-kind mode known asks t e short =
+pub upgrade-kind : (mode : Mode) (known : List Known) (asks : Option Ask) (o : Option Own) (t : Own) → o ≡ Some t → upgrade_fault mode known asks o ≡ None
+    → covers t.mode mode ≡ false → (kind : Kind) × (kind_known t.place known ≡ Some kind) × (is_mode_of kind mode ≡ true) × (is_obtrusive kind mode ≡ true) × (asks ≡ None)
+upgrade-kind mode known asks o t its e short =
     by (kind_known t.place known) refl clear.0
   where
     clear : (can_have mode t (kind_known t.place known) ≡ true) × (is_some asks ≡ false)
-    clear = two-clear (can_have mode t (kind_known t.place known)) (is_some asks) NotUpgradable AlreadyWaiting e
+    clear = two-clear (can_have mode t (kind_known t.place known)) (is_some asks) NotUpgradable AlreadyWaiting (sym (ap (upgrade_fault mode known asks) its) ∙ e)
 
-    by : (o : Option Kind) → kind_known t.place known ≡ o → can_have mode t o ≡ true
+    by : (k : Option Kind) → kind_known t.place known ≡ k → can_have mode t k ≡ true
         → (kind : Kind) × (kind_known t.place known ≡ Some kind) × (is_mode_of kind mode ≡ true) × (is_obtrusive kind mode ≡ true) × (asks ≡ None)
     by None is can = cc
     by (Some kind) is can =
@@ -70,18 +70,12 @@ merge-told kept gone = and-same (not (kept.number == gone.number)) (kept.place =
 
 -- ---- why they are refused
 
--- no ticket has the number
-pub held-clear : (id : ℕ) (tickets : List Own) → holding_fault id tickets ≡ None → is_some (numbered id tickets) ≡ true
-held-clear id tickets e = test-passed (is_some (numbered id tickets)) NotHeld e
-
-pub held-fault : (id : ℕ) (tickets : List Own) (why : SpaceError) → holding_fault id tickets ≡ Some why → (is_some (numbered id tickets) ≡ false) × (why ≡ NotHeld)
-held-fault id tickets why e = test-failed (is_some (numbered id tickets)) NotHeld why e
-
 -- a ticket that is downgraded may be, and the mode fits its lock
-pub downgrade-passed : (t : Own) (mode : Mode) (known : List Known) → downgrade_fault (Some t) mode known ≡ None
+pub downgrade-passed : (mode : Mode) (known : List Known) (o : Option Own) (t : Own) → o ≡ Some t → downgrade_fault o mode known ≡ None
     → (may_downgrade t.mode mode ≡ true) × (is_fit t.place mode known ≡ true)
-downgrade-passed t mode known e =
-    and_parts (may_downgrade t.mode mode) (is_fit t.place mode known) (test-passed (may_downgrade t.mode mode && is_fit t.place mode known) NotUpgradable e)
+downgrade-passed mode known o t its e =
+    and_parts (may_downgrade t.mode mode) (is_fit t.place mode known)
+    (test-passed (may_downgrade t.mode mode && is_fit t.place mode known) NotUpgradable (sym (ap (λ x. downgrade_fault x mode known) its) ∙ e))
 
 -- two tickets that are merged are at one place
 pub merge-here : (kept gone : Own) (asks : Option Ask) → merge_fault (Some kept) (Some gone) asks ≡ None → is_here kept.place gone ≡ true
@@ -103,12 +97,11 @@ module _ (m : SessionView) where
   own = (space_of m).own
 
   -- a downgrade
-  pub downgrade-clear : (id : ℕ) (mode : Mode) (t : Own) → numbered id m.me.0.slow ≡ Some t → downgrade_fault (Some t) mode m.me.0.known ≡ None
+  pub downgrade-clear : (id : ℕ) (mode : Mode) (t : Own) → numbered id m.me.0.slow ≡ Some t → downgrade_fault (numbered id m.me.0.slow) mode m.me.0.known ≡ None
       → OfHeld id own (MayDowngrade knows mode)
   downgrade-clear id mode t its e =
-      let b = test-passed (may_downgrade t.mode mode && is_fit t.place mode m.me.0.known) NotUpgradable e in
-      let parts = and_parts (may_downgrade t.mode mode) (is_fit t.place mode m.me.0.known) b in
-      of-held id m.me.0.slow t (MayDowngrade knows mode) its (parts.0, fit-known t.place mode m.me.0.known true parts.1)
+      let may = downgrade-passed mode m.me.0.known (numbered id m.me.0.slow) t its e in
+      of-held id m.me.0.slow t (MayDowngrade knows mode) its (may.0, fit-known t.place mode m.me.0.known true may.1)
 
   pub downgrade-cause : (who id : ℕ) (mode : Mode) (why : SpaceError) (o : Option Own) → numbered id m.me.0.slow ≡ o → downgrade_fault o mode m.me.0.known ≡ Some why
       → IsCause knows (Downgrade who id mode) why own

@@ -1,5 +1,5 @@
 -- Why wishes for locks and clones are refused, in the words of a lock space.
-use Rattle.std.proofs.Common.{◌≡◌, ◌⊎◌, ℕ, Bool, true, false, not, ◌&&◌, is_some, List, Option, Some, None, Result, Ok, Err, inl, inr, IfSome, if◌then◌else◌, refl, sym, ap, subst, ◌∙◌}
+use Rattle.std.proofs.Common.{◌≡◌, ℕ, Bool, true, false, not, ◌&&◌, is_some, List, Option, Some, None, if◌then◌else◌, refl, sym, ap, subst, ◌∙◌}
 use Rattle.std.specs.Prelude.{◌<◌, nat_le}
 use Rattle.std.proofs.lemmas.Bool.{and_parts, leb-false}
 use Rattle.mdl_key.specs.declared.mode.Mode.{Mode}
@@ -7,7 +7,7 @@ use Rattle.mdl_key.specs.declared.namespace.Kind.{Kind}
 use Rattle.mdl_key.specs.Words.{is_mode_of}
 use Rattle.mdl_system.specs.Strength.{covers}
 use Rattle.mdl_calls.specs.declared.space_error.SpaceError.{SpaceError}
-use Rattle.mdl_calls.specs.declared.space_error.SpaceError.TheVariants.{AlreadyWaiting, BadMode, CounterFull, Full, NoPlace, NotHeld, OutOfMemory}
+use Rattle.mdl_calls.specs.declared.space_error.SpaceError.TheVariants.{AlreadyWaiting, BadMode, CounterFull, NoPlace, NotHeld}
 use Rattle.mdl_calls.specs.Words.{IsFit, IsUnfit, IsUnknown, Knowledge, MayClone, MayNotClone, OfHeld, Own as Mine, holds, is_waiting}
 use Rattle.mdl_steps.specs.declared.view.Ask.{Ask}
 use Rattle.mdl_steps.specs.declared.view.Known.{Known}
@@ -42,12 +42,13 @@ chain-fault P false true false one two three why first second third e = cc
 pub wish-mode : (kind : Kind) (asks : Option Ask) (mode : Mode) (next : ℕ) → wish_fault (Some kind) asks mode next ≡ None → is_mode_of kind mode ≡ true
 wish-mode kind asks mode next e = (chain-clear (is_some asks) (is_mode_of kind mode) (nat_le most_numbers next) AlreadyWaiting BadMode CounterFull e).1
 
--- the mode fits the lock that is cloned, and there are numbers left
-pub clone-fits : (t : Own) (asks : Option Ask) (mode : Mode) (known : List Known) (next : ℕ) → clone_fault (Some t) asks mode known next ≡ None
-    → (asks ≡ None) × (is_fit t.place mode known ≡ true) × (next < most_numbers)
-clone-fits t asks mode known next e =
-    let clear = chain-clear (is_some asks) (covers t.mode mode && is_fit t.place mode known) (nat_le most_numbers next) AlreadyWaiting BadMode CounterFull e in
-    (no-asks asks 0 (waits-asks asks 0 ∙ clear.0), (and_parts (covers t.mode mode) (is_fit t.place mode known) clear.1).1, leb-false most_numbers next clear.2)
+-- a session that clones a ticket waits for nothing, and the mode fits the ticket's lock
+pub clone-passed : (asks : Option Ask) (mode : Mode) (known : List Known) (next : ℕ) (o : Option Own) (t : Own) → o ≡ Some t → clone_fault o asks mode known next ≡ None
+    → (asks ≡ None) × (is_fit t.place mode known ≡ true)
+clone-passed asks mode known next o t its e =
+    let clear = chain-clear (is_some asks) (covers t.mode mode && is_fit t.place mode known) (nat_le most_numbers next) AlreadyWaiting BadMode CounterFull
+    (sym (ap (λ x. clone_fault x asks mode known next) its) ∙ e) in
+    (no-asks asks 0 (waits-asks asks 0 ∙ clear.0), (and_parts (covers t.mode mode) (is_fit t.place mode known) clear.1).1)
 
 module _ (m : SessionView) where
   abbrev knows : Knowledge

@@ -2,7 +2,7 @@
 use Rattle.std.proofs.Common.{◌≡◌, ℕ, ◌+◌, ◌<◌, true, Option, Some, None, List, sym, ap, ◌∙◌}
 use Rattle.mdl_key.specs.declared.mode.Mode.{Mode}
 use Rattle.mdl_key.specs.declared.namespace.Kind.{Kind}
-use Rattle.mdl_calls.specs.declared.space_error.SpaceError.{SpaceError}
+use Rattle.mdl_calls.specs.Words.{Try_now}
 use Rattle.mdl_steps.specs.declared.deed.Deed.TheVariants.{Gain}
 use Rattle.mdl_steps.specs.declared.view.Ask.{Ask}
 use Rattle.mdl_steps.specs.declared.view.Own.{Own}
@@ -16,6 +16,7 @@ use Rattle.mdl_shared.specs.SessionViews.{Lists, SessionView, lists_seen}
 use Rattle.mdl_shared.specs.Waitings.{are_below}
 use Rattle.mdl_shared.proofs.MemberFacts.{below, may-visit}
 use Rattle.mdl_shared.proofs.Membership.{kind_place, kind_there}
+use Rattle.mdl_shared.proofs.Members.{fault-seen}
 use Rattle.mdl_shared.proofs.Props.{member}
 use Rattle.mdl_shared.proofs.SameSpace.{no-asks, waits-asks}
 use Rattle.mdl_shared.proofs.WishFaults.{wish-clear, wish-mode}
@@ -27,17 +28,12 @@ pub record MayWish (place : ℕ) (kind : Kind) (mode : Mode) (s : SessionView) :
   pub wish : HasWish place kind mode s.me.0
   pub below : s.me.0.next < most_numbers
 
--- a fault by its own lists is one of its view
-pub fault-seen : (m : Member) (place : ℕ) (mode : Mode) (o : Option SpaceError) → wish_fault (kind_known place m.known.known) m.asks mode m.next ≡ o
-    → wish_fault (kind_known place m.seat.me.0.known) m.seat.me.0.asks mode m.seat.me.0.next ≡ o
-fault-seen m place mode o fault = ap (λ (l : Lists). wish_fault (kind_known place l.known) l.asks mode l.next) (sym m.lists) ∙ fault
-
 pub may-wish : (m : Member) (place : ℕ) (kind : Kind) (mode : Mode) → (kind_known place m.known.known ≡ Some kind) × (wish_fault (Some kind) m.asks mode m.next ≡ None)
     → MayWish place kind mode (view_of m)
 may-wish m place kind mode wished =
     let is = member m in
     let known = ap (λ (l : Lists). kind_known place l.known) (sym m.lists) ∙ wished.0 in
-    let clear = fault-seen m place mode None (ap (λ (o : Option Kind). wish_fault o m.asks mode m.next) wished.0 ∙ wished.1) in
+    let clear = fault-seen m (Try_now m.seat.me.0.number place mode) None (ap (λ (o : Option Kind). wish_fault o m.asks mode m.next) wished.0 ∙ wished.1) in
     let passed = wish-clear (view_of m) place mode clear in record {
       clear = clear;
       at = may-visit is place (kind_place place kind m.seat.me.0.known known);

@@ -1,6 +1,6 @@
 -- What a call of a session does to the session's own tickets, by its answer. The steps of the call tell just these deeds (`Does`): so it is nothing
 -- else, and nothing is done and undone on the way.
-use Rattle.std.specs.Prelude.{ℕ, List, [], ◌∷◌, Option, Some, Result, Ok, Err, if◌then◌else◌}
+use Rattle.std.specs.Prelude.{ℕ, List, [], ◌∷◌, Option, Some, Result, Ok, if◌then◌else◌}
 use Rattle.mdl_key.specs.declared.mode.Mode.{Mode}
 use Rattle.mdl_system.specs.Strength.{covers}
 use Rattle.mdl_calls.specs.declared.answers.Upgrade.{Upgrade}
@@ -9,11 +9,6 @@ use Rattle.mdl_calls.specs.declared.space_error.SpaceError.{SpaceError}
 use Rattle.mdl_steps.specs.declared.deed.Deed.{Deed}
 use Rattle.mdl_steps.specs.declared.deed.Deed.TheVariants.{Alter, Lose}
 use Rattle.mdl_steps.specs.declared.view.Own.{Own}
-
--- these deeds, where the call isn't refused
-abbrev pub deeds_if_done : {A : Type 0} → List Deed → Result A SpaceError → List Deed
-deeds_if_done ds (Ok _) = ds
-deeds_if_done ds (Err _) = []
 
 -- a ticket of a number rises to a mode
 abbrev pub rise_deeds : ℕ → Mode → Upgrade → List Deed

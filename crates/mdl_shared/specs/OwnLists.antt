@@ -1,8 +1,6 @@
 -- What a session tells of its own lists.
 pub use Rattle.mdl_visits.specs.KnownLists.{key_known}
-use Rattle.std.specs.Prelude.{ℕ, ◌==◌, List, Option, Some, None, find, is_some, if◌then◌else◌}
-use Rattle.std.specs.Option.{option_map}
-use Rattle.mdl_key.specs.Words.{KeyName}
+use Rattle.std.specs.Prelude.{ℕ, List, Option, Some, None, is_some, if◌then◌else◌}
 use Rattle.mdl_calls.specs.declared.answers.Held.{Held}
 use Rattle.mdl_calls.specs.declared.space_error.SpaceError.{SpaceError}
 use Rattle.mdl_calls.specs.declared.space_error.SpaceError.TheVariants.{NoPlace}

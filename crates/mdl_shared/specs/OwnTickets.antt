@@ -1,6 +1,5 @@
 -- How a session keeps its own list of tickets: the tickets without their notes, and what it has of each place.
-use Rattle.std.specs.Prelude.{◌≡◌, ℕ, ◌≤◌, Bool, true, ◌&&◌, ◌==◌, nat_lt, List, [], ◌∷◌, map, count_by, length, slice_get, slice_index_or, ◌<◌, Option}
-use Rattle.std.specs.List.{list_all}
+use Rattle.std.specs.Prelude.{◌≡◌, ℕ, ◌≤◌, Bool, ◌==◌, List, count_by, length, slice_get, slice_index_or, ◌<◌, Option}
 use Rattle.std.specs.Option.{option_map_or, option_and_then}
 use Rattle.mdl_calls.specs.declared.answers.Held.{Held}
 use Rattle.mdl_steps.specs.declared.view.Own.{Own}

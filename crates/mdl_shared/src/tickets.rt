@@ -27,8 +27,8 @@ pub(crate) struct OfPlace {
     pub(crate) noted: Option<u64>,
 }
 
-/// A session's tickets, in order of gain. A ticket is found by its number by a search by halves, and the note of a place in a list
-/// by places, so no call walks the tickets.
+/// A session's tickets, in order of gain. A ticket is found by its number: the last one is looked at first, and the others are searched by
+/// halves. The note of a place is found in an array, so no call walks the tickets.
 #[derive(Drop)]
 pub(crate) struct Tickets {
     gained: Vec<Held>,
@@ -73,6 +73,7 @@ impl Tickets {
     }
 
     /// The ticket of a number.
+    #[tactic(auto, using(crate::proofs::TicketEdits::find_at))]
     pub(crate) fn get(&self, id: TicketId) -> Option<Own>
         ensures found { result ≡ numbered id self.now.own }
     {
@@ -117,6 +118,7 @@ impl Tickets {
     }
 
     /// Writes another mode of the ticket of a number at a place, if there is one.
+    #[tactic(auto, using(crate::proofs::TicketEdits::mode_at))]
     pub(crate) fn set_mode(&mut self, place: usize, id: TicketId, mode: Mode)
         ensures changed { self.new.own ≡ in_mode_at place id mode self.old.own }
         ensures room { (self.old.spare ≤ self.new.spare) × (self.new.reach ≡ self.old.reach) }
@@ -127,6 +129,7 @@ impl Tickets {
     }
 
     /// Notes a version under each ticket at a place.
+    #[tactic(auto, using(crate::proofs::TicketEdits::note_places))]
     pub(crate) fn note_all(&mut self, place: usize, version: u64)
         ensures noted { self.new.own ≡ noting_version place version self.old.own }
         ensures room { (self.old.spare ≤ self.new.spare) × (self.new.reach ≡ self.old.reach) }
@@ -148,6 +151,11 @@ fn index_of(tickets: &[Held], id: TicketId) -> Option<usize>
     requires { AreRising tickets.now }
     ensures { MatchOption result (list_all (λ t. not (t.id == id)) tickets.now ≡ true) (λ at. StandsAt id at tickets.now) }
 {
+    if let Some(last) = tickets.last() {
+        if last.id == id {
+            return Some(tickets.len() - 1);
+        }
+    }
     tickets.binary_search_by_key(&id, |ticket| ticket.id).ok()
 }
 

@@ -62,7 +62,8 @@ impl Member {
         ensures { result ≡ can_have mode held (kind_known held.place self.now.known.known) }
     {
         match self.known.kind_at(held.place) {
-            Some(kind) => (covers(held.mode, mode) || may_upgrade(held.mode, mode)) && kind.has_mode(mode),
+            Some(kind) => (covers(held.mode, mode) || may_upgrade(held.mode, mode))
+                && kind.has_mode(mode),
             None => false,
         }
     }

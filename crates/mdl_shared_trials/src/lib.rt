@@ -24,6 +24,8 @@ mod examples;
 #[cfg(test)]
 mod locks;
 #[cfg(test)]
+mod many;
+#[cfg(test)]
 mod memory;
 #[cfg(test)]
 mod modes;

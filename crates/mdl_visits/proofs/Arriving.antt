@@ -18,19 +18,10 @@ use Rattle.mdl_steps.specs.SeatStates.{AtItsTable, SeatState}
 use Rattle.mdl_steps.specs.Seats.{Holds, IsPlace, written}
 use Rattle.mdl_steps.proofs.Hands.{holds_written}
 use Rattle.mdl_visits.specs.Leavings.{DidUnder, DoesToOwn, HasWorked, MeetsOwn}
-use Rattle.mdl_visits.specs.Visits.{CameTo, HasStep, IsInside, IsStepOf, LacksRoom, MayVisit, StaysOn}
+use Rattle.mdl_visits.specs.Visits.{Arrives, CameTo, HasStep, IsInside, IsStepOf, LacksRoom, MayVisit, StaysOn}
 use Rattle.mdl_visits.proofs.Leaving.{step_later}
 use Rattle.mdl_visits.proofs.Seats.{mine, place_there, table_of}
 use Rattle.mdl_visits.proofs.Visiting.{inside_written}
-
--- the latch of a place was taken just now, and its record is fresh
-pub record Arrives (place : ℕ) (s : SeatState) (q : ℕ) (c : SeatState) : Type 0 where
-  pub at : q ≡ place
-  pub is_place : IsPlace c.table q
-  pub latch : LatchRecord
-  pub fresh : IsFresh place latch s.me
-  pub holds : Holds q latch latch.book c.me
-  pub came : CameTo q s c
 
 -- by what the wait for the latch promises
 pub arrived : (place : ℕ) (s : SeatState) → MayVisit place s → (q : ℕ) (c : SeatState) → q ≡ place → (h : LatchRecord) → IsFresh place h s.me → Holds place h h.book c.me

@@ -7,17 +7,17 @@ use Rattle.mdl_steps.specs.declared.view.Known.{Known}
 use Rattle.mdl_steps.specs.declared.view.Met.{Met}
 use Rattle.mdl_steps.specs.Plays.{Mine}
 use Rattle.mdl_visits.specs.Tables.{Asked, HasAsked, WasAsked, told}
-use Rattle.mdl_visits.specs.Visits.{GoesOn, IsStepOf, MakesSteps}
+use Rattle.mdl_visits.specs.Visits.{MakesMoreSteps, IsStepOf, MakesSteps}
 
 -- ---- steps of a call's parts are steps of the call
 
-pub goes_on : (m m′ : Mine) → MakesSteps m m′ → GoesOn m m′
+pub goes_on : (m m′ : Mine) → MakesSteps m m′ → MakesMoreSteps m m′
 goes_on m m′ steps = (steps.0, ap (λ (x : Mine). x.0.log) steps.1)
 
-pub goes_nowhere : (m : Mine) → GoesOn m m
+pub goes_nowhere : (m : Mine) → MakesMoreSteps m m
 goes_nowhere m = ([], sym (append-nil m.0.log))
 
-pub step_within : (a b c d : Mine) (e : Met) → GoesOn a b → IsStepOf b c e → GoesOn c d → IsStepOf a d e
+pub step_within : (a b c d : Mine) (e : Met) → MakesMoreSteps a b → IsStepOf b c e → MakesMoreSteps c d → IsStepOf a d e
 step_within a b c d e before step after = (
   before.0 ++ step.0,
   step.1 ++ after.0,
@@ -27,7 +27,7 @@ step_within a b c d e before step after = (
       ∙ ap (λ (log : List Met). log ++ e ∷ (step.1 ++ after.0)) (append_assoc a.0.log before.0 step.0),
 )
 
-asked_within : (who : ℕ) (a b c d : Mine) (x : Asked) → GoesOn a b → WasAsked who b c x → GoesOn c d → WasAsked who a d x
+asked_within : (who : ℕ) (a b c d : Mine) (x : Asked) → MakesMoreSteps a b → WasAsked who b c x → MakesMoreSteps c d → WasAsked who a d x
 asked_within who a b c d x before was after = (was.0, step_within a b c d was.0 before was.1 after, was.2)
 
 -- ---- one more table was asked
@@ -61,7 +61,7 @@ asked_more who tables t places more defined old mid new has before after was e =
     }
 
 -- of a call that did something before
-pub asked_after : (who : ℕ) (tables : List Known) (places : List ℕ) (old mid new : Mine) → GoesOn old mid → HasAsked who tables places mid new → HasAsked who tables places old new
+pub asked_after : (who : ℕ) (tables : List Known) (places : List ℕ) (old mid new : Mine) → MakesMoreSteps old mid → HasAsked who tables places mid new → HasAsked who tables places old new
 asked_after who tables places old mid new before has = record {
   asked = has.asked;
   each = All-weaker (WasAsked who mid new) (WasAsked who old new) (λ x was. asked_within who old mid new new x before was (goes_nowhere new)) has.asked has.each;

@@ -33,8 +33,8 @@ use Rattle.mdl_visits.specs.Leavings.{Learns, knowing}
 use Rattle.mdl_visits.specs.Numbers.{numbered, is_ask_apart}
 use Rattle.mdl_visits.specs.Readings.{Follows}
 use Rattle.mdl_visits.specs.Redefinitions.{HasExclusiveAt, IsNamed, IsRefusedFor, MeetsFault, Redefines, redefined_and_put}
-use Rattle.mdl_visits.specs.Visits.{AreStepsOf, IsInside, and_made}
-use Rattle.mdl_visits.proofs.Gathering.{HasTaken, as_reads, gives_back, holds_there, no_steps}
+use Rattle.mdl_visits.specs.Visits.{AreStepsOf, IsInside, and_made, TakesLatch}
+use Rattle.mdl_visits.proofs.Gathering.{as_reads, gives_back, holds_there, no_steps}
 use Rattle.mdl_visits.proofs.Numbers.{has_number, not_waited}
 use Rattle.mdl_visits.proofs.Reading.{follows}
 use Rattle.mdl_visits.proofs.Seats.{mine, table_of}
@@ -122,7 +122,7 @@ refusal change (Some fault) why told drop = inl (ap Some (sym (same told)))
 
 -- ---- the whole call
 
-module _ (place q : ℕ) (change : Change) (a b w : SeatState) (at : q ≡ place) (taken : HasTaken place a.me b.me) where
+module _ (place q : ℕ) (change : Change) (a b w : SeatState) (at : q ≡ place) (taken : TakesLatch place a.me b.me) where
   abbrev book : BookView
   book = taken.0.book
 

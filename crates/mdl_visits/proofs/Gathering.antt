@@ -10,7 +10,7 @@ use Rattle.mdl_steps.specs.declared.view.Met.{Met}
 use Rattle.mdl_steps.specs.Cells.{held_at}
 use Rattle.mdl_steps.specs.Layout.{latch_word}
 use Rattle.mdl_steps.specs.Lists.{Each}
-use Rattle.mdl_steps.specs.Plays.{Mine, IsFresh, latched, unlatched}
+use Rattle.mdl_steps.specs.Plays.{Mine, latched, unlatched}
 use Rattle.mdl_steps.specs.SeatStates.{AtItsTable, SeatState}
 use Rattle.mdl_steps.specs.Seats.{Holds, IsPlace, IsRising, MayPut, rest}
 use Rattle.mdl_steps.proofs.Hands.{elsewhere-rising}
@@ -19,7 +19,7 @@ use Rattle.mdl_visits.specs.declared.audited.Audited.{Audited}
 use Rattle.mdl_visits.specs.Audits.{Gathers, HadLatches, MayTakeAll}
 use Rattle.mdl_visits.specs.Idle.{IsIdle}
 use Rattle.mdl_visits.specs.Searches.{ReadsWaits, ReadsWaitsQuietly, with_waits_read}
-use Rattle.mdl_visits.specs.Visits.{AllQuiet, GoesOn, HasStep, IsQuiet, MakesQuietSteps, MayVisit, and_made, deeds_of}
+use Rattle.mdl_visits.specs.Visits.{AllQuiet, MakesMoreSteps, HasStep, IsQuiet, MakesQuietSteps, MayVisit, and_made, TakesLatch}
 use Rattle.mdl_visits.proofs.Asking.{step_within}
 use Rattle.mdl_visits.proofs.Lookups.{no_latches}
 use Rattle.mdl_visits.proofs.Seats.{mine, table_of}
@@ -68,13 +68,7 @@ each_below : (latches : List LatchRecord) (p q : ℕ) → p ≤ q → Each (λ (
 each_below [] p q up all = tt
 each_below (h ∷ hs) p q up all = let below = all.0 in (omega arith, each_below hs p q up all.1)
 
--- it was taken
-abbrev pub HasTaken : ℕ → Mine → Mine → Type 0
-HasTaken place m m′ =
-    (h : LatchRecord) × IsFresh place h m × Holds place h h.book m′
-    × ((made : List Met) × (m′ ≡ latched place h (and_made made m)) × AllQuiet m.0.directory made × (deeds_of made ≡ []))
-
-module _ (place q : ℕ) (a b c : SeatState) (at : q ≡ place) (taken : HasTaken place a.me b.me) (table : b.table ≡ a.table) (same : c ≡ b) where
+module _ (place q : ℕ) (a b c : SeatState) (at : q ≡ place) (taken : TakesLatch place a.me b.me) (table : b.table ≡ a.table) (same : c ≡ b) where
   abbrev h : LatchRecord
   h = taken.0
 
@@ -104,7 +98,7 @@ module _ (place q : ℕ) (a b c : SeatState) (at : q ≡ place) (taken : HasTake
             (let here = taken.1.here in (omega arith, each_below a.me.0.latches place (place + 1) (omega arith) may.rising));
       }
 
-  goes_before : GoesOn a.me c.me
+  goes_before : MakesMoreSteps a.me c.me
   goes_before = (made ++ took ∷ [], ap (λ (m : Mine). m.0.log) came ∙ append_assoc a.me.0.log made (took ∷ []))
 
   recorded : held_at place c.me.0.latches ≡ Some h
@@ -189,7 +183,7 @@ module _ (place q : ℕ) (a b c : SeatState) (at : q ≡ place) (taken : HasTake
         shows,
       )
 
-      goes_after : GoesOn d.me e.me
+      goes_after : MakesMoreSteps d.me e.me
       goes_after = (_ ∷ [], ap (λ (s : SeatState). s.me.0.log) put)
 
       had_all : (latches : List LatchRecord) → HadLatches latches c.me d.me → HadLatches latches a.me e.me

@@ -20,10 +20,10 @@ use Rattle.mdl_visits.specs.Audits.{AreKeyed, AreRecorded, Audits, Gathers, HadL
 use Rattle.mdl_visits.specs.Idle.{IsIdle}
 use Rattle.mdl_visits.specs.Lookups.{HadEither, TookDirectory}
 use Rattle.mdl_visits.specs.Searches.{AreQueuesOf, EndsSearch, Finds, FindsFrom, Judges, KnowsVictim, ReadsWaits, ReadsWaitsQuietly, Searched, Searches, if_waited, with_waits_read}
-use Rattle.mdl_visits.specs.Visits.{GoesOn, IsQuiet, IsStepOf, MakesSteps, and_made}
+use Rattle.mdl_visits.specs.Visits.{MakesMoreSteps, IsQuiet, IsStepOf, MakesSteps, and_made, TakesLatch, TakesDirectory}
 use Rattle.mdl_visits.proofs.Asking.{step_within}
-use Rattle.mdl_visits.proofs.Gathering.{HasTaken, as_steps, back, gathers_more, gathers_none}
-use Rattle.mdl_visits.proofs.Lookups.{HasConsulted, had_none, no_latches, no_record}
+use Rattle.mdl_visits.proofs.Gathering.{as_steps, back, gathers_more, gathers_none}
+use Rattle.mdl_visits.proofs.Lookups.{had_none, no_latches, no_record}
 use Rattle.mdl_visits.proofs.Outcomes.{judges_if_waited, judges_within, knows_on}
 use Rattle.mdl_visits.proofs.Seats.{mine, table_of}
 use Rattle.mdl_visits.proofs.Steps.{each_map, none_then}
@@ -48,7 +48,7 @@ keys_from before (key ∷ keys) (a ∷ more) place at same keyed =
 
 -- ---- all of it, while the directory's latch is held
 
-module _ (a b c : SeatState) (taken : HasConsulted a b) (same : c ≡ b) (idle : IsIdle a.me) where
+module _ (a b c : SeatState) (taken : TakesDirectory a b) (same : c ≡ b) (idle : IsIdle a.me) where
   abbrev made : List Met
   made = taken.0
 
@@ -133,10 +133,10 @@ module _ (a b c : SeatState) (taken : HasConsulted a b) (same : c ≡ b) (idle :
         none_after = tt;
       }
 
-      pub goes_first : GoesOn a.me c.me
+      pub goes_first : MakesMoreSteps a.me c.me
       goes_first = (made ++ first ∷ [], ap (λ (m : Mine). m.0.log) came ∙ append_assoc a.me.0.log made (first ∷ []))
 
-      pub goes_last : GoesOn d.me e.me
+      pub goes_last : MakesMoreSteps d.me e.me
       goes_last = (_ ∷ [], ap (λ (s : SeatState). s.me.0.log) put)
 
       moment_of : (latches : List LatchRecord) → HadLatches latches c.me d.me → (x : Met) × IsStepOf a.me e.me x × (x.held ≡ latches) × (x.directory ≡ Some k)
@@ -171,7 +171,7 @@ module _ (a b c : SeatState) (taken : HasConsulted a b) (same : c ≡ b) (idle :
 
 -- ---- a deadlock is looked for
 
-module _ (place q last : ℕ) (a b c d e : SeatState) (at : q ≡ place) (taken : HasTaken place a.me b.me) (table : b.table ≡ a.table) (same : c ≡ b) (reads : AtItsTable c d ReadsWaitsQuietly)
+module _ (place q last : ℕ) (a b c d e : SeatState) (at : q ≡ place) (taken : TakesLatch place a.me b.me) (table : b.table ≡ a.table) (same : c ≡ b) (reads : AtItsTable c d ReadsWaitsQuietly)
     (put : e ≡ record d { me = unlatched q [] d.me }) (rising : IsRising place a.me) (lists more : List Queues)
     (added : (copied : List Audited) → AreQueuesOf copied lists → AreQueuesOf (copied ++ if_waited (record { place = q; book = taken.0.book })) more) where
   abbrev one : Audited
@@ -180,10 +180,10 @@ module _ (place q last : ℕ) (a b c d e : SeatState) (at : q ≡ place) (taken 
   abbrev came_there : c.me ≡ latched place taken.0 (and_made taken.3.0 a.me)
   came_there = mine same ∙ taken.3.1
 
-  goes_in : GoesOn a.me c.me
+  goes_in : MakesMoreSteps a.me c.me
   goes_in = (taken.3.0 ++ _ ∷ [], ap (λ (m : Mine). m.0.log) came_there ∙ append_assoc a.me.0.log taken.3.0 (_ ∷ []))
 
-  goes_out : GoesOn d.me e.me
+  goes_out : MakesMoreSteps d.me e.me
   goes_out = (_ ∷ [], ap (λ (s : SeatState). s.me.0.log) put)
 
   searches_more : (found : Search) → ((copied : List Audited) → AreQueuesOf copied more → Searches c.table c.me.0.number (place + 1) last copied found c.me d.me)
@@ -231,7 +231,7 @@ finds_here place last lists a b found behind finds = (
 )
 
 -- what was found once all latches were taken is what is found
-pub searched : (a b c d e : SeatState) (taken : HasConsulted a b) (same : c ≡ b) (idle : IsIdle a.me) (reads : AtItsTable c d ReadsWaitsQuietly) (put : e ≡ record d { me = informed (learnt d.me 0) d.me })
+pub searched : (a b c d e : SeatState) (taken : TakesDirectory a b) (same : c ≡ b) (idle : IsIdle a.me) (reads : AtItsTable c d ReadsWaitsQuietly) (put : e ≡ record d { me = informed (learnt d.me 0) d.me })
     (last : ℕ) → last ≡ length taken.1.keys → (found : Search) → FindsFrom 1 last [] c d found
     → Searched a.table a.me.0.number taken.1 found a.me e.me × KnowsVictim a.me.0.number found e.me
 searched a b c d e taken same idle reads put last count found finds =

@@ -1,12 +1,13 @@
 -- The keys that a session looked up: found by the key, and by the place through an index.
-use Rattle.std.proofs.Common.{◌≡◌, ℕ, zero, suc, ◌<◌, ◌≤◌, true, false, List, [], ◌∷◌, ◌++◌, length, set, map, Option, Some, None, refl, sym, ap, subst, ltb, ◌∙◌, arith}
+use Rattle.std.proofs.Common.{◌≡◌, ◌≢◌, ℕ, zero, suc, ◌<◌, ◌≤◌, true, false, List, [], ◌∷◌, ◌++◌, length, set, map, Option, Some, None, refl, sym, ap, subst, ltb, ◌∙◌, arith}
 use Rattle.std.specs.Prelude.{◌==◌, is_some, slice_get, if◌then◌else◌}
 use Rattle.std.specs.Map.{lookup}
 use Rattle.std.specs.List.{list_all}
-use Rattle.std.proofs.lemmas.List.{map_push}
 use Rattle.std.proofs.lemmas.List.Folds.{list_all-append}
 use Rattle.std.proofs.lemmas.Bool.{and_parts, eq-eqb, eqb-true}
 use Rattle.std.proofs.lemmas.Bool.Decides.{nat_tests}
+use Rattle.indexmap.specs.IndexMap.{IndexMap, insert_entry}
+use Rattle.indexmap.proofs.CallerLemmas.{insert_entry-new}
 use Rattle.mdl_key.specs.Words.{KeyName, key_eq}
 use Rattle.mdl_steps.specs.declared.view.Known.{Known}
 use Rattle.mdl_steps.specs.Schemas.{is_known}
@@ -29,20 +30,17 @@ pub place_found : (key : KeyName) (entries : List (KeyName × ℕ)) → lookup (
 place_found key [] = refl
 place_found key (e ∷ es) = rw (key_swap key e.0) (grind (arith, place_found key es))
 
+-- by an equal key
+pub found_like : (key other : KeyName) (entries : List (KeyName × ℕ)) (place : ℕ) → key_eq other key ≡ true → lookup (key_eq other) entries ≡ Some place
+    → place_known key (map known_of entries) ≡ Some place
+found_like key other entries place same found =
+    sym (place_found key entries) ∙ subst (λ (k : KeyName). lookup (key_eq k) entries ≡ Some place) ((key-Decides other key).0 same) found
+
 pub known_found : (key : KeyName) (known : List Known) → is_some (place_known key known) ≡ is_known known key
 known_found key [] = refl
 known_found key (k ∷ ks) = grind (arith, known_found key ks)
 
 -- ---- by the place
-
--- the key of an entry at a place, where there is one
-abbrev pub key_in : ℕ → Option (KeyName × ℕ) → Option KeyName
-key_in place None = None
-key_in place (Some e) = if e.1 == place then Some e.0 else None
-
-abbrev pub key_under : ℕ → List (KeyName × ℕ) → Option ℕ → Option KeyName
-key_under place entries None = None
-key_under place entries (Some at) = key_in place (slice_get entries at)
 
 abbrev At : ℕ → ℕ → List (KeyName × ℕ) → Type 0
 At place i entries = (e : KeyName × ℕ) × (slice_get entries i ≡ Some e) × (e.1 ≡ place)
@@ -63,25 +61,26 @@ here place (suc at) e (x ∷ xs) stands is only =
     (λ hit. (let never = only 0 (x, refl, eqb-true x.1 place hit) in absurd (omega (arith, never))))
     (λ miss. rw miss (here place at e xs stands is (λ i there. (let next = only (suc i) there in omega (arith, next)))))
 
--- through the index: what stands elsewhere under another index is another place's
-pub key_by : (place : ℕ) (entries : List (KeyName × ℕ)) (indexes : List ℕ) → AreIndexed entries indexes
-    → key_known place (map known_of entries) ≡ key_under place entries (slice_get indexes place)
-key_by place entries indexes indexed = by_index (slice_get indexes place) refl
-  where
-    under : (i : ℕ) → At place i entries → slice_get indexes place ≡ Some i
-    under i at = subst (λ (q : ℕ). slice_get indexes q ≡ Some i) at.2 (indexed i at.0 at.1)
+module _ (place : ℕ) (entries : List (KeyName × ℕ)) (indexes : List ℕ) (indexed : AreIndexed entries indexes) where
+  under : (i : ℕ) → At place i entries → slice_get indexes place ≡ Some i
+  under i at = subst (λ (q : ℕ). slice_get indexes q ≡ Some i) at.2 (indexed i at.0 at.1)
 
-    by_entry : (at : ℕ) → slice_get indexes place ≡ Some at → (e : Option (KeyName × ℕ)) → slice_get entries at ≡ e → key_known place (map known_of entries) ≡ key_in place e
-    by_entry at is None none = nowhere place entries (λ i there. (let same = sym is ∙ under i there in let stands = there.1 in absurd (cc)))
-    by_entry at is (Some e) stands =
-        by_bool (e.1 == place)
-        (λ hit. rw hit (here place at e entries stands (eqb-true e.1 place hit) (λ i there. (let same = sym is ∙ under i there in cc))))
-        (λ miss. rw miss (nowhere place entries (λ i there. (let same = sym is ∙ under i there in let other = there.1 in let back = there.2 in
-        let one : e ≡ there.0 = cc in (let hit = eq-eqb e.1 place (ap (λ (x : KeyName × ℕ). x.1) one ∙ back) in (let never : true ≡ false = sym hit ∙ miss in absurd (cc)))))))
+  -- there is no index under the place
+  pub none_under : slice_get indexes place ≡ None → key_known place (map known_of entries) ≡ None
+  none_under none = nowhere place entries (λ i there. (let stands = under i there in absurd (cc)))
 
-    by_index : (at : Option ℕ) → slice_get indexes place ≡ at → key_known place (map known_of entries) ≡ key_under place entries at
-    by_index None none = nowhere place entries (λ i there. (let stands = under i there in absurd (cc)))
-    by_index (Some at) is = by_entry at is (slice_get entries at) refl
+  -- nothing stands at the index
+  pub none_at : (at : ℕ) → slice_get indexes place ≡ Some at → slice_get entries at ≡ None → key_known place (map known_of entries) ≡ None
+  none_at at is none = nowhere place entries (λ i there. (let same = sym is ∙ under i there in let stands = there.1 in absurd (cc)))
+
+  -- the key of another place stands there
+  pub other_at : (at : ℕ) (e : KeyName × ℕ) → slice_get indexes place ≡ Some at → slice_get entries at ≡ Some e → e.1 ≢ place → key_known place (map known_of entries) ≡ None
+  other_at at e is stands other = nowhere place entries (λ i there.
+      (let same = sym is ∙ under i there in let own = there.1 in let one : e ≡ there.0 = cc in other (ap (λ (x : KeyName × ℕ). x.1) one ∙ there.2)))
+
+  -- the key of the place stands there
+  pub found_at : (at : ℕ) (e : KeyName × ℕ) → slice_get indexes place ≡ Some at → slice_get entries at ≡ Some e → e.1 ≡ place → key_known place (map known_of entries) ≡ Some e.0
+  found_at at e is stands own = here place at e entries stands own (λ i there. (let same = sym is ∙ under i there in cc))
 
 -- ---- one key more
 
@@ -129,9 +128,10 @@ indexed_more entries indexes key place indexed new inside at e stands =
           rw (← there) (get_set indexes place (length entries) inside ∙ ap (λ (i : ℕ). Some i) (sym last.0))
     ] refl
 
-pub known_more : (entries : List (KeyName × ℕ)) (key : KeyName) (place : ℕ)
-    → map known_of (entries ++ (key, place) ∷ []) ≡ map known_of entries ++ record { key = key; place = place } ∷ []
-known_more entries key place = map_push known_of entries (key, place)
+-- a new key goes last
+pub inserted : {S : Type 0} (places : IndexMap KeyName ℕ S) (key : KeyName) (place : ℕ) → place_known key (map known_of places.entries) ≡ None
+    → insert_entry key_eq places.entries key place ≡ places.entries ++ (key, place) ∷ []
+inserted places key place new = insert_entry-new key_eq places key place (place_found key places.entries ∙ new)
 
 -- ---- several keys more
 

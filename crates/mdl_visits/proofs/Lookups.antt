@@ -12,7 +12,7 @@ use Rattle.mdl_steps.specs.declared.view.Keys.{Keys}
 use Rattle.mdl_steps.specs.declared.view.Known.{Known}
 use Rattle.mdl_steps.specs.declared.view.Met.{Met}
 use Rattle.mdl_steps.specs.Layout.{latch_word}
-use Rattle.mdl_steps.specs.Plays.{Mine, IsDirectory, consulted, informed, listing}
+use Rattle.mdl_steps.specs.Plays.{Mine, consulted, informed, listing}
 use Rattle.mdl_steps.specs.Rule.{key_at}
 use Rattle.mdl_steps.specs.SeatStates.{AtItsTable, SeatState}
 use Rattle.mdl_steps.specs.Seats.{HasDirectory, MayInform, learnt, place_among, recorded_key}
@@ -20,7 +20,7 @@ use Rattle.mdl_steps.proofs.Looking.{there}
 use Rattle.mdl_visits.specs.declared.resolve_error.ResolveError.{ResolveError}
 use Rattle.mdl_visits.specs.Idle.{IsIdle}
 use Rattle.mdl_visits.specs.Lookups.{TookDirectory, HasLooked, HasNamed, IsAnswer, knowing, relisted}
-use Rattle.mdl_visits.specs.Visits.{AllQuiet, and_made, deeds_of, MakesSteps}
+use Rattle.mdl_visits.specs.Visits.{AllQuiet, and_made, deeds_of, MakesSteps, TakesDirectory}
 use Rattle.mdl_visits.proofs.Seats.{mine, table_of}
 use Rattle.mdl_visits.proofs.Steps.{none_then}
 use Rattle.mdl_steps.proofs.NewKeys.{key_last}
@@ -98,13 +98,7 @@ learning k place = option_to_list (option_map (λ key. record { key = key; place
 learning_one : (k : Keys) (place : ℕ) (key : KeyName) → 0 < place → key_at k.keys place ≡ Some key → learning k place ≡ record { key = key; place = place } ∷ []
 learning_one k place key some e = rw (lt-ltb 0 place some) (ap (λ (o : Option KeyName). option_to_list (option_map {T = KeyName} {U = Known} (λ x. record { key = x; place = place }) o)) e)
 
--- it was taken
-abbrev pub HasConsulted : SeatState → SeatState → Type 0
-HasConsulted a b =
-    (made : List Met) × (k : Keys) × IsDirectory a.table.slots k (and_made made a.me) × (b ≡ record a { me = consulted k (and_made made a.me) })
-    × AllQuiet a.me.0.directory made × (deeds_of made ≡ [])
-
-module _ (key : KeyName) (result : Result ℕ ResolveError) (a b c : SeatState) (taken : HasConsulted a b)
+module _ (key : KeyName) (result : Result ℕ ResolveError) (a b c : SeatState) (taken : TakesDirectory a b)
     (told : (k : Keys) → HasDirectory k b.me → AtItsTable b c (HasLooked b.table.slots key k result)) where
   pub looked : HasLooked a.table.slots key taken.1 result b.me c.me
   looked = subst (λ (id : TableId). HasLooked id.slots key taken.1 result b.me c.me) (table_of taken.3)

@@ -19,7 +19,8 @@ use Rattle.mdl_steps.specs.Seats.{rest, written}
 use Rattle.mdl_steps.proofs.Tickets.{without-hit, without-miss}
 use Rattle.mdl_steps.proofs.Views.{by_bool}
 use Rattle.mdl_visits.specs.Leavings.{HasTicket, HasWorked}
-use Rattle.mdl_visits.proofs.Arriving.{Arrives, has_worked, number_kept, unwaited_there}
+use Rattle.mdl_visits.specs.Visits.{Arrives}
+use Rattle.mdl_visits.proofs.Arriving.{has_worked, number_kept, unwaited_there}
 use Rattle.mdl_visits.proofs.Leaving.{own_found}
 
 module _ (session number : ℕ) where

@@ -26,7 +26,7 @@ use Rattle.mdl_visits.specs.declared.waits_read.WaitRead.{WaitRead}
 use Rattle.mdl_visits.specs.Grantings.{StaysTold}
 use Rattle.mdl_visits.specs.Polls.{SettlesNothing}
 use Rattle.mdl_visits.specs.Searches.{AreQueuesOf, AreRead, Finds, FindsAtOnce, IsOutcome, Judges, KnowsVictim, OnlyReadsWaits, ReadsWaitsQuietly, SettlesVictim, TriesToSettle, WasOther, WasRead, books_of, if_waited, read_of, settled_by}
-use Rattle.mdl_visits.specs.Visits.{GoesOn}
+use Rattle.mdl_visits.specs.Visits.{MakesMoreSteps}
 use Rattle.mdl_visits.proofs.Asking.{goes_nowhere, step_within}
 use Rattle.mdl_visits.proofs.Deadlocks.{same_if_waited}
 use Rattle.mdl_visits.proofs.Seats.{mine, table_of}
@@ -139,13 +139,13 @@ module _ (session : ℕ) (words : List WaitRead) (i : ℕ) (d : WaitRead) (insid
 -- ---- of a call that did something before and after
 
 -- what is met otherwise is so of a call that did something before
-other_after : (slots : ℕ) (a b c : Mine) (o : Option WaitRead) → GoesOn a b → IfSome o (WasOther slots b c) → IfSome o (WasOther slots a c)
+other_after : (slots : ℕ) (a b c : Mine) (o : Option WaitRead) → MakesMoreSteps a b → IfSome o (WasOther slots b c) → IfSome o (WasOther slots a c)
 other_after slots a b c None before none = tt
 other_after slots a b c (Some r) before (inl settled) = inl settled
 other_after slots a b c (Some r) before (inr met) = inr (met.0, step_after a b c before met.0 met.1, met.2)
 
 module _ (slots who : ℕ) (latches : List LatchRecord) (audited : List Audited) (words : List WaitRead) (a b c d : Mine)
-    (before : GoesOn a b) (same : b.0.settles ≡ a.0.settles) (after : GoesOn c d) (kept : d.0.settles ≡ c.0.settles) where
+    (before : MakesMoreSteps a b) (same : b.0.settles ≡ a.0.settles) (after : MakesMoreSteps c d) (kept : d.0.settles ≡ c.0.settles) where
   victim_within : (victim : ℕ) → SettlesVictim slots victim latches b c → SettlesVictim slots victim latches a d
   victim_within victim fells = record {
     wait = fells.wait;
@@ -161,8 +161,8 @@ module _ (slots who : ℕ) (latches : List LatchRecord) (audited : List Audited)
   outcome_within NoCycle none = (none.0, kept ∙ none.1 ∙ same)
   outcome_within (Victim victim) one = (one.0, victim_within victim one.1)
 
-pub judges_within : (id : TableId) (who : ℕ) (latches : List LatchRecord) (audited : List Audited) (found : Search) (a b c d : Mine) → GoesOn a b → b.0.settles ≡ a.0.settles
-    → GoesOn c d → d.0.settles ≡ c.0.settles → Judges id who latches audited found b c → Judges id who latches audited found a d
+pub judges_within : (id : TableId) (who : ℕ) (latches : List LatchRecord) (audited : List Audited) (found : Search) (a b c d : Mine) → MakesMoreSteps a b → b.0.settles ≡ a.0.settles
+    → MakesMoreSteps c d → d.0.settles ≡ c.0.settles → Judges id who latches audited found b c → Judges id who latches audited found a d
 judges_within id who latches audited found a b c d before same after kept judges = record {
   words = judges.words;
   all = judges.all;

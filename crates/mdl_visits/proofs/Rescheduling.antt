@@ -17,14 +17,14 @@ use Rattle.mdl_steps.specs.Plays.{Mine, unlatched}
 use Rattle.mdl_steps.specs.Seats.{Holds, elsewhere, rest}
 use Rattle.mdl_steps.proofs.Hands.{elsewhere-settled}
 use Rattle.mdl_visits.specs.Grantings.{ForgetsNobody, IsLowered, ReschedulesAndLeaves, HasRescheduled, Reschedules, VisitsAndReschedules}
-use Rattle.mdl_visits.specs.Visits.{GoesOn, IsInside, IsStepOf, StaysOn}
-use Rattle.mdl_visits.proofs.Steps.{goes_staying, leaves_after, none_then, step_after, step_before}
-use Rattle.mdl_visits.proofs.Way.{granted_after, granted_before, granted_since, looked_within, stays_of}
+use Rattle.mdl_visits.specs.Visits.{MakesMoreSteps, IsInside, IsStepOf, StaysOn}
+use Rattle.mdl_visits.proofs.Steps.{goes_none, goes_staying, leaves_after, none_then, step_after, step_before}
+use Rattle.mdl_visits.proofs.Way.{granted_within, looked_within, stays_of}
 
 -- ---- of what went before
 
 module _ (id : TableId) (place : ℕ) (a b c : Mine) (stays : StaysOn a b) where
-  more : GoesOn a b
+  more : MakesMoreSteps a b
   more = goes_staying a b stays
 
   nobody_left_after : (latch : LatchRecord) → (latch.book.waiting ≡ []) ⊎ ForgetsNobody id place latch b c → (latch.book.waiting ≡ []) ⊎ ForgetsNobody id place latch a c
@@ -39,7 +39,7 @@ module _ (id : TableId) (place : ℕ) (a b c : Mine) (stays : StaysOn a b) where
       record {
         grants = way.grants;
         settles = way.settles ∙ ap (λ (xs : List Settlement). xs ++ way.grants) settles;
-        granted = granted_since id place way.grants a b a c more (granted_after id place way.grants b a b c more way.granted);
+        granted = granted_within id place a b a b c c more more (goes_none c) way.grants way.granted;
         served = (s.0, leaves_after a b c stays s.0 s.1, record { kind = m.kind; did = m.did; word = m.word; freed = m.freed ∙ number; latch = m.latch; held = m.held; served = nobody_left_after m.latch m.served });
         stays = λ state e. way.stays state (told ∙ e);
         unasked = λ none. way.unasked (asks ∙ none) ∙ told;
@@ -79,7 +79,7 @@ module _ (id : TableId) (place : ℕ) (g : LatchRecord) (m b c : Mine) (way : Re
   abbrev frees : Met
   frees = record { kind = PutLatch; deeds = []; word = latch_word place; found = b.0.number; held = b.0.latches; directory = b.0.directory }
 
-  b_c : GoesOn b c
+  b_c : MakesMoreSteps b c
   b_c = (frees ∷ [], ap (λ (x : Mine). x.0.log) put)
 
   m_b : StaysOn m b
@@ -99,7 +99,7 @@ module _ (id : TableId) (place : ℕ) (g : LatchRecord) (m b c : Mine) (way : Re
     way = record {
       grants = way.grants;
       settles = ap (λ (x : Mine). x.0.settles) put ∙ ap (λ (x : Mine). x.0.settles) way.now;
-      granted = granted_before id place way.grants m m b c b_c way.granted;
+      granted = granted_within id place m m m m b c (goes_none m) (goes_none m) b_c way.grants way.granted;
       served = (
         frees,
         leaves_after m b c m_b frees ([], ap (λ (x : Mine). x.0.log) put ∙ ap (λ (log : List Met). log ++ frees ∷ []) (sym (append-nil b.0.log)), tt),

@@ -1,5 +1,6 @@
 -- A try to grant a waiting ticket, put together of its steps.
 use Rattle.std.proofs.Common.{◌≡◌, ◌≢◌, ℕ, ◌+◌, ◌-◌, ◌*◌, ◌%◌, ◌/◌, ◌<◌, ◌==◌, ◌&&◌, not, cond, true, false, None, List, [], ◌∷◌, ◌++◌, Some, refl, sym, ap, ◌∙◌, subst, inl, inr, append-nil, arith}
+use Rattle.mdl_book.specs.SessionSets.{is_session}
 use Rattle.std.specs.Prelude.{Result, OnOk, is_some, Contains, find, Option}
 use Rattle.std.specs.Option.{ok_or, option_map}
 use Rattle.std.specs.FinSet as set
@@ -24,11 +25,11 @@ use Rattle.mdl_steps.specs.Seats.{Holds, written}
 use Rattle.mdl_steps.specs.WaitPlays.{met_wait_by, settled_granted, wait_in, with_admitted, TellsOwn}
 use Rattle.mdl_steps.proofs.Hands.{holds_written}
 use Rattle.mdl_steps.proofs.Views.{other}
-use Rattle.mdl_visits.specs.Grantings.{AreTried, ForgetsNobody, HasJustMet, IsGrantedFrom, IsLookedThrough, IsGrantableTicket, IsTriedOrGranted, IsTried, ReschedulesInTurn, MayReschedule, MeetsWaiter, OnlyMeets, ahead_of}
-use Rattle.mdl_visits.specs.Visits.{GoesOn, IsStepOf}
+use Rattle.mdl_visits.specs.Grantings.{ForgetsNobody, HasJustMet, IsGrantedFrom, IsLookedThrough, IsGrantableTicket, IsTriedOrGranted, IsTried, ReschedulesInTurn, MeetsWaiter, OnlyMeets, ahead_of}
+use Rattle.mdl_visits.specs.Visits.{MakesMoreSteps, IsStepOf}
 use Rattle.mdl_visits.proofs.Losing.{taken_out}
 use Rattle.mdl_visits.proofs.Steps.{goes_by, step_after, step_before}
-use Rattle.mdl_visits.proofs.Waiting.{found_number, gone, nobody_next, none_ahead, not_ready, only_one, grants_on, waits_ahead, waits_still}
+use Rattle.mdl_visits.proofs.Waiting.{MayReschedule, found_number, gone, nobody_next, none_ahead, not_ready, only_one, grants_on, waits_ahead, waits_still}
 use Rattle.mdl_visits.proofs.Way.{looked_within, settled_within, rescheduled_granted, rescheduled_met, rescheduled_then, rescheduled_written}
 
 -- a seat has one record of a place's latch
@@ -78,7 +79,7 @@ module _ (id : TableId) (place session number wait count : ℕ) (h : LatchRecord
       (rescheduled_granted id place start session number count h h.book m a has ready just
       (subst (λ (x : LatchRecord). IsLookedThrough id place x (ahead_of session number x.book.waiting) start m) (one_record place g h m mine has) looked)
       made (found_number session number h.book.waiting ready.wish ready.waits) own)
-      (rescheduled_written id place start h.book (admitting session number h.book) a b keeps.carried admitted)
+      (rescheduled_written id place start (admitting session number h.book) a b admitted)
 
 module _ (kind : StepKind) (only : OnlyMeets kind) (id : TableId) (place session number word : ℕ) (h : LatchRecord) (m a : Mine) (has : Holds place h h.book m) (ready : IsGrantableTicket session number h)
     (is : a ≡ met_wait_by kind id.slots session word m) where
@@ -95,7 +96,7 @@ module _ (kind : StepKind) (only : OnlyMeets kind) (id : TableId) (place session
 
   -- ---- the read before it
 
-  goes : GoesOn m a
+  goes : MakesMoreSteps m a
   goes = (record { kind = kind; deeds = []; word = wait_word id.slots session; found = word; held = m.0.latches; directory = m.0.directory } ∷ [], ap (λ (x : Mine). x.0.log) is)
 
   pub just_met : kind ≡ ReadWait → HasJustMet id.slots place session h a
@@ -148,6 +149,12 @@ module _ (kind : StepKind) (only : OnlyMeets kind) (id : TableId) (place session
 
 -- ---- turn by turn
 
+-- each ticket that waits by the record was tried, if its session is left out of the set
+abbrev pub AreTried : TableId → ℕ → set.FinSet nat_cmp → LatchRecord → Mine → Mine → Type 0
+AreTried id place untried h m m′ =
+    (t : Ticket) → Contains h.book.waiting t → is_session t.session ≡ true → set.contains untried t.session ≡ false →
+    IsTried id place t.session t.number m m′
+
 -- at first nobody was tried
 pub tried_first : (id : TableId) (place : ℕ) (untried : set.FinSet nat_cmp) (h : LatchRecord) (m a : Mine) → IsEverySession untried → AreTried id place untried h m a
 tried_first id place untried h m a every t among is out = absurd (let there = every t.session in cc)
@@ -165,7 +172,7 @@ fewer_untried untried session there =
     let some : set.len untried ≢ 0 = λ none. (let empty = ap (λ s. set.contains s session) (set.empty_of_len untried none) ∙ set.contains-empty nat_cmp session in absurd (cc)) in
     omega arith
 
-module _ (id : TableId) (place session number word : ℕ) (h : LatchRecord) (m a b : Mine) (untried : set.FinSet nat_cmp) (before : GoesOn m a) (more : GoesOn a b) (has : Holds place h h.book a) (may : MayReschedule word h)
+module _ (id : TableId) (place session number word : ℕ) (h : LatchRecord) (m a b : Mine) (untried : set.FinSet nat_cmp) (before : MakesMoreSteps m a) (more : MakesMoreSteps a b) (has : Holds place h h.book a) (may : MayReschedule word h)
     (ready : IsGrantableTicket session number h) (served : IsTriedOrGranted id place session number h a b) (tried : AreTried id place untried h m a) where
   -- who was tried before was tried
   still : (who its : ℕ) → IsTried id place who its m a → IsTried id place who its m b
@@ -211,7 +218,7 @@ read_first place word m m′ is =
     let e : Met = record { kind = ReadWord; deeds = []; word = lock_word place; found = word; held = (changed place (noting word) m.0).latches; directory = m.0.directory } in
     (e, ([], [], ap (λ (x : Mine). x.0.log) is ∙ ap (λ (log : List Met). log ++ e ∷ []) (sym (append-nil m.0.log))), refl, refl, refl)
 
-pub read_before : (place word : ℕ) (a b c : Mine) → GoesOn b c → WasRead place word a b → WasRead place word a c
+pub read_before : (place word : ℕ) (a b c : Mine) → MakesMoreSteps b c → WasRead place word a b → WasRead place word a c
 read_before place word a b c more read = (read.0, step_before a b c more read.0 read.1, read.2, read.3, read.4)
 
 module _ (id : TableId) (place word : ℕ) (untried : set.FinSet nat_cmp) (h : LatchRecord) (m a : Mine) (may : MayReschedule word h) (read : WasRead place word m a) (tried : AreTried id place untried h m a) where

@@ -1,5 +1,5 @@
 -- Steps between two of a session's views are steps between any two that are farther apart.
-use Rattle.std.proofs.Common.{◌≡◌, ℕ, List, [], ◌∷◌, ◌++◌, refl, sym, ap, ◌∙◌, subst, append_assoc}
+use Rattle.std.proofs.Common.{◌≡◌, ℕ, List, [], ◌∷◌, ◌++◌, refl, sym, ap, ◌∙◌, subst, append_assoc, append-nil}
 use Rattle.std.specs.Prelude.{Option}
 use Rattle.mdl_steps.specs.declared.deed.Deed.{Deed}
 use Rattle.mdl_steps.specs.declared.step_kind.StepKind.TheVariants.{TakeLatch}
@@ -9,7 +9,7 @@ use Rattle.mdl_steps.specs.declared.view.Met.{Met}
 use Rattle.mdl_steps.specs.Layout.{latch_word}
 use Rattle.mdl_steps.specs.Lists.{Each}
 use Rattle.mdl_steps.specs.Plays.{Mine, latched}
-use Rattle.mdl_visits.specs.Visits.{AllQuiet, Does, GoesOn, IsQuiet, IsStepOf, LeavesBy, StaysOn, StaysQuiet, StaysThere, and_made, deeds_of}
+use Rattle.mdl_visits.specs.Visits.{AllQuiet, Does, MakesMoreSteps, IsQuiet, IsStepOf, LeavesBy, StaysOn, StaysQuiet, StaysThere, and_made, deeds_of}
 
 -- ---- what each element of a list is
 
@@ -25,12 +25,16 @@ module _ {X : Type 0} where
 -- ---- steps
 
 -- the list grew by a step and those beside it
-pub goes_by : (a b : Mine) (e : Met) → IsStepOf a b e → GoesOn a b
+pub goes_by : (a b : Mine) (e : Met) → IsStepOf a b e → MakesMoreSteps a b
 goes_by a b e step = (step.0 ++ e ∷ step.1, step.2 ∙ append_assoc a.0.log step.0 (e ∷ step.1))
+
+-- or by none
+pub goes_none : (m : Mine) → MakesMoreSteps m m
+goes_none m = ([], sym (append-nil m.0.log))
 
 module _ (a b c : Mine) where
   -- more steps follow
-  pub step_before : GoesOn b c → (e : Met) → IsStepOf a b e → IsStepOf a c e
+  pub step_before : MakesMoreSteps b c → (e : Met) → IsStepOf a b e → IsStepOf a c e
   step_before more e step = (
     step.0,
     step.1 ++ more.0,
@@ -38,7 +42,7 @@ module _ (a b c : Mine) where
   )
 
   -- or went before
-  pub step_after : GoesOn a b → (e : Met) → IsStepOf b c e → IsStepOf a c e
+  pub step_after : MakesMoreSteps a b → (e : Met) → IsStepOf b c e → IsStepOf a c e
   step_after more e step = (
     more.0 ++ step.0,
     step.1,
@@ -53,11 +57,11 @@ module _ (a b c : Mine) where
     each_append StaysThere more.0 step.0 more.2 step.2,
   )
 
-  pub goes_on : GoesOn a b → GoesOn b c → GoesOn a c
+  pub goes_on : MakesMoreSteps a b → MakesMoreSteps b c → MakesMoreSteps a c
   goes_on first more = (first.0 ++ more.0, more.1 ∙ ap (λ (log : List Met). log ++ more.0) first.1 ∙ append_assoc a.0.log first.0 more.0)
 
 -- who stays on goes on
-pub goes_staying : (a b : Mine) → StaysOn a b → GoesOn a b
+pub goes_staying : (a b : Mine) → StaysOn a b → MakesMoreSteps a b
 goes_staying a b more = (more.0, more.1)
 
 -- ---- deeds

@@ -23,7 +23,8 @@ use Rattle.mdl_visits.specs.Leavings.{HasWorked}
 use Rattle.mdl_visits.specs.Numbers.{numbered}
 use Rattle.mdl_system.specs.Strength.{covers}
 use Rattle.mdl_system.proofs.StrengthLemmas.{covers-at_least}
-use Rattle.mdl_visits.proofs.Arriving.{Arrives, has_worked, number_kept}
+use Rattle.mdl_visits.specs.Visits.{Arrives}
+use Rattle.mdl_visits.proofs.Arriving.{has_worked, number_kept}
 use Rattle.mdl_visits.proofs.Covered.{IsCovered, altered, altered_flagged, covered_by_own, own_mode, own_there}
 use Rattle.mdl_visits.proofs.Losing.{still_flagged, taken_out}
 use Rattle.mdl_visits.proofs.Numbers.{idle_waits_not}

@@ -17,12 +17,16 @@ use Rattle.mdl_steps.specs.Lists.{Each}
 use Rattle.mdl_steps.specs.Plays.{Mine, IsFresh, latched, unlatched, missed_latch, stepped, raised, noting, changed}
 use Rattle.mdl_steps.specs.Seats.{Holds, IsRising, written}
 use Rattle.mdl_steps.proofs.Hands.{elsewhere-stepped, elsewhere-rising}
-use Rattle.mdl_visits.specs.Visits.{and_made, deeds_of, MakesSteps, Lingers, IsInside, IsQuiet, StaysOn, StaysThere, Visits, Enters}
+use Rattle.mdl_visits.specs.Visits.{and_made, deeds_of, AllQuiet, MakesSteps, IsInside, IsQuiet, StaysOn, StaysThere, Visits, Enters}
 use Rattle.mdl_visits.proofs.Steps.{each_append, none_then}
 
 -- ---- steps
 
--- one that only met something
+-- steps were made between the two that only met something
+abbrev pub Lingers : Mine → Mine → Type 0
+Lingers m m′ = (made : List Met) × (m′ ≡ and_made made m) × AllQuiet m.0.directory made × (deeds_of made ≡ []) × Each StaysThere made
+
+-- one more
 pub lingers_one : (place found : ℕ) (m m′ m″ : Mine) → Lingers m m′ → m″ ≡ missed_latch place found m′ → Lingers m m″
 lingers_one place found m m′ m″ steps met =
     let e : Met = record { kind = MissLatch; deeds = []; word = latch_word place; found = found; held = m.0.latches; directory = m.0.directory } in (

@@ -29,8 +29,7 @@ use Rattle.mdl_steps.proofs.Views.{by_bool}
 use Rattle.mdl_visits.specs.WaitEndings.{idle, without_wait}
 use Rattle.mdl_visits.specs.Grantings.{StandsOnce}
 use Rattle.mdl_visits.specs.Leavings.{HasWorked}
-use Rattle.mdl_visits.specs.Visits.{CameTo, StaysThere}
-use Rattle.mdl_visits.proofs.Arriving.{Arrives}
+use Rattle.mdl_visits.specs.Visits.{Arrives, CameTo, StaysThere}
 use Rattle.mdl_visits.proofs.Losing.{any_before, no_longer}
 use Rattle.mdl_visits.proofs.Seats.{mine, place_there, table_of}
 use Rattle.mdl_visits.proofs.Steps.{each_append, none_then}

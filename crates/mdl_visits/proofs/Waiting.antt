@@ -26,7 +26,11 @@ use Rattle.mdl_steps.specs.Rule.{TellsLists}
 use Rattle.mdl_steps.specs.WaitPlays.{with_admitted}
 use Rattle.mdl_steps.proofs.Tickets.{is_itself, is_passed, without-hit, without-miss, of-without_other, of-without_own, once-without}
 use Rattle.mdl_steps.proofs.Views.{by_bool}
-use Rattle.mdl_visits.specs.Grantings.{IsOrderly, IsGrantableTicket, MayReschedule, ahead_of}
+use Rattle.mdl_visits.specs.Grantings.{IsOrderly, IsGrantableTicket, ahead_of}
+
+-- waits may be granted by a record whose flags tell the lists and this word of the lock, which is noted while the flag OBTRUSIVE is up
+abbrev pub MayReschedule : ℕ → LatchRecord → Type 0
+MayReschedule word h = IsOrderly h × (h.obtrusive ≡ true → h.noted ≡ Some word)
 
 -- ---- one of the list is taken out
 

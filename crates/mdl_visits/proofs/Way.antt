@@ -1,5 +1,7 @@
 -- Waits are granted step by step.
-use Rattle.std.proofs.Common.{◌≡◌, ℕ, ◌+◌, ◌*◌, ◌%◌, ◌<◌, ◌==◌, ◌&&◌, nat_lt, false, List, [], ◌∷◌, ◌++◌, Some, None, refl, sym, ap, ◌∙◌, subst, append_assoc, append-nil, inl, inr, arith}
+use Rattle.std.proofs.Common.{◌≡◌, ℕ, ◌%◌, ◌<◌, ◌==◌, ◌&&◌, nat_lt, not, false, List, filter, [], ◌∷◌, ◌++◌, Some, None, refl, sym, ap, ◌∙◌, subst, append_assoc, append-nil, inl, inr, arith}
+use Rattle.std.specs.Prelude.{Option}
+use Rattle.mdl_steps.specs.Lists.{Each}
 use Rattle.std.proofs.lemmas.Bool.{and_parts, eqb-true, ltb-true}
 use Rattle.atomic_table.specs.Seated.{TableId}
 use Rattle.mdl_book.specs.declared.book_view.BookView.{BookView}
@@ -19,51 +21,33 @@ use Rattle.mdl_steps.specs.WaitPlays.{wait_in, met_wait_by, meeting, settled_gra
 use Rattle.mdl_steps.proofs.Hands.{elsewhere-stepped}
 use Rattle.mdl_steps.proofs.Views.{by_bool, held_at-changed}
 use Rattle.mdl_visits.specs.Grantings.{AreGranted, ArePassedOver, HasJustMet, IsLookedThrough, IsGrantableTicket, Reschedules, MeetsGranted, OnlyMeets, StaysTold, WasSettled, ahead_of}
-use Rattle.mdl_visits.specs.Visits.{GoesOn, IsStepAfter, IsStepOf, StaysOn, StaysThere, gives_back, raises_flags}
-use Rattle.mdl_visits.proofs.Steps.{each_append, each_map, goes_on, none_then, step_after}
+use Rattle.mdl_visits.specs.Visits.{MakesMoreSteps, IsStepOf, IsStepAfter, StaysOn, StaysThere, deeds_of, gives_back, raises_flags}
+use Rattle.mdl_visits.proofs.Steps.{each_append, goes_none, goes_on, none_then, step_after}
 
 -- ---- what is told of one's own wait
 
--- what a session meets of its own wait agrees with what it was told
-pub stays_met : (slots session word : ℕ) (v : View) → TellsOwn slots session word v → StaysTold v.told (meeting session word v).told
-stays_met slots session word v own state told =
-    by_bool (session == v.number && nat_lt 1 (word % 8))
+-- after a word of a session's wait another is met, which is the same where that wait isn't unsettled: it agrees with what the session was told of its own
+-- wait, and a session without a wait meets none of its own that is settled
+pub own_told : (slots session word now : ℕ) (v : View) → TellsOwn slots session word v → ((word % 8 ≡ 1 → ⊥) → now ≡ word)
+    → StaysTold v.told (meeting session now v).told × (v.asks ≡ None → (meeting session now v).told ≡ v.told)
+own_told slots session word now v own same =
+    by_bool (session == v.number && nat_lt 1 (now % 8))
     (λ mine.
-    let who = eqb-true session v.number (and_parts (session == v.number) (nat_lt 1 (word % 8)) mine).0 in
-    rw mine (ap (λ (n : ℕ). Some n) ((own who).told state told).1))
-    (λ other. rw other told)
-
--- an unsettled wait of its own was told as settled nowhere
-pub stays_granted : (slots session number : ℕ) (v : View) → TellsOwn slots session (wait_in number 1) v → StaysTold v.told (meeting session (wait_in number 2) v).told
-stays_granted slots session number v own state told =
-    by_bool (session == v.number && nat_lt 1 (wait_in number 2 % 8))
-    (λ mine.
-    let who = eqb-true session v.number (and_parts (session == v.number) (nat_lt 1 (wait_in number 2 % 8)) mine).0 in
-    let was : (1 < state) × (wait_in number 1 % 8 ≡ state) = (own who).told state told in
-    let more = was.0 in
-    let same : (8 * number + 1) % 8 ≡ state = was.1 in
-    absurd (omega arith))
-    (λ other. rw other told)
-
--- and a session without a wait meets none of its own that is settled, or was just now
-pub unasked_met : (slots session word : ℕ) (v : View) → TellsOwn slots session word v → v.asks ≡ None → (meeting session word v).told ≡ v.told
-unasked_met slots session word v own none =
-    by_bool (session == v.number && nat_lt 1 (word % 8))
-    (λ mine.
-    let parts = and_parts (session == v.number) (nat_lt 1 (word % 8)) mine in
-    let idle : word % 8 ≡ 0 = (own (eqb-true session v.number parts.0)).idle none in
-    let over : 1 < word % 8 = ltb-true 1 (word % 8) parts.1 in
-    absurd (omega arith))
-    (λ other. rw other refl)
-
-pub unasked_granted : (slots session number : ℕ) (v : View) → TellsOwn slots session (wait_in number 1) v → v.asks ≡ None → (meeting session (wait_in number 2) v).told ≡ v.told
-unasked_granted slots session number v own none =
-    by_bool (session == v.number && nat_lt 1 (wait_in number 2 % 8))
-    (λ mine.
-    let who = eqb-true session v.number (and_parts (session == v.number) (nat_lt 1 (wait_in number 2 % 8)) mine).0 in
-    let idle : (8 * number + 1) % 8 ≡ 0 = (own who).idle none in
-    absurd (omega arith))
-    (λ other. rw other refl)
+    let parts = and_parts (session == v.number) (nat_lt 1 (now % 8)) mine in
+    let tells = own (eqb-true session v.number parts.0) in
+    let over : 1 < now % 8 = ltb-true 1 (now % 8) parts.1 in (
+      λ state told.
+          let was : (1 < state) × (word % 8 ≡ state) = tells.told state told in
+          let more = was.0 in
+          let met = was.1 in
+          let still : now % 8 ≡ word % 8 = ap (λ (n : ℕ). n % 8) (same (λ one. omega (arith, more, met, one))) in
+          rw mine (ap (λ (n : ℕ). Some n) (still ∙ met)),
+      λ none.
+          let idle : word % 8 ≡ 0 = tells.idle none in
+          let still : now % 8 ≡ word % 8 = ap (λ (n : ℕ). n % 8) (same (λ one. omega (arith, idle, one))) in
+          absurd (omega (arith, over, still, idle)),
+    ))
+    (λ other. ((λ state told. rw other told), (λ none. rw other refl)))
 
 -- ---- what was met between two was met between any two that are farther apart
 
@@ -98,27 +82,8 @@ module _ (a b c d : Mine) (wider : (e : Met) → IsStepOf a b e → IsStepOf c d
 
 -- ---- and what was granted
 
-module _ (id : TableId) (place : ℕ) (grants : List Settlement) (start a b c : Mine) where
-  -- more steps follow
-  pub granted_before : GoesOn b c → AreGranted id place grants start a b → AreGranted id place grants start a c
-  granted_before more =
-      each_map (λ (g : Settlement). (e : Met) × (x : Mine) × IsStepAfter a x b e × MeetsGranted id place start x g e) (λ (g : Settlement). (e : Met) × (x : Mine) × IsStepAfter a x c e × MeetsGranted id place start x g e)
-      (λ g met. (
-        met.0,
-        met.1,
-        (met.2.0, met.2.1 ++ more.0, more.1 ∙ ap (λ (log : List Met). log ++ more.0) met.2.2 ∙ append_assoc met.1.0.log (met.0 ∷ met.2.1) more.0),
-        met.3,
-      ))
-      grants
-
-  -- or went before
-  pub granted_after : GoesOn a b → AreGranted id place grants start b c → AreGranted id place grants start a c
-  granted_after more =
-      each_map (λ (g : Settlement). (e : Met) × (x : Mine) × IsStepAfter b x c e × MeetsGranted id place start x g e) (λ (g : Settlement). (e : Met) × (x : Mine) × IsStepAfter a x c e × MeetsGranted id place start x g e)
-      (λ g met. (met.0, met.1, (goes_on a b met.1 more met.2.0, met.2.1, met.2.2), met.3)) grants
-
 -- it is told from an earlier start on
-meets_since : (id : TableId) (place : ℕ) (first start x : Mine) (g : Settlement) (e : Met) → GoesOn first start → MeetsGranted id place start x g e → MeetsGranted id place first x g e
+meets_since : (id : TableId) (place : ℕ) (first start x : Mine) (g : Settlement) (e : Met) → MakesMoreSteps first start → MeetsGranted id place start x g e → MeetsGranted id place first x g e
 meets_since id place first start x g e more met = record {
   state = met.state;
   kind = met.kind;
@@ -134,10 +99,19 @@ meets_since id place first start x g e more met = record {
   earliest = looked_within start x first x (step_after first start x more) id place met.before (ahead_of g.session met.wish.number met.before.book.waiting) met.earliest;
 }
 
-pub granted_since : (id : TableId) (place : ℕ) (grants : List Settlement) (first start a b : Mine) → GoesOn first start → AreGranted id place grants start a b → AreGranted id place grants first a b
-granted_since id place grants first start a b more =
-    each_map (λ (g : Settlement). (e : Met) × (x : Mine) × IsStepAfter a x b e × MeetsGranted id place start x g e) (λ (g : Settlement). (e : Met) × (x : Mine) × IsStepAfter a x b e × MeetsGranted id place first x g e)
-    (λ g met. (met.0, met.1, met.2, meets_since id place first start met.1 g met.0 more met.3)) grants
+module _ (id : TableId) (place : ℕ) (first start c a b d : Mine) (since : MakesMoreSteps first start) (before : MakesMoreSteps c a) (after : MakesMoreSteps b d) where
+  pub granted_within : (grants : List Settlement) → AreGranted id place grants start a b → AreGranted id place grants first c d
+  granted_within [] all = tt
+  granted_within (g ∷ more) all =
+      let met = all.0 in (
+        (
+          met.0,
+          met.1,
+          (goes_on c a met.1 before met.2.0, met.2.1 ++ after.0, after.1 ∙ ap (λ (log : List Met). log ++ after.0) met.2.2 ∙ append_assoc met.1.0.log (met.0 ∷ met.2.1) after.0),
+          meets_since id place first start met.1 g met.0 since met.3,
+        ),
+        granted_within more all.1,
+      )
 
 -- ---- waits are granted
 
@@ -147,59 +121,50 @@ only_stays kind (inl read) = rw read (refl, refl)
 only_stays kind (inr missed) = rw missed (refl, refl)
 
 module _ (id : TableId) (place : ℕ) (start : Mine) where
-  -- ---- nothing yet
-
-  pub rescheduled_none : (book : BookView) (m : Mine) → m.1 ≡ (place, slot.Place book) ∷ rest m.1 → Reschedules id place start m m
-  rescheduled_none book m carried = record {
-    latches = m.0.latches;
-    told = m.0.told;
+  -- nobody is granted
+  nobody_granted : (latches : List LatchRecord) (told : Option ℕ) (made : List Met) (book : BookView) (m m′ : Mine)
+      → m′ ≡ (record m.0 { latches = latches; told = told; log = m.0.log ++ made }, (place, slot.Place book) ∷ rest m.1) → filter (λ h. not (h.place == place)) latches ≡ elsewhere place m
+      → StaysTold m.0.told told × (m.0.asks ≡ None → told ≡ m.0.told) → deeds_of made ≡ [] → Each StaysThere made → Reschedules id place start m m′
+  nobody_granted latches told made book m m′ is others tells did kept = record {
+    latches = latches;
+    told = told;
     grants = [];
-    made = [];
+    made = made;
     book = book;
-    now = λ i. (record m.0 { settles = sym (append-nil m.0.settles) i; log = sym (append-nil m.0.log) i }, carried i);
-    others = refl;
-    stays = λ state e. e;
-    unasked = λ none. refl;
+    now = is ∙ (λ i. (record m.0 { latches = latches; told = told; settles = sym (append-nil m.0.settles) i; log = m.0.log ++ made }, (place, slot.Place book) ∷ rest m.1));
+    others = others;
+    stays = tells.0;
+    unasked = tells.1;
     granted = tt;
-    did = refl;
-    kept = tt;
+    did = did;
+    kept = kept;
   }
 
-  -- ---- one step
+  -- the book in hand was written
+  pub rescheduled_written : (next : BookView) (m m′ : Mine) → m′ ≡ written place next m → Reschedules id place start m m′
+  rescheduled_written next m m′ is =
+      nobody_granted m.0.latches m.0.told [] next m m′ (is ∙ (λ i. (record m.0 { log = sym (append-nil m.0.log) i }, (place, slot.Place next) ∷ rest m.1))) refl
+      ((λ state e. e), (λ none. refl)) refl tt
 
+  -- or nothing was done yet
+  pub rescheduled_none : (book : BookView) (m : Mine) → m.1 ≡ (place, slot.Place book) ∷ rest m.1 → Reschedules id place start m m
+  rescheduled_none book m carried = rescheduled_written book m m (λ i. (m.0, carried i))
+
+  -- a wait's word was met
   pub rescheduled_met : (kind : StepKind) → OnlyMeets kind → (session found : ℕ) (book : BookView) (m m′ : Mine) → m.1 ≡ (place, slot.Place book) ∷ rest m.1 → TellsOwn id.slots session found m.0
       → m′ ≡ met_wait_by kind id.slots session found m → Reschedules id place start m m′
-  rescheduled_met kind only session found book m m′ carried own is = record {
-    latches = m.0.latches;
-    told = (meeting session found m.0).told;
-    grants = [];
-    made = record { kind = kind; deeds = []; word = wait_word id.slots session; found = found; held = m.0.latches; directory = m.0.directory } ∷ [];
-    book = book;
-    now = is ∙ (λ i. (record (met_wait_by kind id.slots session found m).0 { settles = sym (append-nil m.0.settles) i }, carried i));
-    others = refl;
-    stays = stays_met id.slots session found m.0 own;
-    unasked = unasked_met id.slots session found m.0 own;
-    granted = tt;
-    did = refl;
-    kept = (only_stays kind only, tt);
-  }
+  rescheduled_met kind only session found book m m′ carried own is =
+      nobody_granted m.0.latches (meeting session found m.0).told
+      (record { kind = kind; deeds = []; word = wait_word id.slots session; found = found; held = m.0.latches; directory = m.0.directory } ∷ []) book m m′
+      (is ∙ (λ i. ((met_wait_by kind id.slots session found m).0, carried i))) refl (own_told id.slots session found found m.0 own (λ _. refl)) refl (only_stays kind only, tt)
 
   -- the lock's word was read
   pub rescheduled_read : (word : ℕ) (book : BookView) (m m′ : Mine) → m.1 ≡ (place, slot.Place book) ∷ rest m.1 → m′ ≡ stepped ReadWord place word (noting word) m → Reschedules id place start m m′
-  rescheduled_read word book m m′ carried is = record {
-    latches = (changed place (noting word) m.0).latches;
-    told = m.0.told;
-    grants = [];
-    made = record { kind = ReadWord; deeds = []; word = lock_word place; found = word; held = (changed place (noting word) m.0).latches; directory = m.0.directory } ∷ [];
-    book = book;
-    now = is ∙ (λ i. (record (stepped ReadWord place word (noting word) m).0 { settles = sym (append-nil m.0.settles) i }, carried i));
-    others = elsewhere-stepped ReadWord place word (noting word) m (λ x. refl);
-    stays = λ state e. e;
-    unasked = λ none. refl;
-    granted = tt;
-    did = refl;
-    kept = ((refl, refl), tt);
-  }
+  rescheduled_read word book m m′ carried is =
+      let latches = (changed place (noting word) m.0).latches in
+      nobody_granted latches m.0.told (record { kind = ReadWord; deeds = []; word = lock_word place; found = word; held = latches; directory = m.0.directory } ∷ []) book m m′
+      (is ∙ (λ i. ((stepped ReadWord place word (noting word) m).0, carried i))) (elsewhere-stepped ReadWord place word (noting word) m (λ x. refl))
+      ((λ state e. e), (λ none. refl)) refl ((refl, refl), tt)
 
   module _ (session ticket number : ℕ) (h : LatchRecord) (book : BookView) (m m′ : Mine) (has : Holds place h book m) (ready : IsGrantableTicket session ticket h) (just : HasJustMet id.slots place session h m)
       (looked : IsLookedThrough id place h (ahead_of session ticket h.book.waiting) start m) (is : m′ ≡ settled_granted id.slots place session ticket number m) where
@@ -229,7 +194,7 @@ module _ (id : TableId) (place : ℕ) (start : Mine) where
 
     pub rescheduled_granted : ready.wish.number ≡ ticket → TellsOwn id.slots session (wait_in number 1) m.0 → Reschedules id place start m m′
     unfolding grants_it latches_then
-    rescheduled_granted wish_number own = record {
+    rescheduled_granted wish_number own = let tells = own_told id.slots session (wait_in number 1) (wait_in number 2) m.0 own (λ no. absurd (no (omega arith))) in record {
       latches = latches_then;
       told = (meeting session (wait_in number 2) m.0).told;
       grants = record { session = session; wait = number; state = 2 } ∷ [];
@@ -237,8 +202,8 @@ module _ (id : TableId) (place : ℕ) (start : Mine) where
       book = book;
       now = is ∙ (λ i. ((settled_granted id.slots place session ticket number m).0, has.carried i));
       others = elsewhere-stepped GrantWait place 0 (with_admitted session ticket) m (λ x. refl);
-      stays = stays_granted id.slots session number m.0 own;
-      unasked = unasked_granted id.slots session number m.0 own;
+      stays = tells.0;
+      unasked = tells.1;
       granted = (
         (grants_it, m, (([], sym (append-nil m.0.log)), [], ap (λ (x : Mine). x.0.log) is), meets wish_number),
         tt,
@@ -247,26 +212,9 @@ module _ (id : TableId) (place : ℕ) (start : Mine) where
       kept = ((refl, refl), tt);
     }
 
-  -- the book in hand was written
-  pub rescheduled_written : (book next : BookView) (m m′ : Mine) → m.1 ≡ (place, slot.Place book) ∷ rest m.1 → m′ ≡ written place next m → Reschedules id place start m m′
-  rescheduled_written book next m m′ carried is = record {
-    latches = m.0.latches;
-    told = m.0.told;
-    grants = [];
-    made = [];
-    book = next;
-    now = is ∙ (λ i. (record m.0 { settles = sym (append-nil m.0.settles) i; log = sym (append-nil m.0.log) i }, (place, slot.Place next) ∷ rest m.1));
-    others = refl;
-    stays = λ state e. e;
-    unasked = λ none. refl;
-    granted = tt;
-    did = refl;
-    kept = tt;
-  }
-
   -- ---- one after another
 
-  pub steps_of : (m m′ : Mine) → Reschedules id place start m m′ → GoesOn m m′
+  pub steps_of : (m m′ : Mine) → Reschedules id place start m m′ → MakesMoreSteps m m′
   steps_of m m′ way = (way.made, ap (λ (x : Mine). x.0.log) way.now)
 
   pub stays_of : (m m′ : Mine) → Reschedules id place start m m′ → StaysOn m m′
@@ -286,7 +234,8 @@ module _ (id : TableId) (place : ℕ) (start : Mine) where
     stays = λ state e. y.stays state (ap (λ (w : Mine). w.0.told) x.now ∙ x.stays state e);
     unasked = λ none. y.unasked (ap (λ (w : Mine). w.0.asks) x.now ∙ none) ∙ ap (λ (w : Mine). w.0.told) x.now ∙ x.unasked none;
     granted = each_append (λ (g : Settlement). (e : Met) × (s : Mine) × IsStepAfter a s c e × MeetsGranted id place start s g e) x.grants y.grants
-        (granted_before id place x.grants start a b c (steps_of b c y) x.granted) (granted_after id place y.grants start a b c (steps_of a b x) y.granted);
+        (granted_within id place start start a a b c (goes_none start) (goes_none a) (steps_of b c y) x.grants x.granted)
+        (granted_within id place start start a b c c (goes_none start) (steps_of a b x) (goes_none c) y.grants y.granted);
     did = none_then x.made y.made [] x.did y.did;
     kept = each_append StaysThere x.made y.made x.kept y.kept;
   }

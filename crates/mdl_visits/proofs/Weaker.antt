@@ -19,7 +19,8 @@ use Rattle.mdl_visits.specs.Leavings.{HasWorked}
 use Rattle.mdl_visits.specs.Numbers.{numbered}
 use Rattle.mdl_system.specs.Strength.{covers, may_downgrade}
 use Rattle.mdl_system.proofs.StrengthLemmas.{downgrade-listed}
-use Rattle.mdl_visits.proofs.Arriving.{Arrives, has_worked, number_kept, unwaited_there}
+use Rattle.mdl_visits.specs.Visits.{Arrives}
+use Rattle.mdl_visits.proofs.Arriving.{has_worked, number_kept, unwaited_there}
 use Rattle.mdl_visits.proofs.Covered.{IsCovered, altered, altered_flagged, covered_by, fits_lock, gained_flagged, own_there, stands}
 use Rattle.mdl_visits.proofs.Trying.{refusal}
 

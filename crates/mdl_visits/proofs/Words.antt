@@ -17,11 +17,11 @@ use Rattle.mdl_steps.specs.WaitPlays.{TellsOwn, meeting, met_wait_by, met_wait}
 use Rattle.mdl_steps.specs.WaitSeats.{IsSession}
 use Rattle.mdl_visits.specs.declared.waits_read.WaitRead.{WaitRead}
 use Rattle.mdl_visits.specs.Searches.{OnlyReadsWaits, ReadsWaitsQuietly, WasRead, sessions_to, with_waits_read}
-use Rattle.mdl_visits.specs.Visits.{AllQuiet, GoesOn, IsQuiet, raises_flags}
+use Rattle.mdl_visits.specs.Visits.{AllQuiet, MakesMoreSteps, IsQuiet, raises_flags}
 use Rattle.mdl_visits.proofs.Asking.{goes_nowhere, step_within}
 use Rattle.mdl_visits.proofs.Seats.{mine, table_of}
 use Rattle.mdl_visits.proofs.Steps.{each_append, none_then}
-use Rattle.mdl_visits.proofs.Way.{stays_met}
+use Rattle.mdl_visits.proofs.Way.{own_told}
 
 -- ---- what becomes of the session
 
@@ -63,7 +63,7 @@ reads_on a b c first second =
 pub only_reads_on : (a b c : SeatState) → OnlyReadsWaits a b → OnlyReadsWaits b c → OnlyReadsWaits a c
 only_reads_on a b c first second = (reads_on a b c first.0 second.0, second.1 ∙ first.1)
 
-pub goes_reading : (m m′ : Mine) → ReadsWaitsQuietly m m′ → GoesOn m m′
+pub goes_reading : (m m′ : Mine) → ReadsWaitsQuietly m m′ → MakesMoreSteps m m′
 goes_reading m m′ reads = (reads.reads.made, ap (λ (x : Mine). x.0.log) reads.reads.now)
 
 -- the table, the latches and the session's number stay
@@ -82,7 +82,7 @@ reads_word kind none slots session found m m′ own met = record {
     settles = m.0.settles;
     now = met;
     did = refl;
-    stays = stays_met slots session found m.0 own;
+    stays = (own_told slots session found found m.0 own (λ _. refl)).0;
   };
   had = ((refl, none), tt);
 }
@@ -94,7 +94,7 @@ only_reads_word slots session found a b own met =
 -- ---- one word more
 
 -- what was read stays so of a call that did something before and after
-pub all_within : (slots : ℕ) (latches : List LatchRecord) (a b c d : Mine) (words : List WaitRead) → GoesOn a b → GoesOn c d → All (WasRead slots latches b c) words → All (WasRead slots latches a d) words
+pub all_within : (slots : ℕ) (latches : List LatchRecord) (a b c d : Mine) (words : List WaitRead) → MakesMoreSteps a b → MakesMoreSteps c d → All (WasRead slots latches b c) words → All (WasRead slots latches a d) words
 all_within slots latches a b c d words before after all =
     All-weaker (WasRead slots latches b c) (WasRead slots latches a d) (λ r was. (was.0, step_within a b c d was.0 before was.1 after, was.2, was.3, was.4)) words all
 

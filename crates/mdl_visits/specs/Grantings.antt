@@ -1,8 +1,6 @@
 -- How a session reschedules at a place whose latch it holds: it grants the waits there that can be granted, the first in order of arrival first.
 use Rattle.std.specs.Prelude.{◌≡◌, ◌≢◌, ℕ, ◌==◌, not, Bool, true, false, List, [], ◌∷◌, ◌++◌, Contains, filter, is_some, Option, Some, None, ◌⊎◌}
 use Rattle.std.specs.List.{before_first}
-use Rattle.std.specs.FinSet as set
-use Rattle.std.specs.Ordering.{nat_cmp}
 use Rattle.atomic_table.specs.Seated.{TableId}
 use Rattle.mdl_book.specs.declared.book_view.BookView.{BookView}
 use Rattle.mdl_book.specs.declared.ticket.Ticket.{Ticket}
@@ -114,10 +112,6 @@ pub record StandsOnce (waiting : List Ticket) : Type 0 where
 abbrev pub IsOrderly : LatchRecord → Type 0
 IsOrderly h = StandsOnce h.book.waiting × TellsLists h.book h.slow h.obtrusive
 
--- and this word of the lock is noted while the flag OBTRUSIVE is up
-abbrev pub MayReschedule : ℕ → LatchRecord → Type 0
-MayReschedule word h = IsOrderly h × (h.obtrusive ≡ true → h.noted ≡ Some word)
-
 -- a session's ticket of this number waits there, and can be granted
 pub record IsGrantableTicket (session number : ℕ) (h : LatchRecord) : Type 0 where
   pub wish : Ticket
@@ -128,12 +122,6 @@ pub record IsGrantableTicket (session number : ℕ) (h : LatchRecord) : Type 0 w
 -- a ticket was tried: the table has no such session, or a step met its wait settled
 abbrev pub IsTried : TableId → ℕ → ℕ → ℕ → Mine → Mine → Type 0
 IsTried id place session number m m′ = (IsSession id session → ⊥) ⊎ WasSettled id.slots place session number m m′
-
--- each ticket that waits by the record was tried, if its session is left out of the set
-abbrev pub AreTried : TableId → ℕ → set.FinSet nat_cmp → LatchRecord → Mine → Mine → Type 0
-AreTried id place untried h m m′ =
-    (t : Ticket) → Contains h.book.waiting t → is_session t.session ≡ true → set.contains untried t.session ≡ false →
-    IsTried id place t.session t.number m m′
 
 -- what came of a try to grant a ticket: it was tried and all stands as it was, or it is granted
 abbrev pub IsTriedOrGranted : TableId → ℕ → ℕ → ℕ → LatchRecord → Mine → Mine → Type 0

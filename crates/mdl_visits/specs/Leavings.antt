@@ -5,6 +5,7 @@ use mathlib.Core.Option.{some}
 use Rattle.mdl_defs.specs.declared.standing.Standing.{Standing}
 use Rattle.mdl_book.specs.Tickets.{ticket_of}
 use Rattle.mdl_steps.specs.declared.deed.Deed.{Deed}
+use Rattle.mdl_steps.specs.declared.deed.Deed.TheVariants.{Alter, Lose}
 use Rattle.mdl_steps.specs.declared.step_kind.StepKind.TheVariants.{PutLatch}
 use Rattle.mdl_steps.specs.declared.view.LatchRecord.{LatchRecord}
 use Rattle.mdl_steps.specs.declared.view.Met.{Met}
@@ -56,6 +57,12 @@ pub record MeetsOwn (place session number : ℕ) (e : Met) : Type 0 where
 -- a step that was made between the two met the session's own granted ticket so, and did these deeds
 abbrev pub DoesToOwn : ℕ → ℕ → List Deed → SeatState → SeatState → Type 0
 DoesToOwn place number ds s s′ = (e : Met) × IsStepOf s.me s′.me e × MeetsOwn place s.me.0.number number e × (e.deeds ≡ ds)
+
+-- likewise two of its tickets of a place, and gave the one the other's mode as that one went
+abbrev pub MergesOwn : Own → Own → SeatState → SeatState → Type 0
+MergesOwn kept gone s s′ =
+    (e : Met) × IsStepOf s.me s′.me e × MeetsOwn kept.place s.me.0.number kept.number e × MeetsOwn kept.place s.me.0.number gone.number e
+    × (e.deeds ≡ Alter kept.number gone.mode ∷ Lose gone.number ∷ [])
 
 -- one of the tickets is of this number, at this place
 abbrev pub HasTicket : ℕ → ℕ → List Own → Type 0

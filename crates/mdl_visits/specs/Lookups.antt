@@ -14,11 +14,16 @@ use Rattle.mdl_steps.specs.SeatStates.{SeatState}
 use Rattle.mdl_steps.specs.Seats.{HasDirectory, place_among, rest}
 use Rattle.mdl_visits.specs.declared.resolve_error.ResolveError.{ResolveError}
 use Rattle.mdl_visits.specs.declared.resolve_error.ResolveError.TheVariants.{NoPlace, OutOfMemory}
-use Rattle.mdl_visits.specs.Visits.{AllQuiet, IsQuiet, and_made, deeds_of}
+use Rattle.mdl_visits.specs.Visits.{AllQuiet, IsQuiet, MakesSteps, and_made, deeds_of}
 
 -- the seat whose session knows one key more
 abbrev pub knowing : Known → Mine → Mine
 knowing known m = (record m.0 { known = m.0.known ++ known ∷ [] }, m.1)
+
+-- the session knows that a key has this place of the table, and nothing else changed but that steps without deeds were made
+abbrev pub LearnsPlace : KeyName → ℕ → SeatState → SeatState → Type 0
+LearnsPlace key place s s′ =
+    (0 < place) × (place < s.table.slots) × MakesSteps (knowing (record { key = key; place = place }) s.me) s′.me
 
 -- the step that gives the directory's latch back, by whose record these are the keys
 abbrev pub given_back : Keys → Mine → Met
@@ -39,6 +44,10 @@ pub record TookDirectory (slots : ℕ) (k left : Keys) (old new : Mine) : Type 0
   pub none_before : AllQuiet None before
   pub either_within : Each (HadEither k left) within
   pub none_after : AllQuiet None after
+
+-- the directory's latch was taken and given back, whose record stayed, and by that record this is so
+abbrev pub AsksDirectory : SeatState → SeatState → (Keys → Type 0) → Type 0
+AsksDirectory s s′ IsSo = (k : Keys) × TookDirectory s.table.slots k k s.me s′.me × IsSo k
 
 -- what is answered by the directory's record, and the record that is left: a key that has a place keeps it, and that takes no memory; a new one gets
 -- the place after all others, if there is one, and nothing else changes

@@ -15,7 +15,9 @@ use Rattle.mdl_steps.specs.Cells.{held_at, own_at, reads_at}
 use Rattle.mdl_steps.specs.Deeds.{NotWaited}
 use Rattle.mdl_steps.specs.Lists.{Each}
 use Rattle.mdl_steps.specs.Plays.{Mine}
-use Rattle.mdl_visits.specs.Leavings.{HasTicket, MeetsStanding}
+use Rattle.mdl_steps.specs.SeatStates.{SeatState}
+use Rattle.mdl_visits.specs.Leavings.{HasTicket, Learns, MeetsStanding}
+use Rattle.mdl_visits.specs.Visits.{IsStepOf}
 
 -- it read nothing
 abbrev pub ReadsNothing : Mine → Mine → Type 0
@@ -33,6 +35,12 @@ WasHeld place session number e =
 -- each slow ticket that the session has at a place was, but for one that it waits for. A fast ticket is in no book
 abbrev pub WereHeld : ℕ → ℕ → Mine → Met → Type 0
 WereHeld place session m e = (number : ℕ) → HasTicket place number m.0.slow → NotWaited m.0 number → WasHeld place session number e
+
+-- the session learnt what stands at a place by a step that gave the latch back, at which each ticket that it has there was granted but one that it waits for
+abbrev pub ReadsStanding : ℕ → Standing → SeatState → SeatState → Type 0
+ReadsStanding place standing s s′ =
+    Learns place standing s.me s′.me
+    × ((e : Met) × IsStepOf s.me s′.me e × MeetsStanding place s.me.0.number standing e × WereHeld place s.me.0.number s.me e)
 
 -- a step that gave the latch of a place back, by whose record this was defined there and the session's ticket of this number was granted
 abbrev pub MeetsRead : ℕ → ℕ → ℕ → Standing → Met → Type 0

@@ -49,6 +49,11 @@ pub record AreOfAll (id : TableId) (words : List WaitRead) : Type 0 where
 abbrev pub WasRead : ℕ → List LatchRecord → Mine → Mine → WaitRead → Type 0
 WasRead slots latches m m′ r = (e : Met) × IsStepOf m m′ e × (e.word ≡ wait_word slots r.session) × (e.found ≡ r.word.0) × (e.held ≡ latches)
 
+-- such a word of a session's wait was put behind others
+abbrev pub AddsRead : ℕ → List WaitRead → List WaitRead → SeatState → SeatState → Type 0
+AddsRead session words words′ s s′ =
+    (r : WaitRead) × (r.session ≡ session) × (words′ ≡ words ++ r ∷ []) × WasRead s.table.slots s.me.0.latches s.me s′.me r
+
 -- the word that was read of a session's wait, if any
 abbrev pub read_of : ℕ → List WaitRead → Option WaitRead
 read_of session words = find (λ (r : WaitRead). r.session == session) words
@@ -66,6 +71,10 @@ books_of audited = map (λ (a : Audited). a.book) audited
 -- these are the lists of the books, each with its lock's namespace
 abbrev pub AreQueuesOf : List Audited → List Queues → Type 0
 AreQueuesOf audited lists = map (λ (a : Audited). queues_of a.book) audited ≡ lists
+
+-- the lists of more books stand behind those of any before
+abbrev pub AddsQueues : List Audited → List Queues → List Queues → Type 0
+AddsQueues more lists lists′ = (copied : List Audited) → AreQueuesOf copied lists → AreQueuesOf (copied ++ more) lists′
 
 -- one of the steps between the two met the unsettled wait of a session and settled it, as the victim's, while the session that searches had just
 -- these latches, and no other wait was settled

@@ -1,7 +1,8 @@
 -- How a session finds the tables of a schema that have a definition: the directory tells the tables, and the session asks at the place of each.
-use Rattle.std.specs.Prelude.{◌≡◌, ℕ, ◌<◌, Bool, true, List, ◌++◌, map, filter, All, AllPairs, Contains, is_some, Some}
+use Rattle.std.specs.Prelude.{◌≡◌, ℕ, ◌+◌, ◌<◌, ◌≤◌, Bool, if◌then◌else◌, true, List, [], ◌∷◌, ◌++◌, length, map, filter, All, AllPairs, Contains, is_some, Some, Vec}
 use Rattle.std.specs.List.Sorted.{IsPermutation, IsSortedBy}
 use Rattle.std.specs.Ordering.{is_lt}
+use Rattle.std.specs.Vec.{vec_capacity, vec_len}
 use Rattle.std.specs.declared.cmp.Ordering.TheVariants.{Less}
 use Rattle.mdl_key.specs.Keys.{key_cmp}
 use Rattle.mdl_steps.specs.declared.step_kind.StepKind.TheVariants.{PutLatch}
@@ -14,6 +15,7 @@ use Rattle.mdl_steps.specs.Layout.{latch_word}
 use Rattle.mdl_steps.specs.Plays.{Mine}
 use Rattle.mdl_steps.specs.Rule.{key_at}
 use Rattle.mdl_steps.specs.Schemas.{is_table_of, tables_from, unknown}
+use Rattle.mdl_visits.specs.KnownLists.{KnownList}
 use Rattle.mdl_visits.specs.Visits.{IsStepOf}
 
 -- ---- which tables there are
@@ -45,6 +47,11 @@ knowing_all tables m = (record m.0 { known = m.0.known ++ unknown m.0.known tabl
 abbrev pub AreWithin : ℕ → List Known → Type 0
 AreWithin slots tables = All (λ (x : Known). (0 < x.place) × (x.place < slots)) tables
 
+-- a session's list of keys has room for these tables, at any place, and an empty list of places for the place of each
+abbrev pub HaveRoom : {Z : Type 0} → KnownList → ℕ → List Known → Vec ℕ Z → Type 0
+HaveRoom known slots tables places =
+    (length tables ≤ known.room) × (slots ≤ known.reach) × (places.items ≡ []) × (vec_len places + length tables ≤ vec_capacity places)
+
 -- ---- which of them have a definition
 
 -- a step that gave the latch of a place back, whose record tells whether a definition stood there
@@ -68,6 +75,11 @@ WasAsked session m m′ a = (e : Met) × IsStepOf m m′ e × MeetsDefinition a.
 -- the places of those that had one
 abbrev pub told : List Asked → List ℕ
 told asked = map (λ (a : Asked). a.table.place) (filter (λ (a : Asked). a.defined) asked)
+
+-- one table was asked, and its place put behind others if it had a definition
+abbrev pub AddsIfDefined : ℕ → Known → List ℕ → List ℕ → Mine → Mine → Type 0
+AddsIfDefined session table places places′ m m′ =
+    (defined : Bool) × WasAsked session m m′ (record { table = table; defined = defined }) × (places′ ≡ places ++ (if defined then table.place ∷ [] else []))
 
 -- each of these tables was asked in turn, and these are the places of those that had a definition
 pub record HasAsked (session : ℕ) (tables : List Known) (places : List ℕ) (m m′ : Mine) : Type 0 where

@@ -1,6 +1,6 @@
 -- A visit of a session to a place: it takes the latch there, does what it came for, and gives the latch back. What it met
 -- there stands in its list of steps.
-use Rattle.std.specs.Prelude.{◌≡◌, ℕ, ◌≤◌, ◌==◌, not, Bool, true, false, List, [], ◌∷◌, ◌++◌, filter, Option, Some, None, ◌⊎◌}
+use Rattle.std.specs.Prelude.{◌≡◌, ℕ, ◌≤◌, ◌==◌, not, Bool, true, false, List, [], ◌∷◌, ◌++◌, filter, Option, Some, None, ◌⊎◌, Result, MatchResult}
 use lib.ListN.{get_elem?}
 use mathlib.Core.Option.{some}
 use Rattle.mdl_key.specs.declared.mode.Mode.{Mode}
@@ -26,10 +26,10 @@ use Rattle.mdl_steps.specs.Cells.{held_at}
 use Rattle.mdl_steps.specs.Deeds.{MayJoin, all_done}
 use Rattle.mdl_steps.specs.Layout.{latch_word, lock_word}
 use Rattle.mdl_steps.specs.Lists.{Each}
-use Rattle.mdl_steps.specs.Plays.{Mine, IsFresh, noting, raised}
+use Rattle.mdl_steps.specs.Plays.{Mine, IsDirectory, IsFresh, consulted, latched, noting, raised}
 use Rattle.mdl_steps.specs.Rule.{Lawful, NotedCounts}
 use Rattle.mdl_steps.specs.SeatStates.{AtItsTable, SeatState}
-use Rattle.mdl_steps.specs.Seats.{Holds, IsPlace, IsRising}
+use Rattle.mdl_steps.specs.Seats.{Holds, IsPlace, IsRising, rest}
 
 -- ---- what a session knows
 
@@ -81,17 +81,13 @@ MakesQuietSteps m m′ = (made : List Met) × (m′ ≡ and_made made m) × (dee
 abbrev pub StaysThere : Met → Type 0
 StaysThere e = (gives_back e.kind ≡ false) × (raises_flags e.kind ≡ false)
 
--- steps were made between the two that only met something
-abbrev pub Lingers : Mine → Mine → Type 0
-Lingers m m′ = (made : List Met) × (m′ ≡ and_made made m) × AllQuiet m.0.directory made × (deeds_of made ≡ []) × Each StaysThere made
-
 -- at each step that was made between the two the session had of the directory what it had before, and it raised no flag
 abbrev pub StaysQuiet : Mine → Mine → Type 0
 StaysQuiet m m′ = (made : List Met) × (m′.0.log ≡ m.0.log ++ made) × AllQuiet m.0.directory made
 
 -- the list of steps grew between the two
-abbrev pub GoesOn : Mine → Mine → Type 0
-GoesOn m m′ = (made : List Met) × (m′.0.log ≡ m.0.log ++ made)
+abbrev pub MakesMoreSteps : Mine → Mine → Type 0
+MakesMoreSteps m m′ = (made : List Met) × (m′.0.log ≡ m.0.log ++ made)
 
 -- it grew by steps at which the session stayed
 abbrev pub StaysOn : Mine → Mine → Type 0
@@ -103,7 +99,7 @@ IsStepOf m m′ e = (before : List Met) × (after : List Met) × (m′.0.log ≡
 
 -- likewise, with the list of steps that there was just before it
 abbrev pub IsStepAfter : Mine → Mine → Mine → Met → Type 0
-IsStepAfter m a m′ e = GoesOn m a × (after : List Met) × (m′.0.log ≡ a.0.log ++ e ∷ after)
+IsStepAfter m a m′ e = MakesMoreSteps m a × (after : List Met) × (m′.0.log ≡ a.0.log ++ e ∷ after)
 
 -- the last of those that were made, before which the session stayed
 abbrev pub LeavesBy : Mine → Mine → Met → Type 0
@@ -128,6 +124,18 @@ pub record IsInside (place : ℕ) (m m′ : Mine) : Type 0 where
   pub others : filter (λ h. not (h.place == place)) latches ≡ m.0.latches
   pub did : deeds_of made ≡ []
 
+-- a session that met only what keeps it waiting took the latch of a place then, whose record is fresh
+abbrev pub TakesLatch : ℕ → Mine → Mine → Type 0
+TakesLatch place m m′ =
+    (h : LatchRecord) × IsFresh place h m × Holds place h h.book m′
+    × ((made : List Met) × (m′ ≡ latched place h (and_made made m)) × AllQuiet m.0.directory made × (deeds_of made ≡ []))
+
+-- likewise the directory's latch, of which this record was made
+abbrev pub TakesDirectory : SeatState → SeatState → Type 0
+TakesDirectory s s′ =
+    (made : List Met) × (k : Keys) × IsDirectory s.table.slots k (and_made made s.me)
+    × (s′ ≡ record s { me = consulted k (and_made made s.me) }) × AllQuiet s.me.0.directory made × (deeds_of made ≡ [])
+
 -- the session may go to a place: the table has it, and each latch that the session holds is of a lower place
 pub record MayVisit (place : ℕ) (s : SeatState) : Type 0 where
   pub is_place : IsPlace s.table place
@@ -137,12 +145,33 @@ pub record MayVisit (place : ℕ) (s : SeatState) : Type 0 where
 abbrev pub CameTo : ℕ → SeatState → SeatState → Type 0
 CameTo place s s′ = (s′.table ≡ s.table) × IsInside place s.me s′.me × StaysOn s.me s′.me
 
+-- the session came to a place, of whose latch, that of the place q, it has a fresh record then
+pub record Arrives (place : ℕ) (s : SeatState) (q : ℕ) (c : SeatState) : Type 0 where
+  pub at : q ≡ place
+  pub is_place : IsPlace c.table q
+  pub latch : LatchRecord
+  pub fresh : IsFresh place latch s.me
+  pub holds : Holds q latch latch.book c.me
+  pub came : CameTo q s c
+
 -- the session holds the latch of a place, and has the book that the latch's record tells in hand. The record is so
 pub record HasLatched (place : ℕ) (s : SeatState) (IsSo : LatchRecord → Type 0) : Type 0 where
   pub is_place : IsPlace s.table place
   pub latch : LatchRecord
   pub holds : Holds place latch latch.book s.me
   pub is_so : IsSo latch
+
+-- this book of a place is in the session's hand
+abbrev pub HasInHand : ℕ → BookView → SeatState → Type 0
+HasInHand place book s = s.me.1 ≡ (place, slot.Place book) ∷ rest s.me.1
+
+-- this is so of the book of a place that the session has in hand
+abbrev pub OfBook : ℕ → SeatState → (BookView → Type 0) → Type 0
+OfBook place s IsSo = (book : BookView) → HasInHand place book s → IsSo book
+
+-- this is so of the record of a place's latch that the session holds
+abbrev pub OfLatch : ℕ → SeatState → (LatchRecord → Type 0) → Type 0
+OfLatch place s IsSo = (h : LatchRecord) → Holds place h h.book s.me → IsSo h
 
 -- the session came to a place, did these deeds there and went: it has the latches and the slots that it had, and nothing else changed. Its
 -- steps tell just these deeds
@@ -222,6 +251,12 @@ LacksRoom place cause s s′ = (cause ≡ fault.OutOfMemory) ⊎ ((cause ≡ fau
 -- it came and went with nothing done, for want of room
 abbrev pub WasRefused : ℕ → BookError → SeatState → SeatState → Type 0
 WasRefused place cause s s′ = AtItsTable s s′ (Visits place []) × LacksRoom place cause s s′
+
+-- what came of a wish with which a session entered a place, as its seat was before: this, or all stays as it was for want of room
+abbrev pub EndsWish : {T : Type 0} → ℕ → ℕ → Mode → Bool → Result T BookError → (ℕ → SeatState → Type 0) → SeatState → SeatState → Type 0
+EndsWish q word mode can result Comes s s′ =
+    (place : ℕ) (before : SeatState) → HasEntered place q word mode can before s
+    → MatchResult result (λ _. Comes place before) (λ cause. WasRefused place cause before s′)
 
 -- at the step the session's wish wasn't grantable: whichever fast tickets of other sessions the word counted, by the book it clashed with a
 -- granted ticket or had to wait behind a waiting one

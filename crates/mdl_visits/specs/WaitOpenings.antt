@@ -1,5 +1,5 @@
 -- How a session begins to wait at a place.
-use Rattle.std.specs.Prelude.{◌≡◌, ℕ, ◌+◌, true, List, [], ◌∷◌, ◌++◌, Some, None}
+use Rattle.std.specs.Prelude.{◌≡◌, ℕ, ◌+◌, ◌^◌, ◌<◌, true, List, [], ◌∷◌, ◌++◌, Some, None}
 use Rattle.mdl_key.specs.declared.mode.Mode.{Mode}
 use Rattle.mdl_book.specs.declared.ticket.Ticket.{Ticket}
 use Rattle.mdl_steps.specs.declared.step_kind.StepKind.TheVariants.{OpenWait}
@@ -17,6 +17,12 @@ use Rattle.mdl_visits.specs.Visits.{AreStepsOf, MeetsBlocked, and_made, deeds_of
 -- a session that waits from then on for a mode at a place, and has yet to search for a deadlock
 abbrev pub awaiting : ℕ → Mode → View → View
 awaiting place mode v = record v { asks = Some (asking place mode v); next = v.next + 1; waits = v.waits + 1; told = None; searches = true }
+
+-- a session without fast tickets may begin a wait of this number for a ticket of this number: they are its next
+pub record IsNewWait (number wait : ℕ) (v : View) : Type 0 where
+  pub unfast : v.fast ≡ []
+  pub is_next : number ≡ v.next
+  pub counts : (wait ≡ v.waits + 1) × (wait < 2 ^ 60)
 
 -- the session came to a place, began to wait for a mode there and went: nothing else changed. Its steps are without deeds
 pub record Opens (place : ℕ) (mode : Mode) (m m′ : Mine) : Type 0 where

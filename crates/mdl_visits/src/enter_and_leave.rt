@@ -1,13 +1,13 @@
 //! A session takes the latch of a place for a wish, and gives it back. Before it does, it lowers the flags of the lock's word that the lists
 //! don't need.
-ghost use Rattle.std.specs.Prelude.{◌≡◌, ℕ, MatchResult, true};
+ghost use Rattle.std.specs.Prelude.{◌≡◌, ℕ, true};
 ghost use Rattle.mdl_key.specs.declared.namespace.Kind.{Kind};
 ghost use Rattle.mdl_key.specs.Words.{is_obtrusive};
 ghost use Rattle.mdl_steps.specs.declared.deed.Deed.TheVariants.{Gain};
 ghost use Rattle.mdl_steps.specs.SeatStates.{AtItsTable, SeatState};
 ghost use Rattle.mdl_visits.specs.Grantings.{IsLowered, IsOrderly};
 ghost use Rattle.mdl_visits.specs.Leavings.{DidUnder, HasWorked};
-ghost use Rattle.mdl_visits.specs.Visits.{HasEntered, HasLatched, HasStep, HasWish, IsInside, MayVisit, Visits, WasGranted, WasRefused};
+ghost use Rattle.mdl_visits.specs.Visits.{EndsWish, HasEntered, HasLatched, HasStep, HasWish, IsInside, MayVisit, Visits, WasGranted};
 
 use crate::latches::await_latch;
 use mdl_book::BookError;
@@ -47,8 +47,7 @@ pub(crate) fn gain(
 ) -> Result<(), BookError>
     requires entered { (place : ℕ) × (s : SeatState) × HasEntered place latch.place word.0 mode true s seat.old }
     requires number { number ≡ seat.old.me.0.next }
-    ensures done { (place : ℕ) (s : SeatState) → HasEntered place latch.place word.0 mode true s seat.old
-        → MatchResult result (λ _. WasGranted place mode (Gain number mode) s seat.new) (λ cause. WasRefused place cause s seat.new) }
+    ensures done { EndsWish latch.place word.0 mode true result (λ place s. WasGranted place mode (Gain number mode) s seat.new) seat.old seat.new }
 {
     if let Err(cause) = seat.write_gain(&latch, number, mode, word) {
         lower_flags_and_put(seat, latch, &[]);

@@ -1,12 +1,10 @@
 //! The waits at a place are granted, under its latch.
 ghost use Rattle.std.specs.Prelude.{◌≡◌};
-ghost use Rattle.mdl_steps.specs.declared.view.LatchRecord.{LatchRecord};
 ghost use Rattle.mdl_steps.specs.SeatStates.{AtItsTable};
-ghost use Rattle.mdl_steps.specs.Seats.{Holds};
 ghost use Rattle.mdl_steps.specs.WaitSeats.{IsSession};
 ghost use Rattle.mdl_steps.specs.WaitStates.{unsettled_state, wait_state};
 ghost use Rattle.mdl_visits.specs.Grantings.{ForgetsNobody, HasJustMet, IsGrantedFrom, IsOrderly, IsGrantableTicket, IsTriedOrGranted, Reschedules, ReschedulesInTurn};
-ghost use Rattle.mdl_visits.specs.Visits.{HasLatched};
+ghost use Rattle.mdl_visits.specs.Visits.{HasLatched, OfLatch};
 
 use mdl_book::Sessions;
 use mdl_steps::{Latched, TableSeat, WaitWord};
@@ -29,8 +27,7 @@ pub(crate) fn grant_waiters(seat: &mut TableSeat, latch: &Latched)
 // Grants the wait of a session, whose ticket can be granted, if the table has the session and the wait is unsettled.
 fn grant_waiter(seat: &mut TableSeat, latch: &Latched, session: u16, number: u64)
     requires here { HasLatched latch.now.place seat.old (IsGrantableTicket session number) }
-    ensures tried { (h : LatchRecord) → Holds latch.now.place h h.book seat.old.me
-        → IsTriedOrGranted seat.old.table latch.now.place session number h seat.old.me seat.new.me }
+    ensures tried { OfLatch latch.now.place seat.old (λ h. IsTriedOrGranted seat.old.table latch.now.place session number h seat.old.me seat.new.me) }
     ensures in_turn { AtItsTable seat.old seat.new (ReschedulesInTurn seat.old.table latch.now.place session number) }
 {
     if !seat.has_session(session) {
@@ -47,8 +44,7 @@ fn grant_unsettled(seat: &mut TableSeat, latch: &Latched, session: u16, number: 
     requires session { IsSession seat.old.table session }
     requires here { HasLatched latch.now.place seat.old (λ h. IsGrantableTicket session number h × HasJustMet seat.old.table.slots latch.now.place session h seat.old.me) }
     requires unsettled { wait_state wait.0 ≡ unsettled_state }
-    ensures granted { (h : LatchRecord) → Holds latch.now.place h h.book seat.old.me
-        → IsGrantedFrom seat.old.table.slots latch.now.place session number wait.0 h seat.old.me seat.new.me }
+    ensures granted { OfLatch latch.now.place seat.old (λ h. IsGrantedFrom seat.old.table.slots latch.now.place session number wait.0 h seat.old.me seat.new.me) }
     ensures in_turn { AtItsTable seat.old seat.new (ReschedulesInTurn seat.old.table latch.now.place session number) }
 {
     let met = seat.grant_wait(latch, session, number, wait.number());

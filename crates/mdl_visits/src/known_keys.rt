@@ -13,7 +13,8 @@ use std::marker::Model;
 
 /// The keys that a session looked up, with their places, in order of the look-ups.
 ///
-/// A key's place is found by a hash of the key, and what stands at a place by an array, so neither walks the keys.
+/// The place of a key is found by a hash of the key, and the key of a place by an array, so neither walks the keys. The key that was learnt
+/// last is compared first, without a hash.
 #[derive(Drop)]
 pub struct KnownKeys {
     places: IndexMap<Key, usize>,
@@ -51,13 +52,21 @@ impl KnownKeys {
     }
 
     /// The place of a key.
+    #[tactic(auto, using(crate::proofs::KeyLists::place_found, crate::proofs::KeyLists::found_like))]
     pub fn place_of(&self, key: &Key) -> Option<usize>
         ensures { result ≡ place_known key.now self.now.known }
     {
+        let newest = self.places.len().saturating_sub(1);
+        if let Some((last, place)) = self.places.get_index(newest) {
+            if *last == *key {
+                return Some(*place);
+            }
+        }
         self.places.get(key).copied()
     }
 
     /// The key of a place.
+    #[tactic(auto, using(crate::proofs::KeyLists::none_under, crate::proofs::KeyLists::none_at, crate::proofs::KeyLists::other_at, crate::proofs::KeyLists::found_at))]
     pub fn key_at(&self, place: usize) -> Option<&Key>
         ensures { option_copied result ≡ key_known place self.now.known }
     {
@@ -83,6 +92,7 @@ impl KnownKeys {
     }
 
     /// Puts a new key last, with its place. It takes no memory.
+    #[tactic(auto, using(crate::proofs::KeyLists::inserted, std::proofs::lemmas::List::map_push))]
     pub fn push_reserved(&mut self, key: Key, place: usize)
         requires room { (1 ≤ self.old.room) × (place < self.old.reach) }
         requires unknown { (place_known key self.old.known ≡ None) × (is_known_place self.old.known place ≡ false) }
@@ -106,6 +116,7 @@ impl KnownKeys {
     }
 
     // Whether a key is known.
+    #[tactic(auto, using(crate::proofs::KeyLists::known_found))]
     fn is_known(&self, key: &Key) -> bool
         ensures { result ≡ is_known self.now.known key.now }
     {

@@ -1,12 +1,7 @@
 //! A session waits for a latch: that of a place, or the directory's.
-ghost use Rattle.std.specs.Prelude.{◌≡◌, ◌<◌, List, [], length};
-ghost use Rattle.mdl_steps.specs.declared.view.LatchRecord.{LatchRecord};
-ghost use Rattle.mdl_steps.specs.declared.view.Keys.{Keys};
-ghost use Rattle.mdl_steps.specs.declared.view.Met.{Met};
-ghost use Rattle.mdl_steps.specs.Plays.{IsDirectory, IsFresh, consulted, latched};
+ghost use Rattle.std.specs.Prelude.{◌≡◌, length};
 ghost use Rattle.mdl_steps.specs.SeatStates.{AtItsTable};
-ghost use Rattle.mdl_steps.specs.Seats.{Holds};
-ghost use Rattle.mdl_visits.specs.Visits.{AllQuiet, IsInside, MayVisit, StaysOn, and_made, deeds_of};
+ghost use Rattle.mdl_visits.specs.Visits.{Arrives, IsInside, MayVisit, StaysOn, TakesDirectory, TakesLatch};
 
 use mdl_steps::{Latched, LatchedDirectory, TableSeat};
 use std::sync::Wait;
@@ -16,11 +11,10 @@ use std::thread;
 pub(crate) fn await_latch<R: Wait>(rt: &R, seat: &mut TableSeat, place: usize) -> Latched
     requires at { MayVisit place seat.old }
     ensures place { result.place ≡ place }
-    ensures taken { (h : LatchRecord) × IsFresh place h seat.old.me × Holds place h h.book seat.new.me
-        × ((made : List Met) × (seat.new.me ≡ latched place h (and_made made seat.old.me)) × AllQuiet seat.old.me.0.directory made
-        × (deeds_of made ≡ [])) }
+    ensures taken { TakesLatch place seat.old.me seat.new.me }
     ensures inside { AtItsTable seat.old seat.new (IsInside place) }
     ensures stays { StaysOn seat.old.me seat.new.me }
+    ensures arrives { Arrives place seat.old result.place seat.new }
 {
     for _ in rt.forever() {
         match seat.take_latch(place) {
@@ -34,8 +28,7 @@ pub(crate) fn await_latch<R: Wait>(rt: &R, seat: &mut TableSeat, place: usize) -
 /// Takes the directory's latch, and waits for it as long as another session holds it.
 pub(crate) fn await_directory<R: Wait>(rt: &R, seat: &mut TableSeat) -> LatchedDirectory
     requires first { length seat.old.me.0.latches ≡ 0 }
-    ensures taken { (made : List Met) × (k : Keys) × IsDirectory seat.old.table.slots k (and_made made seat.old.me)
-        × (seat.new ≡ record seat.old { me = consulted k (and_made made seat.old.me) }) × AllQuiet seat.old.me.0.directory made × (deeds_of made ≡ []) }
+    ensures taken { TakesDirectory seat.old seat.new }
 {
     for _ in rt.forever() {
         if let Some(latch) = seat.take_directory() {

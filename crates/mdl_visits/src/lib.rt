@@ -8,7 +8,7 @@
 //! a key ([`resolve`]) and for the tables of a schema ([`find_tables`]), and the places of tables for their definitions
 //! ([`tables_defined`]). Under the latches of all places the books are copied ([`audit`]), or a deadlock is looked for ([`search_deadlock`]).
 //!
-//! What a session keeps in lists of its own is none of this crate's business: `mdl_shared` has those.
+//! Of what a session keeps in lists of its own only the keys that it looked up are here ([`KnownKeys`]): `mdl_shared` has the others.
 //!
 //! After MySQL 5.7, `MDL_lock` and `MDL_context` of `sql/mdl.cc`; that all is done under latches is this project's own.
 //!

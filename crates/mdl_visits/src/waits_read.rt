@@ -1,7 +1,7 @@
 //! A session reads the words of all sessions' waits.
-ghost use Rattle.std.specs.Prelude.{◌≡◌, ◌++◌, ◌∷◌, [], OnOk};
+ghost use Rattle.std.specs.Prelude.{◌≡◌, [], OnOk};
 ghost use Rattle.mdl_steps.specs.WaitSeats.{IsSession};
-ghost use Rattle.mdl_visits.specs.Searches.{AreRead, OnlyReadsWaits, WasRead};
+ghost use Rattle.mdl_visits.specs.Searches.{AddsRead, AreRead, OnlyReadsWaits};
 
 use mdl_steps::{TableSeat, WaitWord};
 use std::alloc::AllocError;
@@ -40,8 +40,7 @@ pub(crate) fn read_waits(seat: &mut TableSeat, words: &mut Vec<WaitRead>) -> Res
 fn add_wait(seat: &mut TableSeat, session: u16, words: &mut Vec<WaitRead>) -> Result<(), AllocError>
     requires session { IsSession seat.old.table session }
     ensures reads { OnlyReadsWaits seat.old seat.new }
-    ensures added { OnOk result ((r : WaitRead) × (r.session ≡ session) × (words.new.items ≡ words.old.items ++ r ∷ [])
-        × WasRead seat.old.table.slots seat.old.me.0.latches seat.old.me seat.new.me r) }
+    ensures added { OnOk result (AddsRead session words.old.items words.new.items seat.old seat.new) }
 {
     let word = seat.read_wait(session);
     words.push(WaitRead { session, word })?;

@@ -1,14 +1,11 @@
 //! An audit of all places that have a key: their latches are taken one after the other, and given back once all are taken.
 ghost use Rattle.std.specs.Prelude.{◌≡◌, ◌<◌, ◌≤◌, [], ◌∷◌, ◌++◌, OnOk};
 ghost use Rattle.mdl_book.specs.declared.book_view.BookView.{BookView};
-ghost use Rattle.mdl_steps.specs.declared.slot.Slot.TheVariants as slot;
-ghost use Rattle.mdl_steps.specs.declared.view.Keys.{Keys};
 ghost use Rattle.mdl_steps.specs.SeatStates.{AtItsTable};
-ghost use Rattle.mdl_steps.specs.Seats.{rest};
 ghost use Rattle.mdl_visits.specs.Audits.{Audits, Gathers, MayTakeAll};
 ghost use Rattle.mdl_visits.specs.Idle.{IsIdle};
-ghost use Rattle.mdl_visits.specs.Lookups.{TookDirectory};
-ghost use Rattle.mdl_visits.specs.Visits.{MakesQuietSteps, MakesSteps};
+ghost use Rattle.mdl_visits.specs.Lookups.{AsksDirectory};
+ghost use Rattle.mdl_visits.specs.Visits.{HasInHand, MakesQuietSteps, MakesSteps, OfBook};
 
 use crate::Audited;
 use crate::latches::{await_directory, await_latch};
@@ -27,8 +24,7 @@ pub fn audit<R: Wait>(
     requires idle { IsIdle seat.old.me }
     requires empty { audited.old.items ≡ [] }
     ensures steps { AtItsTable seat.old seat.new MakesSteps }
-    ensures told { (k : Keys) × TookDirectory seat.old.table.slots k k seat.old.me seat.new.me
-        × OnOk result (Audits k audited.new.items seat.old.me seat.new.me) }
+    ensures told { AsksDirectory seat.old seat.new (λ k. OnOk result (Audits k audited.new.items seat.old.me seat.new.me)) }
 {
     let directory = await_directory(rt, seat);
     let last = seat.key_count(&directory);
@@ -70,10 +66,9 @@ pub(crate) fn add_book(
     audited: &mut Vec<Audited>,
 ) -> Result<(), AllocError>
     requires narrow { latch.now.place < 65536 }
-    requires carried { (book : BookView) × (seat.old.me.1 ≡ (latch.now.place, slot.Place book) ∷ rest seat.old.me.1) }
+    requires carried { (book : BookView) × HasInHand latch.now.place book seat.old }
     ensures same { seat.new ≡ seat.old }
-    ensures added { (book : BookView) → seat.old.me.1 ≡ (latch.now.place, slot.Place book) ∷ rest seat.old.me.1
-        → OnOk result (audited.new.items ≡ audited.old.items ++ record { place = latch.now.place; book = book } ∷ []) }
+    ensures added { OfBook latch.now.place seat.old (λ book. OnOk result (audited.new.items ≡ audited.old.items ++ record { place = latch.now.place; book = book } ∷ [])) }
 {
     let alloc = *audited.allocator();
     let book = seat.copy_book(latch, alloc)?;

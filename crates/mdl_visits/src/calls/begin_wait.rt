@@ -1,10 +1,10 @@
 //! A wish for a lock is granted at once, or its session begins to wait.
-ghost use Rattle.std.specs.Prelude.{◌≡◌, ℕ, ◌+◌, ◌^◌, ◌<◌, [], Ok, OnErr, IfErr, MatchResult, false};
+ghost use Rattle.std.specs.Prelude.{◌≡◌, ℕ, ◌+◌, ◌^◌, ◌<◌, [], Ok, OnErr, IfErr, false};
 ghost use Rattle.mdl_steps.specs.declared.deed.Deed.TheVariants.{Gain};
 ghost use Rattle.mdl_steps.specs.SeatStates.{AtItsTable, SeatState};
 ghost use Rattle.mdl_visits.specs.declared.calls.begin_wait.Queued.TheVariants.{Granted, Waiting};
-ghost use Rattle.mdl_visits.specs.WaitOpenings.{BeginsWait};
-ghost use Rattle.mdl_visits.specs.Visits.{HasEntered, HasWish, LacksRoom, MayVisit, Visits, WasGranted, WasRefused};
+ghost use Rattle.mdl_visits.specs.WaitOpenings.{BeginsWait, IsNewWait};
+ghost use Rattle.mdl_visits.specs.Visits.{EndsWish, HasEntered, HasWish, LacksRoom, MayVisit, Visits, WasGranted};
 
 use crate::enter_and_leave::{enter, gain, lower_flags_and_put};
 use mdl_book::BookError;
@@ -66,11 +66,8 @@ fn enqueue(
     wait: u64,
 ) -> Result<(), BookError>
     requires entered { (place word : ℕ) × (s : SeatState) × HasEntered place latch.place word mode false s seat.old }
-    requires unfast { seat.old.me.0.fast ≡ [] }
-    requires number { number ≡ seat.old.me.0.next }
-    requires wait { (wait ≡ seat.old.me.0.waits + 1) × (wait < 2 ^ 60) }
-    ensures done { (place word : ℕ) (s : SeatState) → HasEntered place latch.place word mode false s seat.old
-        → MatchResult result (λ _. BeginsWait place mode number s seat.new) (λ cause. WasRefused place cause s seat.new) }
+    requires new { IsNewWait number wait seat.old.me.0 }
+    ensures done { (word : ℕ) → EndsWish latch.place word mode false result (λ place s. BeginsWait place mode number s seat.new) seat.old seat.new }
 {
     if let Err(cause) = seat.write_wish(&latch, number, mode) {
         lower_flags_and_put(seat, latch, &[]);

@@ -1,12 +1,11 @@
 //! Two tickets of a place become one.
 ghost use Rattle.std.specs.Prelude.{◌≡◌, ◌≢◌, ◌∷◌, [], Some, None, true};
 ghost use Rattle.mdl_steps.specs.declared.deed.Deed.TheVariants.{Alter, Lose};
-ghost use Rattle.mdl_steps.specs.declared.view.Met.{Met};
 ghost use Rattle.mdl_steps.specs.Deeds.{KnowsPlace};
 ghost use Rattle.mdl_steps.specs.SeatStates.{AtItsTable};
-ghost use Rattle.mdl_visits.specs.Leavings.{MeetsOwn};
+ghost use Rattle.mdl_visits.specs.Leavings.{MergesOwn};
 ghost use Rattle.mdl_visits.specs.Numbers.{numbered};
-ghost use Rattle.mdl_visits.specs.Visits.{IsStepOf, MayVisit, Visits};
+ghost use Rattle.mdl_visits.specs.Visits.{MayVisit, Visits};
 ghost use Rattle.mdl_system.specs.Strength.{covers};
 
 use crate::enter_and_leave::lower_flags_and_put;
@@ -26,9 +25,7 @@ pub fn merge<R: Wait>(rt: &R, seat: &mut TableSeat, kept: Own, gone: Own)
     requires here { kept.place ≡ gone.place }
     requires covers { covers gone.mode kept.mode ≡ true }
     ensures merged { AtItsTable seat.old seat.new (Visits kept.place (Alter kept.number gone.mode ∷ Lose gone.number ∷ [])) }
-    ensures step { (e : Met) × IsStepOf seat.old.me seat.new.me e
-        × MeetsOwn kept.place seat.old.me.0.number kept.number e × MeetsOwn kept.place seat.old.me.0.number gone.number e
-        × (e.deeds ≡ Alter kept.number gone.mode ∷ Lose gone.number ∷ []) }
+    ensures step { MergesOwn kept gone seat.old seat.new }
 {
     let latch = await_latch(rt, seat, kept.place);
     let _altered = seat.write_mode(&latch, kept.number, gone.mode, NO_FAST_TICKETS);

@@ -1,10 +1,10 @@
 //! The places of keys.
-ghost use Rattle.std.specs.Prelude.{◌≡◌, ◌<◌, IfOk, OnOk, OnErr};
+ghost use Rattle.std.specs.Prelude.{◌≡◌, IfOk, OnOk, OnErr};
 ghost use Rattle.mdl_steps.specs.declared.view.Keys.{Keys};
 ghost use Rattle.mdl_steps.specs.SeatStates.{AtItsTable};
 ghost use Rattle.mdl_steps.specs.Seats.{HasDirectory};
 ghost use Rattle.mdl_visits.specs.Idle.{IsIdle};
-ghost use Rattle.mdl_visits.specs.Lookups.{HasLooked, HasNamed, HoldsKeys, IsAnswer, IsNext, TookDirectory, knowing};
+ghost use Rattle.mdl_visits.specs.Lookups.{HasLooked, HasNamed, HoldsKeys, IsAnswer, IsNext, LearnsPlace, TookDirectory};
 ghost use Rattle.mdl_visits.specs.Visits.{MakesSteps};
 
 use crate::latches::{await_directory, await_latch};
@@ -24,8 +24,7 @@ pub fn resolve<R: Wait>(
 ) -> Result<usize, ResolveError>
     requires idle { IsIdle seat.old.me }
     ensures idle { IsIdle seat.new.me }
-    ensures known { IfOk result (λ place. (0 < place) × (place < seat.old.table.slots)
-        × MakesSteps (knowing (record { key = key.now; place = place }) seat.old.me) seat.new.me) }
+    ensures known { IfOk result (λ place. LearnsPlace key.now place seat.old seat.new) }
     ensures refused { OnErr result (MakesSteps seat.old.me seat.new.me) }
     ensures answer { (k left : Keys) × AtItsTable seat.old seat.new (TookDirectory seat.old.table.slots k left) × IsAnswer seat.old.table.slots key.now k left result }
 {

@@ -1,17 +1,14 @@
 //! A search for a deadlock: the latches of all places that have a key are taken one after the other, and the deadlock is looked for in their
 //! books once all are taken. Only the lists of locks where somebody waits are copied: by the others nobody waits for anybody.
-ghost use Rattle.std.specs.Prelude.{◌≡◌, ◌≤◌, List, ◌∷◌, ◌++◌, IfOk, OnErr, OnOk};
+ghost use Rattle.std.specs.Prelude.{◌≡◌, ◌≤◌, IfOk, OnErr, OnOk};
 ghost use Rattle.mdl_book.specs.declared.book_view.BookView.{BookView};
-ghost use Rattle.mdl_steps.specs.declared.slot.Slot.TheVariants as slot;
-ghost use Rattle.mdl_steps.specs.declared.view.Keys.{Keys};
 ghost use Rattle.mdl_steps.specs.SeatStates.{AtItsTable};
-ghost use Rattle.mdl_steps.specs.Seats.{rest};
-ghost use Rattle.mdl_visits.specs.declared.audited.Audited.{Audited};
 ghost use Rattle.mdl_visits.specs.Audits.{MayTakeAll};
 ghost use Rattle.mdl_visits.specs.Idle.{IsIdle};
-ghost use Rattle.mdl_visits.specs.Lookups.{TookDirectory};
+ghost use Rattle.mdl_visits.specs.Lookups.{AsksDirectory};
 ghost use Rattle.mdl_visits.specs.Polls.{SettlesNothing};
-ghost use Rattle.mdl_visits.specs.Searches.{AreQueuesOf, EndsSearch, FindsFrom, KnowsVictim, ReadsWaits, Searched, if_waited};
+ghost use Rattle.mdl_visits.specs.Searches.{AddsQueues, EndsSearch, FindsFrom, KnowsVictim, ReadsWaits, Searched, if_waited};
+ghost use Rattle.mdl_visits.specs.Visits.{HasInHand, OfBook};
 
 use crate::latches::{await_directory, await_latch};
 use crate::settle_victim::settle_victim;
@@ -30,8 +27,7 @@ pub fn search_deadlock<R: Wait>(
     requires slots { seat.old.table.slots ≤ 65536 }
     requires idle { IsIdle seat.old.me }
     ensures reads { AtItsTable seat.old seat.new ReadsWaits }
-    ensures searched { (k : Keys) × TookDirectory seat.old.table.slots k k seat.old.me seat.new.me
-        × IfOk result (λ found. Searched seat.old.table seat.old.me.0.number k found seat.old.me seat.new.me) }
+    ensures searched { AsksDirectory seat.old seat.new (λ k. IfOk result (λ found. Searched seat.old.table seat.old.me.0.number k found seat.old.me seat.new.me)) }
     ensures own { IfOk result (λ found. KnowsVictim seat.old.me.0.number found seat.new.me) }
     ensures nothing { OnErr result (SettlesNothing seat.old.me seat.new.me) }
 {
@@ -75,11 +71,9 @@ fn add_if_waited(
     latch: &Latched,
     lists: &mut ListCopies,
 ) -> Result<(), AllocError>
-    requires carried { (book : BookView) × (seat.old.me.1 ≡ (latch.now.place, slot.Place book) ∷ rest seat.old.me.1) }
+    requires carried { (book : BookView) × HasInHand latch.now.place book seat.old }
     ensures same { seat.new ≡ seat.old }
-    ensures added { (book : BookView) → seat.old.me.1 ≡ (latch.now.place, slot.Place book) ∷ rest seat.old.me.1
-        → OnOk result ((copied : List Audited) → AreQueuesOf copied lists.old
-        → AreQueuesOf (copied ++ if_waited (record { place = latch.now.place; book = book })) lists.new) }
+    ensures added { OfBook latch.now.place seat.old (λ book. OnOk result (AddsQueues (if_waited (record { place = latch.now.place; book = book })) lists.old lists.new)) }
 {
     if seat.has_waiters(latch) {
         seat.copy_lists(latch, lists)

@@ -1,5 +1,5 @@
 //! The tables of a schema that have a definition: the directory has the tables, and the place of each has its definition.
-ghost use Rattle.std.specs.Prelude.{◌≡◌, ◌+◌, ◌<◌, ◌≤◌, ◌++◌, ◌∷◌, [], Bool, length, if◌then◌else◌, IfOk, OnErr};
+ghost use Rattle.std.specs.Prelude.{◌≡◌, ◌+◌, ◌<◌, ◌≤◌, [], length, IfOk, OnErr};
 ghost use Rattle.std.specs.List.Sorted.{IsPermutation};
 ghost use Rattle.std.specs.Vec.{vec_capacity, vec_len};
 ghost use Rattle.mdl_steps.specs.declared.view.Keys.{Keys};
@@ -7,7 +7,7 @@ ghost use Rattle.mdl_steps.specs.SeatStates.{AtItsTable};
 ghost use Rattle.mdl_steps.specs.Seats.{HasDirectory};
 ghost use Rattle.mdl_visits.specs.Idle.{IsIdle};
 ghost use Rattle.mdl_visits.specs.Lookups.{TookDirectory};
-ghost use Rattle.mdl_visits.specs.Tables.{AreListed, AreSorted, AreTables, AreWithin, HasAsked, MeetsDefinition, WasAsked, knowing_all};
+ghost use Rattle.mdl_visits.specs.Tables.{AddsIfDefined, AreListed, AreSorted, AreTables, AreWithin, HasAsked, HaveRoom, MeetsDefinition, knowing_all};
 ghost use Rattle.mdl_visits.specs.Visits.{HasStep, MakesQuietSteps, MakesSteps, MayVisit, StaysQuiet};
 
 use crate::KnownKeys;
@@ -31,8 +31,7 @@ pub fn find_tables<R: Wait>(
     ensures found { (k : Keys) × AtItsTable seat.old seat.new (TookDirectory seat.old.table.slots k k)
         × IfOk result (λ found. AreTables schema.now k found.0.items × MakesSteps (knowing_all found.0.items seat.old.me) seat.new.me) }
     ensures within { IfOk result (λ found. AreWithin seat.old.table.slots found.0.items) }
-    ensures room { IfOk result (λ found. (length found.0.items ≤ known.new.room) × (seat.old.table.slots ≤ known.new.reach)
-        × (found.1.items ≡ []) × (vec_len found.1 + length found.0.items ≤ vec_capacity found.1)) }
+    ensures room { IfOk result (λ found. HaveRoom known.new seat.old.table.slots found.0.items found.1) }
     ensures unchanged { OnErr result (MakesSteps seat.old.me seat.new.me) }
 {
     let directory = await_directory(rt, seat);
@@ -59,8 +58,7 @@ fn list_tables(
     requires held { (k : Keys) × HasDirectory k seat.old.me }
     ensures same { (seat.new ≡ seat.old) × (known.new.known ≡ known.old.known) }
     ensures listed { (k : Keys) → HasDirectory k seat.old.me → IfOk result (λ found. AreListed schema.now k found.0.items) }
-    ensures room { IfOk result (λ found. (length found.0.items ≤ known.new.room) × (seat.old.table.slots ≤ known.new.reach)
-        × (found.1.items ≡ []) × (vec_len found.1 + length found.0.items ≤ vec_capacity found.1)) }
+    ensures room { IfOk result (λ found. HaveRoom known.new seat.old.table.slots found.0.items found.1) }
 {
     let mut tables = seat.tables_of(directory, alloc, schema)?;
     sort_by_key(&mut tables);
@@ -94,8 +92,7 @@ fn add_if_defined<R: Wait>(rt: &R, seat: &mut TableSeat, table: &Known, places: 
     requires at { MayVisit table.now.place seat.old × (seat.old.table.slots ≤ 65536) }
     requires room { vec_len places.old < vec_capacity places.old }
     ensures steps { AtItsTable seat.old seat.new MakesQuietSteps }
-    ensures asked { (defined : Bool) × WasAsked seat.old.me.0.number seat.old.me seat.new.me (record { table = table.now; defined = defined })
-        × (places.new.items ≡ places.old.items ++ (if defined then table.now.place ∷ [] else [])) }
+    ensures asked { AddsIfDefined seat.old.me.0.number table.now places.old.items places.new.items seat.old.me seat.new.me }
     ensures room { (vec_capacity places.new ≡ vec_capacity places.old) × (vec_len places.new ≤ vec_len places.old + 1) }
 {
     if is_defined(rt, seat, table.place) {

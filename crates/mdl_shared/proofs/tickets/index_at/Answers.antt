@@ -1,6 +1,5 @@
 -- One ticket alone has the number.
-use Rattle.std.proofs.Common.{◌≡◌, None, Some, rules, sym, ap, ◌∙◌, false}
-use Rattle.std.specs.Prelude.{◌==◌}
+use Rattle.std.proofs.Common.{rules}
 use Rattle.mdl_shared.specs.OwnTickets.{StandsAt}
 use Rattle.mdl_shared.proofs.TicketSearch.{elsewhere, no_ticket, nowhere}
 use Rattle.mdl_shared.proofs.tickets.index_at.Goals as goal

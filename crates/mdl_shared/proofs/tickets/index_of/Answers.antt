@@ -1,10 +1,6 @@
 -- The closure gives a ticket's number, and the numbers rise.
-use Rattle.std.proofs.Common.{◌≡◌, ℕ, Option, true, rules, subst, sym, MatchOption}
-use Rattle.std.specs.Prelude.{not, ◌==◌}
-use Rattle.std.specs.List.{list_all}
+use Rattle.std.proofs.Common.{rules}
 use Rattle.std.proofs.lemmas.List.Sorted.{answers_always}
-use Rattle.mdl_calls.specs.declared.answers.Held.{Held}
-use Rattle.mdl_shared.specs.OwnTickets.{StandsAt}
 use Rattle.mdl_shared.proofs.TicketSearch.{searched}
 use Rattle.mdl_shared.proofs.tickets.index_of.Goals as goal
 

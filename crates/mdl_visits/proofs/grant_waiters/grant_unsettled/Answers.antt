@@ -8,29 +8,14 @@ use Rattle.mdl_visits.proofs.Seats.{mine, table_of}
 use Rattle.mdl_visits.proofs.Serving.{admitted_there, is_admitted, is_missed, rescheduled_admitted, rescheduling_missed}
 use Rattle.mdl_visits.proofs.grant_waiters.grant_unsettled.Goals as goal
 
-pub returns-then-eq-clause-granted : goal.returns-then-eq-clause-granted
-returns-then-eq-clause-granted c =
+pub returns-then-eq : goal.returns-then-eq
+returns-then-eq c =
     let id = c.args.seat.now.table in
+    let place = c.args.latch.now.place in
+    let number = c.args.number in
     let m : Mine = c.args.seat.now.me in
     let a : Mine = c.grant_wait-met.new.self.me in
-    let session = c.args.session in
-    let here = c.requires.here in
-    let h = here.latch in
-    let same : c.grant_wait-met.result.0 ≡ c.args.wait.0 = eqb-true c.grant_wait-met.result.0 c.args.wait.0 (sym c.eq.ensures ∙ c.if-eq.true) in
-    let count = c.number.ensures in
-    let unsettled = c.requires.unsettled in
-    let found : c.grant_wait-met.result.0 ≡ 8 * c.number.result + 1 = omega arith in
-    let keeps = c.grant_wait-met.ensures.keeps found h h.book here.holds in
-    let own = subst (λ (w : ℕ). TellsOwn id.slots session w m.0) found c.grant_wait-met.ensures.own in
-    let wrote = admitted_there session c.args.number h c.write_admission-granted.result here.is_so.0 (c.write_admission-granted.ensures.refused h.book keeps.carried) (c.write_admission-granted.ensures.written h.book keeps.carried) in
-    is_admitted id c.args.latch.now.place session c.args.number c.args.wait.0 c.number.result h m a c.write_admission-granted.new.self.me here.holds here.is_so.0 here.is_so.1
-    (mine (c.grant_wait-met.ensures.granted found)) keeps own (mine wrote)
-
-pub returns-then-eq-clause-in_turn : goal.returns-then-eq-clause-in_turn
-returns-then-eq-clause-in_turn c =
-    let id = c.args.seat.now.table in
-    let m : Mine = c.args.seat.now.me in
-    let a : Mine = c.grant_wait-met.new.self.me in
+    let b : Mine = c.write_admission-granted.new.self.me in
     let session = c.args.session in
     let here = c.requires.here in
     let h = here.latch in
@@ -41,33 +26,32 @@ returns-then-eq-clause-in_turn c =
     let keeps = c.grant_wait-met.ensures.keeps found h h.book here.holds in
     let own = subst (λ (w : ℕ). TellsOwn id.slots session w m.0) found c.grant_wait-met.ensures.own in
     let granted = c.grant_wait-met.ensures.granted found in
-    let wrote = admitted_there session c.args.number h c.write_admission-granted.result here.is_so.0 (c.write_admission-granted.ensures.refused h.book keeps.carried) (c.write_admission-granted.ensures.written h.book keeps.carried) in (
-      table_of wrote ∙ table_of granted,
-      rescheduled_admitted id c.args.latch.now.place session c.args.number c.args.wait.0 c.number.result h m a c.write_admission-granted.new.self.me here.holds here.is_so.0 here.is_so.1
-          (mine granted) keeps own (mine wrote),
-    )
+    let wrote = admitted_there session number h c.write_admission-granted.result here.is_so.0 (c.write_admission-granted.ensures.refused h.book keeps.carried) (c.write_admission-granted.ensures.written h.book keeps.carried) in
+    record {
+      granted = is_admitted id place session number c.args.wait.0 c.number.result h m a b here.holds here.is_so.0 here.is_so.1 (mine granted) keeps own (mine wrote);
+      in_turn = (
+        table_of wrote ∙ table_of granted,
+        rescheduled_admitted id place session number c.args.wait.0 c.number.result h m a b here.holds here.is_so.0 here.is_so.1 (mine granted) keeps own (mine wrote),
+      );
+    }
 
-pub returns-else-eq-clause-granted : goal.returns-else-eq-clause-granted
-returns-else-eq-clause-granted c =
+pub returns-else-eq : goal.returns-else-eq
+returns-else-eq c =
     let id = c.args.seat.now.table in
+    let place = c.args.latch.now.place in
+    let m : Mine = c.args.seat.now.me in
+    let a : Mine = c.grant_wait-met.new.self.me in
     let here = c.requires.here in
     let word = c.grant_wait-met.result.0 in
     let count = c.number.ensures in
     let unsettled = c.requires.unsettled in
     let differs : word ≢ c.args.wait.0 = λ same. let yes = eq-eqb word c.args.wait.0 same in let no = sym c.eq.ensures ∙ c.if-eq.false in absurd (cc) in
     let other : word ≢ 8 * c.number.result + 1 = λ same. differs (omega arith) in
-    is_missed MissWait (inr refl) id c.args.latch.now.place c.args.session c.args.number word here.latch c.args.seat.now.me c.grant_wait-met.new.self.me here.holds here.is_so.0 (mine (c.grant_wait-met.ensures.missed other)) c.args.wait.0 differs
-
-pub returns-else-eq-clause-in_turn : goal.returns-else-eq-clause-in_turn
-returns-else-eq-clause-in_turn c =
-    let id = c.args.seat.now.table in
-    let here = c.requires.here in
-    let word = c.grant_wait-met.result.0 in
-    let count = c.number.ensures in
-    let unsettled = c.requires.unsettled in
-    let differs : word ≢ c.args.wait.0 = λ same. let yes = eq-eqb word c.args.wait.0 same in let no = sym c.eq.ensures ∙ c.if-eq.false in absurd (cc) in
-    let other : word ≢ 8 * c.number.result + 1 = λ same. differs (omega arith) in
-    let missed = c.grant_wait-met.ensures.missed other in (
-      table_of missed,
-      rescheduling_missed MissWait (inr refl) id c.args.latch.now.place c.args.session c.args.number word here.latch c.args.seat.now.me c.grant_wait-met.new.self.me here.holds here.is_so.0 (mine missed) c.grant_wait-met.ensures.own,
-    )
+    let missed = c.grant_wait-met.ensures.missed other in
+    record {
+      granted = is_missed MissWait (inr refl) id place c.args.session c.args.number word here.latch m a here.holds here.is_so.0 (mine missed) c.args.wait.0 differs;
+      in_turn = (
+        table_of missed,
+        rescheduling_missed MissWait (inr refl) id place c.args.session c.args.number word here.latch m a here.holds here.is_so.0 (mine missed) c.grant_wait-met.ensures.own,
+      );
+    }

@@ -32,47 +32,41 @@ grant_unsettled-requires-clause-here c =
       );
     }
 
-pub returns-then-state-eq-UNSETTLED-clause-tried : goal.returns-then-state-eq-UNSETTLED-clause-tried
-returns-then-state-eq-UNSETTLED-clause-tried c =
+pub returns-then-state-eq-UNSETTLED : goal.returns-then-state-eq-UNSETTLED
+returns-then-state-eq-UNSETTLED c =
     let id = c.args.seat.now.table in
     let place = c.args.latch.now.place in
     let session = c.args.session in
     let number = c.args.number in
+    let m : Mine = c.args.seat.now.me in
     let a : Mine = c.read_wait-wait.new.self.me in
     let b : Mine = c.grant_unsettled.new.seat.me in
     let word = c.read_wait-wait.result.0 in
     let here = c.requires.here in
-    let tried = subst (λ (t : TableId). (g : LatchRecord) → Holds place g g.book a → IsGrantedFrom t.slots place session number word g a b) (table_of c.read_wait-wait.ensures.made) c.grant_unsettled.ensures.granted in
-    is_tried ReadWait (inl refl) id place session number word here.latch c.args.seat.now.me a here.holds here.is_so (mine c.read_wait-wait.ensures.made) b (sym c.state.ensures ∙ c.if-state-eq-UNSETTLED.true) tried
+    let made = c.read_wait-wait.ensures.made in
+    let tried = subst (λ (t : TableId). (g : LatchRecord) → Holds place g g.book a → IsGrantedFrom t.slots place session number word g a b) (table_of made) c.grant_unsettled.ensures.granted in
+    let in_turn = subst (λ (t : TableId). ReschedulesInTurn t place session number a b) (table_of made) c.grant_unsettled.ensures.in_turn.1 in
+    record {
+      tried = is_tried ReadWait (inl refl) id place session number word here.latch m a here.holds here.is_so (mine made) b (sym c.state.ensures ∙ c.if-state-eq-UNSETTLED.true) tried;
+      in_turn = (
+        c.grant_unsettled.ensures.in_turn.0 ∙ table_of made,
+        rescheduled_tried ReadWait (inl refl) id place session number word here.latch m a here.holds here.is_so (mine made) b c.read_wait-wait.ensures.own in_turn,
+      );
+    }
 
-pub returns-then-state-eq-UNSETTLED-clause-in_turn : goal.returns-then-state-eq-UNSETTLED-clause-in_turn
-returns-then-state-eq-UNSETTLED-clause-in_turn c =
+pub returns-else-state-eq-UNSETTLED : goal.returns-else-state-eq-UNSETTLED
+returns-else-state-eq-UNSETTLED c =
     let id = c.args.seat.now.table in
     let place = c.args.latch.now.place in
-    let session = c.args.session in
-    let number = c.args.number in
+    let m : Mine = c.args.seat.now.me in
     let a : Mine = c.read_wait-wait.new.self.me in
-    let b : Mine = c.grant_unsettled.new.seat.me in
+    let word = c.read_wait-wait.result.0 in
     let here = c.requires.here in
     let made = c.read_wait-wait.ensures.made in
-    let in_turn = subst (λ (t : TableId). ReschedulesInTurn t place session number a b) (table_of made) c.grant_unsettled.ensures.in_turn.1 in (
-      c.grant_unsettled.ensures.in_turn.0 ∙ table_of made,
-      rescheduled_tried ReadWait (inl refl) id place session number c.read_wait-wait.result.0 here.latch c.args.seat.now.me a here.holds here.is_so (mine made) b c.read_wait-wait.ensures.own in_turn,
-    )
-
-pub returns-else-state-eq-UNSETTLED-clause-tried : goal.returns-else-state-eq-UNSETTLED-clause-tried
-returns-else-state-eq-UNSETTLED-clause-tried c =
-    let here = c.requires.here in
-    is_settled ReadWait (inl refl) c.args.seat.now.table c.args.latch.now.place c.args.session c.args.number c.read_wait-wait.result.0 here.latch c.args.seat.now.me c.read_wait-wait.new.self.me here.holds here.is_so
-    (mine c.read_wait-wait.ensures.made) (λ open_. c.if-state-eq-UNSETTLED.false (c.state.ensures ∙ open_))
-
-pub returns-else-state-eq-UNSETTLED-clause-in_turn : goal.returns-else-state-eq-UNSETTLED-clause-in_turn
-returns-else-state-eq-UNSETTLED-clause-in_turn c =
-    let here = c.requires.here in
-    let made = c.read_wait-wait.ensures.made in (
-      table_of made,
-      rescheduling_missed ReadWait (inl refl) c.args.seat.now.table c.args.latch.now.place c.args.session c.args.number c.read_wait-wait.result.0 here.latch c.args.seat.now.me c.read_wait-wait.new.self.me here.holds here.is_so (mine made) c.read_wait-wait.ensures.own,
-    )
+    record {
+      tried = is_settled ReadWait (inl refl) id place c.args.session c.args.number word here.latch m a here.holds here.is_so (mine made) (λ open_. c.if-state-eq-UNSETTLED.false (c.state.ensures ∙ open_));
+      in_turn = (table_of made, rescheduling_missed ReadWait (inl refl) id place c.args.session c.args.number word here.latch m a here.holds here.is_so (mine made) c.read_wait-wait.ensures.own);
+    }
 
 pub returns-then-not-has_session-clause-in_turn : goal.returns-then-not-has_session-clause-in_turn
 returns-then-not-has_session-clause-in_turn c =

@@ -5,9 +5,9 @@ use Rattle.std.specs.Ordering.{nat_cmp}
 use Rattle.atomic_table.specs.Seated.{TableId}
 use Rattle.mdl_steps.specs.Plays.{Mine, noting}
 use Rattle.mdl_steps.specs.Seats.{Holds}
-use Rattle.mdl_visits.specs.Grantings.{AreTried, ForgetsNobody, IsTriedOrGranted, Reschedules, ReschedulesInTurn}
+use Rattle.mdl_visits.specs.Grantings.{ForgetsNobody, IsTriedOrGranted, Reschedules, ReschedulesInTurn}
 use Rattle.mdl_visits.proofs.Seats.{mine, place_there, table_of}
-use Rattle.mdl_visits.proofs.Serving.{WasRead, fewer_untried, forgets_nobody, looks_ahead, read_before, read_first, tried_first, turn_done}
+use Rattle.mdl_visits.proofs.Serving.{AreTried, WasRead, fewer_untried, forgets_nobody, looks_ahead, read_before, read_first, tried_first, turn_done}
 use Rattle.mdl_visits.proofs.Waiting.{is_next, grants_read}
 use Rattle.mdl_visits.proofs.Way.{steps_of, rescheduled_read, rescheduled_then}
 use Rattle.mdl_visits.proofs.grant_waiters.grant_waiters.Goals as goal

@@ -3,8 +3,9 @@ use Rattle.std.proofs.Common.{◌≡◌}
 use Rattle.std.specs.FinSet as set
 use Rattle.mdl_steps.specs.declared.view.LatchRecord.{LatchRecord}
 use Rattle.mdl_steps.specs.Seats.{Holds}
-use Rattle.mdl_visits.specs.Grantings.{AreTried, Reschedules, MayReschedule}
-use Rattle.mdl_visits.proofs.Serving.{WasRead}
+use Rattle.mdl_visits.specs.Grantings.{Reschedules}
+use Rattle.mdl_visits.proofs.Serving.{AreTried, WasRead}
+use Rattle.mdl_visits.proofs.Waiting.{MayReschedule}
 use Rattle.mdl_visits.proofs.grant_waiters.grant_waiters.Given as goal
 
 abbrev pub invariant-loop-session : goal.invariant-loop-session

@@ -1,6 +1,6 @@
 -- While the latch is another's, the session only makes steps that find it so.
 use Rattle.std.proofs.Common.{◌≡◌}
-use Rattle.mdl_visits.specs.Visits.{Lingers}
+use Rattle.mdl_visits.proofs.Visiting.{Lingers}
 use Rattle.mdl_visits.proofs.latches.await_directory.Given as goal
 
 abbrev pub invariant-loop : goal.invariant-loop

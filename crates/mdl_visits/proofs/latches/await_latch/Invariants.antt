@@ -1,6 +1,6 @@
 -- As long as another session has the latch, only steps are made.
 use Rattle.std.proofs.Common.{◌≡◌}
-use Rattle.mdl_visits.specs.Visits.{Lingers}
+use Rattle.mdl_visits.proofs.Visiting.{Lingers}
 use Rattle.mdl_visits.proofs.latches.await_latch.Given as goal
 
 abbrev pub invariant-loop : goal.invariant-loop

@@ -10,14 +10,14 @@ use Rattle.mdl_visits.specs.WaitOpenings.{MeetsOpening}
 use Rattle.mdl_shared.specs.Passes.{view_of}
 use Rattle.mdl_shared.specs.SessionViews.{Lists, SessionView, lists_seen}
 use Rattle.mdl_shared.specs.TicketLists.{HasRoom}
-use Rattle.mdl_shared.proofs.Members.{done-nothing, done-order, kept, lists-done, visited}
+use Rattle.mdl_shared.proofs.Members.{done-nothing, done-order, fault-seen, kept, lists-done, visited}
 use Rattle.mdl_shared.proofs.Props.{member}
 use Rattle.mdl_shared.proofs.Refusals.{own-shows}
 use Rattle.mdl_shared.proofs.SameSpace.{same-stays}
 use Rattle.mdl_shared.proofs.WaitSteps.{still-member}
 use Rattle.mdl_shared.proofs.WishCalls.{begun, begun-joins, begun-order, begin-granted, begin-refused, begin-unfit, refusal-causes, untold-wish}
 use Rattle.mdl_shared.proofs.WishShows.{begin-granted-shows, begun-shows}
-use Rattle.mdl_shared.proofs.Wishing.{below-seen, fault-seen, gained-seen, may-wish, unasked, waiting-lists}
+use Rattle.mdl_shared.proofs.Wishing.{below-seen, gained-seen, may-wish, unasked, waiting-lists}
 use Rattle.mdl_shared.proofs.session.Session.begin_wait.Goals as goal
 
 pub returns-in_err-kind : goal.returns-in_err-kind
@@ -25,7 +25,7 @@ returns-in_err-kind g c =
     let m = c.self.inside.member in
     let why = c.in_err-kind.field-0.0 in
     let refused : c.from_residual.result ≡ Err why = search rules in
-    let fault = fault-seen m c.args.place c.args.mode (Some why) c.in_err-kind.ensures in
+    let fault = fault-seen m (Begin_wait m.seat.me.0.number c.args.place c.args.mode) (Some why) c.in_err-kind.ensures in
     rw refused (rw (← c.self.view_is) (record {
       joined = begin-unfit (member m) c.args.place c.args.mode why fault;
       shown = own-shows (Begin_wait m.seat.me.0.number c.args.place c.args.mode) why (view_of m) fault;

@@ -1,10 +1,8 @@
 -- The mode is one of the lock's kind that the ticket's own covers, and the second ticket is the last of the session's.
-use Rattle.std.proofs.Common.{rules, ◌≡◌, ◌+◌, ◌⊎◌, inl, inr, ℕ, None, Err, Some, refl, sym, ap, subst, ◌∙◌, arith}
-use Rattle.mdl_book.specs.declared.book_error.BookError.TheVariants as fault
+use Rattle.std.proofs.Common.{rules, ◌≡◌, inl, ℕ, None, Err, Some, refl, ap, subst, arith}
 use Rattle.mdl_calls.specs.Words.{Clone_ticket}
-use Rattle.mdl_steps.specs.declared.deed.Deed.TheVariants.{Gain}
 use Rattle.mdl_visits.specs.Leavings.{MeetsOwn}
-use Rattle.mdl_shared.specs.Modes.{clone_fault}
+use Rattle.mdl_visits.specs.Numbers.{numbered}
 use Rattle.mdl_shared.specs.Passes.{view_of}
 use Rattle.mdl_shared.specs.SessionViews.{Lists}
 use Rattle.mdl_shared.proofs.CloneCalls.{clone-joins, clone-refused, clone-shows, clone-unfit, refusal-met, refused-shows}
@@ -17,7 +15,7 @@ use Rattle.mdl_shared.proofs.Refusals.{own-shows}
 use Rattle.mdl_shared.proofs.SameSpace.{same-stays}
 use Rattle.mdl_shared.proofs.WaitSteps.{still-member}
 use Rattle.mdl_shared.proofs.WishCalls.{refusal-causes}
-use Rattle.mdl_shared.proofs.WishFaults.{clone-fits}
+use Rattle.mdl_shared.proofs.WishFaults.{clone-passed}
 use Rattle.mdl_shared.proofs.Wishing.{below-seen, gained-seen, unasked}
 use Rattle.mdl_shared.proofs.session.Session.clone_ticket.Goals as goal
 
@@ -57,9 +55,8 @@ clone_ticket-requires-clause-fits g c =
     let t = c.in_ok-held.held in
     let held = holds-ticket m c.args.id t c.in_ok-held.ensures.found in
     let clear = fault-seen m (Clone_ticket m.seat.me.0.number c.args.id c.args.mode) None (just-done _ _ c.in_ok-held.ensures.just) in
-    let fits = clone-fits t m.seat.me.0.asks c.args.mode m.seat.me.0.known m.seat.me.0.next
-    (sym (ap (λ o. clone_fault o m.seat.me.0.asks c.args.mode m.seat.me.0.known m.seat.me.0.next) held.its) ∙ clear) in
-    fit_there t.place c.args.mode m.seat.me.0.known fits.1
+    let may = clone-passed m.seat.me.0.asks c.args.mode m.seat.me.0.known m.seat.me.0.next (numbered c.args.id m.seat.me.0.slow) t held.its clear in
+    fit_there t.place c.args.mode m.seat.me.0.known may.1
 
 -- ---- it can't be made
 
@@ -69,13 +66,12 @@ invariant_of-member-in-Err-1 g c =
     let t = c.in_ok-held.held in
     let held = holds-ticket m c.args.id t c.in_ok-held.ensures.found in
     let clear = fault-seen m (Clone_ticket m.seat.me.0.number c.args.id c.args.mode) None (just-done _ _ c.in_ok-held.ensures.just) in
-    let fits = clone-fits t m.seat.me.0.asks c.args.mode m.seat.me.0.known m.seat.me.0.next
-    (sym (ap (λ o. clone_fault o m.seat.me.0.asks c.args.mode m.seat.me.0.known m.seat.me.0.next) held.its) ∙ clear) in
+    let may = clone-passed m.seat.me.0.asks c.args.mode m.seat.me.0.known m.seat.me.0.next (numbered c.args.id m.seat.me.0.slow) t held.its clear in
     let done = visited m.seat c.clone_ticket.new.seat m.sessions c.in-Err.ensures.unchanged in
     record {
       lawful = ∣ still-member done (member m) ∣₁;
       lists = lists-done m done c.reserve.ensures.same;
-      room = unasked m fits.0 _;
+      room = unasked m may.0 _;
     }
 
 pub returns-in-Err : goal.returns-in-Err
@@ -104,13 +100,12 @@ invariant_of-member-2 g c =
     let t = c.in_ok-held.held in
     let held = holds-ticket m c.args.id t c.in_ok-held.ensures.found in
     let clear = fault-seen m (Clone_ticket m.seat.me.0.number c.args.id c.args.mode) None (just-done _ _ c.in_ok-held.ensures.just) in
-    let fits = clone-fits t m.seat.me.0.asks c.args.mode m.seat.me.0.known m.seat.me.0.next
-    (sym (ap (λ o. clone_fault o m.seat.me.0.asks c.args.mode m.seat.me.0.known m.seat.me.0.next) held.its) ∙ clear) in
+    let may = clone-passed m.seat.me.0.asks c.args.mode m.seat.me.0.known m.seat.me.0.next (numbered c.args.id m.seat.me.0.slow) t held.its clear in
     let done = visited m.seat c.clone_ticket.new.seat m.sessions c.in_default.ensures.cloned in
     record {
-      lawful = ∣ kept is (done-order done is (inl fits.0)) (clone-joins is c.args.id c.args.mode clear t held.its (ap (λ (l : Lists). l.next) m.lists) done) ∣₁;
+      lawful = ∣ kept is (done-order done is (inl may.0)) (clone-joins is c.args.id c.args.mode clear t held.its (ap (λ (l : Lists). l.next) m.lists) done) ∣₁;
       lists = lists-done m done (gained-seen t.place m.next c.args.mode m.tickets.own c.reserve.new.self.own c.push_reserved.new.self.own c.reserve.ensures.same c.push_reserved.ensures.gained);
-      room = unasked m fits.0 _;
+      room = unasked m may.0 _;
     }
 
 pub returns : goal.returns

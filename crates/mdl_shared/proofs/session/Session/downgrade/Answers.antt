@@ -1,7 +1,7 @@
 -- The ticket has the weaker mode, or it can't have it.
-use Rattle.std.proofs.Common.{rules, ◌≡◌, None, Err, Some, inr, refl, sym, ap, ◌∙◌}
+use Rattle.std.proofs.Common.{rules, ◌≡◌, None, Err, Some, inr, refl}
 use Rattle.mdl_calls.specs.Words.{Downgrade}
-use Rattle.mdl_shared.specs.Modes.{downgrade_fault}
+use Rattle.mdl_visits.specs.Numbers.{numbered}
 use Rattle.mdl_shared.specs.Passes.{view_of}
 use Rattle.mdl_shared.proofs.Faults.{just-done, just-refused}
 use Rattle.mdl_shared.proofs.Fitting.{fit_there}
@@ -31,7 +31,7 @@ downgrade-requires g c =
     let t = c.in_ok-held.held in
     let held = holds-ticket m c.args.id t c.in_ok-held.ensures.found in
     let clear = fault-seen m (Downgrade m.seat.me.0.number c.args.id c.args.mode) None (just-done _ _ c.in_ok-held.ensures.just) in
-    let may = downgrade-passed t c.args.mode m.seat.me.0.known (sym (ap (λ o. downgrade_fault o c.args.mode m.seat.me.0.known) held.its) ∙ clear) in
+    let may = downgrade-passed c.args.mode m.seat.me.0.known (numbered c.args.id m.seat.me.0.slow) t held.its clear in
     record {
       at = held.at;
       unwaited = held.unwaited;

@@ -1,7 +1,6 @@
 -- The key of a place, by the session's own list, is that by its value.
-use Rattle.std.proofs.Common.{◌≡◌, Some, None, is_some, if◌then◌else◌, Option, refl, sym, ap, ◌∙◌}
+use Rattle.std.proofs.Common.{◌≡◌, Some, None, refl, sym, ap, ◌∙◌}
 use Rattle.std.specs.Option.{option_copied}
-use Rattle.mdl_key.specs.Words.{KeyName}
 use Rattle.mdl_calls.specs.declared.space_error.SpaceError.TheVariants.{NoPlace, OutOfMemory}
 use Rattle.mdl_calls.specs.Words.{Key_is, Key_of}
 use Rattle.mdl_shared.specs.OwnLists.{key_known}

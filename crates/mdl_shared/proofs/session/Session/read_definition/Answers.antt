@@ -1,10 +1,9 @@
 -- What stands under a ticket is read, and noted under each ticket of its place.
-use Rattle.std.proofs.Common.{◌≡◌, ℕ, ◌<◌, List, false, inr, is_some, refl, sym, ap, subst, ◌∙◌}
+use Rattle.std.proofs.Common.{false, inr, is_some, refl, ap, ◌∙◌}
 use Rattle.mdl_calls.specs.declared.space_error.SpaceError.TheVariants.{NotHeld}
 use Rattle.mdl_calls.specs.Words.{Read_definition}
 use Rattle.mdl_visits.proofs.Doing.{does_learns}
 use Rattle.mdl_shared.specs.Passes.{view_of}
-use Rattle.mdl_shared.specs.SessionViews.{Lists, session_at}
 use Rattle.mdl_shared.proofs.MemberFacts.{may-visit, speaks, ticket-known, ticket-there, unwaited}
 use Rattle.mdl_shared.proofs.Members.{done-nothing, done-order, held-seen, kept, lists-done, room-kept, visited}
 use Rattle.mdl_shared.proofs.Props.{member}

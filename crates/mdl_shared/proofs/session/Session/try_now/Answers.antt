@@ -3,14 +3,14 @@ use Rattle.std.proofs.Common.{rules, ◌≡◌, inl, Some, Err, Ok, refl, ap, �
 use Rattle.mdl_calls.specs.Words.{Try_now}
 use Rattle.mdl_shared.specs.Passes.{view_of}
 use Rattle.mdl_shared.specs.SessionViews.{Lists}
-use Rattle.mdl_shared.proofs.Members.{done-nothing, done-order, kept, lists-done, visited}
+use Rattle.mdl_shared.proofs.Members.{done-nothing, done-order, fault-seen, kept, lists-done, visited}
 use Rattle.mdl_shared.proofs.Props.{member}
 use Rattle.mdl_shared.proofs.Refusals.{own-shows}
 use Rattle.mdl_shared.proofs.SameSpace.{same-stays}
 use Rattle.mdl_shared.proofs.WaitSteps.{still-member}
 use Rattle.mdl_shared.proofs.WishCalls.{refusal-causes, try-blocked, try-granted, try-refused, try-unfit}
 use Rattle.mdl_shared.proofs.WishShows.{try-blocked-shows, try-granted-shows}
-use Rattle.mdl_shared.proofs.Wishing.{below-seen, fault-seen, gained-seen, may-wish, unasked}
+use Rattle.mdl_shared.proofs.Wishing.{below-seen, gained-seen, may-wish, unasked}
 use Rattle.mdl_shared.proofs.session.Session.try_now.Goals as goal
 
 pub returns-in_err-kind : goal.returns-in_err-kind
@@ -18,7 +18,7 @@ returns-in_err-kind g c =
     let m = c.self.inside.member in
     let why = c.in_err-kind.field-0.0 in
     let refused : c.from_residual.result ≡ Err why = search rules in
-    let fault = fault-seen m c.args.place c.args.mode (Some why) c.in_err-kind.ensures in
+    let fault = fault-seen m (Try_now m.seat.me.0.number c.args.place c.args.mode) (Some why) c.in_err-kind.ensures in
     rw refused (rw (← c.self.view_is) (record {
       joined = try-unfit (member m) c.args.place c.args.mode why fault;
       shown = own-shows (Try_now m.seat.me.0.number c.args.place c.args.mode) why (view_of m) fault;

@@ -1,8 +1,8 @@
 -- The ticket has the stronger mode, or would have to wait for it, or can't have it.
-use Rattle.std.proofs.Common.{rules, ◌≡◌, None, Err, Some, refl, sym, ap, inr, ◌∙◌}
+use Rattle.std.proofs.Common.{rules, ◌≡◌, None, Err, Some, refl, sym, inr, ◌∙◌}
 use Rattle.mdl_calls.specs.Words.{Upgrade_now}
+use Rattle.mdl_visits.specs.Numbers.{numbered}
 use Rattle.mdl_shared.specs.Passes.{view_of}
-use Rattle.mdl_shared.specs.Upgrades.{upgrade_fault}
 use Rattle.mdl_shared.proofs.Faults.{just-done, just-refused}
 use Rattle.mdl_shared.proofs.HeldTickets.{holds-ticket}
 use Rattle.mdl_shared.proofs.Members.{done-order, fault-seen, kept, lists-done, room-kept, visited}
@@ -30,8 +30,7 @@ pub returns-then-covers-clause-joined : goal.returns-then-covers-clause-joined
 returns-then-covers-clause-joined g c =
     let m = c.self.inside.member in
     let its = (holds-ticket m c.args.id c.in_ok-held.held c.in_ok-held.ensures.found).its in
-    let fault = fault-seen m (Upgrade_now m.seat.me.0.number c.args.id c.args.mode) None (just-done _ _ c.in_ok-held.ensures.just) in
-    let clear = sym (ap (upgrade_fault c.args.mode m.seat.me.0.known m.seat.me.0.asks) its) ∙ fault in
+    let clear = fault-seen m (Upgrade_now m.seat.me.0.number c.args.id c.args.mode) None (just-done _ _ c.in_ok-held.ensures.just) in
     rw (← c.self.view_is) (covered-joins (member m) c.args.id c.in_ok-held.held its c.args.mode clear (sym c.covers.ensures ∙ c.if-covers.true))
 
 pub upgrade_now-requires-clause-at : goal.upgrade_now-requires-clause-at
@@ -45,9 +44,8 @@ upgrade_now-requires-clause-wish g c =
     let m = c.self.inside.member in
     let t = c.in_ok-held.held in
     let its = (holds-ticket m c.args.id t c.in_ok-held.ensures.found).its in
-    let fault = fault-seen m (Upgrade_now m.seat.me.0.number c.args.id c.args.mode) None (just-done _ _ c.in_ok-held.ensures.just) in
-    let clear = sym (ap (upgrade_fault c.args.mode m.seat.me.0.known m.seat.me.0.asks) its) ∙ fault in
-    let kind = upgrade-kind c.args.mode m.seat.me.0.known m.seat.me.0.asks t clear (sym c.covers.ensures ∙ c.if-covers.false) in
+    let clear = fault-seen m (Upgrade_now m.seat.me.0.number c.args.id c.args.mode) None (just-done _ _ c.in_ok-held.ensures.just) in
+    let kind = upgrade-kind c.args.mode m.seat.me.0.known m.seat.me.0.asks (numbered c.args.id m.seat.me.0.slow) t its clear (sym c.covers.ensures ∙ c.if-covers.false) in
     (kind.0, record { idle = kind.4; knows = kind_there t.place kind.0 m.seat.me.0.known kind.1; is_mode = kind.2 }, kind.3)
 
 -- ---- it would have to wait
@@ -67,8 +65,7 @@ returns-in-Blocked g c =
     let m = c.self.inside.member in
     let t = c.in_ok-held.held in
     let its = (holds-ticket m c.args.id t c.in_ok-held.ensures.found).its in
-    let fault = fault-seen m (Upgrade_now m.seat.me.0.number c.args.id c.args.mode) None (just-done _ _ c.in_ok-held.ensures.just) in
-    let clear = sym (ap (upgrade_fault c.args.mode m.seat.me.0.known m.seat.me.0.asks) its) ∙ fault in
+    let clear = fault-seen m (Upgrade_now m.seat.me.0.number c.args.id c.args.mode) None (just-done _ _ c.in_ok-held.ensures.just) in
     let short = sym c.covers.ensures ∙ c.if-covers.false in
     let went = c.upgrade_now.ensures.blocked c.in-Blocked.is in
     rw (← c.self.view_is) (record {
@@ -84,8 +81,7 @@ invariant_of-member-2 g c =
     let is = member m in
     let t = c.in_ok-held.held in
     let its = (holds-ticket m c.args.id t c.in_ok-held.ensures.found).its in
-    let fault = fault-seen m (Upgrade_now m.seat.me.0.number c.args.id c.args.mode) None (just-done _ _ c.in_ok-held.ensures.just) in
-    let clear = sym (ap (upgrade_fault c.args.mode m.seat.me.0.known m.seat.me.0.asks) its) ∙ fault in
+    let clear = fault-seen m (Upgrade_now m.seat.me.0.number c.args.id c.args.mode) None (just-done _ _ c.in_ok-held.ensures.just) in
     let done = visited m.seat c.upgrade_now.new.seat m.sessions (c.upgrade_now.ensures.granted c.in-Granted.is).0 in
     record {
       lawful = ∣ kept is (done-order done is (inr refl)) (upgrade-joins is c.args.id t its c.args.mode clear (sym c.covers.ensures ∙ c.if-covers.false) done) ∣₁;
@@ -98,8 +94,7 @@ returns g c =
     let m = c.self.inside.member in
     let t = c.in_ok-held.held in
     let its = (holds-ticket m c.args.id t c.in_ok-held.ensures.found).its in
-    let fault = fault-seen m (Upgrade_now m.seat.me.0.number c.args.id c.args.mode) None (just-done _ _ c.in_ok-held.ensures.just) in
-    let clear = sym (ap (upgrade_fault c.args.mode m.seat.me.0.known m.seat.me.0.asks) its) ∙ fault in
+    let clear = fault-seen m (Upgrade_now m.seat.me.0.number c.args.id c.args.mode) None (just-done _ _ c.in_ok-held.ensures.just) in
     let short = sym c.covers.ensures ∙ c.if-covers.false in
     let went = c.upgrade_now.ensures.granted c.in-Granted.is in
     rw (← c.self.view_is) (record {

@@ -1,5 +1,5 @@
 -- The new ticket is the last, and its place has one more.
-use Rattle.std.proofs.Common.{refl, ◌≡◌, Some, rules, sym, ap, ◌∙◌, [], ◌∷◌, ◌++◌}
+use Rattle.std.proofs.Common.{ap, ◌∙◌}
 use Rattle.std.specs.Prelude.{map}
 use Rattle.mdl_shared.specs.OwnTickets.{own_of}
 use Rattle.mdl_shared.proofs.TicketEdits.{gained, kept_gain}

@@ -1,18 +1,11 @@
 -- The numbers and the places are as they were.
-use Rattle.std.proofs.Common.{refl, ◌≡◌, Some, rules}
-use Rattle.mdl_shared.specs.OwnTickets.{StandsAt}
-use Rattle.mdl_shared.proofs.TicketEdits.{kept_mode, mode_at, mode_none}
+use Rattle.mdl_shared.proofs.TicketEdits.{kept_mode, mode_none}
 use Rattle.mdl_shared.proofs.tickets.Tickets.set_mode.Goals as goal
 
 pub invariant_of-self : goal.invariant_of-self
 invariant_of-self c =
-    let stands = rw (c.in-Some.is, c.deref.ensures.value) at c.index_at.ensures in
-    kept_mode c.self.inside.places.items c.self.inside.gained.items c.in-Some.at c.index_mut.result.now c.args.mode stands.0.0 c.index_mut.ensures.value c.self.invariant
-
-pub returns-in-Some-clause-changed : goal.returns-in-Some-clause-changed
-returns-in-Some-clause-changed c =
-    let stands = rw (c.in-Some.is, c.deref.ensures.value) at c.index_at.ensures in
-    rw (← c.self.view_is) (mode_at c.args.place c.args.id c.args.mode c.self.inside.places.items c.self.inside.gained.items c.in-Some.at c.index_mut.result.now c.self.invariant.rising stands.0 c.index_mut.ensures.value (search (rules, stands)))
+    kept_mode c.self.inside.places.items c.self.inside.gained.items c.in-Some.at c.index_mut.result.now c.args.mode (rw c.deref.ensures.value at c.in-Some.ensures).0.0
+    c.index_mut.ensures.value c.self.invariant
 
 pub returns-in_default-clause-changed : goal.returns-in_default-clause-changed
 returns-in_default-clause-changed c =

@@ -1,7 +1,7 @@
 -- The ticket is taken out where it stands, and its place has one less.
-use Rattle.std.proofs.Common.{refl, ◌≡◌, Some, rules, sym, ap, ◌∙◌}
+use Rattle.std.proofs.Common.{ap, ◌∙◌}
 use Rattle.std.specs.Prelude.{map}
-use Rattle.mdl_shared.specs.OwnTickets.{StandsAt, own_of}
+use Rattle.mdl_shared.specs.OwnTickets.{own_of}
 use Rattle.mdl_shared.proofs.TicketEdits.{kept_strike, same_notes, strike_at, strike_none, has_one}
 use Rattle.mdl_shared.proofs.tickets.Tickets.strike.Goals as goal
 

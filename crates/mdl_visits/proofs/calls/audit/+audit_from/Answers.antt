@@ -9,8 +9,7 @@ use Rattle.mdl_visits.proofs.calls.audit.+audit_from.Goals as goal
 
 pub add_book-requires-clause-carried : goal.add_book-requires-clause-carried
 add_book-requires-clause-carried g t c =
-    let latch = c.await_latch-latch in
-    (latch.ensures.taken.0.book, carried_there c.args.place latch.result.place c.args.seat.now latch.new.seat latch.new.seat latch.ensures.place latch.ensures.taken latch.ensures.inside.0 refl)
+    let arrives = c.await_latch-latch.ensures.arrives in (arrives.latch.book, arrives.holds.carried)
 
 pub put_latch-requires-clause-put : goal.put_latch-requires-clause-put
 put_latch-requires-clause-put g t c =

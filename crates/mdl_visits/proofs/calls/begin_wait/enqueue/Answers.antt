@@ -23,8 +23,8 @@ open_wait-requires c =
     let wrote = c.in_default.ensures.written has.3.entered.1.found.book (entered_holds has.3).carried in
     record {
       place = place_there c.args.latch.place (table_of wrote) has.3.is_place;
-      opened = (_, wish_opens has.3 c.args.number c.requires.number c.write_wish.new.self wrote c.requires.unfast);
-      wait = (c.requires.wait.0 ∙ sym (ap (λ (x : SeatState). x.me.0.waits + 1) wrote), c.requires.wait.1);
+      opened = (_, wish_opens has.3 c.args.number c.requires.new.is_next c.write_wish.new.self wrote c.requires.new.unfast);
+      wait = (c.requires.new.counts.0 ∙ sym (ap (λ (x : SeatState). x.me.0.waits + 1) wrote), c.requires.new.counts.1);
     }
 
 pub put_latch-requires : goal.put_latch-requires
@@ -33,12 +33,12 @@ put_latch-requires c =
     let wrote = c.in_default.ensures.written has.3.entered.1.found.book (entered_holds has.3).carried in
     record {
       place = place_there c.args.latch.place (table_of c.open_wait.ensures.made ∙ table_of wrote) has.3.is_place;
-      put = wish_puts has.3 c.args.number c.requires.number c.write_wish.new.self wrote c.requires.unfast c.open_wait.new.self.me c.open_wait.ensures.keeps;
+      put = wish_puts has.3 c.args.number c.requires.new.is_next c.write_wish.new.self wrote c.requires.new.unfast c.open_wait.new.self.me c.open_wait.ensures.keeps;
     }
 
 pub returns-in-Err : goal.returns-in-Err
 returns-in-Err c = record {
-  done = λ place word s has.
+  done = λ word place s has.
       refused has c.in-Err.cause c.write_wish.new.self _ c.in-Err.ensures.unchanged
       (full _ _ c.in-Err.cause (c.in-Err.ensures.refused has.entered.1.found.book (entered_holds has).carried))
       c.lower_flags_and_put.ensures.visited c.lower_flags_and_put.ensures.step;
@@ -46,7 +46,7 @@ returns-in-Err c = record {
 
 pub returns : goal.returns
 returns c = record {
-  done = λ place word s has.
-      begins has c.args.number c.requires.number c.write_wish.new.self (c.in_default.ensures.written has.entered.1.found.book (entered_holds has).carried)
+  done = λ word place s has.
+      begins has c.args.number c.requires.new.is_next c.write_wish.new.self (c.in_default.ensures.written has.entered.1.found.book (entered_holds has).carried)
       c.open_wait.new.self _ c.open_wait.ensures.made c.put_latch.ensures.made;
 }

@@ -1,9 +1,8 @@
 -- What was changed stood in the book that was met under the latch.
-use Rattle.std.proofs.Common.{refl, sym, ◌∙◌, subst}
+use Rattle.std.proofs.Common.{refl, ◌∙◌}
 use Rattle.mdl_defs.specs.Standings.{standing_fault}
 use Rattle.mdl_book.specs.Books.{redefining}
 use Rattle.mdl_steps.specs.SeatStates.{SeatState}
-use Rattle.mdl_steps.specs.Seats.{IsPlace}
 use Rattle.mdl_visits.proofs.Changing.{changed, has_redefined, may_put_changed, no_fault, refused}
 use Rattle.mdl_visits.proofs.Gathering.{as_reads, back_steps, carried_there, no_steps}
 use Rattle.mdl_visits.proofs.Seats.{place_there, table_of}
@@ -11,12 +10,7 @@ use Rattle.mdl_visits.proofs.calls.change_definition.change_definition.Goals as 
 
 pub write_change-requires : goal.write_change-requires
 write_change-requires g c =
-    let latch = c.await_latch-latch in record {
-      carried = (
-        latch.ensures.taken.0.book,
-        carried_there c.args.place latch.result.place c.args.seat.now latch.new.seat latch.new.seat latch.ensures.place latch.ensures.taken latch.ensures.inside.0 refl,
-      );
-    }
+    let arrives = c.await_latch-latch.ensures.arrives in record { carried = (arrives.latch.book, arrives.holds.carried) }
 
 pub write_version-requires : goal.write_version-requires
 write_version-requires g c =
@@ -31,7 +25,7 @@ write_version-requires g c =
     let done = c.in-Ok.ensures.written taken.0.book carried in
     let allowed = no_fault (standing_fault taken.0.book.key.namespace change taken.0.book.standing) c.in-Ok.version (c.in-Ok.ensures.refused taken.0.book carried) in
     record {
-      place = subst (IsPlace wrote.table) (sym latch.ensures.place) (place_there place (table_of done.0 ∙ latch.ensures.inside.0) c.requires.at.is_place);
+      place = place_there latch.result.place (table_of done.0) latch.ensures.arrives.is_place;
       written = (taken.0, change, has_redefined place latch.result.place change a b wrote latch.ensures.place taken latch.ensures.inside.0 done.0 allowed c.requires.apart c.requires.held);
     }
 
@@ -50,7 +44,7 @@ put_latch-requires g c =
     let has = has_redefined place latch.result.place change a b wrote latch.ensures.place taken latch.ensures.inside.0 done.0 allowed c.requires.apart c.requires.held in
     let published = c.write_version.ensures.made (redefining change taken.0.book) has.holds.carried in
     record {
-      place = subst (IsPlace c.write_version.new.self.table) (sym latch.ensures.place) (place_there place (table_of published ∙ table_of done.0 ∙ latch.ensures.inside.0) c.requires.at.is_place);
+      place = place_there latch.result.place (table_of published ∙ table_of done.0) latch.ensures.arrives.is_place;
       put = may_put_changed place latch.result.place change a b wrote latch.ensures.place taken latch.ensures.inside.0 done.0 allowed c.requires.apart c.requires.held
           c.write_version.new.self c.write_version.ensures.keeps;
     }

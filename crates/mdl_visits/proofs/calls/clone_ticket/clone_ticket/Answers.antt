@@ -7,7 +7,7 @@ use Rattle.mdl_steps.specs.Deeds.{booked}
 use Rattle.mdl_steps.specs.SeatStates.{AtItsTable, SeatState}
 use Rattle.mdl_visits.specs.Leavings.{HasWorked}
 use Rattle.mdl_visits.specs.Visits.{CameTo, Visits}
-use Rattle.mdl_visits.proofs.Arriving.{arrived, came_written, has_rested, met_full, met_own}
+use Rattle.mdl_visits.proofs.Arriving.{came_written, has_rested, met_full, met_own}
 use Rattle.mdl_visits.proofs.Numbers.{idle_waits_not}
 use Rattle.mdl_visits.proofs.Weaker.{has_gained, no_room, there}
 use Rattle.mdl_visits.proofs.calls.clone_ticket.clone_ticket.Goals as goal
@@ -16,11 +16,8 @@ pub lower_flags_and_put-requires : goal.lower_flags_and_put-requires
 lower_flags_and_put-requires g c =
     let held = c.args.held in
     let s = c.args.seat.now in
-    let latch = c.await_latch-latch in
-    let told = latch.ensures in
-    let q = latch.result.place in
     let r = c.requires in
-    let a = arrived held.place s r.at q latch.new.seat told.place told.taken.0 told.taken.1 told.taken.2 told.inside told.stays in
+    let a = c.await_latch-latch.ensures.arrives in
     record {
       worked = has_gained held a (idle_waits_not s.me.0 held.number r.idle) r.held c.args.mode r.fits r.covers c.args.number c.write_gain.new.self r.idle r.number
           (c.in-Ok.ensures.written a.latch.book a.holds.carried);
@@ -29,9 +26,8 @@ lower_flags_and_put-requires g c =
 pub lower_flags_and_put-requires-in-Err : goal.lower_flags_and_put-requires-in-Err
 lower_flags_and_put-requires-in-Err g c =
     let latch = c.await_latch-latch in
-    let told = latch.ensures in
     let q = latch.result.place in
-    let a = arrived c.args.held.place c.args.seat.now c.requires.at q latch.new.seat told.place told.taken.0 told.taken.1 told.taken.2 told.inside told.stays in
+    let a = latch.ensures.arrives in
     record { worked = subst (HasWorked q []) (sym c.in-Err.ensures.unchanged) (has_rested a) }
 
 pub returns-in-Ok : goal.returns-in-Ok
@@ -39,12 +35,10 @@ returns-in-Ok g c =
     let held = c.args.held in
     let s = c.args.seat.now in
     let latch = c.await_latch-latch in
-    let told = latch.ensures in
-    let q = latch.result.place in
     let r = c.requires in
     let w = c.write_gain.new.self in
     let n = c.lower_flags_and_put.new.seat in
-    let a = arrived held.place s r.at q latch.new.seat told.place told.taken.0 told.taken.1 told.taken.2 told.inside told.stays in
+    let a = latch.ensures.arrives in
     let out = c.in-Ok.ensures.written a.latch.book a.holds.carried in
     let came = came_written a (booked latch.new.seat.me.0.number (Gain c.args.number c.args.mode) a.latch.book) w out in
     record {
@@ -60,12 +54,11 @@ returns-in-Err g c =
     let held = c.args.held in
     let s = c.args.seat.now in
     let latch = c.await_latch-latch in
-    let told = latch.ensures in
     let q = latch.result.place in
     let r = c.requires in
     let w = c.write_gain.new.self in
     let n = c.lower_flags_and_put-in-Err.new.seat in
-    let a = arrived held.place s r.at q latch.new.seat told.place told.taken.0 told.taken.1 told.taken.2 told.inside told.stays in
+    let a = latch.ensures.arrives in
     let same = c.in-Err.ensures.unchanged in
     let came = subst (CameTo q s) (sym same) a.came in
     let latches = ap (λ (x : SeatState). x.me.0.latches) same in

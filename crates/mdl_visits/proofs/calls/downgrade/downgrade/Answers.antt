@@ -5,7 +5,7 @@ use Rattle.mdl_steps.specs.declared.deed.Deed.TheVariants.{Alter}
 use Rattle.mdl_steps.specs.Deeds.{booked}
 use Rattle.mdl_steps.specs.SeatStates.{AtItsTable, SeatState}
 use Rattle.mdl_visits.specs.Grantings.{VisitsAndReschedules}
-use Rattle.mdl_visits.proofs.Arriving.{arrived, came_written, met_own}
+use Rattle.mdl_visits.proofs.Arriving.{came_written, met_own}
 use Rattle.mdl_visits.proofs.Covered.{downgrade-covered}
 use Rattle.mdl_visits.proofs.Weaker.{has_altered, lowered_to, there}
 use Rattle.mdl_visits.proofs.calls.downgrade.downgrade.Goals as goal
@@ -14,14 +14,9 @@ pub lower_flags_and_reschedule-requires : goal.lower_flags_and_reschedule-requir
 lower_flags_and_reschedule-requires g c =
     let held = c.args.held in
     let mode = c.args.mode in
-    let s = c.args.seat.now in
-    let latch = c.await_latch-latch in
-    let told = latch.ensures in
-    let q = latch.result.place in
-    let arrive = latch.new.seat in
     let wrote = c.write_mode-altered in
     let r = c.requires in
-    let a = arrived held.place s r.at q arrive told.place told.taken.0 told.taken.1 told.taken.2 told.inside told.stays in
+    let a = c.await_latch-latch.ensures.arrives in
     let strong = downgrade-covered held.mode mode r.weaker in
     let out = lowered_to held a r.unwaited r.held mode r.fits strong wrote.new.self wrote.result (wrote.ensures.refused a.latch.book a.holds.carried) (wrote.ensures.written a.latch.book a.holds.carried) in
     record { worked = has_altered held a r.unwaited r.held mode r.fits strong wrote.new.self r.weaker out }
@@ -32,12 +27,10 @@ returns g c =
     let mode = c.args.mode in
     let s = c.args.seat.now in
     let latch = c.await_latch-latch in
-    let told = latch.ensures in
-    let q = latch.result.place in
     let arrive = latch.new.seat in
     let wrote = c.write_mode-altered in
     let r = c.requires in
-    let a = arrived held.place s r.at q arrive told.place told.taken.0 told.taken.1 told.taken.2 told.inside told.stays in
+    let a = latch.ensures.arrives in
     let strong = downgrade-covered held.mode mode r.weaker in
     let out = lowered_to held a r.unwaited r.held mode r.fits strong wrote.new.self wrote.result (wrote.ensures.refused a.latch.book a.holds.carried) (wrote.ensures.written a.latch.book a.holds.carried) in
     let came = came_written a (booked arrive.me.0.number (Alter held.number mode) a.latch.book) wrote.new.self out in

@@ -2,7 +2,6 @@
 use Rattle.std.proofs.Common.{ℕ, sym, ◌∙◌, subst}
 use Rattle.mdl_steps.specs.SeatStates.{AtItsTable}
 use Rattle.mdl_visits.specs.WaitEndings.{EndsLost, without_wait}
-use Rattle.mdl_visits.proofs.Arriving.{arrived}
 use Rattle.mdl_visits.proofs.Seats.{place_there, table_of}
 use Rattle.mdl_visits.proofs.WaitEndings.{asks_there, came_ended, has_ended, holds_less, may_cancel, told_there, waits_there, withdrawn}
 use Rattle.mdl_visits.proofs.calls.end_lost_wait.end_lost_wait.Goals as goal
@@ -10,15 +9,12 @@ use Rattle.mdl_visits.proofs.calls.end_lost_wait.end_lost_wait.Goals as goal
 pub end_lost-requires : goal.end_lost-requires
 end_lost-requires g c =
     let ask = c.args.ask in
-    let s = c.args.seat.now in
     let latch = c.await_latch-latch in
-    let told = latch.ensures in
     let q = latch.result.place in
-    let came = latch.new.seat in
     let r = c.requires in
     let wrote = c.write_withdrawal-withdrawn in
     let w = wrote.new.self in
-    let a = arrived ask.place s r.at q came told.place told.taken.0 told.taken.1 told.taken.2 told.inside told.stays in
+    let a = latch.ensures.arrives in
     let is = withdrawn ask a w wrote.result wrote.ensures.refused wrote.ensures.written wrote.ensures.unchanged in
     record {
       place = place_there q (table_of is) a.is_place;
@@ -29,15 +25,10 @@ end_lost-requires g c =
 pub lower_flags_and_reschedule-requires : goal.lower_flags_and_reschedule-requires
 lower_flags_and_reschedule-requires g c =
     let ask = c.args.ask in
-    let s = c.args.seat.now in
-    let latch = c.await_latch-latch in
-    let told = latch.ensures in
-    let q = latch.result.place in
-    let came = latch.new.seat in
     let r = c.requires in
     let wrote = c.write_withdrawal-withdrawn in
     let w = wrote.new.self in
-    let a = arrived ask.place s r.at q came told.place told.taken.0 told.taken.1 told.taken.2 told.inside told.stays in
+    let a = c.await_latch-latch.ensures.arrives in
     let is = withdrawn ask a w wrote.result wrote.ensures.refused wrote.ensures.written wrote.ensures.unchanged in
     let asks = asks_there ask a w is r.asks in
     let ended = c.end_lost.ensures.made ask r.lost.0 asks (told_there ask a w is r.lost.0 r.lost.1) in
@@ -47,14 +38,10 @@ pub returns : goal.returns
 returns g c =
     let ask = c.args.ask in
     let s = c.args.seat.now in
-    let latch = c.await_latch-latch in
-    let told = latch.ensures in
-    let q = latch.result.place in
-    let came = latch.new.seat in
     let r = c.requires in
     let wrote = c.write_withdrawal-withdrawn in
     let w = wrote.new.self in
-    let a = arrived ask.place s r.at q came told.place told.taken.0 told.taken.1 told.taken.2 told.inside told.stays in
+    let a = c.await_latch-latch.ensures.arrives in
     let is = withdrawn ask a w wrote.result wrote.ensures.refused wrote.ensures.written wrote.ensures.unchanged in
     let asks = asks_there ask a w is r.asks in
     let ended = c.end_lost.ensures.made ask r.lost.0 asks (told_there ask a w is r.lost.0 r.lost.1) in

@@ -6,7 +6,7 @@ use Rattle.mdl_steps.specs.declared.deed.Deed.TheVariants.{Alter, Lose}
 use Rattle.mdl_steps.specs.Deeds.{booked}
 use Rattle.mdl_steps.specs.SeatStates.{AtItsTable, SeatState}
 use Rattle.mdl_visits.specs.Visits.{Visits}
-use Rattle.mdl_visits.proofs.Arriving.{arrived, came_written, meets_own, met_here}
+use Rattle.mdl_visits.proofs.Arriving.{came_written, meets_own, met_here}
 use Rattle.mdl_visits.proofs.Uniting.{carries_changed, changed, first, has_united, second, united}
 use Rattle.mdl_visits.proofs.calls.merge.merge.Goals as goal
 
@@ -14,14 +14,9 @@ pub write_loss-gone-requires : goal.write_loss-gone-requires
 write_loss-gone-requires g c =
     let kept = c.args.kept in
     let gone = c.args.gone in
-    let s = c.args.seat.now in
-    let latch = c.await_latch-latch in
-    let told = latch.ensures in
-    let q = latch.result.place in
-    let came = latch.new.seat in
     let r = c.requires in
     let wrote = c.write_mode-altered in
-    let a = arrived kept.place s r.at q came told.place told.taken.0 told.taken.1 told.taken.2 told.inside told.stays in
+    let a = c.await_latch-latch.ensures.arrives in
     let refused = wrote.ensures.refused a.latch.book a.holds.carried in
     let written = wrote.ensures.written a.latch.book a.holds.carried in
     record { carried = (changed kept gone a r.here r.idle r.two r.held, carries_changed kept gone a r.here r.idle r.two r.held wrote.new.self wrote.result refused written) }
@@ -30,14 +25,9 @@ pub lower_flags_and_put-requires : goal.lower_flags_and_put-requires
 lower_flags_and_put-requires g c =
     let kept = c.args.kept in
     let gone = c.args.gone in
-    let s = c.args.seat.now in
-    let latch = c.await_latch-latch in
-    let told = latch.ensures in
-    let q = latch.result.place in
-    let came = latch.new.seat in
     let r = c.requires in
     let wrote = c.write_mode-altered in
-    let a = arrived kept.place s r.at q came told.place told.taken.0 told.taken.1 told.taken.2 told.inside told.stays in
+    let a = c.await_latch-latch.ensures.arrives in
     let refused = wrote.ensures.refused a.latch.book a.holds.carried in
     let written = wrote.ensures.written a.latch.book a.holds.carried in
     let w = c.write_loss-gone.new.self in
@@ -50,12 +40,10 @@ returns g c =
     let gone = c.args.gone in
     let s = c.args.seat.now in
     let latch = c.await_latch-latch in
-    let told = latch.ensures in
-    let q = latch.result.place in
     let came = latch.new.seat in
     let r = c.requires in
     let wrote = c.write_mode-altered in
-    let a = arrived kept.place s r.at q came told.place told.taken.0 told.taken.1 told.taken.2 told.inside told.stays in
+    let a = latch.ensures.arrives in
     let refused = wrote.ensures.refused a.latch.book a.holds.carried in
     let written = wrote.ensures.written a.latch.book a.holds.carried in
     let w = c.write_loss-gone.new.self in

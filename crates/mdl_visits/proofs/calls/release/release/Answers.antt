@@ -4,31 +4,23 @@ use Rattle.mdl_steps.specs.declared.deed.Deed.TheVariants.{Lose}
 use Rattle.mdl_steps.specs.Deeds.{booked}
 use Rattle.mdl_steps.specs.SeatStates.{AtItsTable, SeatState}
 use Rattle.mdl_visits.specs.Grantings.{VisitsAndReschedules}
-use Rattle.mdl_visits.proofs.Arriving.{arrived, came_written, met_own}
+use Rattle.mdl_visits.proofs.Arriving.{came_written, met_own}
 use Rattle.mdl_visits.proofs.Losing.{has_lost, lost, there}
 use Rattle.mdl_visits.proofs.calls.release.release.Goals as goal
 
 pub lower_flags_and_reschedule-requires : goal.lower_flags_and_reschedule-requires
 lower_flags_and_reschedule-requires g c =
-    let place = c.args.place in
     let number = c.args.number in
-    let s = c.args.seat.now in
-    let latch = c.await_latch-latch in
-    let told = latch.ensures in
-    let q = latch.result.place in
-    let a = arrived place s c.requires.at q latch.new.seat told.place told.taken.0 told.taken.1 told.taken.2 told.inside told.stays in
+    let a = c.await_latch-latch.ensures.arrives in
     let out = lost a number c.requires.unwaited c.requires.held c.write_loss-gone.new.self c.write_loss-gone.result c.write_loss-gone.ensures.refused c.write_loss-gone.ensures.written in
     record { worked = has_lost a number c.requires.unwaited c.requires.held c.write_loss-gone.new.self c.requires.known out }
 
 pub returns : goal.returns
 returns g c =
-    let place = c.args.place in
     let number = c.args.number in
     let s = c.args.seat.now in
     let latch = c.await_latch-latch in
-    let told = latch.ensures in
-    let q = latch.result.place in
-    let a = arrived place s c.requires.at q latch.new.seat told.place told.taken.0 told.taken.1 told.taken.2 told.inside told.stays in
+    let a = latch.ensures.arrives in
     let out = lost a number c.requires.unwaited c.requires.held c.write_loss-gone.new.self c.write_loss-gone.result c.write_loss-gone.ensures.refused c.write_loss-gone.ensures.written in
     let w = c.write_loss-gone.new.self in
     let n = c.lower_flags_and_reschedule.new.seat in

@@ -1,11 +1,9 @@
 -- What was listed and what the place gets are copies of the key. Nobody has ever been at the next place, so that the empty book of the key may be
 -- left there.
-use Rattle.std.proofs.Common.{refl, sym, ap, ◌∙◌, subst}
+use Rattle.std.proofs.Common.{ap, ◌∙◌}
 use Rattle.mdl_book.specs.Books.{empty_book}
 use Rattle.mdl_steps.specs.Plays.{Mine}
 use Rattle.mdl_steps.specs.SeatStates.{SeatState}
-use Rattle.mdl_steps.specs.Seats.{IsPlace}
-use Rattle.mdl_visits.proofs.Gathering.{carried_there}
 use Rattle.mdl_visits.proofs.Naming.{is_listed, may_name_at, may_visit_next, named_at, named_since}
 use Rattle.mdl_visits.proofs.Seats.{mine, place_there, table_of}
 use Rattle.mdl_visits.proofs.calls.resolve.name_key.Goals as goal
@@ -17,15 +15,11 @@ await_latch-latch-requires g c =
 
 pub name_book-requires : goal.name_book-requires
 name_book-requires g c =
-    let latch = c.await_latch-latch in
-    record { carried = (latch.ensures.taken.0.book, carried_there c.args.place latch.result.place c.list_key.new.self latch.new.seat latch.new.seat latch.ensures.place latch.ensures.taken latch.ensures.inside.0 refl) }
+    let arrives = c.await_latch-latch.ensures.arrives in record { carried = (arrives.latch.book, arrives.holds.carried) }
 
 pub put_latch_naming-requires-clause-place : goal.put_latch_naming-requires-clause-place
 put_latch_naming-requires-clause-place g c =
-    let new = c.requires.new in
-    let may = may_visit_next c.args.place c.args.key.now c.in_ok-listed.listed new.0 c.args.seat.now c.list_key.new.self new.1 (c.in_ok-list_key.ensures.listed new.0 new.1.holds.has.carried) in
-    let latch = c.await_latch-latch in
-    subst (IsPlace c.name_book.new.self.table) (sym latch.ensures.place) (place_there c.args.place (table_of c.name_book.ensures.written ∙ latch.ensures.inside.0) may.is_place)
+    place_there c.await_latch-latch.result.place (table_of c.name_book.ensures.written) c.await_latch-latch.ensures.arrives.is_place
 
 pub put_latch_naming-requires-clause-put : goal.put_latch_naming-requires-clause-put
 put_latch_naming-requires-clause-put g c =

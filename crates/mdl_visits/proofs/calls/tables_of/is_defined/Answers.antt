@@ -8,12 +8,7 @@ use Rattle.mdl_visits.proofs.calls.tables_of.is_defined.Goals as goal
 
 pub has_definition-defined-requires : goal.has_definition-defined-requires
 has_definition-defined-requires g c =
-    let latch = c.await_latch-latch in record {
-      carried = (
-        latch.ensures.taken.0.book,
-        carried_there c.args.place latch.result.place c.args.seat.now latch.new.seat latch.new.seat latch.ensures.place latch.ensures.taken latch.ensures.inside.0 refl,
-      );
-    }
+    let arrives = c.await_latch-latch.ensures.arrives in record { carried = (arrives.latch.book, arrives.holds.carried) }
 
 pub put_latch-requires-clause-put : goal.put_latch-requires-clause-put
 put_latch-requires-clause-put g c =
