@@ -17,7 +17,7 @@ const CALLED: u32 = 20_000;
 // How many sessions look a key up for the first time in each round: all of a table but the one that gave the keys their places.
 const NEWCOMERS: u32 = MOST_SESSIONS as u32 - 1;
 
-// The rounds of which the least and the median are told.
+// The rounds of which the least and the median are told: as the median the upper of the two in the middle.
 const ROUNDS: usize = 10;
 
 // The calls that a session makes over and over.
