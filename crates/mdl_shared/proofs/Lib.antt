@@ -1,6 +1,5 @@
 pub mod Fitting
 pub mod Membership
-pub mod Awaiting
 pub mod KnownKeys
 pub mod SpaceLists
 pub mod SameSpace
@@ -28,7 +27,6 @@ pub mod SpaceReads
 pub mod ReadCalls
 pub mod KillCalls
 pub mod KeyCalls
-pub mod SessionValues
 pub mod Wishing
 pub mod WishShows
 pub mod EndSteps

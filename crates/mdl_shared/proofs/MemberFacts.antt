@@ -1,10 +1,10 @@
 -- What is always so of a session between two calls, in the words that its calls need.
-use Rattle.std.proofs.Common.{◌≡◌, ℕ, ◌<◌, ◌+◌, ◌-◌, true, ◌&&◌, nat_lt, List, [], ◌∷◌, length, map, is_some, Option, Some, None, refl, sym, ap, subst, ◌∙◌, arith}
+use Rattle.std.proofs.Common.{◌≡◌, ℕ, ◌<◌, ◌+◌, ◌-◌, ◌==◌, Bool, true, not, ◌&&◌, nat_lt, List, [], ◌∷◌, length, map, is_some, Option, Some, None, refl, sym, ap, subst, ◌∙◌, arith}
 use Rattle.std.specs.Option.{IfSome, option_map}
-use Rattle.std.proofs.lemmas.Bool.{and_from, eqb-true, lt-ltb}
+use Rattle.std.proofs.lemmas.Bool.{and_from, and_parts, eqb-true, lt-ltb, ltb-true}
 use Rattle.std.proofs.lemmas.List.Folds.{list_all-map}
 use Rattle.mdl_calls.specs.declared.answers.Held.{Held}
-use Rattle.mdl_calls.specs.Words.{Wait, are_rising as are_rising_told}
+use Rattle.mdl_calls.specs.Words.{Wait}
 use Rattle.mdl_steps.specs.declared.view.Ask.{Ask}
 use Rattle.mdl_steps.specs.declared.view.Known.{Known}
 use Rattle.mdl_steps.specs.declared.view.LatchRecord.{LatchRecord}
@@ -12,28 +12,41 @@ use Rattle.mdl_steps.specs.declared.view.Own.{Own}
 use Rattle.mdl_steps.specs.Deeds.{KnowsPlace, NotWaited}
 use Rattle.mdl_steps.specs.Lists.{Each}
 use Rattle.mdl_steps.specs.Seats.{IsPlace, IsRising}
+use Rattle.mdl_steps.proofs.Views.{by_bool}
 use Rattle.mdl_session_laws.specs.SessionSpaces.{SpeaksFor, are_below as are_below_told, are_placed as are_placed_told, first_free, is_known as is_known_in}
 use Rattle.mdl_visits.specs.Leavings.{HasTicket}
 use Rattle.mdl_visits.specs.Visits.{MayVisit}
-use Rattle.mdl_visits.specs.Numbers.{all_numbers, is_ask_apart, numbered}
+use Rattle.mdl_visits.specs.Numbers.{all_numbers, is_ask_apart, is_no_number, numbered}
 use Rattle.mdl_visits.proofs.Numbers.{not_waited}
-use Rattle.mdl_shared.specs.Members.{IsMember, are_apart, are_placed, is_ask_placed, is_known_place}
+use Rattle.mdl_shared.specs.Members.{IsMember, are_apart, is_known_place}
 use Rattle.mdl_shared.specs.OwnLists.{told_of}
 use Rattle.mdl_shared.specs.SessionViews.{SessionView, space_of}
-use Rattle.mdl_shared.specs.Waitings.{are_below, are_rising, is_ask_last, is_ask_told}
-use Rattle.mdl_shared.proofs.Awaiting.{below_more, next_apart}
-use Rattle.mdl_shared.proofs.Membership.{has_numbered, known_within, placed_at, some_key}
+use Rattle.mdl_shared.specs.Waitings.{are_below, is_ask_last, is_ask_told}
+use Rattle.mdl_shared.proofs.Membership.{are_placed, has_numbered, known_within, placed_at, some_key}
 use Rattle.mdl_shared.proofs.SameSpace.{numbers_by, wait_by}
 use Rattle.mdl_shared.proofs.SpaceLists.{apart-told, known-told, known_of}
 
--- ---- its lists, as they are told
+-- ---- numbers
 
--- numbers that rise
-rising-told : (tickets : List Own) → are_rising_told (map told_of tickets) ≡ are_rising tickets
-rising-told [] = refl
-rising-told (t ∷ ts) =
-    ap (λ b. b && are_rising_told (map told_of ts)) (list_all-map (λ (h : Held). nat_lt t.number h.id) told_of ts)
-    ∙ ap (λ b. all_numbers (λ n. nat_lt t.number n) ts && b) (rising-told ts)
+-- what passes a test passes a weaker one
+weaker : (test other : ℕ → Bool) (tickets : List Own) → ((n : ℕ) → test n ≡ true → other n ≡ true) → all_numbers test tickets ≡ true → all_numbers other tickets ≡ true
+weaker test other [] follows all = refl
+weaker test other (t ∷ ts) follows all =
+    let parts = and_parts (test t.number) (all_numbers test ts) all in
+    and_from _ _ (follows t.number parts.0) (weaker test other ts follows parts.1)
+
+-- with one number more that is given out
+below_more : (next : ℕ) (tickets : List Own) → are_below next tickets ≡ true → are_below (next + 1) tickets ≡ true
+below_more next tickets all = weaker (λ n. nat_lt n next) (λ n. nat_lt n (next + 1)) tickets (λ n e. let less = ltb-true n next e in lt-ltb n (next + 1) (omega arith)) all
+
+-- the next number is none of theirs
+next_apart : (next : ℕ) (tickets : List Own) → are_below next tickets ≡ true → is_no_number next tickets ≡ true
+next_apart next tickets all = weaker (λ n. nat_lt n next) (λ n. not (n == next)) tickets other all
+  where
+    other : (n : ℕ) → nat_lt n next ≡ true → not (n == next) ≡ true
+    other n e = by_bool (n == next) (λ same. (let less = ltb-true n next e in let is = eqb-true n next same in absurd (omega arith))) (λ differ. rw differ refl)
+
+-- ---- its lists, as they are told
 
 -- numbers below one
 below-told : (number : ℕ) (tickets : List Own) → are_below_told number (map told_of tickets) ≡ are_below number tickets
@@ -45,12 +58,6 @@ placed-told known [] = refl
 placed-told known (t ∷ ts) =
     ap (λ b. b && are_placed_told (map known_of known) (map told_of ts)) (known-told t.place known)
     ∙ ap (λ b. is_known_place known t.place && b) (placed-told known ts)
-
--- the place that is waited for
-awaited-told : (known : List Known) (asks : Option Ask) (waits : ℕ)
-    → IfSome (wait_by waits asks) (λ (w : Wait). is_known_in w.place (map known_of known) ≡ true) → is_ask_placed known asks ≡ true
-awaited-told known None waits at = refl
-awaited-told known (Some a) waits at = sym (known-told a.place known) ∙ at
 
 module _ {s : SessionView} (is : IsMember s) where
   -- it speaks for its number
@@ -73,11 +80,7 @@ module _ {s : SessionView} (is : IsMember s) where
 
   -- ---- its tickets
 
-  -- their numbers rise
-  pub rising : are_rising s.me.0.slow ≡ true
-  rising = sym (rising-told s.me.0.slow) ∙ is.sound.rising
-
-  -- and are below the next one, which is greater than 0
+  -- their numbers are below the next one, which is greater than 0
   pub next-some : 0 < s.me.0.next
   next-some = let fewer = is.fewer.0 in omega arith
 
@@ -110,8 +113,10 @@ module _ {s : SessionView} (is : IsMember s) where
   placed = sym (placed-told s.me.0.known s.me.0.slow) ∙ is.sound.placed
 
   -- so is the one that it waits for
-  pub awaited : is_ask_placed s.me.0.known s.me.0.asks ≡ true
-  awaited = awaited-told s.me.0.known s.me.0.asks s.me.0.waits is.sound.awaited
+  pub awaited : (a : Ask) → s.me.0.asks ≡ Some a → is_known_place s.me.0.known a.place ≡ true
+  awaited a asks =
+      sym (known-told a.place s.me.0.known)
+      ∙ subst (λ (o : Option Ask). IfSome (wait_by s.me.0.waits o) (λ (w : Wait). is_known_in w.place (map known_of s.me.0.known) ≡ true)) asks is.sound.awaited
 
   -- ---- its places
 

@@ -1,6 +1,7 @@
 -- A session's own lists: its tickets are of places that it knows, and these are places of the table.
 use Rattle.std.proofs.Common.{◌≡◌, ℕ, zero, suc, ◌<◌, ◌==◌, ◌&&◌, true, List, [], ◌∷◌, ◌++◌, Some, length, refl, sym, ap, ◌∙◌, arith, append_assoc, append-nil}
-use Rattle.std.specs.Prelude.{nat_lt}
+use Rattle.std.specs.Prelude.{Bool, nat_lt}
+use Rattle.std.specs.List.{list_all}
 use Rattle.std.specs.Option.{option_map}
 use Rattle.std.proofs.lemmas.List.Elements.{All-head, All-tail}
 use Rattle.std.proofs.lemmas.Bool.{and_parts, and_from, eqb-true, lt-ltb, ltb-true}
@@ -13,7 +14,7 @@ use Rattle.mdl_steps.specs.declared.view.Own.{Own}
 use Rattle.mdl_steps.specs.Plays.{noting_version}
 use Rattle.mdl_steps.proofs.Views.{by_bool}
 use Rattle.mdl_visits.specs.Leavings.{HasTicket}
-use Rattle.mdl_shared.specs.Members.{is_known_place, are_placed, are_within, kind_known, place_known}
+use Rattle.mdl_shared.specs.Members.{is_known_place, are_within, kind_known, place_known}
 use Rattle.mdl_visits.specs.Numbers.{numbered}
 use Rattle.mdl_visits.specs.Tables.{AreWithin}
 
@@ -45,7 +46,11 @@ known_within slots place (k ∷ ks) all e =
     rw (sym is) (ltb-true 0 k.place here.0, ltb-true k.place slots here.1))
     (λ miss. known_within slots place ks parts.1 (rw miss at e))
 
--- a ticket that stands in the list is of a known place
+-- each ticket is of a place whose key the session has looked up
+abbrev pub are_placed : List Known → List Own → Bool
+are_placed known tickets = list_all (λ t. is_known_place known t.place) tickets
+
+-- so is one that stands in the list
 pub placed_at : (known : List Known) (tickets : List Own) (place number : ℕ) → are_placed known tickets ≡ true → HasTicket place number tickets → is_known_place known place ≡ true
 placed_at known tickets place number all has = at tickets all has.0 has.1 has.2 has.3
   where

@@ -2,7 +2,6 @@
 pub use Rattle.mdl_visits.specs.KnownLists.{are_apart, are_two, is_known_place, kind_known, place_known}
 use Rattle.std.specs.Prelude.{◌≡◌, ◌<◌, ◌≤◌, ℕ, ◌^◌, Bool, true, ◌&&◌, not, nat_le, nat_lt, List, All, Option, Some, None, filter, is_some, if◌then◌else◌}
 use Rattle.std.specs.List.{list_all}
-use Rattle.std.specs.Option.{option_map_or}
 use Rattle.mdl_key.specs.declared.mode.Mode.{Mode}
 use Rattle.mdl_key.specs.declared.namespace.Kind.{Kind}
 use Rattle.mdl_key.specs.Words.{is_mode_of}
@@ -24,14 +23,6 @@ use Rattle.mdl_shared.specs.Waitings.{is_ask_last, is_ask_told}
 -- a session's tickets have numbers below this
 abbrev pub most_numbers : ℕ
 most_numbers = 2 ^ 60
-
--- each ticket is of a place whose key the session has looked up
-abbrev pub are_placed : List Known → List Own → Bool
-are_placed known tickets = list_all (λ t. is_known_place known t.place) tickets
-
--- the ticket that is waited for is of such a place
-abbrev pub is_ask_placed : List Known → Option Ask → Bool
-is_ask_placed known asks = option_map_or (λ (a : Ask). is_known_place known a.place) asks true
 
 -- each place that it has looked up is one of the table's
 abbrev pub are_within : ℕ → List Known → Bool

@@ -1,5 +1,5 @@
 -- The wait of a session, as the session keeps it of its own between two calls.
-use Rattle.std.specs.Prelude.{ℕ, ◌+◌, ◌==◌, Bool, true, not, ◌&&◌, nat_lt, List, [], ◌∷◌, Option, Some, None, is_some}
+use Rattle.std.specs.Prelude.{ℕ, ◌+◌, ◌==◌, Bool, true, not, nat_lt, List, Option, Some, None, is_some}
 use Rattle.std.specs.Option.{option_map_or}
 use Rattle.mdl_calls.specs.declared.space_error.SpaceError.{SpaceError}
 use Rattle.mdl_calls.specs.declared.space_error.SpaceError.TheVariants.{NoWait}
@@ -10,11 +10,6 @@ use Rattle.mdl_visits.specs.Numbers.{all_numbers}
 -- whether all have numbers below the next one
 abbrev pub are_below : ℕ → List Own → Bool
 are_below next tickets = all_numbers (λ n. nat_lt n next) tickets
-
--- whether the numbers of the tickets rise: each is below all later ones
-abbrev pub are_rising : List Own → Bool
-are_rising [] = true
-are_rising (t ∷ later) = all_numbers (λ n. nat_lt t.number n) later && are_rising later
 
 -- whether the ticket that is waited for, if any, has the last number that was given out
 abbrev pub is_ask_last : ℕ → Option Ask → Bool

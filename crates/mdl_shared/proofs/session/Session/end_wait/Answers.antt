@@ -8,7 +8,6 @@ use Rattle.mdl_steps.specs.Plays.{Mine}
 use Rattle.mdl_steps.specs.Seats.{IsPlace, IsRising}
 use Rattle.mdl_steps.specs.SeatStates.{SeatState}
 use Rattle.mdl_visits.specs.Polls.{state_of}
-use Rattle.mdl_shared.specs.Members.{is_ask_placed}
 use Rattle.mdl_shared.specs.Passes.{view_of}
 use Rattle.mdl_shared.specs.SessionViews.{Lists, SessionView, lists_seen, session_at, settled_of}
 use Rattle.mdl_shared.specs.Waitings.{are_below}
@@ -69,7 +68,7 @@ end_lost_wait-requires g c =
     let some = sym (ap settled_of c.state.ensures) ∙ sym c.settled_in.ensures ∙ c.in-Some-settled_in.is in
     let waits = ap (λ (l : Lists). l.waits) m.lists in
     let so = lost-so m.seat.me.0.number one c.in-Some-lost_end.ended (sym c.lost_end.ensures ∙ c.in-Some-lost_end.is) in
-    let at = may-visit is ask.place (ap (is_ask_placed m.seat.me.0.known) (sym asks) ∙ awaited is) in
+    let at = may-visit is ask.place (awaited is ask asks) in
     record {
       at = record { is_place = subst (λ (x : SessionView). IsPlace x.table ask.place) (sym now) at.is_place; rising = subst (λ (x : SessionView). IsRising ask.place x.me) (sym now) at.rising };
       asks = ap (λ (x : SessionView). x.me.0.asks) now ∙ asks;
