@@ -5,7 +5,7 @@ ghost use Rattle.mdl_shared.specs.Passes.{ArePasses, table_of, pass_table};
 use crate::failure::Failure;
 use mdl_key::{Key, Mode};
 use mdl_shared::{HoldsTickets, Manager, Pass, Session};
-use mdl_space::{Attempt, Begun, Ended, Place, Poll, Search, SpaceError, TicketId};
+use mdl_space::{Attempt, Begun, Ended, Place, Poll, Search, SpaceError, TicketId, Upgrade};
 use std::alloc::Global;
 use std::sync::Wait;
 use std::thread;
@@ -86,6 +86,37 @@ impl<'r, R: Wait> Guest<'r, R> {
             Some(id) => Ok(self.session.release(id)?),
             None => Err(Failure::Unexpected),
         }
+    }
+
+    /// Whether a place has a key, by what the session is told of it.
+    pub fn has_key(&mut self, place: Place, key: &Key) -> Result<bool, Failure> {
+        Ok(self.session.key_of(place)? == *key)
+    }
+
+    /// Whether nothing is defined at the place of its ticket.
+    pub fn finds_nothing(&mut self) -> Result<bool, Failure> {
+        let id = self.ticket()?;
+        Ok(self.session.read_definition(id)?.definition.is_none())
+    }
+
+    /// Gives its ticket a stronger mode, for which nobody has to be waited.
+    pub fn upgrade(&mut self, mode: Mode) -> Result<(), Failure> {
+        let id = self.ticket()?;
+        match self.session.upgrade_now(id, mode)? {
+            Upgrade::Upgraded => Ok(()),
+            Upgrade::WouldWait => Err(Failure::Unexpected),
+        }
+    }
+
+    /// Gives its ticket a weaker mode.
+    pub fn downgrade(&mut self, mode: Mode) -> Result<(), Failure> {
+        let id = self.ticket()?;
+        Ok(self.session.downgrade(id, mode)?)
+    }
+
+    // Its ticket.
+    fn ticket(&self) -> Result<TicketId, Failure> {
+        self.ticket.ok_or(Failure::Unexpected)
     }
 
     /// Whether its wait is in no deadlock.

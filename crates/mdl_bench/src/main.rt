@@ -14,6 +14,7 @@ mod field;
 mod figure;
 mod granting;
 mod guest;
+mod known_places;
 mod links;
 mod passing;
 mod polling;
@@ -29,6 +30,7 @@ use crowd::{A_TURN, Asking, Finding};
 use failure::Failure;
 use field::Field;
 use figure::{Figure, LOOPS, time};
+use known_places::time_known_places;
 use session::Session;
 use shared::time_sharing;
 use std::process::ExitCode;
@@ -72,7 +74,8 @@ fn main(rt: HostRuntime) -> ExitCode {
     let outcome = match is_quick(&rt) {
         Ok(quick) => time_all(&rt, quick)
             .and_then(|()| time_sharing(&rt, rt.alloc(), unless(quick, SHARED)))
-            .and_then(|()| time_waits(&rt, rt.alloc(), quick)),
+            .and_then(|()| time_waits(&rt, rt.alloc(), quick))
+            .and_then(|()| time_known_places(&rt, rt.alloc(), quick)),
         Err(failure) => Err(failure),
     };
     match outcome {
