@@ -1,8 +1,13 @@
--- The session knows the key of its place.
+-- The session waits for nothing, and knows the key of its place.
+use Rattle.std.proofs.Common.{sym, ◌∙◌}
 use Rattle.mdl_shared.proofs.Membership.{kind_there}
 use Rattle.mdl_shared_trials.proofs.steps.visitors.Visitor.try_now.Goals as goal
 
-pub try_now-requires-clause-kind : goal.try_now-requires-clause-kind
-try_now-requires-clause-kind g c =
+pub try_now-requires-clause-wish : goal.try_now-requires-clause-wish
+try_now-requires-clause-wish g c =
     let self = c.args.self.now in
-    kind_there self.place self.kind self.seat.me.0.known self.known
+    let may = c.may_ask.ensures c.if-not-may_ask.false in record {
+      idle = sym self.asks_is ∙ may.0;
+      knows = kind_there self.place self.kind self.seat.me.0.known self.known;
+      is_mode = may.4;
+    }
