@@ -23,7 +23,7 @@ use Rattle.mdl_visits.specs.Polls.{state_of}
 use Rattle.mdl_shared.specs.Endings.{lost_end}
 use Rattle.mdl_shared.specs.Members.{IsMember}
 use Rattle.mdl_shared.specs.Rememberings.{AreAlike}
-use Rattle.mdl_shared.specs.SessionViews.{SessionView, space_of}
+use Rattle.mdl_shared.specs.SessionViews.{SessionView, space_of, tickets_seen}
 use Rattle.mdl_shared.specs.Waitings.{are_below}
 use Rattle.mdl_shared.proofs.Alike.{alike_done}
 use Rattle.mdl_shared.proofs.MemberFacts.{apart, ask-last, below, speaks}
@@ -79,10 +79,10 @@ below-asked : (next number : ℕ) (tickets : List Own) → number + 1 ≡ next �
 below-asked next number [] last apart all = refl
 below-asked next number (t ∷ ts) last apart all = grind (arith, nat_tests, below-asked next number ts)
 
-pub asked-below : {s : SessionView} (is : IsMember s) (a : Ask) → s.me.0.asks ≡ Some a → are_below a.number s.me.0.slow ≡ true
+pub asked-below : {s : SessionView} (is : IsMember s) (a : Ask) → s.me.0.asks ≡ Some a → are_below a.number (tickets_seen s.me.0) ≡ true
 asked-below {s} is a asks =
-    let none = and_parts _ (is_no_number a.number s.me.0.slow) (ap (is_ask_apart s.me.0.next s.me.0.slow) (sym asks) ∙ apart is) in
-    below-asked s.me.0.next a.number s.me.0.slow (ask-last is a asks) none.1 (below is)
+    let none = and_parts _ (is_no_number a.number (tickets_seen s.me.0)) (ap (is_ask_apart s.me.0.next (tickets_seen s.me.0)) (sym asks) ∙ apart is) in
+    below-asked s.me.0.next a.number (tickets_seen s.me.0) (ask-last is a asks) none.1 (below is)
 
 module _ {s s′ : SessionView} (is : IsMember s) where
   ended-order : {tickets : List Own} → HasEnded tickets s s′ → AreAlike tickets → StaysInOrder s s′
@@ -105,10 +105,10 @@ module _ {s s′ : SessionView} (is : IsMember s) where
         refused s s′ (End_wait s.me.0.number) Unsettled stays (speaks is) refl refl (waits s a asks) (λ state how met knows. absurd (unsettled how knows)) tt
 
     -- won
-    pub won-order : HasEnded (owned a.place (Gain a.number a.mode) s.me.0.slow) s s′ → StaysInOrder s s′
-    won-order ends = ended-order ends (alike_done a.place (Gain a.number a.mode ∷ []) s.me.0.slow is.alike)
+    pub won-order : HasEnded (owned a.place (Gain a.number a.mode) (tickets_seen s.me.0)) s s′ → StaysInOrder s s′
+    won-order ends = ended-order ends (alike_done a.place (Gain a.number a.mode ∷ []) (tickets_seen s.me.0) is.alike)
 
-    pub won-joins : ((how : Settled) → (space_of s).settled ≡ Some how → settled_as.Granted ≡ how) → HasEnded (owned a.place (Gain a.number a.mode) s.me.0.slow) s s′
+    pub won-joins : ((how : Settled) → (space_of s).settled ≡ Some how → settled_as.Granted ≡ how) → HasEnded (owned a.place (Gain a.number a.mode) (tickets_seen s.me.0)) s s′
         → Joins (space_of s) (End_wait s.me.0.number) (Granted a.number) (space_of s′)
     won-joins agreed ends =
         let last = ask-last is a asks in
@@ -118,7 +118,7 @@ module _ {s s′ : SessionView} (is : IsMember s) where
           has = refl;
           fits = refl;
           number = refl;
-          own = ap (λ held. own_of held None) (told-last s.me.0.slow (record { number = a.number; place = a.place; mode = a.mode; noted = note_at a.place s.me.0.slow }))
+          own = ap (λ held. own_of held None) (told-last (tickets_seen s.me.0) (record { number = a.number; place = a.place; mode = a.mode; noted = note_at a.place (tickets_seen s.me.0) }))
               ∙ sym (ap (λ (o : Option Ask). winning a.number (wait_by s.me.0.waits o) (space_of s).own) asks);
           numbers = (id, refl);
           explained = waits s a asks;
@@ -127,16 +127,16 @@ module _ {s s′ : SessionView} (is : IsMember s) where
           agreed = λ state how met knows. let e : Some settled_as.Granted ≡ state = cc in sym e ∙ ap Some (agreed how knows);
           told = λ how told. cc;
           settled = refl;
-          reads = nothing-read s (after-end (owned a.place (Gain a.number a.mode) s.me.0.slow) ends.settles ends.log s) refl (λ at. one-note_done s is at a.place (Gain a.number a.mode));
+          reads = nothing-read s (after-end (owned a.place (Gain a.number a.mode) (tickets_seen s.me.0)) ends.settles ends.log s) refl (λ at. one-note_done s is at a.place (Gain a.number a.mode));
           truly = tt;
         })
 
     -- lost
-    pub lost-order : HasEnded s.me.0.slow s s′ → StaysInOrder s s′
+    pub lost-order : HasEnded (tickets_seen s.me.0) s s′ → StaysInOrder s s′
     lost-order ends = ended-order ends is.alike
 
     pub lost-joins : (one : Settled) → is_answer_of (End_wait s.me.0.number) (Lost one) ≡ true → ((how : Settled) → (space_of s).settled ≡ Some how → one ≡ how)
-        → HasEnded s.me.0.slow s s′ → Joins (space_of s) (End_wait s.me.0.number) (Lost one) (space_of s′)
+        → HasEnded (tickets_seen s.me.0) s s′ → Joins (space_of s) (End_wait s.me.0.number) (Lost one) (space_of s′)
     lost-joins one fits agreed ends = subst (λ (x : SessionView). Joins (space_of s) (End_wait s.me.0.number) (Lost one) (space_of x)) (sym ends.now) (record {
       mine = speaks is;
       has = refl;
@@ -150,6 +150,6 @@ module _ {s s′ : SessionView} (is : IsMember s) where
       agreed = λ state how met knows. let e : Some one ≡ state = cc in sym e ∙ ap Some (agreed how knows);
       told = λ how told. cc;
       settled = refl;
-      reads = nothing-read s (after-end s.me.0.slow ends.settles ends.log s) refl (λ at. one-note s is at);
+      reads = nothing-read s (after-end (tickets_seen s.me.0) ends.settles ends.log s) refl (λ at. one-note s is at);
       truly = tt;
     })

@@ -20,7 +20,7 @@ use Rattle.mdl_visits.specs.Numbers.{all_numbers, is_ask_apart, is_no_number, nu
 use Rattle.mdl_visits.proofs.Numbers.{not_waited}
 use Rattle.mdl_shared.specs.Members.{IsMember, are_apart, is_known_place}
 use Rattle.mdl_shared.specs.OwnLists.{told_of}
-use Rattle.mdl_shared.specs.SessionViews.{SessionView, space_of}
+use Rattle.mdl_shared.specs.SessionViews.{SessionView, space_of, tickets_seen}
 use Rattle.mdl_shared.specs.Waitings.{are_below, is_ask_last, is_ask_told}
 use Rattle.mdl_shared.proofs.Membership.{are_placed, has_numbered, known_within, placed_at, some_key}
 use Rattle.mdl_shared.proofs.SameSpace.{numbers_by, wait_by}
@@ -84,33 +84,33 @@ module _ {s : SessionView} (is : IsMember s) where
   pub next-some : 0 < s.me.0.next
   next-some = let fewer = is.fewer.0 in omega arith
 
-  below-free : (asks : Option Ask) → s.me.0.asks ≡ asks → (are_below s.me.0.next s.me.0.slow ≡ true) × (is_ask_apart s.me.0.next s.me.0.slow asks ≡ true)
+  below-free : (asks : Option Ask) → s.me.0.asks ≡ asks → (are_below s.me.0.next (tickets_seen s.me.0) ≡ true) × (is_ask_apart s.me.0.next (tickets_seen s.me.0) asks ≡ true)
   below-free None asks =
       let all : (s.me.0.next - 1) + 1 ≡ s.me.0.next = (let some = next-some in omega arith) in
-      let free = subst (λ (o : Option Ask). are_below_told (first_free (is_some (wait_by s.me.0.waits o)) (numbers_by s.me.0.next s.me.0.waits)) (map told_of s.me.0.slow) ≡ true) asks is.sound.below in
-      (sym (ap (λ (n : ℕ). are_below_told n (map told_of s.me.0.slow)) all ∙ below-told s.me.0.next s.me.0.slow) ∙ free, refl)
+      let free = subst (λ (o : Option Ask). are_below_told (first_free (is_some (wait_by s.me.0.waits o)) (numbers_by s.me.0.next s.me.0.waits)) (map told_of (tickets_seen s.me.0)) ≡ true) asks is.sound.below in
+      (sym (ap (λ (n : ℕ). are_below_told n (map told_of (tickets_seen s.me.0))) all ∙ below-told s.me.0.next (tickets_seen s.me.0)) ∙ free, refl)
   below-free (Some a) asks =
       let last = ask-last a asks in
       let number : s.me.0.next - 1 ≡ a.number = omega arith in
-      let free = subst (λ (o : Option Ask). are_below_told (first_free (is_some (wait_by s.me.0.waits o)) (numbers_by s.me.0.next s.me.0.waits)) (map told_of s.me.0.slow) ≡ true) asks is.sound.below in
-      let below : are_below a.number s.me.0.slow ≡ true = sym (ap (λ (n : ℕ). are_below_told n (map told_of s.me.0.slow)) number ∙ below-told a.number s.me.0.slow) ∙ free in (
-        subst (λ (n : ℕ). are_below n s.me.0.slow ≡ true) last (below_more a.number s.me.0.slow below),
-        and_from _ _ (lt-ltb a.number s.me.0.next (omega arith)) (next_apart a.number s.me.0.slow below),
+      let free = subst (λ (o : Option Ask). are_below_told (first_free (is_some (wait_by s.me.0.waits o)) (numbers_by s.me.0.next s.me.0.waits)) (map told_of (tickets_seen s.me.0)) ≡ true) asks is.sound.below in
+      let below : are_below a.number (tickets_seen s.me.0) ≡ true = sym (ap (λ (n : ℕ). are_below_told n (map told_of (tickets_seen s.me.0))) number ∙ below-told a.number (tickets_seen s.me.0)) ∙ free in (
+        subst (λ (n : ℕ). are_below n (tickets_seen s.me.0) ≡ true) last (below_more a.number (tickets_seen s.me.0) below),
+        and_from _ _ (lt-ltb a.number s.me.0.next (omega arith)) (next_apart a.number (tickets_seen s.me.0) below),
       )
 
-  pub below : are_below s.me.0.next s.me.0.slow ≡ true
+  pub below : are_below s.me.0.next (tickets_seen s.me.0) ≡ true
   below = (below-free s.me.0.asks refl).0
 
   -- none of them is waited for
-  pub apart : is_ask_apart s.me.0.next s.me.0.slow s.me.0.asks ≡ true
+  pub apart : is_ask_apart s.me.0.next (tickets_seen s.me.0) s.me.0.asks ≡ true
   apart = (below-free s.me.0.asks refl).1
 
-  pub unwaited : (id : ℕ) → is_some (numbered id s.me.0.slow) ≡ true → NotWaited s.me.0 id
+  pub unwaited : (id : ℕ) → is_some (numbered id (tickets_seen s.me.0)) ≡ true → NotWaited s.me.0 id
   unwaited id there = not_waited s.me.0 id there apart
 
   -- they are at places that it knows
-  pub placed : are_placed s.me.0.known s.me.0.slow ≡ true
-  placed = sym (placed-told s.me.0.known s.me.0.slow) ∙ is.sound.placed
+  pub placed : are_placed s.me.0.known (tickets_seen s.me.0) ≡ true
+  placed = sym (placed-told s.me.0.known (tickets_seen s.me.0)) ∙ is.sound.placed
 
   -- so is the one that it waits for
   pub awaited : (a : Ask) → s.me.0.asks ≡ Some a → is_known_place s.me.0.known a.place ≡ true
@@ -145,8 +145,8 @@ module _ {s : SessionView} (is : IsMember s) where
 
   -- ---- a ticket of its
 
-  pub ticket-there : (id : ℕ) (t : Own) → numbered id s.me.0.slow ≡ Some t → HasTicket t.place id s.me.0.slow
-  ticket-there id t its = has_numbered t.place id s.me.0.slow (ap (option_map (λ (x : Own). x.place)) its)
+  pub ticket-there : (id : ℕ) (t : Own) → numbered id (tickets_seen s.me.0) ≡ Some t → HasTicket t.place id (tickets_seen s.me.0)
+  ticket-there id t its = has_numbered t.place id (tickets_seen s.me.0) (ap (option_map (λ (x : Own). x.place)) its)
 
-  pub ticket-known : (id : ℕ) (t : Own) → numbered id s.me.0.slow ≡ Some t → is_known_place s.me.0.known t.place ≡ true
-  ticket-known id t its = placed_at s.me.0.known s.me.0.slow t.place id placed (ticket-there id t its)
+  pub ticket-known : (id : ℕ) (t : Own) → numbered id (tickets_seen s.me.0) ≡ Some t → is_known_place s.me.0.known t.place ≡ true
+  ticket-known id t its = placed_at s.me.0.known (tickets_seen s.me.0) t.place id placed (ticket-there id t its)

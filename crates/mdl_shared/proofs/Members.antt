@@ -23,7 +23,7 @@ use Rattle.mdl_shared.specs.declared.member.Member.{Member}
 use Rattle.mdl_shared.specs.Members.{IsMember, are_within, most_numbers}
 use Rattle.mdl_shared.specs.Passes.{view_of}
 use Rattle.mdl_shared.specs.Rememberings.{AreAlike}
-use Rattle.mdl_shared.specs.SessionViews.{Lists, SessionView, lists_seen, session_at, space_of}
+use Rattle.mdl_shared.specs.SessionViews.{Lists, SessionView, lists_seen, session_at, space_of, tickets_seen}
 use Rattle.mdl_shared.specs.Showings.{own_fault}
 use Rattle.mdl_shared.specs.TicketLists.{HasRoom, TicketList}
 use Rattle.mdl_shared.specs.Waitings.{is_ask_last, is_ask_told}
@@ -37,7 +37,7 @@ pub record StaysInOrder (s s′ : SessionView) : Type 0 where
   pub idle : IsIdle s′.me
   pub slow : HasSlowAlone s′.me
   pub within : are_within s.table.slots s′.me.0.known ≡ true
-  pub alike : AreAlike s′.me.0.slow
+  pub alike : AreAlike (tickets_seen s′.me.0)
   pub last : is_ask_last s′.me.0.next s′.me.0.asks ≡ true
   pub told : is_ask_told s′.me.0.asks s′.me.0.told ≡ true
   pub fewer : (s′.me.0.waits < s′.me.0.next) × (s′.me.0.waits < most_numbers)
@@ -127,7 +127,7 @@ module _ {place : ℕ} {ds : List Deed} {s s′ : SessionView} (done : HasDone p
         idle = is.idle;
         slow = is.slow;
         within = is.within;
-        alike = alike_done place ds s.me.0.slow is.alike;
+        alike = alike_done place ds (tickets_seen s.me.0) is.alike;
         last = last-none s.me.0.next (all_next ds s.me.0.next) s.me.0.asks which is.last;
         told = told-stays s.me.0.asks s.me.0.told done.told done.unasked is.told;
         fewer = (omega (arith, more, fewer.0), fewer.1);
@@ -140,8 +140,8 @@ module _ {place : ℕ} {ds : List Deed} {s s′ : SessionView} (done : HasDone p
     wait = record { asks = refl; waits = refl; stays = done.stays; unasked = done.unasked };
   })
 
-  pub done-slow : s′.me.0.slow ≡ all_owned place ds s.me.0.slow
-  done-slow = ap (λ (x : SessionView). x.me.0.slow) done.now
+  pub done-slow : (tickets_seen s′.me.0) ≡ all_owned place ds (tickets_seen s.me.0)
+  done-slow = ap (λ (x : SessionView). (tickets_seen x.me.0)) done.now
 
   pub done-next : s′.me.0.next ≡ all_next ds s.me.0.next
   done-next = ap (λ (x : SessionView). x.me.0.next) done.now
@@ -150,7 +150,7 @@ module _ {place : ℕ} {ds : List Deed} {s s′ : SessionView} (done : HasDone p
   done-reads = ap (λ (x : SessionView). x.me.0.reads) done.now
 
   -- of its lists, too
-  pub done-lists : lists_seen s′.me.0 ≡ record (lists_seen s.me.0) { tickets = all_owned place ds s.me.0.slow; next = all_next ds s.me.0.next }
+  pub done-lists : lists_seen s′.me.0 ≡ record (lists_seen s.me.0) { tickets = all_owned place ds (tickets_seen s.me.0); next = all_next ds s.me.0.next }
   done-lists = ap (λ (x : SessionView). lists_seen x.me.0) done.now
 
 -- without a deed all else stays
@@ -182,7 +182,7 @@ room-kept {place} list list′ more room =
     (omega (arith, some, room.0), subst (λ (n : ℕ). place < n) (sym same) room.1)
 
 -- a ticket of its own list is one of its view
-pub held-seen : (m : Member) (id : ℕ) (o : Option Own) → o ≡ numbered id m.tickets.own → numbered id m.seat.me.0.slow ≡ o
+pub held-seen : (m : Member) (id : ℕ) (o : Option Own) → o ≡ numbered id m.tickets.own → numbered id (tickets_seen m.seat.me.0) ≡ o
 held-seen m id o found = ap (λ (l : Lists). numbered id l.tickets) (sym m.lists) ∙ sym found
 
 -- a fault by its own lists is one of its view

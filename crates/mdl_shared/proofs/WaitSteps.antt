@@ -19,7 +19,7 @@ use Rattle.mdl_visits.specs.Visits.{Does, IsStepOf, StaysOn, StaysThere, gives_b
 use Rattle.mdl_visits.proofs.Steps.{does_then, each_append}
 use Rattle.mdl_shared.specs.declared.member.Member.{Member}
 use Rattle.mdl_shared.specs.Members.{IsMember}
-use Rattle.mdl_shared.specs.SessionViews.{Lists, SessionView, lists_seen, session_at}
+use Rattle.mdl_shared.specs.SessionViews.{Lists, SessionView, lists_seen, session_at, tickets_seen}
 use Rattle.mdl_shared.specs.Showings.{KeepsTold, MakesNoStep, MeetsSo, SettlesSo, Shows, StepsSo, done_by, own_fault}
 use Rattle.mdl_shared.proofs.MemberFacts.{speaks}
 use Rattle.mdl_shared.proofs.Members.{HasDone, done-nothing, done-order, kept}
@@ -66,7 +66,7 @@ pub record Watches (s s′ : SessionView) : Type 0 where
 
 -- a call shows what its steps show
 pub shows : {call : Call} {answer : Answer} {s s′ : SessionView} → Watches s s′ → IfSome (own_fault call (lists_seen s.me.0)) (λ why. (answer ≡ Refused why) × MakesNoStep s s′)
-    → Does (done_by call answer s.me.0.slow) s.me s′.me → SettlesSo call answer (lists_seen s.me.0) s s′ → KeepsTold call s s′ → StepsSo call s s′
+    → Does (done_by call answer (tickets_seen s.me.0)) s.me s′.me → SettlesSo call answer (lists_seen s.me.0) s s′ → KeepsTold call s s′ → StepsSo call s s′
     → MeetsSo call answer (lists_seen s.me.0) s s′ → Shows call answer s s′
 shows watches refused did settled told steps met = record {
   table = ap (λ (x : SessionView). x.table) watches.done.now;

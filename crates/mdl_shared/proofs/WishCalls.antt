@@ -20,7 +20,7 @@ use Rattle.mdl_session_laws.proofs.RefusedCalls.{reads-nothing}
 use Rattle.mdl_visits.specs.WaitOpenings.{Opens, awaiting}
 use Rattle.mdl_shared.specs.Members.{IsMember, kind_known, wish_fault}
 use Rattle.mdl_shared.specs.OwnLists.{told_of}
-use Rattle.mdl_shared.specs.SessionViews.{SessionView, session_at, settled_told, space_of}
+use Rattle.mdl_shared.specs.SessionViews.{SessionView, session_at, settled_told, space_of, tickets_seen}
 use Rattle.mdl_shared.proofs.MemberFacts.{next-some, nothing-told, speaks}
 use Rattle.mdl_shared.proofs.Members.{HasDone, StaysInOrder, done-next, done-rest, done-slow}
 use Rattle.mdl_shared.proofs.SameSpace.{Stays, joins-held, joins-still, no-asks, numbers_by, own_by, refused, same-stays, waits-asks}
@@ -59,8 +59,8 @@ pub gain-joins : {s s′ : SessionView} (is : IsMember s) {place id : ℕ} {mode
 gain-joins {s} {s′} is {place} {id} {mode} first done call mine has fits own draws explained at learns agreed tells ends lets truly =
     let some = next-some is in
     let drawn : id ≡ (s.me.0.next - 1) + 1 = omega arith in
-    joins-held s s′ call (Granted id) (map told_of s.me.0.slow ++ record { id = id; place = place; mode = mode } ∷ []) (done-rest done) mine has fits
-    (ap (map told_of) (done-slow done) ∙ told-last s.me.0.slow (record { number = id; place = place; mode = mode; noted = note_at place s.me.0.slow })) own
+    joins-held s s′ call (Granted id) (map told_of (tickets_seen s.me.0) ++ record { id = id; place = place; mode = mode } ∷ []) (done-rest done) mine has fits
+    (ap (map told_of) (done-slow done) ∙ told-last (tickets_seen s.me.0) (record { number = id; place = place; mode = mode; noted = note_at place (tickets_seen s.me.0) })) own
     (draws (drawn, numbers-drawn s.me.0.next s′.me.0.next s.me.0.waits s′.me.0.waits some (done-next done) (done-rest done).wait.waits))
     explained at learns agreed tells ends (lets (deed-reads is done)) truly
 
@@ -165,7 +165,7 @@ module _ {s s′ : SessionView} (is : IsMember s) {place : ℕ} {mode : Mode} (c
         has = refl;
         fits = refl;
         number = refl;
-        own = ap (λ (n : ℕ). own_by s.me.0.slow (Some (asking place mode s.me.0)) n) (sym drawn);
+        own = ap (λ (n : ℕ). own_by (tickets_seen s.me.0) (Some (asking place mode s.me.0)) n) (sym drawn);
         numbers = (drawn, numbers-waited s.me.0.next (s.me.0.next + 1) s.me.0.waits (s.me.0.waits + 1) (next-some is) refl refl);
         explained = clear-wish is place mode clear;
         gained = (wish-clear s place mode clear).2;

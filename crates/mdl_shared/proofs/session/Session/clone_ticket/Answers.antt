@@ -4,7 +4,7 @@ use Rattle.mdl_calls.specs.Words.{Clone_ticket}
 use Rattle.mdl_visits.specs.Leavings.{MeetsOwn}
 use Rattle.mdl_visits.specs.Numbers.{numbered}
 use Rattle.mdl_shared.specs.Passes.{view_of}
-use Rattle.mdl_shared.specs.SessionViews.{Lists}
+use Rattle.mdl_shared.specs.SessionViews.{Lists, tickets_seen}
 use Rattle.mdl_shared.proofs.CloneCalls.{clone-joins, clone-refused, clone-shows, clone-unfit, refusal-met, refused-shows}
 use Rattle.mdl_shared.proofs.Faults.{just-done, just-refused}
 use Rattle.mdl_shared.proofs.Fitting.{fit_there}
@@ -55,7 +55,7 @@ clone_ticket-requires-clause-fits g c =
     let t = c.in_ok-held.held in
     let held = holds-ticket m c.args.id t c.in_ok-held.ensures.found in
     let clear = fault-seen m (Clone_ticket m.seat.me.0.number c.args.id c.args.mode) None (just-done _ _ c.in_ok-held.ensures.just) in
-    let may = clone-passed m.seat.me.0.asks c.args.mode m.seat.me.0.known m.seat.me.0.next (numbered c.args.id m.seat.me.0.slow) t held.its clear in
+    let may = clone-passed m.seat.me.0.asks c.args.mode m.seat.me.0.known m.seat.me.0.next (numbered c.args.id (tickets_seen m.seat.me.0)) t held.its clear in
     fit_there t.place c.args.mode m.seat.me.0.known may.1
 
 -- ---- it can't be made
@@ -66,7 +66,7 @@ invariant_of-member-in-Err-1 g c =
     let t = c.in_ok-held.held in
     let held = holds-ticket m c.args.id t c.in_ok-held.ensures.found in
     let clear = fault-seen m (Clone_ticket m.seat.me.0.number c.args.id c.args.mode) None (just-done _ _ c.in_ok-held.ensures.just) in
-    let may = clone-passed m.seat.me.0.asks c.args.mode m.seat.me.0.known m.seat.me.0.next (numbered c.args.id m.seat.me.0.slow) t held.its clear in
+    let may = clone-passed m.seat.me.0.asks c.args.mode m.seat.me.0.known m.seat.me.0.next (numbered c.args.id (tickets_seen m.seat.me.0)) t held.its clear in
     let done = visited m.seat c.clone_ticket.new.seat m.sessions c.in-Err.ensures.unchanged in
     record {
       lawful = ∣ still-member done (member m) ∣₁;
@@ -100,7 +100,7 @@ invariant_of-member-2 g c =
     let t = c.in_ok-held.held in
     let held = holds-ticket m c.args.id t c.in_ok-held.ensures.found in
     let clear = fault-seen m (Clone_ticket m.seat.me.0.number c.args.id c.args.mode) None (just-done _ _ c.in_ok-held.ensures.just) in
-    let may = clone-passed m.seat.me.0.asks c.args.mode m.seat.me.0.known m.seat.me.0.next (numbered c.args.id m.seat.me.0.slow) t held.its clear in
+    let may = clone-passed m.seat.me.0.asks c.args.mode m.seat.me.0.known m.seat.me.0.next (numbered c.args.id (tickets_seen m.seat.me.0)) t held.its clear in
     let done = visited m.seat c.clone_ticket.new.seat m.sessions c.in_default.ensures.cloned in
     record {
       lawful = ∣ kept is (done-order done is (inl may.0)) (clone-joins is c.args.id c.args.mode clear t held.its (ap (λ (l : Lists). l.next) m.lists) done) ∣₁;

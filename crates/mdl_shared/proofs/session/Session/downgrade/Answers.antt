@@ -3,6 +3,7 @@ use Rattle.std.proofs.Common.{rules, ◌≡◌, None, Err, Some, inr, refl}
 use Rattle.mdl_calls.specs.Words.{Downgrade}
 use Rattle.mdl_visits.specs.Numbers.{numbered}
 use Rattle.mdl_shared.specs.Passes.{view_of}
+use Rattle.mdl_shared.specs.SessionViews.{tickets_seen}
 use Rattle.mdl_shared.proofs.Faults.{just-done, just-refused}
 use Rattle.mdl_shared.proofs.Fitting.{fit_there}
 use Rattle.mdl_shared.proofs.HeldTickets.{holds-ticket}
@@ -31,7 +32,7 @@ downgrade-requires g c =
     let t = c.in_ok-held.held in
     let held = holds-ticket m c.args.id t c.in_ok-held.ensures.found in
     let clear = fault-seen m (Downgrade m.seat.me.0.number c.args.id c.args.mode) None (just-done _ _ c.in_ok-held.ensures.just) in
-    let may = downgrade-passed c.args.mode m.seat.me.0.known (numbered c.args.id m.seat.me.0.slow) t held.its clear in
+    let may = downgrade-passed c.args.mode m.seat.me.0.known (numbered c.args.id (tickets_seen m.seat.me.0)) t held.its clear in
     record {
       at = held.at;
       unwaited = held.unwaited;

@@ -4,6 +4,7 @@ use Rattle.mdl_calls.specs.declared.space_error.SpaceError.TheVariants.{NotHeld}
 use Rattle.mdl_calls.specs.Words.{Read_definition}
 use Rattle.mdl_visits.proofs.Doing.{does_learns}
 use Rattle.mdl_shared.specs.Passes.{view_of}
+use Rattle.mdl_shared.specs.SessionViews.{tickets_seen}
 use Rattle.mdl_shared.proofs.MemberFacts.{may-visit, speaks, ticket-known, ticket-there, unwaited}
 use Rattle.mdl_shared.proofs.Members.{done-nothing, done-order, held-seen, kept, lists-done, room-kept, visited}
 use Rattle.mdl_shared.proofs.Props.{member}
@@ -19,7 +20,7 @@ returns-in_default-clause-joined g c =
     let none = held-seen m c.args.id c.get.result c.get.ensures.found ∙ c.in_default.is in
     rw (← c.self.view_is)
     (refused s s (Read_definition s.me.0.number c.args.id) NotHeld (same-stays s) (speaks (member m)) refl refl
-    (holds-told c.args.id s.me.0.slow false (ap is_some none)) (λ state how is. cc) tt)
+    (holds-told c.args.id (tickets_seen s.me.0) false (ap is_some none)) (λ state how is. cc) tt)
 
 pub read_definition-requires : goal.read_definition-requires
 read_definition-requires g c =

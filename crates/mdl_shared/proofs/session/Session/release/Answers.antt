@@ -4,6 +4,7 @@ use Rattle.mdl_calls.specs.declared.space_error.SpaceError.TheVariants.{NotHeld}
 use Rattle.mdl_calls.specs.Words.{Release}
 use Rattle.mdl_steps.specs.Deeds.{NotWaited}
 use Rattle.mdl_shared.specs.Passes.{view_of}
+use Rattle.mdl_shared.specs.SessionViews.{tickets_seen}
 use Rattle.mdl_shared.proofs.HeldTickets.{holds-ticket}
 use Rattle.mdl_shared.proofs.MemberFacts.{speaks}
 use Rattle.mdl_shared.proofs.Members.{done-order, held-seen, kept, lists-done, rescheduled, room-kept}
@@ -20,7 +21,7 @@ returns-in_default-clause-joined g c =
     let none = held-seen m c.args.id c.get.result c.get.ensures.found ∙ c.in_default.is in
     rw (← c.self.view_is)
     (refused s s (Release s.me.0.number c.args.id) NotHeld (same-stays s) (speaks (member m)) refl refl
-    (holds-told c.args.id s.me.0.slow false (ap is_some none)) (λ state how is. cc) tt)
+    (holds-told c.args.id (tickets_seen s.me.0) false (ap is_some none)) (λ state how is. cc) tt)
 
 pub release-requires : goal.release-requires
 release-requires g c =

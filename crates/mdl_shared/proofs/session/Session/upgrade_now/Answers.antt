@@ -3,6 +3,7 @@ use Rattle.std.proofs.Common.{rules, ◌≡◌, None, Err, Some, refl, sym, inr,
 use Rattle.mdl_calls.specs.Words.{Upgrade_now}
 use Rattle.mdl_visits.specs.Numbers.{numbered}
 use Rattle.mdl_shared.specs.Passes.{view_of}
+use Rattle.mdl_shared.specs.SessionViews.{tickets_seen}
 use Rattle.mdl_shared.proofs.Faults.{just-done, just-refused}
 use Rattle.mdl_shared.proofs.HeldTickets.{holds-ticket}
 use Rattle.mdl_shared.proofs.Members.{done-order, fault-seen, kept, lists-done, room-kept, visited}
@@ -45,7 +46,7 @@ upgrade_now-requires-clause-wish g c =
     let t = c.in_ok-held.held in
     let its = (holds-ticket m c.args.id t c.in_ok-held.ensures.found).its in
     let clear = fault-seen m (Upgrade_now m.seat.me.0.number c.args.id c.args.mode) None (just-done _ _ c.in_ok-held.ensures.just) in
-    let kind = upgrade-kind c.args.mode m.seat.me.0.known m.seat.me.0.asks (numbered c.args.id m.seat.me.0.slow) t its clear (sym c.covers.ensures ∙ c.if-covers.false) in
+    let kind = upgrade-kind c.args.mode m.seat.me.0.known m.seat.me.0.asks (numbered c.args.id (tickets_seen m.seat.me.0)) t its clear (sym c.covers.ensures ∙ c.if-covers.false) in
     (kind.0, record { idle = kind.4; knows = kind_there t.place kind.0 m.seat.me.0.known kind.1; is_mode = kind.2 }, kind.3)
 
 -- ---- it would have to wait
