@@ -2,10 +2,12 @@
 pub use Rattle.mdl_session_laws.specs.SessionJoins
 pub use Rattle.mdl_session_laws.specs.SessionSpaces
 pub use Rattle.mdl_visits.specs.Audits
+pub use Rattle.mdl_visits.specs.FastTries
 pub use Rattle.mdl_visits.specs.Grantings
 pub use Rattle.mdl_visits.specs.KnownLists
 pub use Rattle.mdl_visits.specs.Leavings
 pub use Rattle.mdl_visits.specs.Lookups
+pub use Rattle.mdl_visits.specs.Materialisings
 pub use Rattle.mdl_visits.specs.Numbers
 pub use Rattle.mdl_visits.specs.Polls
 pub use Rattle.mdl_visits.specs.Readings
@@ -15,6 +17,7 @@ pub use Rattle.mdl_visits.specs.Tables
 pub use Rattle.mdl_visits.specs.Visits
 pub use Rattle.mdl_visits.specs.WaitEndings
 pub use Rattle.mdl_visits.specs.WaitOpenings
+pub mod DeedsDone
 pub mod Doings
 pub mod Endings
 pub mod Members

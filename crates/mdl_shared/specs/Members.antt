@@ -15,7 +15,7 @@ use Rattle.mdl_steps.specs.declared.view.Own.{Own}
 use Rattle.mdl_steps.specs.Deeds.{is_own}
 use Rattle.mdl_steps.specs.Layout.{word_count}
 use Rattle.mdl_session_laws.specs.SessionSpaces.{IsSound}
-use Rattle.mdl_visits.specs.Idle.{IsIdle, HasSlowAlone}
+use Rattle.mdl_visits.specs.Idle.{IsIdle}
 use Rattle.mdl_visits.specs.Numbers.{numbered}
 use Rattle.mdl_shared.specs.OwnLists.{key_known}
 use Rattle.mdl_shared.specs.Rememberings.{AreAlike}
@@ -38,14 +38,13 @@ increment_at place mode known = option_and_then (λ kind. increment_of kind mode
 abbrev pub are_counted : List Known → List Own → Bool
 are_counted known fast = list_all (λ t. is_some (increment_at t.place t.mode known)) fast
 
--- what is always so of a session between two calls: as a lock space it is sound; it holds no latch, and each of its tickets stands in a book; while it
--- waits it has no fast ticket, and each fast one is at a place that it has looked up, in a mode that the word counts there; the places that it has looked up
--- are the table's; the tickets of a place have one note; the ticket that it waits for has the last number that it gave, and it was told nothing of a wait
--- that it hasn't; it has had fewer waits than tickets; it is one of the sessions of the space, for whom the table has words
+-- what is always so of a session between two calls: as a lock space it is sound; it holds no latch; while it waits it has no fast ticket, and each fast one is
+-- at a place that it has looked up, in a mode that the word counts there; the places that it has looked up are the table's; the tickets of a place have one
+-- note; the ticket that it waits for has the last number that it gave, and it was told nothing of a wait that it hasn't; it has given no more wait numbers
+-- than ticket numbers; it is one of the sessions of the space, for whom the table has words
 pub record IsMember (s : SessionView) : Type 0 where
   pub sound : IsSound (space_of s)
   pub idle : IsIdle s.me
-  pub slow : HasSlowAlone s.me
   pub unfast : (a : Ask) → s.me.0.asks ≡ Some a → s.me.0.fast ≡ []
   pub plain : are_counted s.me.0.known s.me.0.fast ≡ true
   pub within : are_within s.table.slots s.me.0.known ≡ true

@@ -1,8 +1,10 @@
 -- What the steps of a session's call show, by the call and its answer: what the calls of `Session` promise of them, for those that make the calls by the
 -- trait of lock spaces. What the call leaves the session with is told beside this, as plain data.
-use Rattle.std.specs.Prelude.{◌≡◌, ◌⊎◌, ℕ, ◌<◌, true, false, List, [], ◌∷◌, ◌++◌, Option, Some, None, IfSome, Result, Ok, Err, is_some}
+use Rattle.std.specs.Prelude.{◌≡◌, ◌⊎◌, ℕ, ◌<◌, true, false, List, [], ◌∷◌, ◌++◌, length, Option, Some, None, IfSome, Result, Ok, Err, is_some}
+use Rattle.mdl_key.specs.declared.mode.Mode.{Mode}
 use Rattle.mdl_key.specs.declared.mode.Mode.TheVariants.{X}
 use Rattle.mdl_key.specs.Words.{KeyName}
+use Rattle.mdl_word.specs.Words.{slow_flag}
 use Rattle.mdl_system.specs.Strength.{covers}
 use Rattle.mdl_calls.specs.declared.answers.Search.{Search as Found}
 use Rattle.mdl_calls.specs.declared.answers.Search.TheVariants as found
@@ -13,25 +15,32 @@ use Rattle.mdl_calls.specs.declared.space_error.SpaceError.TheVariants as cause
 use Rattle.mdl_calls.specs.Words.{Answer, Refused, Done, At_place, Granted, Would_wait, Waits, No_cycle, Victim_is, Pending, Is_settled, Timed_out, Lost, Has_wait, Has_killed, Upgraded, Reads, Changed, Tables, Call, Resolve, Try_now, Begin_wait, Search, Poll_wait, Settle_timeout, End_wait, Wait_of, Kill, Release, Clone_ticket, Upgrade_now, Merge, Downgrade, Read_definition, Change_definition, Tables_of, Key_of, List_held}
 use Rattle.mdl_steps.specs.declared.deed.Deed.{Deed}
 use Rattle.mdl_steps.specs.declared.deed.Deed.TheVariants.{Gain, Alter, Lose}
+use Rattle.mdl_steps.specs.declared.step_kind.StepKind.TheVariants.{Materialise, ReleaseFast}
 use Rattle.mdl_steps.specs.declared.view.Ask.{Ask}
 use Rattle.mdl_steps.specs.declared.view.Keys.{Keys}
 use Rattle.mdl_steps.specs.declared.view.Known.{Known}
 use Rattle.mdl_steps.specs.declared.view.Met.{Met}
 use Rattle.mdl_steps.specs.declared.view.Own.{Own}
+use Rattle.mdl_steps.specs.declared.wait_word.Loss.TheVariants as loss
+use Rattle.mdl_steps.specs.Cells.{own_at}
+use Rattle.mdl_steps.specs.Layout.{lock_word}
+use Rattle.mdl_steps.specs.Lists.{Each}
 use Rattle.mdl_steps.specs.Schemas.{unknown}
-use Rattle.mdl_steps.specs.WaitStates.{granted_state, unsettled_state, wait_in}
+use Rattle.mdl_steps.specs.WaitStates.{granted_state, lost_state, unsettled_state, wait_in}
 use Rattle.mdl_visits.specs.declared.resolve_error.ResolveError.{ResolveError}
 use Rattle.mdl_visits.specs.declared.resolve_error.ResolveError.TheVariants as resolve_error
+use Rattle.mdl_visits.specs.FastTries.{MeetsClear}
 use Rattle.mdl_visits.specs.Grantings.{HasRescheduled}
-use Rattle.mdl_visits.specs.Leavings.{MeetsOwn}
+use Rattle.mdl_visits.specs.Leavings.{MeetsOwn, MeetsStanding}
 use Rattle.mdl_visits.specs.Lookups.{TookDirectory, IsAnswer}
+use Rattle.mdl_visits.specs.Materialisings.{MeetsFullFor}
 use Rattle.mdl_visits.specs.Numbers.{numbered}
 use Rattle.mdl_visits.specs.Polls.{MeetsNumber, MeetsOther, MeetsWait, Settles, SettlesNothing, state_of}
-use Rattle.mdl_visits.specs.Readings.{Follows, MeetsRead, ReadsThere}
+use Rattle.mdl_visits.specs.Readings.{Follows, ReadsThere, WasHeld}
 use Rattle.mdl_visits.specs.Redefinitions.{IsRefusedAs, Redefines, exclusive_fault}
 use Rattle.mdl_visits.specs.Searches.{Searched}
 use Rattle.mdl_visits.specs.Tables.{AreTables, HasAsked}
-use Rattle.mdl_visits.specs.Visits.{AreStepsOf, Does, IsStepOf, MeetsBlocked, MeetsFull, MeetsGrantable, StaysOn, StaysQuiet}
+use Rattle.mdl_visits.specs.Visits.{AreStepsOf, Does, IsStepOf, MeetsBlocked, MeetsFull, MakesMoreSteps, MeetsGrantable, StaysOn, StaysQuiet, Visits}
 use Rattle.mdl_visits.specs.WaitEndings.{without_wait}
 use Rattle.mdl_visits.specs.WaitOpenings.{MeetsOpening}
 use Rattle.mdl_shared.specs.Doings.{merge_deeds, upgrade_deeds}
@@ -65,6 +74,46 @@ MeetsTicket id ds a b t = ShowsStep a b (λ e. MeetsOwn t.place a.me.0.number id
 abbrev pub Reschedules : SessionView → SessionView → Own → Type 0
 Reschedules a b t = HasRescheduled a.table t.place a.me b.me
 
+-- no wait was, and the session knows of its own what it knew
+abbrev pub LeavesWaits : SessionView → SessionView → Type 0
+LeavesWaits a b = SettlesNothing a.me b.me × (b.me.0.told ≡ a.me.0.told)
+
+-- a step granted the session's wish for a mode by this deed: as it gave the latch back, by whose record the wish could be granted, or without the latch,
+-- while the flag OBTRUSIVE was down
+abbrev pub MeetsGrant : ℕ → ℕ → Mode → Deed → Met → Type 0
+MeetsGrant place who mode deed e = MeetsGrantable place who mode deed e ⊎ MeetsClear place deed e
+
+-- likewise a second ticket for the one of a number: as that stood in the granted list, or without the latch
+abbrev pub MeetsClone : ℕ → ℕ → ℕ → Deed → Met → Type 0
+MeetsClone place who id deed e = (MeetsOwn place who id e × (e.deeds ≡ deed ∷ [])) ⊎ MeetsClear place deed e
+
+-- the ticket of a number, a slow one, was given up under the latch, and the waits were granted that could be
+abbrev pub GivesUpSlow : ℕ → SessionView → SessionView → Own → Type 0
+GivesUpSlow id a b t = MeetsTicket id (Lose id ∷ []) a b t × Reschedules a b t
+
+-- a step on the word of a place that no longer counts the session's fast ticket of a number
+abbrev pub MeetsFastRelease : ℕ → ℕ → Met → Type 0
+MeetsFastRelease place id e = (e.kind ≡ ReleaseFast) × (e.word ≡ lock_word place) × (e.deeds ≡ Lose id ∷ [])
+
+-- a fast one was given up by such a step. Where that found the flag SLOW up, the waits were granted that could be, and otherwise none was
+abbrev pub GivesUpFast : ℕ → SessionView → SessionView → Own → Type 0
+GivesUpFast id a b t =
+    ShowsStep a b (λ e. MeetsFastRelease t.place id e
+    × (slow_flag e.found ≡ true → Reschedules a b t)
+    × (slow_flag e.found ≡ false → LeavesWaits a b))
+
+-- a step by which the session's fast tickets at a place became slow ones
+abbrev pub MakesSlow : ℕ → Met → Type 0
+MakesSlow place e = (e.kind ≡ Materialise) × (e.word ≡ lock_word place)
+
+-- each fast ticket that it had became a slow one by a step that was made between the two
+abbrev pub AllMadeSlow : SessionView → SessionView → Type 0
+AllMadeSlow a b = Each (λ (t : Own). ShowsStep a b (MakesSlow t.place)) a.me.0.fast
+
+-- this is so from a moment of the call on by which each fast ticket that the session had was made slow. So no word that it met then counted its own
+abbrev pub FromUnfast : SessionView → SessionView → (SessionView → Type 0) → Type 0
+FromUnfast a b fact = (mid : SessionView) × MakesMoreSteps a.me mid.me × AllMadeSlow a mid × fact mid
+
 -- the directory was looked at once, and so a key is answered by it
 abbrev pub LooksUp : KeyName → Result ℕ ResolveError → SessionView → SessionView → Type 0
 LooksUp key result a b =
@@ -83,7 +132,15 @@ SearchesFor found a b =
 abbrev pub MeetsOwnWait : ℕ → Lists → SessionView → SessionView → Type 0
 MeetsOwnWait state l a b = ShowsStep a b (MeetsWait a.table.slots a.me.0.number l.waits state)
 
--- why a wish is refused: for what the session has; or memory ran out; or a step met the book of the place full
+-- a step met the book of a place without room for all fast tickets that the session had there, which were to become slow ones
+abbrev pub FullForFast : SessionView → SessionView → Type 0
+FullForFast a b = (q : ℕ) × ShowsStep a b (MeetsFullFor (length (own_at q a.me.0.fast)) q)
+
+-- likewise, or without room for one ticket more at this place
+abbrev pub FullForOne : ℕ → SessionView → SessionView → Type 0
+FullForOne place a b = ShowsStep a b (MeetsFull place) ⊎ FullForFast a b
+
+-- why a call that needs room is refused: for what the session has; or memory ran out; or a step met a book that was full
 abbrev pub RefusesWish : Option SpaceError → SpaceError → Type 0 → Type 0
 RefusesWish fault why full = (fault ≡ Some why) ⊎ ((why ≡ cause.OutOfMemory) ⊎ ((why ≡ cause.Full) × full))
 
@@ -118,7 +175,8 @@ KeepsTold (Release who id) a b = Unit {0}
 KeepsTold (Downgrade who id mode) a b = Unit {0}
 KeepsTold _ a b = b.me.0.told ≡ a.me.0.told
 
--- calls that read or settle the word of a wait give no latch back and raise no flag, and one that reads a definition raises none
+-- calls that read or settle the word of a wait give no latch back and raise no flag; one that reads a definition raises none, and leaves the directory
+-- alone
 abbrev pub StepsSo : Call → SessionView → SessionView → Type 0
 StepsSo (Poll_wait who) a b = StaysOn a.me b.me
 StepsSo (Settle_timeout who) a b = StaysOn a.me b.me
@@ -146,12 +204,11 @@ SettlesSo (Search who) (Victim_is victim) l a b = Unit {0}
 SettlesSo (End_wait who) (Lost how) l a b = Unit {0}
 SettlesSo (Release who id) Done l a b = Unit {0}
 SettlesSo (Downgrade who id mode) Done l a b = Unit {0}
-SettlesSo (Settle_timeout who) (Timed_out ByThisCall) l a b = Settles a.me.0.number l.waits 4 a.me b.me
-SettlesSo (Kill target number) (Has_killed true) l a b = Settles target number 5 a.me b.me
+SettlesSo (Settle_timeout who) (Timed_out ByThisCall) l a b = Settles a.me.0.number l.waits (lost_state loss.Timeout) a.me b.me
+SettlesSo (Kill target number) (Has_killed true) l a b = Settles target number (lost_state loss.Killed) a.me b.me
 SettlesSo _ _ l a b = SettlesNothing a.me b.me
 
--- what they met. What isn't named here shows nothing: it is refused for what the session has of its own, or since memory ran out; or no session has the
--- call (`Read_kept`, `Unpin`)
+-- what they met. What isn't named here shows nothing: it is no answer to the call, or no session has the call (`Read_kept`, `Unpin`)
 abbrev pub MeetsSo : Call → Answer → Lists → SessionView → SessionView → Type 0
 MeetsSo (Resolve who key) (At_place place) l a b =
     (0 < place) × (place < a.table.slots)
@@ -160,16 +217,16 @@ MeetsSo (Resolve who key) (At_place place) l a b =
 MeetsSo (Resolve who key) (Refused why) l a b =
     (place_known key l.known ≡ None)
     × (((why ≡ cause.NoPlace) × LooksUp key (Err resolve_error.NoPlace) a b) ⊎ ((why ≡ cause.OutOfMemory) × (MakesNoStep a b ⊎ LooksAtKeys a b)))
-MeetsSo (Try_now who place mode) (Granted id) l a b = ShowsStep a b (MeetsGrantable place a.me.0.number mode (Gain id mode))
-MeetsSo (Try_now who place mode) Would_wait l a b = ShowsStep a b (MeetsBlocked place a.me.0.number mode)
+MeetsSo (Try_now who place mode) (Granted id) l a b = ShowsStep a b (MeetsGrant place a.me.0.number mode (Gain id mode))
+MeetsSo (Try_now who place mode) Would_wait l a b = FromUnfast a b (λ mid. ShowsStep mid b (MeetsBlocked place a.me.0.number mode))
 MeetsSo (Try_now who place mode) (Refused why) l a b =
-    RefusesWish (own_fault (Try_now who place mode) l) why (ShowsStep a b (MeetsFull place))
-MeetsSo (Begin_wait who place mode) (Granted id) l a b = ShowsStep a b (MeetsGrantable place a.me.0.number mode (Gain id mode))
+    RefusesWish (own_fault (Try_now who place mode) l) why (FullForOne place a b)
+MeetsSo (Begin_wait who place mode) (Granted id) l a b = ShowsStep a b (MeetsGrant place a.me.0.number mode (Gain id mode))
 MeetsSo (Begin_wait who place mode) (Waits number) l a b =
-    (e f : Met) × AreStepsOf a.me b.me e f × MeetsBlocked place a.me.0.number mode e
-    × MeetsOpening a.table.slots place a.me.0.number l.waits l.next mode f
+    FromUnfast a b (λ mid. (e f : Met) × AreStepsOf mid.me b.me e f × MeetsBlocked place a.me.0.number mode e
+    × MeetsOpening a.table.slots place a.me.0.number l.waits l.next mode f)
 MeetsSo (Begin_wait who place mode) (Refused why) l a b =
-    RefusesWish (own_fault (Begin_wait who place mode) l) why (ShowsStep a b (MeetsFull place))
+    RefusesWish (own_fault (Begin_wait who place mode) l) why (FullForOne place a b)
 MeetsSo (Search who) No_cycle l a b = (l.asks ≡ None → MakesNoStep a b) × (is_some l.asks ≡ true → SearchesFor found.NoCycle a b)
 MeetsSo (Search who) (Victim_is victim) l a b = (is_some l.asks ≡ true) × SearchesFor (found.Victim victim) a b
 MeetsSo (Search who) (Refused why) l a b = (is_some l.asks ≡ true) × LooksAtKeys a b
@@ -192,28 +249,34 @@ MeetsSo (Kill target number) (Has_killed true) l a b =
 MeetsSo (Kill target number) (Has_killed false) l a b =
     (is_within a.sessions target ≡ false → MakesNoStep a b)
     × (is_within a.sessions target ≡ true → ShowsStep a b (MeetsOther a.table.slots target (wait_in number unsettled_state)))
-MeetsSo (Release who id) Done l a b = OfTicket id l (MeetsTicket id (Lose id ∷ []) a b) × OfTicket id l (Reschedules a b)
+MeetsSo (Release who id) Done l a b =
+    OfTicket id l (λ t. (numbered id l.slow ≡ Some t → GivesUpSlow id a b t) × (numbered id l.fast ≡ Some t → GivesUpFast id a b t))
 MeetsSo (Release who id) (Refused why) l a b = own_fault (Release who id) l ≡ Some why
-MeetsSo (Clone_ticket who id mode) (Granted new) l a b = OfTicket id l (MeetsTicket id (Gain new mode ∷ []) a b)
+MeetsSo (Clone_ticket who id mode) (Granted new) l a b =
+    OfTicket id l (λ t. ShowsStep a b (MeetsClone t.place a.me.0.number id (Gain new mode)))
 MeetsSo (Clone_ticket who id mode) (Refused why) l a b =
     RefusesWish (own_fault (Clone_ticket who id mode) l) why
-    (OfTicket id l (λ t. ShowsStep a b (MeetsFull t.place)))
+    (OfTicket id l (λ t. FullForOne t.place a b))
 MeetsSo (Upgrade_now who id mode) Upgraded l a b =
-    (t : Own) → numbered id (tickets_of l) ≡ Some t → covers t.mode mode ≡ false
-    → ShowsStep a b (MeetsGrantable t.place a.me.0.number mode (Alter id mode))
+    OfTicket id l (λ t. (covers t.mode mode ≡ true → MakesNoStep a b)
+    × (covers t.mode mode ≡ false → ShowsStep a b (MeetsGrantable t.place a.me.0.number mode (Alter id mode))))
 MeetsSo (Upgrade_now who id mode) Would_wait l a b =
-    OfTicket id l (λ t. (covers t.mode mode ≡ false) × ShowsStep a b (MeetsBlocked t.place a.me.0.number mode))
-MeetsSo (Upgrade_now who id mode) (Refused why) l a b = own_fault (Upgrade_now who id mode) l ≡ Some why
+    OfTicket id l (λ t. (covers t.mode mode ≡ false)
+    × FromUnfast a b (λ mid. ShowsStep mid b (MeetsBlocked t.place a.me.0.number mode)))
+MeetsSo (Upgrade_now who id mode) (Refused why) l a b = RefusesWish (own_fault (Upgrade_now who id mode) l) why (FullForFast a b)
 MeetsSo (Merge who old new) Done l a b =
     OfTicket old l (λ kept. OfTicket new l (λ gone. ShowsStep a b (λ e.
     MeetsOwn kept.place a.me.0.number old e × MeetsOwn kept.place a.me.0.number new e × (e.deeds ≡ Alter old gone.mode ∷ Lose new ∷ []))))
-MeetsSo (Merge who old new) (Refused why) l a b = own_fault (Merge who old new) l ≡ Some why
+MeetsSo (Merge who old new) (Refused why) l a b = RefusesWish (own_fault (Merge who old new) l) why (FullForFast a b)
 MeetsSo (Downgrade who id mode) Done l a b = OfTicket id l (MeetsTicket id (Alter id mode ∷ []) a b) × OfTicket id l (Reschedules a b)
 MeetsSo (Downgrade who id mode) (Refused why) l a b = own_fault (Downgrade who id mode) l ≡ Some why
 MeetsSo (Read_definition who id) (Reads version definition) l a b =
     OfTicket id l (λ t. Follows t.place (record { version = version; definition = definition }) a.me
     × ReadsThere t.place (record { version = version; definition = definition }) a.me b.me
-    × ShowsStep a b (MeetsRead t.place a.me.0.number id (record { version = version; definition = definition })))
+    × ShowsStep a b (λ e. MeetsStanding t.place a.me.0.number (record { version = version; definition = definition }) e
+    × (numbered id l.slow ≡ Some t → WasHeld t.place a.me.0.number id e)))
+MeetsSo (Read_definition who id) (Refused why) l a b =
+    (own_fault (Read_definition who id) l ≡ Some why) ⊎ ((why ≡ cause.OutOfMemory) × OfTicket id l (λ t. Visits t.place [] a.me b.me))
 MeetsSo (Change_definition who id change) (Changed version) l a b =
     OfTicket id l (λ t. (t.mode ≡ X) × Redefines t.place change version a.me b.me)
 MeetsSo (Change_definition who id change) (Refused why) l a b =
@@ -231,8 +294,9 @@ MeetsSo _ _ l a b = Unit {0}
 -- ---- the whole
 
 -- the session, which has these lists before the call, is at the same table (`table`) of the same space (`sessions`); where it has a fault of its own, that
--- is the answer, and no step is made (`refused`); the call's steps did these deeds, and no others (`did`), settled these waits, and no others (`settled`), let the session know
--- no more of its own wait than they may (`told`), gave up nothing that they may not (`steps`), and met this (`met`)
+-- is the answer, and no step is made (`refused`); the call's steps did these deeds, and no others (`did`), settled these waits, and no others (`settled`),
+-- let the session know no more of its own wait than they may (`told`), gave no latch back and raised no flag where the call must not (`steps`), and met
+-- this (`met`)
 pub record ShowsBy (call : Call) (answer : Answer) (l : Lists) (a b : SessionView) : Type 0 where
   pub table : b.table ≡ a.table
   pub sessions : b.sessions ≡ a.sessions

@@ -1,0 +1,45 @@
+-- What became of a session by deeds at a place, whether they were done to slow tickets or to fast ones, and whichever of its tickets became slow then.
+use Rattle.std.specs.Prelude.{◌≡◌, ℕ, true, List, [], Option, Some, None}
+use Rattle.mdl_steps.specs.declared.deed.Deed.{Deed}
+use Rattle.mdl_steps.specs.declared.view.Ask.{Ask}
+use Rattle.mdl_steps.specs.declared.view.Met.{Met}
+use Rattle.mdl_steps.specs.declared.view.Known.{Known}
+use Rattle.mdl_steps.specs.declared.view.Own.{Own}
+use Rattle.mdl_steps.specs.declared.view.Settlement.{Settlement}
+use Rattle.mdl_steps.specs.Deeds.{all_next, all_owned}
+use Rattle.mdl_steps.specs.Interleavings.{interleaved}
+use Rattle.mdl_visits.specs.Grantings.{StaysTold}
+use Rattle.mdl_shared.specs.Members.{are_counted}
+use Rattle.mdl_shared.specs.SessionViews.{SessionView, tickets_seen}
+
+-- the fast tickets of a session that knows these keys and has this wait, or none, are now others: each is counted as before, and where it waits there is
+-- none as before
+pub record StaysFast (known : List Known) (asks : Option Ask) (fast fast′ : List Own) : Type 0 where
+  pub unfast : (a : Ask) → asks ≡ Some a → fast ≡ [] → fast′ ≡ []
+  pub plain : are_counted known fast ≡ true → are_counted known fast′ ≡ true
+
+-- the session did these deeds at a place, to slow tickets or to fast ones, and made steps; it may have been told of its wait; nothing else changed, but
+-- perhaps which tickets are fast
+pub record HasDone (place : ℕ) (ds : List Deed) (s s′ : SessionView) : Type 0 where
+  pub slow : List Own
+  pub fast : List Own
+  pub told : Option ℕ
+  pub settles : List Settlement
+  pub log : List Met
+  pub now : s′ ≡ record s {
+    me = (
+      record s.me.0 {
+        slow = slow;
+        fast = fast;
+        next = all_next ds s.me.0.next;
+        told = told;
+        settles = settles;
+        log = log;
+      },
+      s.me.1,
+    );
+  }
+  pub tickets : interleaved slow fast ≡ all_owned place ds (tickets_seen s.me.0)
+  pub fasts : StaysFast s.me.0.known s.me.0.asks s.me.0.fast fast
+  pub stays : StaysTold s.me.0.told told
+  pub unasked : s.me.0.asks ≡ None → told ≡ s.me.0.told
