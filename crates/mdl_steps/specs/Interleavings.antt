@@ -1,5 +1,5 @@
--- The tickets of two lists in one order.
-use Rattle.std.specs.Prelude.{List, [], ◌∷◌, nat_lt, if◌then◌else◌}
+-- Two lists of a session's tickets as one. A session gives its tickets rising numbers, so in order of numbers is in order of gain.
+use Rattle.std.specs.Prelude.{nat_lt, List, [], ◌∷◌, if◌then◌else◌}
 use Rattle.mdl_steps.specs.declared.view.Own.{Own}
 
 -- a ticket put among others, before the first that has a greater number
