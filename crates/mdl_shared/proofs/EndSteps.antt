@@ -21,7 +21,7 @@ use Rattle.mdl_visits.specs.WaitEndings.{EndsLost, idle, without_wait}
 use Rattle.mdl_visits.proofs.Rescheduling.{rescheduled_after}
 use Rattle.mdl_visits.proofs.Steps.{does_then, step_before}
 use Rattle.mdl_shared.specs.Members.{IsMember}
-use Rattle.mdl_shared.specs.SessionViews.{SessionView, lists_seen, session_at, settled_of, space_of, tickets_seen}
+use Rattle.mdl_shared.specs.SessionViews.{SessionView, lists_seen, session_at, settled_of, space_of}
 use Rattle.mdl_shared.specs.Showings.{MeetsOwnWait, Shows}
 use Rattle.mdl_shared.specs.Waitings.{wait_fault}
 use Rattle.mdl_shared.proofs.EndCalls.{HasEnded, lost-joins, unsettled-joins, won-joins}
@@ -82,7 +82,7 @@ module _ {s mid : SessionView} (is : IsMember s) (a : Ask) (asks : s.me.0.asks �
 
     -- ---- it was lost
 
-    pub lost-end : {s′ : SessionView} → Does [] mid.me s′.me → is_answer_of (End_wait s.me.0.number) (Lost one) ≡ true → HasEnded (tickets_seen s.me.0) s s′
+    pub lost-end : {s′ : SessionView} → Does [] mid.me s′.me → is_answer_of (End_wait s.me.0.number) (Lost one) ≡ true → HasEnded s.me.0.slow s s′
         → HasRescheduled mid.table a.place (without_wait mid.me) s′.me
         → Joins (space_of s) (End_wait s.me.0.number) (Lost one) (space_of s′) × Shows (End_wait s.me.0.number) (Lost one) s s′
     lost-end {s′} ends fits ended rescheduled =
@@ -111,7 +111,7 @@ module _ {s mid : SessionView} (is : IsMember s) (a : Ask) (asks : s.me.0.asks �
 
     -- ---- it was granted
 
-    pub won-end : one ≡ settled_as.Granted → {s′ : SessionView} → Does [] mid.me s′.me → (ended : HasEnded (owned a.place (Gain a.number a.mode) (tickets_seen s.me.0)) s s′) → ended.settles ≡ s.me.0.settles
+    pub won-end : one ≡ settled_as.Granted → {s′ : SessionView} → Does [] mid.me s′.me → (ended : HasEnded (owned a.place (Gain a.number a.mode) s.me.0.slow) s s′) → ended.settles ≡ s.me.0.settles
         → Joins (space_of s) (End_wait s.me.0.number) (Granted a.number) (space_of s′) × Shows (End_wait s.me.0.number) (Granted a.number) s s′
     won-end granted {s′} ends ended settles = (
       won-joins is a asks (λ how knows. sym granted ∙ agreed how knows) ended,
@@ -132,7 +132,7 @@ module _ {s mid : SessionView} (is : IsMember s) (a : Ask) (asks : s.me.0.asks �
 module _ {seat mid seat′ : SeatState} (sessions session found : ℕ)
     (now : session_at mid sessions ≡ word-step ReadWait session found found seat.me.0.settles (session_at seat sessions)) where
   -- as lost
-  pub ended-lost : {place : ℕ} → AtItsTable mid seat′ (EndsLost mid.table place) → HasEnded (tickets_seen seat.me.0) (session_at seat sessions) (session_at seat′ sessions)
+  pub ended-lost : {place : ℕ} → AtItsTable mid seat′ (EndsLost mid.table place) → HasEnded seat.me.0.slow (session_at seat sessions) (session_at seat′ sessions)
   ended-lost ends =
       let went = ends.1 in
       let table : seat′.table ≡ seat.table = ends.0 ∙ ap (λ (x : SessionView). x.table) now in
@@ -149,7 +149,7 @@ module _ {seat mid seat′ : SeatState} (sessions session found : ℕ)
 
   -- as granted, without settling any wait
   pub ended-won : (a : Ask) → seat.me.0.asks ≡ Some a → seat′ ≡ record mid { me = ended_granted mid.table.slots mid.me }
-      → (ended : HasEnded (owned a.place (Gain a.number a.mode) (tickets_seen seat.me.0)) (session_at seat sessions) (session_at seat′ sessions)) × (ended.settles ≡ seat.me.0.settles)
+      → (ended : HasEnded (owned a.place (Gain a.number a.mode) seat.me.0.slow) (session_at seat sessions) (session_at seat′ sessions)) × (ended.settles ≡ seat.me.0.settles)
   ended-won a asks made =
       let log = (ended_granted mid.table.slots mid.me).0.log in (
         record {
@@ -157,8 +157,8 @@ module _ {seat mid seat′ : SeatState} (sessions session found : ℕ)
           log = log;
           now =
               ap (λ (x : SeatState). session_at x sessions) made
-              ∙ ap (λ (x : SessionView). record x { me = (record x.me.0 { slow = (tickets_seen x.me.0) ++ taken_over x.me.0.asks (tickets_seen x.me.0); asks = None; told = None; log = log }, x.me.1) }) now
-              ∙ ap (λ (o : Option Ask). record (session_at seat sessions) { me = (record seat.me.0 { slow = (tickets_seen seat.me.0) ++ taken_over o (tickets_seen seat.me.0); asks = None; told = None; log = log }, seat.me.1) }) asks;
+              ∙ ap (λ (x : SessionView). record x { me = (record x.me.0 { slow = x.me.0.slow ++ taken_over x.me.0.asks x.me.0.slow; asks = None; told = None; log = log }, x.me.1) }) now
+              ∙ ap (λ (o : Option Ask). record (session_at seat sessions) { me = (record seat.me.0 { slow = seat.me.0.slow ++ taken_over o seat.me.0.slow; asks = None; told = None; log = log }, seat.me.1) }) asks;
         },
         refl,
       )

@@ -2,14 +2,20 @@
 use Rattle.std.proofs.Common.{◌≡◌, ℕ, ◌<◌, ◌+◌, ◌-◌, ◌==◌, Bool, true, not, ◌&&◌, nat_lt, List, [], ◌∷◌, length, map, is_some, Option, Some, None, refl, sym, ap, subst, ◌∙◌, arith}
 use Rattle.std.specs.Option.{IfSome, option_map}
 use Rattle.std.proofs.lemmas.Bool.{and_from, and_parts, eqb-true, lt-ltb, ltb-true}
+use Rattle.std.proofs.lemmas.List.{nil_from_length}
 use Rattle.std.proofs.lemmas.List.Folds.{list_all-map}
 use Rattle.mdl_calls.specs.declared.answers.Held.{Held}
 use Rattle.mdl_calls.specs.Words.{Wait}
+use Rattle.mdl_key.specs.declared.mode.Mode.{Mode}
+use Rattle.mdl_steps.specs.declared.deed.Deed.{Deed}
+use Rattle.mdl_steps.specs.declared.deed.Deed.TheVariants.{Gain, Alter, Lose}
 use Rattle.mdl_steps.specs.declared.view.Ask.{Ask}
 use Rattle.mdl_steps.specs.declared.view.Known.{Known}
 use Rattle.mdl_steps.specs.declared.view.LatchRecord.{LatchRecord}
 use Rattle.mdl_steps.specs.declared.view.Own.{Own}
+use Rattle.mdl_steps.specs.Cells.{own_at}
 use Rattle.mdl_steps.specs.Deeds.{KnowsPlace, NotWaited}
+use Rattle.mdl_steps.specs.Interleavings.{interleaved}
 use Rattle.mdl_steps.specs.Lists.{Each}
 use Rattle.mdl_steps.specs.Seats.{IsPlace, IsRising}
 use Rattle.mdl_steps.proofs.Views.{by_bool}
@@ -25,6 +31,7 @@ use Rattle.mdl_shared.specs.Waitings.{are_below, is_ask_last, is_ask_told}
 use Rattle.mdl_shared.proofs.Membership.{are_placed, has_numbered, known_within, placed_at, some_key}
 use Rattle.mdl_shared.proofs.SameSpace.{numbers_by, wait_by}
 use Rattle.mdl_shared.proofs.SpaceLists.{apart-told, known-told, known_of}
+use Rattle.mdl_shared.proofs.TicketOrder.{AllLeaveFast, DoesSlow, does-alone}
 
 -- ---- numbers
 
@@ -106,7 +113,7 @@ module _ {s : SessionView} (is : IsMember s) where
   apart = (below-free s.me.0.asks refl).1
 
   pub unwaited : (id : ℕ) → is_some (numbered id (tickets_seen s.me.0)) ≡ true → NotWaited s.me.0 id
-  unwaited id there = not_waited s.me.0 id there apart
+  unwaited id there = not_waited (record s.me.0 { slow = tickets_seen s.me.0 }) id there apart
 
   -- they are at places that it knows
   pub placed : are_placed s.me.0.known (tickets_seen s.me.0) ≡ true
@@ -148,5 +155,49 @@ module _ {s : SessionView} (is : IsMember s) where
   pub ticket-there : (id : ℕ) (t : Own) → numbered id (tickets_seen s.me.0) ≡ Some t → HasTicket t.place id (tickets_seen s.me.0)
   ticket-there id t its = has_numbered t.place id (tickets_seen s.me.0) (ap (option_map (λ (x : Own). x.place)) its)
 
+  pub slow-there : (id : ℕ) (t : Own) → numbered id s.me.0.slow ≡ Some t → HasTicket t.place id s.me.0.slow
+  slow-there id t its = has_numbered t.place id s.me.0.slow (ap (option_map (λ (x : Own). x.place)) its)
+
   pub ticket-known : (id : ℕ) (t : Own) → numbered id (tickets_seen s.me.0) ≡ Some t → is_known_place s.me.0.known t.place ≡ true
   ticket-known id t its = placed_at s.me.0.known (tickets_seen s.me.0) t.place id placed (ticket-there id t its)
+
+  -- ---- while none of its tickets is fast
+
+  pub no-fast : s.me.0.fast ≡ []
+  no-fast = nil_from_length s.me.0.fast is.slow
+
+  -- each that it has is slow
+  pub held-slow : (id : ℕ) (t : Own) → numbered id (tickets_seen s.me.0) ≡ Some t → numbered id s.me.0.slow ≡ Some t
+  held-slow id t its = subst (λ (ts : List Own). numbered id (interleaved s.me.0.slow ts) ≡ Some t) no-fast its
+
+  -- no fast one is at a place
+  pub none-there : (place : ℕ) → own_at place s.me.0.fast ≡ []
+  none-there place = ap (own_at place) no-fast
+
+  -- ---- its slow tickets and its fast ones
+
+  -- none of the fast ones has the number of a slow one
+  pub spared : (id : ℕ) (t : Own) → numbered id s.me.0.slow ≡ Some t → is_no_number id s.me.0.fast ≡ true
+  spared id t its = ap (is_no_number id) no-fast
+
+  -- no slow one is waited for
+  pub slow-apart : is_ask_apart s.me.0.next s.me.0.slow s.me.0.asks ≡ true
+  slow-apart = subst (λ (ts : List Own). is_ask_apart s.me.0.next (interleaved s.me.0.slow ts) s.me.0.asks ≡ true) no-fast apart
+
+  -- what is done to the slow ones is done to all
+  pub does-slow : (place : ℕ) (ds : List Deed) → AllLeaveFast place ds s.me.0.slow s.me.0.fast → DoesSlow place ds s.me.0
+  does-slow place ds leaves = does-alone place ds s.me.0 no-fast
+
+  -- by cases: a new one is the next at a place without fast ones, and a slow one changes, or goes
+  pub gains-slow : (place : ℕ) (mode : Mode) → own_at place s.me.0.fast ≡ [] → DoesSlow place (Gain s.me.0.next mode ∷ []) s.me.0
+  gains-slow place mode none = does-slow place (Gain s.me.0.next mode ∷ []) ((none, below), tt)
+
+  pub alters-slow : (place id : ℕ) (mode : Mode) (t : Own) → numbered id s.me.0.slow ≡ Some t → DoesSlow place (Alter id mode ∷ []) s.me.0
+  alters-slow place id mode t its = does-slow place (Alter id mode ∷ []) (spared id t its, tt)
+
+  pub loses-slow : (place id : ℕ) (t : Own) → numbered id s.me.0.slow ≡ Some t → DoesSlow place (Lose id ∷ []) s.me.0
+  loses-slow place id t its = does-slow place (Lose id ∷ []) (spared id t its, tt)
+
+  pub merges-slow : (place old new : ℕ) (mode : Mode) (kept gone : Own) → numbered old s.me.0.slow ≡ Some kept → numbered new s.me.0.slow ≡ Some gone
+      → DoesSlow place (Alter old mode ∷ Lose new ∷ []) s.me.0
+  merges-slow place old new mode kept gone one other = does-slow place (Alter old mode ∷ Lose new ∷ []) (spared old kept one, (spared new gone other, tt))

@@ -15,7 +15,6 @@ use Rattle.mdl_defs.specs.declared.standing.Standing.{Standing}
 use Rattle.mdl_defs.specs.Definitions.{IsWellFormed}
 use Rattle.mdl_defs.specs.Standings.{MayStand, fits}
 use Rattle.mdl_calls.specs.Words.{IsRising, Wait, is_waiting}
-use Rattle.mdl_steps.specs.contracts.view.Own as own
 use Rattle.mdl_steps.specs.declared.view.Ask.{Ask}
 use Rattle.mdl_steps.specs.declared.view.Own.{Own}
 use Rattle.mdl_steps.specs.Layout.{word_count}
@@ -59,9 +58,6 @@ FitsKey-prop a place standing = by (key_known place a.known)
     by (Some key) = MayStand-prop key.namespace standing
 
 -- ---- lists
-
-Own-set : IsSet Own
-Own-set = Coded-set own.the_row.coded
 
 Each-prop : {X : Type 0} (P : X → Type 0) → ((x : X) → IsProp (P x)) → (xs : List X) → IsProp (Each P xs)
 Each-prop P one [] = Unit-prop
@@ -109,7 +105,7 @@ IsSound-prop a x y =
 IsMember-prop : (s : SessionView) → IsProp (IsMember s)
 IsMember-prop s x y =
     let idle_prop : IsProp (IsIdle s.me) = hlevel props in
-    let unfast_prop : IsProp ((a : Ask) → s.me.0.asks ≡ Some a → s.me.0.fast ≡ []) = hlevel (props, Own-set) in
+    let unfast_prop : IsProp ((a : Ask) → s.me.0.asks ≡ Some a → s.me.0.fast ≡ []) = Π_prop (λ a. Π_prop (λ e. Own-set s.me.0.fast [])) in
     let plain_prop : IsProp (are_counted s.me.0.known s.me.0.fast ≡ true) = hlevel props in
     let within_prop : IsProp (are_within s.table.slots s.me.0.known ≡ true) = hlevel props in
     let last_prop : IsProp (is_ask_last s.me.0.next s.me.0.asks ≡ true) = hlevel props in

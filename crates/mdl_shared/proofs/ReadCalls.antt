@@ -32,6 +32,7 @@ use Rattle.mdl_shared.specs.declared.member.Member.{Member}
 use Rattle.mdl_shared.specs.Members.{IsMember, holding_fault}
 use Rattle.mdl_shared.specs.OwnLists.{told_of}
 use Rattle.mdl_shared.specs.Passes.{view_of}
+use Rattle.mdl_shared.specs.Rememberings.{AreAlike}
 use Rattle.mdl_shared.specs.SessionViews.{Lists, SessionView, lists_seen, session_at, space_of, tickets_seen}
 use Rattle.mdl_shared.specs.Showings.{ShowsStep, Shows}
 use Rattle.mdl_shared.proofs.Alike.{alike_noting}
@@ -44,6 +45,7 @@ use Rattle.mdl_shared.proofs.SpaceLists.{key-told, ticket-told}
 use Rattle.mdl_shared.proofs.SpaceNotes.{noting-told}
 use Rattle.mdl_shared.proofs.SpaceReads.{known-there, meets-there, notes-there}
 use Rattle.mdl_shared.proofs.SpaceTickets.{holds-told, of-held}
+use Rattle.mdl_shared.proofs.TicketOrder.{counted-noted, noted-both}
 
 -- ---- a session that reads what stands at a place
 
@@ -77,8 +79,10 @@ module _ {place : ℕ} {standing : Standing} {s s′ : SessionView} (noted : Has
     sessions = refl;
     idle = is.idle;
     slow = none_noted place standing.version s.me.0.fast is.slow;
+    unfast = λ a asks. ap (noting_version place standing.version) (is.unfast a asks);
+    plain = counted-noted place standing.version s.me.0.known s.me.0.fast is.plain;
     within = is.within;
-    alike = alike_noting place standing.version (tickets_seen s.me.0) is.alike;
+    alike = subst AreAlike (noted-both place standing.version s.me.0.slow s.me.0.fast) (alike_noting place standing.version (tickets_seen s.me.0) is.alike);
     last = is.last;
     told = is.told;
     fewer = is.fewer;
@@ -87,20 +91,21 @@ module _ {place : ℕ} {standing : Standing} {s s′ : SessionView} (noted : Has
   noted-rest : KeepsRest s s′
   noted-rest = subst (λ (x : SessionView). KeepsRest s x) (sym noted.now) (record { number = refl; known = refl; wait = sees-same s _ refl refl refl })
 
-  noted-slow : (tickets_seen s′.me.0) ≡ noting_version place standing.version (tickets_seen s.me.0)
-  noted-slow = ap (λ (x : SessionView). (tickets_seen x.me.0)) noted.now
+  noted-tickets : tickets_seen s′.me.0 ≡ noting_version place standing.version (tickets_seen s.me.0)
+  noted-tickets = ap (λ (x : SessionView). tickets_seen x.me.0) noted.now ∙ sym (noted-both place standing.version s.me.0.slow s.me.0.fast)
 
   noted-drawn : (space_of s′).numbers ≡ (space_of s).numbers
   noted-drawn = ap (λ (x : SessionView). (space_of x).numbers) noted.now
 
 -- its own lists are those of its view still
-pub lists-noted : (m : Member) {place version : ℕ} {standing : Standing} {tickets : List Own} {s : SessionView} → HasNoted place standing (view_of m) s → standing.version ≡ version
-    → tickets ≡ noting_version place version m.tickets.own
-    → record { tickets = tickets; known = m.known.known; next = m.next; asks = m.asks; waits = m.waits } ≡ lists_seen s.me.0
-lists-noted m {place} {version} {standing} {tickets} {s} noted is same =
-    ap (λ (ts : List Own). record { tickets = ts; known = m.known.known; next = m.next; asks = m.asks; waits = m.waits })
-    (same ∙ ap (λ (n : ℕ). noting_version place n m.tickets.own) (sym is))
-    ∙ ap (λ (l : Lists). record l { tickets = noting_version place standing.version l.tickets }) m.lists ∙ sym (ap (λ (x : SessionView). lists_seen x.me.0) noted.now)
+pub lists-noted : (m : Member) {place version : ℕ} {standing : Standing} {slow fast : List Own} {s : SessionView} → HasNoted place standing (view_of m) s → standing.version ≡ version
+    → (slow ≡ noting_version place version m.tickets.slow) × (fast ≡ noting_version place version m.tickets.fast)
+    → record { slow = slow; fast = fast; known = m.known.known; next = m.next; asks = m.asks; waits = m.waits } ≡ lists_seen s.me.0
+lists-noted m {place} {version} {standing} {slow} {fast} {s} noted is same =
+    (λ i. record { slow = same.0 i; fast = same.1 i; known = m.known.known; next = m.next; asks = m.asks; waits = m.waits })
+    ∙ ap (λ (l : Lists). record l { slow = noting_version place version l.slow; fast = noting_version place version l.fast }) m.lists
+    ∙ ap (λ (n : ℕ). record (lists_seen m.seat.me.0) { slow = noting_version place n m.seat.me.0.slow; fast = noting_version place n m.seat.me.0.fast }) (sym is)
+    ∙ sym (ap (λ (x : SessionView). lists_seen x.me.0) noted.now)
 
 -- a session without the ticket, or without an exclusive one
 pub unfit-joins : {s : SessionView} → IsMember s → (id : ℕ) (change : Change) (why : SpaceError) → exclusive_fault (numbered id (tickets_seen s.me.0)) ≡ Some why
@@ -136,10 +141,10 @@ module _ {s : SessionView} (is : IsMember s) (id : ℕ) (t : Own) (its : numbere
       → Joins (space_of s) (Read_definition s.me.0.number id) (Reads standing.version standing.definition) (space_of s′)
   read-joins {s′} standing noted follows =
       joins-held s s′ (Read_definition s.me.0.number id) (Reads standing.version standing.definition) (map told_of (tickets_seen s.me.0)) (noted-rest noted) (speaks is) refl refl
-      (ap (map told_of) (noted-slow noted) ∙ noting-told t.place standing.version (tickets_seen s.me.0)) refl (noted-drawn noted) (holds-told id (tickets_seen s.me.0) true (ap is_some its)) tt refl
+      (ap (map told_of) (noted-tickets noted) ∙ noting-told t.place standing.version (tickets_seen s.me.0)) refl (noted-drawn noted) (holds-told id (tickets_seen s.me.0) true (ap is_some its)) tt refl
       (λ state how met. cc) (λ how told. cc) refl
       (of-held id (tickets_seen s.me.0) t (λ (h : Held). Read_so standing (space_of s) (space_of s′) h.place) its
-      (meets-there s t.place standing follows, notes-there s s′ id t.place t standing its refl (noted-slow noted) (ap (λ (x : SessionView). x.me.0.reads) noted.now)))
+      (meets-there s t.place standing follows, notes-there s s′ id t.place t standing its refl (noted-tickets noted) (ap (λ (x : SessionView). x.me.0.reads) noted.now)))
       tt
 
   pub read-shows : {s′ : SessionView} (standing : Standing) → HasNoted t.place standing s s′ → Follows t.place standing s.me → Does [] s.me s′.me → StaysQuiet s.me s′.me
@@ -176,7 +181,7 @@ module _ {s : SessionView} (is : IsMember s) (id : ℕ) (t : Own) (its : numbere
         let stood = redefines.meets.latch.book.standing in
         let newer = redefines.meets.newer in
         joins-held s s′ (Change_definition s.me.0.number id change) (Changed version) (map told_of (tickets_seen s.me.0)) (noted-rest noted) (speaks is) refl refl
-        (ap (map told_of) (noted-slow noted) ∙ noting-told t.place standing.version (tickets_seen s.me.0)) refl (noted-drawn noted)
+        (ap (map told_of) (noted-tickets noted) ∙ noting-told t.place standing.version (tickets_seen s.me.0)) refl (noted-drawn noted)
         (of-held id (tickets_seen s.me.0) t (λ (h : Held). same_mode h.mode X ≡ true) its exclusive) tt refl
         (λ state how met. cc) (λ how told. cc) refl
         (of-held id (tickets_seen s.me.0) t (λ (h : Held). ChangesThere change version (space_of s) (space_of s′) h.place) its (record {
@@ -186,7 +191,7 @@ module _ {s : SessionView} (is : IsMember s) (id : ℕ) (t : Own) (its : numbere
               (named-there redefines.meets.latch.book.key key redefines.named knows) redefines.meets.allowed;
           newer = newer;
           notes = notes-there s s′ id t.place t (standing_after change stood) its refl
-              (noted-slow noted ∙ ap (λ v. noting_version t.place v (tickets_seen s.me.0)) (same ∙ newer)) redefines.learnt;
+              (noted-tickets noted ∙ ap (λ v. noting_version t.place v (tickets_seen s.me.0)) (same ∙ newer)) redefines.learnt;
         }))
         tt
 

@@ -97,7 +97,7 @@ pub record KeepsRest (m m′ : SessionView) : Type 0 where
 -- nothing else than that has changed
 pub record Stays (m m′ : SessionView) : Type 0 where
   pub number : m′.me.0.number ≡ m.me.0.number
-  pub tickets : (tickets_seen m′.me.0) ≡ (tickets_seen m.me.0)
+  pub tickets : tickets_seen m′.me.0 ≡ tickets_seen m.me.0
   pub next : m′.me.0.next ≡ m.me.0.next
   pub known : m′.me.0.known ≡ m.me.0.known
   pub wait : SeesWait m m′

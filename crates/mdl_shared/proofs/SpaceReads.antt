@@ -28,6 +28,7 @@ use Rattle.mdl_shared.specs.SessionViews.{SessionView, note_of, space_of, ticket
 use Rattle.mdl_shared.proofs.SameSpace.{reading_of}
 use Rattle.mdl_shared.proofs.SpaceLists.{key-told}
 use Rattle.mdl_shared.proofs.SpaceNotes.{and_note, note-here, note-there, noted_under, noting-elsewhere, noting-placed}
+use Rattle.mdl_shared.proofs.TicketOrder.{each-at}
 
 -- ---- a ticket that is held
 
@@ -115,7 +116,8 @@ meets-there m place standing follows = record {
       subst (λ (k : KeyName). MayStand k.namespace standing) there.4
       (follows.fits there.0 there.1 there.2 there.3);
   noted = λ version is.
-      noted-each (λ v. v ≡ standing.version) place version (tickets_seen m.me.0) follows.noted is;
+      noted-each (λ v. v ≡ standing.version) place version (tickets_seen m.me.0)
+      (each-at (λ (t : Own). (v : ℕ) → t.noted ≡ Some v → v ≡ standing.version) place m.me.0.slow m.me.0.fast follows.noted follows.fast_noted) is;
   newest = newest-each place standing m.me.0.reads follows.reads;
   same = λ last is same. last-each place standing last m.me.0.reads follows.reads is same;
 }

@@ -30,8 +30,8 @@ use Rattle.mdl_shared.specs.Showings.{ShowsStep, Shows}
 use Rattle.mdl_shared.specs.Upgrades.{upgrade_fault}
 use Rattle.mdl_shared.proofs.Faults.{if-clear}
 use Rattle.mdl_shared.proofs.HeldTickets.{HoldsTicket}
-use Rattle.mdl_shared.proofs.MemberFacts.{speaks}
-use Rattle.mdl_shared.proofs.Members.{HasDone, done-next, done-nothing, done-reads, done-rest, done-slow, rescheduled, visited}
+use Rattle.mdl_shared.proofs.MemberFacts.{alters-slow, merges-slow, speaks}
+use Rattle.mdl_shared.proofs.Members.{HasDone, done-next, done-nothing, done-reads, done-rest, done-tickets, rescheduled, visited}
 use Rattle.mdl_shared.proofs.NotedOnce.{one-note, one-note_done}
 use Rattle.mdl_shared.proofs.SameSpace.{joins-held, joins-still, numbers-same, refused, same-rest, same-stays}
 use Rattle.mdl_shared.proofs.SpaceLists.{ticket-told}
@@ -45,7 +45,7 @@ use Rattle.mdl_shared.proofs.WishShows.{did, settles, shows, told}
 -- reads nothing, and notes nothing
 pub deed-reads : {place : ℕ} {d : Deed} {m m′ : SessionView} → IsMember m → HasDone place (d ∷ []) m m′ → ReadsNothing (space_of m) (space_of m′)
 deed-reads {place} {d} {m} {m′} is done =
-    nothing-read m m′ (done-reads done) (λ at. subst (AllNoted at (noted_under at (tickets_seen m.me.0))) (sym (done-slow done)) (one-note_done m is at place d))
+    nothing-read m m′ (done-reads done) (λ at. subst (AllNoted at (noted_under at (tickets_seen m.me.0))) (sym (done-tickets done)) (one-note_done m is at place d))
 
 module _ {m : SessionView} (is : IsMember m) (id : ℕ) (t : Own) (its : numbered id (tickets_seen m.me.0) ≡ Some t) where
   -- no other ticket has its number
@@ -59,14 +59,14 @@ module _ {m : SessionView} (is : IsMember m) (id : ℕ) (t : Own) (its : numbere
   pub release-joins : {m′ : SessionView} → HasDone t.place (Lose id ∷ []) m m′ → Joins (space_of m) (Release m.me.0.number id) Done (space_of m′)
   release-joins {m′} done =
       joins-held m m′ (Release m.me.0.number id) Done (filter (λ (h : Held). not (is_number id h)) (map told_of (tickets_seen m.me.0))) (done-rest done) (speaks is) refl refl
-      (ap (map told_of) (done-slow done) ∙ given-up t.place id (tickets_seen m.me.0) here) refl (drawn done (done-next done))
+      (ap (map told_of) (done-tickets done) ∙ given-up t.place id (tickets_seen m.me.0) here) refl (drawn done (done-next done))
       (holds-told id (tickets_seen m.me.0) true (ap is_some its)) tt refl (λ state how is. cc) (λ how is. cc) refl (deed-reads is done) tt
 
   downgrade-joins : {m′ : SessionView} (mode : Mode) → downgrade_fault (numbered id (tickets_seen m.me.0)) mode m.me.0.known ≡ None → HasDone t.place (Alter id mode ∷ []) m m′
       → Joins (space_of m) (Downgrade m.me.0.number id mode) Done (space_of m′)
   downgrade-joins {m′} mode clear done =
       joins-held m m′ (Downgrade m.me.0.number id mode) Done (map (in_mode_told id (λ _. mode)) (map told_of (tickets_seen m.me.0))) (done-rest done) (speaks is) refl refl
-      (ap (map told_of) (done-slow done) ∙ in-mode t.place id mode (λ _. mode) (is_here t.place) (tickets_seen m.me.0) (λ u there. (there, refl)) here) refl
+      (ap (map told_of) (done-tickets done) ∙ in-mode t.place id mode (λ _. mode) (is_here t.place) (tickets_seen m.me.0) (λ u there. (there, refl)) here) refl
       (drawn done (done-next done)) (downgrade-clear m id mode t its clear) tt refl
       (λ state how is. cc) (λ how is. cc) refl (deed-reads is done) tt
 
@@ -88,7 +88,7 @@ module _ {m : SessionView} (is : IsMember m) (id : ℕ) (t : Own) (its : numbere
     pub upgrade-joins : {m′ : SessionView} → covers t.mode mode ≡ false → HasDone t.place (Alter id mode ∷ []) m m′ → Joins (space_of m) (Upgrade_now m.me.0.number id mode) Upgraded (space_of m′)
     upgrade-joins {m′} short done =
         joins-held m m′ (Upgrade_now m.me.0.number id mode) Upgraded (map (in_mode_told id (upgraded mode)) (map told_of (tickets_seen m.me.0))) (done-rest done) (speaks is) refl refl
-        (ap (map told_of) (done-slow done) ∙ in-mode t.place id mode (upgraded mode) (λ u. is_here t.place u && not (covers u.mode mode)) (tickets_seen m.me.0)
+        (ap (map told_of) (done-tickets done) ∙ in-mode t.place id mode (upgraded mode) (λ u. is_here t.place u && not (covers u.mode mode)) (tickets_seen m.me.0)
         (λ u h. let parts = and_parts (is_here t.place u) (not (covers u.mode mode)) h in
         (parts.0, ap (λ b. if b then u.mode else mode) (not-true (covers u.mode mode) parts.1)))
         (only-one id (λ u. is_here t.place u && not (covers u.mode mode)) (tickets_seen m.me.0) t is.sound.rising its
@@ -124,12 +124,12 @@ module _ {m : SessionView} (is : IsMember m) (id : ℕ) (t : Own) (its : numbere
   merge-joins {m′} new gone other clear done =
       joins-held m m′ (Merge m.me.0.number id new) Done (map (in_mode_told id (λ _. gone.mode)) (filter (λ (h : Held). not (is_number new h)) (map told_of (tickets_seen m.me.0))))
       (done-rest done) (speaks is) refl refl
-      (ap (map told_of) (done-slow done) ∙ merged-told t.place id new gone.mode (tickets_seen m.me.0) here
+      (ap (map told_of) (done-tickets done) ∙ merged-told t.place id new gone.mode (tickets_seen m.me.0) here
       (only-one new (is_here t.place) (tickets_seen m.me.0) gone is.sound.rising other (merge-here t gone m.me.0.asks clear)))
       (ap (λ o. merging id new o (space_of m).own) (ticket-told new (tickets_seen m.me.0) ∙ ap (option_map told_of) other)) (drawn done (done-next done))
       (merge-clear m id new t gone its other clear) tt refl (λ state how is. cc) (λ how is. cc) refl
       (nothing-read m m′ (done-reads done) (λ at.
-      subst (AllNoted at (noted_under at (tickets_seen m.me.0))) (sym (done-slow done))
+      subst (AllNoted at (noted_under at (tickets_seen m.me.0))) (sym (done-tickets done))
       (noted-less at (noted_under at (tickets_seen m.me.0)) _ _ (noted-moded at t.place id (noted_under at (tickets_seen m.me.0)) gone.mode (tickets_seen m.me.0) (one-note m is at)))))
       tt
 
@@ -166,7 +166,7 @@ downgraded seat seat′ sessions id mode t is held clear visit step =
     let free = ap (λ o. downgrade_fault o mode seat.me.0.known) (held.own ∙ sym held.its) ∙ clear in
     subst (λ (n : ℕ). Joins (space_of (session_at seat sessions)) (Downgrade seat.me.0.number n mode) Done (space_of (session_at seat′ sessions))
     × Shows (Downgrade seat.me.0.number n mode) Done (session_at seat sessions) (session_at seat′ sessions)) held.number (
-      downgrade-joins is t.number t held.own mode free (rescheduled seat seat′ sessions visit),
+      downgrade-joins is t.number t held.own mode free (rescheduled seat seat′ sessions (alters-slow is t.place t.number mode t held.slow) visit),
       record {
         table = visit.0;
         sessions = refl;
@@ -197,7 +197,8 @@ merged seat seat′ sessions old new kept gone is one other clear visit step =
     × Shows (Merge seat.me.0.number n new) Done (session_at seat sessions) (session_at seat′ sessions)) one.number
     (subst (λ (n : ℕ). Joins (space_of (session_at seat sessions)) (Merge seat.me.0.number kept.number n) Done (space_of (session_at seat′ sessions))
     × Shows (Merge seat.me.0.number kept.number n) Done (session_at seat sessions) (session_at seat′ sessions)) other.number (
-      merge-joins is kept.number kept one.own gone.number gone other.own free (visited seat seat′ sessions visit),
+      merge-joins is kept.number kept one.own gone.number gone other.own free
+      (visited seat seat′ sessions (merges-slow is kept.place kept.number gone.number gone.mode kept gone one.slow other.slow) visit),
       record {
         table = visit.0;
         sessions = refl;

@@ -2,9 +2,10 @@
 use Rattle.std.specs.Prelude.{ℕ, ◌<◌, List}
 use Rattle.mdl_steps.specs.declared.view.Own.{Own}
 
--- the tickets in order of gain, for how many more there is room, and below which place those may be
+-- the slow tickets and the fast ones, each in order of gain, for how many more there is room, and below which place those may be
 pub record TicketList : Type 0 where
-  pub own : List Own
+  pub slow : List Own
+  pub fast : List Own
   pub spare : ℕ
   pub reach : ℕ
 

@@ -4,7 +4,8 @@ ghost use Rattle.std.specs.List.{list_all};
 ghost use Rattle.mdl_steps.specs.Deeds.{is_own};
 ghost use Rattle.std.specs.Vec.{vec_capacity, vec_len};
 ghost use Rattle.mdl_calls.specs.declared.answers.Held.{Held};
-ghost use Rattle.mdl_steps.specs.Cells.{note_at};
+ghost use Rattle.mdl_steps.specs.Cells.{note_at, own_at};
+ghost use Rattle.mdl_steps.specs.Interleavings.{interleaved};
 ghost use Rattle.mdl_steps.specs.Plays.{noting_version};
 ghost use Rattle.mdl_visits.specs.Numbers.{numbered};
 ghost use Rattle.mdl_shared.specs.Members.{without_at};
@@ -36,7 +37,7 @@ pub(crate) struct Tickets {
 }
 
 impl Model for Tickets {
-    ghost use Rattle.std.specs.Prelude.{map, length, ◌-◌};
+    ghost use Rattle.std.specs.Prelude.{map, length, ◌-◌, []};
     ghost use Rattle.std.specs.List.{list_all};
     ghost use Rattle.mdl_steps.specs.Deeds.{is_own};
     ghost use Rattle.std.specs.Vec.{vec_capacity};
@@ -46,7 +47,8 @@ impl Model for Tickets {
     ghost Value = { TicketList };
 
     ghost view = { λ s. record {
-      own = map (own_of s.places.items) s.gained.items;
+      slow = map (own_of s.places.items) s.gained.items;
+      fast = [];
       spare = vec_capacity s.gained - length s.gained.items;
       reach = length s.places.items;
     } };
@@ -57,7 +59,7 @@ impl Model for Tickets {
 impl Tickets {
     /// None. It takes no memory.
     pub(crate) fn new(alloc: Global) -> Tickets
-        ensures { result.own ≡ [] }
+        ensures { (result.slow ≡ []) × (result.fast ≡ []) }
     {
         Tickets {
             gained: Vec::new(alloc),
@@ -67,7 +69,7 @@ impl Tickets {
 
     /// Whether there is none.
     pub(crate) fn is_empty(&self) -> bool
-        ensures { result ≡ (length self.now.own == 0) }
+        ensures { result ≡ (length (interleaved self.now.slow self.now.fast) == 0) }
     {
         self.gained.is_empty()
     }
@@ -75,7 +77,7 @@ impl Tickets {
     /// The ticket of a number.
     #[tactic(auto, using(crate::proofs::TicketEdits::find_at))]
     pub(crate) fn get(&self, id: TicketId) -> Option<Own>
-        ensures found { result ≡ numbered id self.now.own }
+        ensures found { result ≡ numbered id (interleaved self.now.slow self.now.fast) }
     {
         let at = index_of(&self.gained, id)?;
         Some(own_of(&self.places, self.gained[at]))
@@ -84,7 +86,7 @@ impl Tickets {
     /// Makes room for one more ticket at a place.
     pub(crate) fn reserve(&mut self, place: usize) -> Result<(), AllocError>
         requires { place < 65536 }
-        ensures same { self.new.own ≡ self.old.own }
+        ensures same { (self.new.slow ≡ self.old.slow) × (self.new.fast ≡ self.old.fast) }
         ensures room { OnOk result (HasRoom place self.new) }
     {
         reach(&mut self.places, place)?;
@@ -94,8 +96,10 @@ impl Tickets {
     /// Puts a new ticket last, with the note of those at its place. It takes no memory.
     pub(crate) fn push_reserved(&mut self, number: TicketId, place: usize, mode: Mode)
         requires room { HasRoom place self.old }
-        requires below { are_below number self.old.own ≡ true }
-        ensures gained { self.new.own ≡ self.old.own ++ record { number = number; place = place; mode = mode; noted = note_at place self.old.own } ∷ [] }
+        requires below { are_below number (interleaved self.old.slow self.old.fast) ≡ true }
+        requires slow { own_at place self.old.fast ≡ [] }
+        ensures gained { self.new.slow ≡ self.old.slow ++ record { number = number; place = place; mode = mode; noted = note_at place self.old.slow } ∷ [] }
+        ensures same { self.new.fast ≡ self.old.fast }
         ensures reach { self.new.reach ≡ self.old.reach }
     {
         count_one(&mut self.places, place);
@@ -108,7 +112,7 @@ impl Tickets {
 
     /// Strikes the ticket of a number at a place, if there is one.
     pub(crate) fn strike(&mut self, place: usize, id: TicketId)
-        ensures struck { self.new.own ≡ without_at place id self.old.own }
+        ensures struck { (self.new.slow ≡ without_at place id self.old.slow) × (self.new.fast ≡ without_at place id self.old.fast) }
         ensures room { (self.old.spare ≤ self.new.spare) × (self.new.reach ≡ self.old.reach) }
     {
         if let Some(at) = index_at(&self.gained, place, id) {
@@ -120,7 +124,8 @@ impl Tickets {
     /// Writes another mode of the ticket of a number at a place, if there is one.
     #[tactic(auto, using(crate::proofs::TicketEdits::mode_at))]
     pub(crate) fn set_mode(&mut self, place: usize, id: TicketId, mode: Mode)
-        ensures changed { self.new.own ≡ in_mode_at place id mode self.old.own }
+        requires slow { numbered id self.old.fast ≡ None }
+        ensures changed { (self.new.slow ≡ in_mode_at place id mode self.old.slow) × (self.new.fast ≡ self.old.fast) }
         ensures room { (self.old.spare ≤ self.new.spare) × (self.new.reach ≡ self.old.reach) }
     {
         if let Some(at) = index_at(&self.gained, place, id) {
@@ -131,7 +136,7 @@ impl Tickets {
     /// Notes a version under each ticket at a place.
     #[tactic(auto, using(crate::proofs::TicketEdits::note_places))]
     pub(crate) fn note_all(&mut self, place: usize, version: u64)
-        ensures noted { self.new.own ≡ noting_version place version self.old.own }
+        ensures noted { (self.new.slow ≡ noting_version place version self.old.slow) × (self.new.fast ≡ noting_version place version self.old.fast) }
         ensures room { (self.old.spare ≤ self.new.spare) × (self.new.reach ≡ self.old.reach) }
     {
         note(&mut self.places, place, version);
@@ -139,7 +144,7 @@ impl Tickets {
 
     /// The tickets, as they are told.
     pub(crate) fn held(&self) -> Result<Vec<Held>, AllocError>
-        ensures { IfOk result (λ held. held.items ≡ map told_of self.now.own) }
+        ensures { IfOk result (λ held. held.items ≡ map told_of (interleaved self.now.slow self.now.fast)) }
     {
         let held = self.gained.clone()?;
         Ok(held)
