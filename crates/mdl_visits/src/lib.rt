@@ -8,9 +8,12 @@
 //! a key ([`resolve`]) and for the tables of a schema ([`find_tables`]), and the places of tables for their definitions
 //! ([`tables_defined`]). Under the latches of all places the books are copied ([`audit`]), or a deadlock is looked for ([`search_deadlock`]).
 //!
+//! Two calls take no latch: while a lock has no ticket in an obtrusive mode, a fast ticket is granted ([`try_fast`]), and it is given up by one
+//! step ([`release_fast`]). It is in no list: the lock's word counts it.
+//!
 //! Of what a session keeps in lists of its own only the keys that it looked up are here ([`KnownKeys`]): `mdl_shared` has the others.
 //!
-//! After MySQL 5.7, `MDL_lock` and `MDL_context` of `sql/mdl.cc`; that all is done under latches is this project's own.
+//! After MySQL 5.7, `MDL_lock` and `MDL_context` of `sql/mdl.cc`; that all else is done under latches is this project's own.
 //!
 //! [`TableSeat`]: mdl_steps::TableSeat
 //!
@@ -58,10 +61,12 @@ pub use calls::end_lost_wait::end_lost_wait;
 pub use calls::merge::merge;
 pub use calls::read_definition::read_definition;
 pub use calls::release::release;
+pub use calls::release_fast::release_fast;
 pub use calls::reschedule::reschedule;
 pub use calls::resolve::resolve;
 pub use calls::search::search_deadlock;
 pub use calls::tables_of::{find_tables, tables_defined};
+pub use calls::try_fast::{FastTried, try_fast};
 pub use calls::try_now::{Tried, try_now};
 pub use calls::upgrade_now::upgrade_now;
 pub use known_keys::KnownKeys;
