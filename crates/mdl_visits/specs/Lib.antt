@@ -6,6 +6,7 @@ pub mod Idle
 pub mod KnownLists
 pub mod Leavings
 pub mod Lookups
+pub mod Materialisings
 pub mod Numbers
 pub mod OwnKeys
 pub mod Polls

@@ -5,6 +5,7 @@ pub(crate) mod change_definition;
 pub(crate) mod clone_ticket;
 pub(crate) mod downgrade;
 pub(crate) mod end_lost_wait;
+pub(crate) mod materialise;
 pub(crate) mod merge;
 pub(crate) mod read_definition;
 pub(crate) mod release;

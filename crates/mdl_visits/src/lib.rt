@@ -58,6 +58,7 @@ pub use calls::change_definition::change_definition;
 pub use calls::clone_ticket::clone_ticket;
 pub use calls::downgrade::downgrade;
 pub use calls::end_lost_wait::end_lost_wait;
+pub use calls::materialise::materialise;
 pub use calls::merge::merge;
 pub use calls::read_definition::read_definition;
 pub use calls::release::release;

@@ -1,0 +1,86 @@
+-- How a session's fast tickets at a place become slow ones: they are granted in the book of the place, and the lock's word no longer counts them. After
+-- MySQL 5.7: `MDL_context::materialize_fast_path_locks` of sql/mdl.cc.
+use Rattle.std.specs.Prelude.{◌≡◌, ◌≢◌, ℕ, ◌+◌, ◌<◌, true, List, [], ◌++◌, length, map, Some, None, ◌⊎◌}
+use Rattle.mdl_book.specs.declared.book_error.BookError.{BookError}
+use Rattle.mdl_book.specs.declared.book_error.BookError.TheVariants as fault
+use Rattle.mdl_book.specs.declared.book_view.BookView.{BookView}
+use Rattle.mdl_book.specs.declared.ticket.Ticket.{Ticket}
+use Rattle.mdl_book.specs.Books.{lock_kind, ticket_count}
+use Rattle.mdl_book.specs.Granting.{is_compatible}
+use Rattle.mdl_book.specs.Tickets.{ticket_of}
+use Rattle.mdl_steps.specs.declared.step_kind.StepKind.TheVariants.{Materialise}
+use Rattle.mdl_steps.specs.declared.view.LatchRecord.{LatchRecord}
+use Rattle.mdl_steps.specs.declared.view.Met.{Met}
+use Rattle.mdl_steps.specs.declared.view.Own.{Own}
+use Rattle.mdl_steps.specs.declared.view.View.{View}
+use Rattle.mdl_steps.specs.Cells.{held_at, own_at, ticket_by}
+use Rattle.mdl_steps.specs.FastPlays.{but_at, granting_all, moved}
+use Rattle.mdl_steps.specs.Interleavings.{interleaved}
+use Rattle.mdl_steps.specs.Layout.{lock_word}
+use Rattle.mdl_steps.specs.Lists.{Each}
+use Rattle.mdl_steps.specs.Plays.{Mine}
+use Rattle.mdl_steps.specs.SeatStates.{AtItsTable, SeatState}
+use Rattle.mdl_visits.specs.Visits.{HasInHand, HasStep, and_made, deeds_of}
+
+-- ---- what the session has then
+
+-- a session whose fast tickets at a place are slow ones, each among the others by its number
+abbrev pub all_slow : ℕ → View → View
+all_slow place v = record v { fast = but_at place v.fast; slow = interleaved v.slow (own_at place v.fast) }
+
+-- the session's fast tickets at a place became slow ones, and nothing else changed but its list of steps, which are without deeds
+pub record Materialises (place : ℕ) (m m′ : Mine) : Type 0 where
+  pub made : List Met
+  pub now : m′ ≡ and_made made (all_slow place m.0, m.1)
+  pub did : deeds_of made ≡ []
+
+-- the step on the lock's word by which the word no longer counts these tickets, under the latch: by its record they are granted in the book, the last of all
+pub record MeetsMaterialised (place : ℕ) (tickets : List Ticket) (e : Met) : Type 0 where
+  pub kind : e.kind ≡ Materialise
+  pub word : e.word ≡ lock_word place
+  pub latch : LatchRecord
+  pub held : held_at place e.held ≡ Some latch
+  pub before : List Ticket
+  pub granted : latch.book.granted ≡ before ++ tickets
+
+-- the session's fast tickets at a place became slow ones, and where there are any, a step shows it
+abbrev pub WasMaterialised : ℕ → SeatState → SeatState → Type 0
+WasMaterialised place s s′ =
+    AtItsTable s s′ (Materialises place)
+    × (own_at place s.me.0.fast ≢ [] → HasStep s s′ (MeetsMaterialised place (moved place s.me.0)))
+
+-- a step on the lock's word under the latch, whose record shows that the book has no room for so many tickets more
+pub record MeetsFullFor (n place : ℕ) (e : Met) : Type 0 where
+  pub word : e.word ≡ lock_word place
+  pub latch : LatchRecord
+  pub held : held_at place e.held ≡ Some latch
+  pub full : 65535 < ticket_count latch.book + n
+
+-- why there was no room for so many: memory ran out, or a step shows that the book was too full for all of them
+abbrev pub LacksRoomFor : ℕ → ℕ → BookError → SeatState → SeatState → Type 0
+LacksRoomFor n place cause s s′ = (cause ≡ fault.OutOfMemory) ⊎ ((cause ≡ fault.Full) × HasStep s s′ (MeetsFullFor n place))
+
+-- ---- the book in hand
+
+-- a book with these tickets of a session granted last
+abbrev pub granting_own : ℕ → List Own → BookView → BookView
+granting_own session tickets book = granting_all (map (ticket_by session) tickets) book
+
+-- none of these tickets of a session is granted in a book
+abbrev pub AreUngranted : ℕ → List Own → BookView → Type 0
+AreUngranted session tickets book = Each (λ (t : Own). ticket_of session t.number book.granted ≡ None) tickets
+
+-- the session has a book of a place in hand in which none of these tickets of its is granted, and each may stand beside all that are
+pub record CanStand (place : ℕ) (tickets : List Own) (book : BookView) (s : SeatState) : Type 0 where
+  pub in_hand : HasInHand place book s
+  pub ungranted : AreUngranted s.me.0.number tickets book
+  pub beside : Each (λ (t : Own). is_compatible (lock_kind book) book.granted s.me.0.number t.mode ≡ true) tickets
+
+-- the session has a book of a place in hand in which these tickets of its are granted last, and only there
+pub record Stand (place : ℕ) (tickets : List Own) (book : BookView) (s : SeatState) : Type 0 where
+  pub in_hand : HasInHand place (granting_own s.me.0.number tickets book) s
+  pub ungranted : AreUngranted s.me.0.number tickets book
+
+-- why a book doesn't take so many tickets more: memory ran out, or the book has no room for all of them
+abbrev pub LacksRoomIn : BookView → ℕ → BookError → Type 0
+LacksRoomIn book n cause = (cause ≡ fault.OutOfMemory) ⊎ ((cause ≡ fault.Full) × (65535 < ticket_count book + n))

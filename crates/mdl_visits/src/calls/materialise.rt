@@ -1,0 +1,101 @@
+//! A session's fast tickets at a place become slow ones.
+ghost use Rattle.std.specs.Prelude.{◌≡◌, ◌≤◌, ℕ, [], length, map, false, None, OnOk, OnErr, IfErr};
+ghost use Rattle.mdl_book.specs.declared.book_view.BookView.{BookView};
+ghost use Rattle.mdl_steps.specs.Cells.{own_at, ticket_by};
+ghost use Rattle.mdl_steps.specs.FastPlays.{moved, weight_of};
+ghost use Rattle.mdl_steps.specs.Limits.{most_fast};
+ghost use Rattle.mdl_steps.specs.Lists.{Once};
+ghost use Rattle.mdl_steps.specs.SeatStates.{AtItsTable};
+ghost use Rattle.mdl_steps.specs.Seats.{written};
+ghost use Rattle.mdl_visits.specs.Materialisings.{CanStand, LacksRoomFor, LacksRoomIn, Stand, WasMaterialised, granting_own};
+ghost use Rattle.mdl_visits.specs.Visits.{KnowsKind, MayVisit, Visits};
+ghost use Rattle.mdl_word.specs.Words.{encode, one_in};
+
+use crate::enter_and_leave::lower_flags_and_put;
+use crate::latches::await_latch;
+use crate::no_fast_tickets::NO_FAST_TICKETS;
+use mdl_book::BookError;
+use mdl_key::{Kind, Mode};
+use mdl_steps::{Latched, Own, TableSeat};
+use mdl_word::Word;
+use std::sync::Wait;
+
+/// Makes the session's fast tickets at a place, which are these, slow ones: they are granted in the book of the place, and the lock's word no
+/// longer counts them. The session waits for nothing. If there is no room for all of them, all stays as it was. After
+/// `MDL_context::materialize_fast_path_locks`.
+pub fn materialise<R: Wait>(
+    rt: &R,
+    seat: &mut TableSeat,
+    place: usize,
+    kind: Kind,
+    fast: &[Own],
+) -> Result<(), BookError>
+    requires at { MayVisit place seat.old }
+    requires knows { KnowsKind seat.old.me.0 place kind }
+    requires idle { seat.old.me.0.asks ≡ None }
+    requires these { fast.now ≡ own_at place seat.old.me.0.fast }
+    requires once { Once (moved place seat.old.me.0) }
+    ensures materialised { OnOk result (WasMaterialised place seat.old seat.new) }
+    ensures unchanged { OnErr result (AtItsTable seat.old seat.new (Visits place [])) }
+    ensures refused { IfErr result (λ cause. LacksRoomFor (length fast.now) place cause seat.old seat.new) }
+{
+    if fast.is_empty() {
+        return Ok(());
+    }
+    let latch = await_latch(rt, seat, place);
+    seat.raise_flags(&latch, true, false);
+    if let Err(cause) = write_gains(seat, &latch, fast) {
+        lower_flags_and_put(seat, latch, &[]);
+        return Err(cause);
+    }
+    seat.materialise(&latch, weigh(kind, fast));
+    seat.put_latch(latch, &[]);
+    Ok(())
+}
+
+// Grants these tickets of the session in the book in hand. If there is no room for all of them, the book stays as it was.
+fn write_gains(seat: &mut TableSeat, latch: &Latched, tickets: &[Own]) -> Result<(), BookError>
+    requires can { (book : BookView) × CanStand latch.now.place tickets.now book seat.old }
+    ensures written { (book : BookView) → CanStand latch.now.place tickets.now book seat.old
+        → OnOk result (seat.new ≡ record seat.old { me = written latch.now.place (granting_own seat.old.me.0.number tickets.now book) seat.old.me }) }
+    ensures unchanged { OnErr result (seat.new ≡ seat.old) }
+    ensures refused { (book : BookView) → CanStand latch.now.place tickets.now book seat.old → IfErr result (LacksRoomIn book (length tickets.now)) }
+{
+    for (at, ticket) in tickets.iter().enumerate() {
+        if let Err(cause) = seat.write_gain(latch, ticket.number, ticket.mode, NO_FAST_TICKETS) {
+            write_losses(seat, latch, &tickets[..at]);
+            return Err(cause);
+        }
+    }
+    Ok(())
+}
+
+// Takes these tickets of the session, which are the last ones granted in the book in hand, out again. It takes no memory.
+fn write_losses(seat: &mut TableSeat, latch: &Latched, tickets: &[Own])
+    requires stand { (book : BookView) × Stand latch.now.place tickets.now book seat.old }
+    ensures written { (book : BookView) → Stand latch.now.place tickets.now book seat.old
+        → seat.new ≡ record seat.old { me = written latch.now.place book seat.old.me } }
+{
+    for ticket in tickets {
+        let _gone = seat.write_loss(latch, ticket.number);
+    }
+}
+
+// What these few tickets add to the word of a lock of this kind, whosever they are.
+fn weigh(kind: Kind, tickets: &[Own]) -> u64
+    requires few { length tickets.now ≤ most_fast }
+    ensures { (session : ℕ) → result ≡ weight_of kind (map (ticket_by session) tickets.now) }
+{
+    let mut weight = 0;
+    for ticket in tickets {
+        weight += increment(kind, ticket.mode);
+    }
+    weight
+}
+
+// What a ticket in a mode adds, which is nothing if the mode isn't counted.
+fn increment(kind: Kind, mode: Mode) -> u64
+    ensures { result ≡ encode (one_in 0 kind mode) (one_in 1 kind mode) (one_in 2 kind mode) false false }
+{
+    Word::increment(kind, mode).unwrap_or(0)
+}
