@@ -1,4 +1,5 @@
 -- What is always so of a session between two calls is so after each call.
+pub use Rattle.mdl_shared.specs.DeedsDone.{HasDone, StaysFast}
 use Rattle.std.proofs.Common.{◌≡◌, ◌⊎◌, inl, inr, ℕ, ◌+◌, ◌≤◌, ◌<◌, true, List, [], ◌∷◌, length, Option, Some, None, refl, sym, ap, subst, ◌∙◌, arith}
 use Rattle.atomic_table.specs.Seated.{TableId}
 use Rattle.mdl_calls.specs.declared.space_error.SpaceError.{SpaceError}
@@ -18,7 +19,7 @@ use Rattle.mdl_steps.specs.SeatStates.{AtItsTable, SeatState}
 use Rattle.mdl_session_laws.specs.SessionJoins.{Joins}
 use Rattle.mdl_session_laws.proofs.KeptSound.{keeps-sound}
 use Rattle.mdl_visits.specs.Grantings.{StaysTold, VisitsAndReschedules}
-use Rattle.mdl_visits.specs.Idle.{IsIdle, HasSlowAlone}
+use Rattle.mdl_visits.specs.Idle.{IsIdle}
 use Rattle.mdl_visits.specs.Visits.{Visits}
 use Rattle.mdl_visits.specs.Numbers.{numbered}
 use Rattle.mdl_shared.specs.declared.member.Member.{Member}
@@ -33,12 +34,11 @@ use Rattle.mdl_shared.proofs.Alike.{alike_done}
 use Rattle.mdl_shared.proofs.SameSpace.{KeepsRest, Stays}
 use Rattle.mdl_shared.proofs.TicketOrder.{DoesSlow}
 
--- a call left the session at the same table of the same space, without a latch or a fast ticket, and in order but for what its joining tells
+-- a call left the session at the same table of the same space, without a latch, and in order but for what its joining tells
 pub record StaysInOrder (s s′ : SessionView) : Type 0 where
   pub table : s′.table ≡ s.table
   pub sessions : s′.sessions ≡ s.sessions
   pub idle : IsIdle s′.me
-  pub slow : HasSlowAlone s′.me
   pub unfast : (a : Ask) → s′.me.0.asks ≡ Some a → s′.me.0.fast ≡ []
   pub plain : are_counted s′.me.0.known s′.me.0.fast ≡ true
   pub within : are_within s.table.slots s′.me.0.known ≡ true
@@ -51,7 +51,6 @@ pub kept : {s s′ : SessionView} {call : Call} {answer : Answer} → IsMember s
 kept {s} {s′} {call} {answer} is order joins = record {
   sound = keeps-sound (space_of s) (space_of s′) call answer is.sound joins;
   idle = order.idle;
-  slow = order.slow;
   unfast = order.unfast;
   plain = order.plain;
   within = ap (λ (t : TableId). are_within t.slots s′.me.0.known) order.table ∙ order.within;
@@ -68,41 +67,9 @@ kept {s} {s′} {call} {answer} is order joins = record {
 
 -- ---- calls that do deeds at a place, or none
 
--- the fast tickets of a session that knows these keys and has this wait, or none, are now others: each is counted as before, and where it waits there is
--- none as before
-pub record StaysFast (known : List Known) (asks : Option Ask) (fast fast′ : List Own) : Type 0 where
-  pub none : length fast ≡ 0 → length fast′ ≡ 0
-  pub unfast : (a : Ask) → asks ≡ Some a → fast ≡ [] → fast′ ≡ []
-  pub plain : are_counted known fast ≡ true → are_counted known fast′ ≡ true
-
+-- the same fast tickets
 pub same-fast : (known : List Known) (asks : Option Ask) (fast : List Own) → StaysFast known asks fast fast
-same-fast known asks fast = record { none = λ e. e; unfast = λ a waits e. e; plain = λ e. e }
-
--- the session did these deeds at a place, to slow tickets or to fast ones, and made steps; it may have been told of its wait; nothing else changed, but
--- perhaps which tickets are fast
-pub record HasDone (place : ℕ) (ds : List Deed) (s s′ : SessionView) : Type 0 where
-  pub slow : List Own
-  pub fast : List Own
-  pub told : Option ℕ
-  pub settles : List Settlement
-  pub log : List Met
-  pub now : s′ ≡ record s {
-    me = (
-      record s.me.0 {
-        slow = slow;
-        fast = fast;
-        next = all_next ds s.me.0.next;
-        told = told;
-        settles = settles;
-        log = log;
-      },
-      s.me.1,
-    );
-  }
-  pub tickets : interleaved slow fast ≡ all_owned place ds (tickets_seen s.me.0)
-  pub fasts : StaysFast s.me.0.known s.me.0.asks s.me.0.fast fast
-  pub stays : StaysTold s.me.0.told told
-  pub unasked : s.me.0.asks ≡ None → told ≡ s.me.0.told
+same-fast known asks fast = record { unfast = λ a waits e. e; plain = λ e. e }
 
 -- what its seat's visit tells
 seat-changed : (seat seat′ : SeatState) (sessions : ℕ) → seat′.table ≡ seat.table → (m : Mine) → seat′.me ≡ m → session_at seat′ sessions ≡ record (session_at seat sessions) { me = m }
@@ -167,7 +134,6 @@ module _ {place : ℕ} {ds : List Deed} {s s′ : SessionView} (done : HasDone p
         table = refl;
         sessions = refl;
         idle = is.idle;
-        slow = done.fasts.none is.slow;
         unfast = λ a asks. done.fasts.unfast a asks (is.unfast a asks);
         plain = done.fasts.plain is.plain;
         within = is.within;
@@ -234,7 +200,6 @@ done-then {at} {place} {ds} {a} {b} {c} first later =
   where
     fast-then : StaysFast a.me.0.known a.me.0.asks first.fast later.fast → StaysFast a.me.0.known a.me.0.asks a.me.0.fast later.fast
     fast-then more = record {
-      none = λ e. more.none (first.fasts.none e);
       unfast = λ ask asks e. more.unfast ask asks (first.fasts.unfast ask asks e);
       plain = λ e. more.plain (first.fasts.plain e);
     }
