@@ -2,7 +2,7 @@
 use Rattle.std.proofs.Common.{◌≡◌, ℕ, ◌<◌, ◌≤◌, List, [], ◌∷◌, true, Option, Some, None, is_some}
 use Rattle.std.specs.Prelude.{MatchOption}
 use Rattle.std.specs.Option.{IfSome}
-use Rattle.std.specs.Coded.{Coded-set}
+use Rattle.std.specs.Coded.{Coded-set, coded_list}
 use Rattle.std.proofs.Props.{props}
 use mathlib.Core.HLevel.{×_prop, Unit-prop, Π_prop}
 use mathlib.Core.Logic.{∥∥₁_elim}
@@ -15,6 +15,7 @@ use Rattle.mdl_defs.specs.declared.standing.Standing.{Standing}
 use Rattle.mdl_defs.specs.Definitions.{IsWellFormed}
 use Rattle.mdl_defs.specs.Standings.{MayStand, fits}
 use Rattle.mdl_calls.specs.Words.{IsRising, Wait, is_waiting}
+use Rattle.mdl_steps.specs.contracts.view.Own as own
 use Rattle.mdl_steps.specs.declared.view.Ask.{Ask}
 use Rattle.mdl_steps.specs.declared.view.Own.{Own}
 use Rattle.mdl_steps.specs.Layout.{word_count}
@@ -58,6 +59,9 @@ FitsKey-prop a place standing = by (key_known place a.known)
     by (Some key) = MayStand-prop key.namespace standing
 
 -- ---- lists
+
+Own-set : IsSet (List Own)
+Own-set = Coded-set (coded_list own.the_row.coded)
 
 Each-prop : {X : Type 0} (P : X → Type 0) → ((x : X) → IsProp (P x)) → (xs : List X) → IsProp (Each P xs)
 Each-prop P one [] = Unit-prop

@@ -9,6 +9,8 @@ use Rattle.mdl_steps.specs.declared.view.Settlement.{Settlement}
 use Rattle.mdl_steps.specs.Deeds.{all_next, all_owned}
 use Rattle.mdl_steps.specs.Interleavings.{interleaved}
 use Rattle.mdl_visits.specs.Grantings.{StaysTold}
+use Rattle.mdl_visits.specs.Polls.{SettlesNothing}
+use Rattle.mdl_visits.specs.Visits.{Does}
 use Rattle.mdl_shared.specs.Members.{are_counted}
 use Rattle.mdl_shared.specs.SessionViews.{SessionView, tickets_seen}
 
@@ -43,3 +45,10 @@ pub record HasDone (place : ℕ) (ds : List Deed) (s s′ : SessionView) : Type 
   pub fasts : StaysFast s.me.0.known s.me.0.asks s.me.0.fast fast
   pub stays : StaysTold s.me.0.told told
   pub unasked : s.me.0.asks ≡ None → told ≡ s.me.0.told
+
+-- it did these deeds, its steps tell just these, and it left all waits alone
+pub record DoesQuietly (place : ℕ) (ds : List Deed) (s s′ : SessionView) : Type 0 where
+  pub done : HasDone place ds s s′
+  pub did : Does ds s.me s′.me
+  pub settled : SettlesNothing s.me s′.me
+  pub told : s′.me.0.told ≡ s.me.0.told

@@ -5,6 +5,7 @@ ghost use Rattle.mdl_steps.specs.Deeds.{is_own};
 ghost use Rattle.std.specs.Vec.{vec_capacity, vec_len};
 ghost use Rattle.mdl_calls.specs.declared.answers.Held.{Held};
 ghost use Rattle.mdl_steps.specs.Cells.{note_at, own_at};
+ghost use Rattle.mdl_steps.specs.FastPlays.{but_at, fast_own, first_note};
 ghost use Rattle.mdl_steps.specs.Interleavings.{interleaved};
 ghost use Rattle.mdl_steps.specs.Plays.{noting_version};
 ghost use Rattle.mdl_visits.specs.Numbers.{numbered};
@@ -140,6 +141,59 @@ impl Tickets {
         ensures room { (self.old.spare ≤ self.new.spare) × (self.new.reach ≡ self.old.reach) }
     {
         note(&mut self.places, place, version);
+    }
+
+    /// The fast ticket of a number.
+    pub(crate) fn get_fast(&self, id: TicketId) -> Option<Own>
+        ensures found { result ≡ numbered id self.now.fast }
+    {
+        None
+    }
+
+    /// Puts a new fast ticket last, with the note of those at its place. It takes no memory.
+    pub(crate) fn push_fast(&mut self, number: TicketId, place: usize, mode: Mode)
+        requires room { HasRoom place self.old }
+        requires below { are_below number (interleaved self.old.slow self.old.fast) ≡ true }
+        ensures gained { self.new.fast ≡ self.old.fast ++ fast_own number place mode (first_note (own_at place self.old.fast ++ own_at place self.old.slow)) ∷ [] }
+        ensures same { self.new.slow ≡ self.old.slow }
+        ensures reach { self.new.reach ≡ self.old.reach }
+    {
+    }
+
+    /// How many fast tickets there are at a place.
+    pub(crate) fn fast_at(&self, place: usize) -> usize
+        ensures { result ≡ length (own_at place self.now.fast) }
+    {
+        0
+    }
+
+    /// The version that is noted under the tickets at a place.
+    pub(crate) fn note_of(&self, place: usize) -> Option<u64>
+        ensures { result ≡ first_note (own_at place self.now.fast ++ own_at place self.now.slow) }
+    {
+        None
+    }
+
+    /// The fast tickets at a place.
+    pub(crate) fn list_fast(&self, place: usize) -> Result<Vec<Own>, AllocError>
+        ensures { IfOk result (λ fast. fast.items ≡ own_at place self.now.fast) }
+    {
+        Err(AllocError)
+    }
+
+    /// A place at which there is a fast ticket, if there is one.
+    pub(crate) fn some_fast(&self) -> Option<usize>
+        ensures { MatchOption result (self.now.fast ≡ []) (λ place. 0 < length (own_at place self.now.fast)) }
+    {
+        None
+    }
+
+    /// Makes the fast tickets at a place slow. It takes no memory.
+    pub(crate) fn make_slow(&mut self, place: usize)
+        ensures slow { self.new.slow ≡ interleaved self.old.slow (own_at place self.old.fast) }
+        ensures fast { self.new.fast ≡ but_at place self.old.fast }
+        ensures room { (self.old.spare ≤ self.new.spare) × (self.new.reach ≡ self.old.reach) }
+    {
     }
 
     /// The tickets, as they are told.

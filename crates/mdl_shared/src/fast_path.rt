@@ -1,0 +1,142 @@
+//! The fast path: a ticket in an unobtrusive mode is granted, and released, without the latch of its place, as long as the lock has no ticket in
+//! an obtrusive mode. The lock's word counts it, and no book has it. Before a session goes by the latch of a place in earnest, its fast tickets
+//! become slow ones, which stand in the books.
+//!
+//! After MySQL 5.7, sql/mdl.cc: `MDL_context::try_acquire_lock_impl`, `MDL_context::release_lock` and
+//! `MDL_context::materialize_fast_path_locks`.
+ghost use Rattle.std.specs.Prelude.{◌≡◌, ◌<◌, ◌≤◌, ◌∷◌, [], None, Some, length, IfErr, IfOk, OnErr, OnOk};
+ghost use Rattle.mdl_steps.specs.declared.deed.Deed.TheVariants.{Gain, Lose};
+ghost use Rattle.mdl_steps.specs.Cells.{own_at};
+ghost use Rattle.mdl_steps.specs.FastPlays.{but_at};
+ghost use Rattle.mdl_visits.specs.FastTries.{MeetsClear, ReleasesFast};
+ghost use Rattle.mdl_visits.specs.Numbers.{numbered};
+ghost use Rattle.mdl_visits.specs.Visits.{StaysOn};
+ghost use Rattle.mdl_shared.specs.DeedsDone.{DoesQuietly};
+ghost use Rattle.mdl_shared.specs.FastDeeds.{HasNoFast, LacksRoomForFast};
+ghost use Rattle.mdl_shared.specs.Members.{increment_at, most_numbers};
+ghost use Rattle.mdl_shared.specs.Passes.{view_of};
+ghost use Rattle.mdl_shared.specs.Showings.{AllMadeSlow, MakesSlow, ShowsStep};
+ghost use Rattle.mdl_shared.specs.TicketLists.{HasRoom};
+
+use crate::member::Member;
+use crate::wishes::refusal;
+use mdl_calls::{SpaceError, TicketId};
+use mdl_key::Mode;
+use mdl_steps::Own;
+use mdl_visits::{FastTried, materialise, release_fast, try_fast};
+use mdl_word::Word;
+use std::sync::Wait;
+
+/// Why the session got no fast ticket. Nothing has changed.
+#[derive(Clone, Copy, Debug, PartialEq, Eq)]
+pub(crate) enum NotFast {
+    /// The lock has a ticket in an obtrusive mode, as its word says, which is this one.
+    Obtruded(Word),
+    /// Each try found another word than the one that it was to replace. This is the last word found.
+    Contended(Word),
+    /// The session has as many fast tickets there as the word can count.
+    Limit,
+}
+
+// How many fast tickets a session may have at a place.
+const MOST_FAST: usize = 1023;
+
+impl Member {
+    /// Grants a fast ticket of the next number, for which there is room, unless the fast path is closed. It needs no latch and takes no memory.
+    ///
+    /// `one` is what the word of the place counts it by.
+    pub(crate) fn gain_fast(
+        &mut self,
+        place: usize,
+        mode: Mode,
+        one: u64,
+    ) -> Result<TicketId, NotFast>
+        requires idle { self.old.asks ≡ None }
+        requires counted { increment_at place mode self.old.known.known ≡ Some one }
+        requires number { self.old.next < most_numbers }
+        requires room { HasRoom place self.old.tickets }
+        ensures granted { IfOk result (λ id. (id ≡ self.old.next)
+            × DoesQuietly place (Gain id mode ∷ []) (view_of self.old) (view_of self.new)
+            × ShowsStep (view_of self.old) (view_of self.new) (MeetsClear place (Gain id mode))) }
+        ensures unchanged { OnErr result (DoesQuietly place [] (view_of self.old) (view_of self.new) × (self.new.tickets ≡ self.old.tickets)) }
+        ensures closed { IfErr result (λ why. HasNoFast why place (view_of self.old) (view_of self.new)) }
+        ensures stays { StaysOn self.old.seat.me self.new.seat.me }
+    {
+        if self.tickets.fast_at(place) >= MOST_FAST {
+            return Err(NotFast::Limit);
+        }
+        let noted = self.tickets.note_of(place);
+        match try_fast(&mut self.seat, place, mode, noted, one) {
+            FastTried::Granted => {}
+            FastTried::Obtruded(word) => return Err(NotFast::Obtruded(word)),
+            FastTried::Contended(word) => return Err(NotFast::Contended(word)),
+        }
+        let number = self.next;
+        self.tickets.push_fast(number, place, mode);
+        self.next += 1;
+        Ok(number)
+    }
+
+    /// Gives up a fast ticket, which it has. Returns whether waits at its place may have become grantable. It needs no latch and takes no
+    /// memory.
+    pub(crate) fn lose_fast(&mut self, held: Own) -> bool
+        requires held { numbered held.number self.old.tickets.fast ≡ Some held }
+        ensures lost { DoesQuietly held.place (Lose held.number ∷ []) (view_of self.old) (view_of self.new) }
+        ensures released { ReleasesFast held.place held.number result self.old.seat.me self.new.seat.me }
+        ensures stays { StaysOn self.old.seat.me self.new.seat.me }
+    {
+        let one = self.increment(held);
+        let owes = release_fast(&mut self.seat, held.place, held.number, one);
+        self.tickets.strike(held.place, held.number);
+        owes
+    }
+
+    /// Makes slow ones of the session's fast tickets, one place after the other: they are granted in the books, and the words no longer count
+    /// them. The session waits for nothing. If there is no room for those of a place, they stay fast, as those of the places after it.
+    pub(crate) fn materialise<R: Wait>(&mut self, rt: &R) -> Result<(), SpaceError>
+        requires idle { self.old.asks ≡ None }
+        ensures done { DoesQuietly 0 [] (view_of self.old) (view_of self.new) }
+        ensures slow { OnOk result ((self.new.tickets.fast ≡ []) × AllMadeSlow (view_of self.old) (view_of self.new)) }
+        ensures refused { IfErr result (λ why. LacksRoomForFast why (view_of self.old) (view_of self.new)) }
+        ensures room { (self.old.tickets.spare ≤ self.new.tickets.spare) × (self.new.tickets.reach ≡ self.old.tickets.reach) }
+    {
+        while let Some(place) = self.tickets.some_fast() {
+            self.materialise_at(rt, place)?;
+        }
+        Ok(())
+    }
+
+    // The same at one place, where it has a fast ticket.
+    fn materialise_at<R: Wait>(&mut self, rt: &R, place: usize) -> Result<(), SpaceError>
+        requires idle { self.old.asks ≡ None }
+        requires some { 0 < length (own_at place self.old.tickets.fast) }
+        ensures done { DoesQuietly 0 [] (view_of self.old) (view_of self.new) }
+        ensures slow { OnOk result ((self.new.tickets.fast ≡ but_at place self.old.tickets.fast) × ShowsStep (view_of self.old) (view_of self.new) (MakesSlow place)) }
+        ensures fast { OnErr result (self.new.tickets.fast ≡ self.old.tickets.fast) }
+        ensures refused { IfErr result (λ why. LacksRoomForFast why (view_of self.old) (view_of self.new)) }
+        ensures room { (self.old.tickets.spare ≤ self.new.tickets.spare) × (self.new.tickets.reach ≡ self.old.tickets.reach) }
+    {
+        let Some(kind) = self.known.kind_at(place) else {
+            return Ok(());
+        };
+        let Ok(fast) = self.tickets.list_fast(place) else {
+            return Err(SpaceError::OutOfMemory);
+        };
+        if let Err(cause) = materialise(rt, &mut self.seat, place, kind, &fast) {
+            return Err(refusal(cause));
+        }
+        self.tickets.make_slow(place);
+        Ok(())
+    }
+
+    // What the word of its place counts a fast ticket by.
+    fn increment(&self, held: Own) -> u64
+        requires held { numbered held.number self.now.tickets.fast ≡ Some held }
+        ensures { increment_at held.place held.mode self.now.known.known ≡ Some result }
+    {
+        self.known
+            .kind_at(held.place)
+            .and_then(|kind| Word::increment(kind, held.mode))
+            .unwrap_or(0)
+    }
+}
