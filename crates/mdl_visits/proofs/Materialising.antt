@@ -27,7 +27,7 @@ use Rattle.mdl_steps.specs.Lists.{Each, Once}
 use Rattle.mdl_steps.specs.Plays.{Mine, raised, stepped, unlatched}
 use Rattle.mdl_steps.specs.Rule.{TellsLists}
 use Rattle.mdl_steps.specs.SeatStates.{AtItsTable, SeatState}
-use Rattle.mdl_steps.specs.Seats.{Holds, MayPut, written}
+use Rattle.mdl_steps.specs.Seats.{Holds, IsPlace, MayPut, written}
 use Rattle.mdl_steps.proofs.FastLists.{length_mapped}
 use Rattle.mdl_steps.proofs.Hands.{elsewhere-stepped, holds_written}
 use Rattle.mdl_steps.proofs.Unmixed.{unmixed_apart}
@@ -213,6 +213,9 @@ module _ {place : ℕ} {s : SeatState} {q : ℕ} {c : SeatState} (a : Arrives pl
       inside_then : IsInside q s.me w.me
       inside_then = inside_written q book_then s.me b.me w.me inside_up (mine wrote)
 
+      pub place_then : IsPlace w.table q
+      place_then = place_there q (table_of wrote ∙ table_of raises) a.is_place
+
       all_moved : moved q w.me.0 ≡ moved place s.me.0
       all_moved = ap (λ (x : Mine). moved q x.0) inside_then.now ∙ ap (λ (p : ℕ). moved p s.me.0) a.at
 
@@ -235,6 +238,9 @@ module _ {place : ℕ} {s : SeatState} {q : ℕ} {c : SeatState} (a : Arrives pl
       -- so they are slow ones
       module _ (met_word : ℕ) (d : SeatState) (makes : d ≡ record w { me = materialised q met_word w.me })
           (keeps : (h : LatchRecord) (k : BookView) → Holds q h k w.me → Holds q (with_granted (moved q w.me.0) h) k d.me) where
+        pub place_last : IsPlace d.table q
+        place_last = place_there q (table_of makes) place_then
+
         abbrev latch_then : LatchRecord
         latch_then = with_granted (moved q w.me.0) up
 
