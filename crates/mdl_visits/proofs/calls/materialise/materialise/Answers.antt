@@ -1,9 +1,9 @@
 -- The tickets are granted in the book and then counted no longer, or there was no room for all of them.
-use Rattle.std.proofs.Common.{◌≡◌, ◌<◌, [], length, sym, ap, ◌∙◌, arith}
+use Rattle.std.proofs.Common.{◌<◌, length, sym, ◌∙◌, arith}
 use Rattle.std.proofs.lemmas.Bool.{eqb-true}
 use Rattle.std.proofs.lemmas.Bool.Decides.{nat_tests}
 use Rattle.std.proofs.lemmas.List.{nil_from_length}
-use Rattle.mdl_visits.proofs.Materialising.{can_stand, lacks_room, may_materialise, may_put, nothing_done, nothing_fast, place_last, place_then, rests_up, was_materialised}
+use Rattle.mdl_visits.proofs.Materialising.{can_stand, lacks_room, may_materialise, may_put, nothing_done, nothing_fast, place_last, place_then, ready, rests, was_materialised}
 use Rattle.mdl_visits.proofs.calls.materialise.materialise.Goals as goal
 
 pub returns-then-is_empty-clause-materialised : goal.returns-then-is_empty-clause-materialised
@@ -13,81 +13,60 @@ returns-then-is_empty-clause-materialised g c =
 
 pub write_gains-requires : goal.write_gains-requires
 write_gains-requires g c =
-    let a = c.await_latch-latch.ensures.arrives in
     let raise = c.raise_flags.ensures in
-    record { can = (a.latch.book, can_stand a raise.made.0 c.raise_flags.new.self raise.made.1 (raise.keeps a.latch a.latch.book a.holds) c.args.fast.now c.requires.these c.requires.idle) }
+    let r = ready c.await_latch-latch.ensures.arrives c.args.fast.now c.raise_flags.new.self raise.made raise.keeps c.requires.these c.requires.idle in
+    record { can = (r.found.book, can_stand r) }
 
 pub lower_flags_and_put-requires : goal.lower_flags_and_put-requires
 lower_flags_and_put-requires g c =
-    let a = c.await_latch-latch.ensures.arrives in
     let raise = c.raise_flags.ensures in
-    record { worked = rests_up a raise.made.0 c.raise_flags.new.self raise.made.1 (raise.keeps a.latch a.latch.book a.holds) c.write_gains.new.seat c.in-Err.ensures.unchanged }
+    let r = ready c.await_latch-latch.ensures.arrives c.args.fast.now c.raise_flags.new.self raise.made raise.keeps c.requires.these c.requires.idle in
+    record { worked = rests r c.in-Err.ensures.unchanged }
 
 pub returns-in-Err-clause-unchanged : goal.returns-in-Err-clause-unchanged
 returns-in-Err-clause-unchanged g c =
-    let a = c.await_latch-latch.ensures.arrives in
     let raise = c.raise_flags.ensures in
-    nothing_done a raise.made.0 c.raise_flags.new.self raise.made.1 (raise.keeps a.latch a.latch.book a.holds) c.write_gains.new.seat c.lower_flags_and_put.new.seat
-    c.in-Err.ensures.unchanged c.lower_flags_and_put.ensures.visited
+    let r = ready c.await_latch-latch.ensures.arrives c.args.fast.now c.raise_flags.new.self raise.made raise.keeps c.requires.these c.requires.idle in
+    nothing_done r c.in-Err.ensures.unchanged c.lower_flags_and_put.new.seat c.lower_flags_and_put.ensures.visited
 
 pub returns-in-Err-clause-refused : goal.returns-in-Err-clause-refused
 returns-in-Err-clause-refused g c =
-    let a = c.await_latch-latch.ensures.arrives in
     let raise = c.raise_flags.ensures in
-    let b = c.raise_flags.new.self in
-    let holds = raise.keeps a.latch a.latch.book a.holds in
-    let can = can_stand a raise.made.0 b raise.made.1 holds c.args.fast.now c.requires.these c.requires.idle in
-    lacks_room a raise.made.0 b raise.made.1 holds (length c.args.fast.now) c.in-Err.cause c.write_gains.new.seat c.lower_flags_and_put.new.seat
-    c.in-Err.ensures.unchanged c.lower_flags_and_put.ensures.step (c.in-Err.ensures.refused a.latch.book can)
+    let r = ready c.await_latch-latch.ensures.arrives c.args.fast.now c.raise_flags.new.self raise.made raise.keeps c.requires.these c.requires.idle in
+    lacks_room r c.in-Err.ensures.unchanged (length c.args.fast.now) c.in-Err.cause c.lower_flags_and_put.new.seat c.lower_flags_and_put.ensures.step
+    (c.in-Err.ensures.refused r.found.book (can_stand r))
 
 pub materialise-requires-clause-place : goal.materialise-requires-clause-place
 materialise-requires-clause-place g c =
-    let a = c.await_latch-latch.ensures.arrives in
     let raise = c.raise_flags.ensures in
-    let b = c.raise_flags.new.self in
-    let holds = raise.keeps a.latch a.latch.book a.holds in
-    let can = can_stand a raise.made.0 b raise.made.1 holds c.args.fast.now c.requires.these c.requires.idle in
-    place_then a raise.made.0 b raise.made.1 holds c.args.fast.now c.requires.these c.requires.idle c.write_gains.new.seat (c.in_default.ensures.written a.latch.book can)
+    let r = ready c.await_latch-latch.ensures.arrives c.args.fast.now c.raise_flags.new.self raise.made raise.keeps c.requires.these c.requires.idle in
+    place_then r (c.in_default.ensures.written r.found.book (can_stand r))
 
 pub materialise-requires-clause-moved : goal.materialise-requires-clause-moved
 materialise-requires-clause-moved g c =
-    let a = c.await_latch-latch.ensures.arrives in
     let raise = c.raise_flags.ensures in
-    let b = c.raise_flags.new.self in
-    let holds = raise.keeps a.latch a.latch.book a.holds in
-    let can = can_stand a raise.made.0 b raise.made.1 holds c.args.fast.now c.requires.these c.requires.idle in (
-      _,
-      may_materialise a raise.made.0 b raise.made.1 holds c.args.fast.now c.requires.these c.requires.idle c.write_gains.new.seat (c.in_default.ensures.written a.latch.book can)
-          c.args.kind c.requires.knows c.requires.once c.weigh.result c.weigh.ensures,
-    )
+    let r = ready c.await_latch-latch.ensures.arrives c.args.fast.now c.raise_flags.new.self raise.made raise.keeps c.requires.these c.requires.idle in
+    let wrote = c.in_default.ensures.written r.found.book (can_stand r) in
+    (_, may_materialise r wrote c.args.kind c.requires.knows c.requires.once c.weigh.result c.weigh.ensures)
 
 pub put_latch-requires-clause-place : goal.put_latch-requires-clause-place
 put_latch-requires-clause-place g c =
-    let a = c.await_latch-latch.ensures.arrives in
     let raise = c.raise_flags.ensures in
-    let b = c.raise_flags.new.self in
-    let holds = raise.keeps a.latch a.latch.book a.holds in
-    let can = can_stand a raise.made.0 b raise.made.1 holds c.args.fast.now c.requires.these c.requires.idle in
-    place_last a raise.made.0 b raise.made.1 holds c.args.fast.now c.requires.these c.requires.idle c.write_gains.new.seat (c.in_default.ensures.written a.latch.book can)
-    c.materialise.ensures.made.0 c.materialise.new.self c.materialise.ensures.made.1 c.materialise.ensures.keeps
+    let r = ready c.await_latch-latch.ensures.arrives c.args.fast.now c.raise_flags.new.self raise.made raise.keeps c.requires.these c.requires.idle in
+    let wrote = c.in_default.ensures.written r.found.book (can_stand r) in
+    place_last r wrote c.materialise.ensures.made c.materialise.ensures.keeps
 
 pub put_latch-requires-clause-put : goal.put_latch-requires-clause-put
 put_latch-requires-clause-put g c =
-    let a = c.await_latch-latch.ensures.arrives in
     let raise = c.raise_flags.ensures in
-    let b = c.raise_flags.new.self in
-    let holds = raise.keeps a.latch a.latch.book a.holds in
-    let can = can_stand a raise.made.0 b raise.made.1 holds c.args.fast.now c.requires.these c.requires.idle in
+    let r = ready c.await_latch-latch.ensures.arrives c.args.fast.now c.raise_flags.new.self raise.made raise.keeps c.requires.these c.requires.idle in
+    let wrote = c.in_default.ensures.written r.found.book (can_stand r) in
     let some : 0 < length c.args.fast.now = grind (arith, nat_tests) in
-    may_put a raise.made.0 b raise.made.1 holds c.args.fast.now c.requires.these c.requires.idle c.write_gains.new.seat (c.in_default.ensures.written a.latch.book can)
-    c.materialise.ensures.made.0 c.materialise.new.self c.materialise.ensures.made.1 c.materialise.ensures.keeps some
+    may_put r wrote c.materialise.ensures.made c.materialise.ensures.keeps some
 
 pub returns-clause-materialised : goal.returns-clause-materialised
 returns-clause-materialised g c =
-    let a = c.await_latch-latch.ensures.arrives in
     let raise = c.raise_flags.ensures in
-    let b = c.raise_flags.new.self in
-    let holds = raise.keeps a.latch a.latch.book a.holds in
-    let can = can_stand a raise.made.0 b raise.made.1 holds c.args.fast.now c.requires.these c.requires.idle in
-    was_materialised a raise.made.0 b raise.made.1 holds c.args.fast.now c.requires.these c.requires.idle c.write_gains.new.seat (c.in_default.ensures.written a.latch.book can)
-    c.materialise.ensures.made.0 c.materialise.new.self c.materialise.ensures.made.1 c.materialise.ensures.keeps c.put_latch.new.self c.put_latch.ensures.made
+    let r = ready c.await_latch-latch.ensures.arrives c.args.fast.now c.raise_flags.new.self raise.made raise.keeps c.requires.these c.requires.idle in
+    let wrote = c.in_default.ensures.written r.found.book (can_stand r) in
+    was_materialised r wrote c.materialise.ensures.made c.materialise.ensures.keeps c.put_latch.new.self c.put_latch.ensures.made
