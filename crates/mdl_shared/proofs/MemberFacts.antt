@@ -18,6 +18,7 @@ use Rattle.mdl_steps.specs.Deeds.{KnowsPlace, NotWaited}
 use Rattle.mdl_steps.specs.Interleavings.{interleaved}
 use Rattle.mdl_steps.specs.Lists.{Each}
 use Rattle.mdl_steps.specs.Seats.{IsPlace, IsRising}
+use Rattle.mdl_steps.proofs.Interleaving.{Rising}
 use Rattle.mdl_steps.proofs.Views.{by_bool}
 use Rattle.mdl_session_laws.specs.SessionSpaces.{SpeaksFor, are_below as are_below_told, are_placed as are_placed_told, first_free, is_known as is_known_in}
 use Rattle.mdl_visits.specs.Leavings.{HasTicket}
@@ -31,7 +32,7 @@ use Rattle.mdl_shared.specs.Waitings.{are_below, is_ask_last, is_ask_told}
 use Rattle.mdl_shared.proofs.Membership.{are_placed, has_numbered, known_within, placed_at, some_key}
 use Rattle.mdl_shared.proofs.SameSpace.{numbers_by, wait_by}
 use Rattle.mdl_shared.proofs.SpaceLists.{apart-told, known-told, known_of}
-use Rattle.mdl_shared.proofs.TicketOrder.{AllLeaveFast, DoesSlow, does-alone}
+use Rattle.mdl_shared.proofs.TicketOrder.{AllLeaveFast, DoesSlow, all-owned-slow, all-parts, apart-numbers, rising-told}
 
 -- ---- numbers
 
@@ -176,21 +177,32 @@ module _ {s : SessionView} (is : IsMember s) where
 
   -- ---- its slow tickets and its fast ones
 
-  -- none of the fast ones has the number of a slow one
+  -- the numbers of all rise
+  pub rising : Rising (tickets_seen s.me.0)
+  rising = rising-told (tickets_seen s.me.0) is.sound.rising
+
+  -- so none of the fast ones has the number of a slow one
   pub spared : (id : ℕ) (t : Own) → numbered id s.me.0.slow ≡ Some t → is_no_number id s.me.0.fast ≡ true
-  spared id t its = ap (is_no_number id) no-fast
+  spared id t its = apart-numbers id t s.me.0.slow s.me.0.fast rising its
 
   -- no slow one is waited for
   pub slow-apart : is_ask_apart s.me.0.next s.me.0.slow s.me.0.asks ≡ true
-  slow-apart = subst (λ (ts : List Own). is_ask_apart s.me.0.next (interleaved s.me.0.slow ts) s.me.0.asks ≡ true) no-fast apart
+  slow-apart = by s.me.0.asks apart
+    where
+      by : (o : Option Ask) → is_ask_apart s.me.0.next (tickets_seen s.me.0) o ≡ true → is_ask_apart s.me.0.next s.me.0.slow o ≡ true
+      by None all = refl
+      by (Some a) all =
+          let parts = and_parts (nat_lt a.number s.me.0.next) (is_no_number a.number (tickets_seen s.me.0)) all in
+          and_from _ _ parts.0 (all-parts (λ (t : Own). not (t.number == a.number)) s.me.0.slow s.me.0.fast parts.1).0
 
   -- what is done to the slow ones is done to all
   pub does-slow : (place : ℕ) (ds : List Deed) → AllLeaveFast place ds s.me.0.slow s.me.0.fast → DoesSlow place ds s.me.0
-  does-slow place ds leaves = does-alone place ds s.me.0 no-fast
+  does-slow place ds leaves = all-owned-slow place ds s.me.0.slow s.me.0.fast rising leaves
 
   -- by cases: a new one is the next at a place without fast ones, and a slow one changes, or goes
-  pub gains-slow : (place : ℕ) (mode : Mode) → own_at place s.me.0.fast ≡ [] → DoesSlow place (Gain s.me.0.next mode ∷ []) s.me.0
-  gains-slow place mode none = does-slow place (Gain s.me.0.next mode ∷ []) ((none, below), tt)
+  pub gains-slow : (place number : ℕ) (mode : Mode) → number ≡ s.me.0.next → own_at place s.me.0.fast ≡ [] → DoesSlow place (Gain number mode ∷ []) s.me.0
+  gains-slow place number mode first none =
+      does-slow place (Gain number mode ∷ []) ((none, ap (λ (n : ℕ). are_below n (tickets_seen s.me.0)) first ∙ below), tt)
 
   pub alters-slow : (place id : ℕ) (mode : Mode) (t : Own) → numbered id s.me.0.slow ≡ Some t → DoesSlow place (Alter id mode ∷ []) s.me.0
   alters-slow place id mode t its = does-slow place (Alter id mode ∷ []) (spared id t its, tt)

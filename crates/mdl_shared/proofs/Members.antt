@@ -20,9 +20,9 @@ use Rattle.mdl_session_laws.proofs.KeptSound.{keeps-sound}
 use Rattle.mdl_visits.specs.Grantings.{StaysTold, VisitsAndReschedules}
 use Rattle.mdl_visits.specs.Idle.{IsIdle, HasSlowAlone}
 use Rattle.mdl_visits.specs.Visits.{Visits}
-use Rattle.mdl_visits.specs.Numbers.{numbered}
+use Rattle.mdl_visits.specs.Numbers.{is_no_number, numbered}
 use Rattle.mdl_shared.specs.declared.member.Member.{Member}
-use Rattle.mdl_shared.specs.Members.{IsMember, are_counted, are_within, most_numbers}
+use Rattle.mdl_shared.specs.Members.{IsMember, are_counted, are_within, most_numbers, without_at}
 use Rattle.mdl_shared.specs.Passes.{view_of}
 use Rattle.mdl_shared.specs.Rememberings.{AreAlike}
 use Rattle.mdl_shared.specs.SessionViews.{Lists, SessionView, lists_seen, session_at, space_of, tickets_of, tickets_seen}
@@ -31,7 +31,7 @@ use Rattle.mdl_shared.specs.TicketLists.{HasRoom, TicketList}
 use Rattle.mdl_shared.specs.Waitings.{is_ask_last, is_ask_told}
 use Rattle.mdl_shared.proofs.Alike.{alike_done}
 use Rattle.mdl_shared.proofs.SameSpace.{KeepsRest, Stays}
-use Rattle.mdl_shared.proofs.TicketOrder.{DoesSlow}
+use Rattle.mdl_shared.proofs.TicketOrder.{DoesSlow, none-numbered, none-struck}
 
 -- a call left the session at the same table of the same space, without a latch or a fast ticket, and in order but for what its joining tells
 pub record StaysInOrder (s s′ : SessionView) : Type 0 where
@@ -249,12 +249,23 @@ lists-done m {ds = ds} {slow = slow} {fast = fast} done slows fasts =
     ∙ ap (λ (ts : List Own). record (lists_seen m.seat.me.0) { slow = ts; fast = fast; next = all_next ds m.seat.me.0.next }) slows
     ∙ ap (λ (ts : List Own). record (lists_seen m.seat.me.0) { slow = done.slow; fast = ts; next = all_next ds m.seat.me.0.next }) fasts ∙ sym (done-lists done)
 
--- its slow tickets after deeds are those of its view, and its fast ones are the same
-pub slow-done : (m : Member) {place : ℕ} {ds : List Deed} {slow : List Own} → slow ≡ all_owned place ds m.tickets.slow → slow ≡ all_owned place ds m.seat.me.0.slow
-slow-done m {place} {ds} same = same ∙ ap (λ (l : Lists). all_owned place ds l.slow) m.lists
+-- its slow tickets after deeds are those of its view, and the others are the same
+pub slow-done : (m : Member) (place : ℕ) (ds : List Deed) {slow : List Own} → slow ≡ all_owned place ds m.tickets.slow → slow ≡ all_owned place ds m.seat.me.0.slow
+slow-done m place ds same = same ∙ ap (λ (l : Lists). all_owned place ds l.slow) m.lists
+
+pub slow-same : (m : Member) {slow : List Own} → slow ≡ m.tickets.slow → slow ≡ m.seat.me.0.slow
+slow-same m same = same ∙ ap (λ (l : Lists). l.slow) m.lists
 
 pub fast-same : (m : Member) {fast : List Own} → fast ≡ m.tickets.fast → fast ≡ m.seat.me.0.fast
 fast-same m same = same ∙ ap (λ (l : Lists). l.fast) m.lists
+
+-- none of its own list of them has the number of a slow one
+pub unnumbered : (m : Member) (id : ℕ) → is_no_number id m.seat.me.0.fast ≡ true → numbered id m.tickets.fast ≡ None
+unnumbered m id none = ap (λ (l : Lists). numbered id l.fast) m.lists ∙ none-numbered id m.seat.me.0.fast none
+
+-- where a slow one is struck
+pub fast-struck : (m : Member) (place id : ℕ) {fast : List Own} → is_no_number id m.seat.me.0.fast ≡ true → fast ≡ without_at place id m.tickets.fast → fast ≡ m.seat.me.0.fast
+fast-struck m place id none same = same ∙ ap (λ (l : Lists). without_at place id l.fast) m.lists ∙ none-struck place id m.seat.me.0.fast none
 
 -- and have the room that they had
 pub room-kept : {place : ℕ} (list list′ : TicketList) → (list.spare ≤ list′.spare) × (list′.reach ≡ list.reach) → HasRoom place list → HasRoom place list′

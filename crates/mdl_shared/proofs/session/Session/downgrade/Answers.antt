@@ -1,13 +1,15 @@
 -- The ticket has the weaker mode, or it can't have it.
-use Rattle.std.proofs.Common.{rules, ◌≡◌, None, Err, Some, inr, refl}
+use Rattle.std.proofs.Common.{Err, None, Some, [], inr, refl, rules, ◌∷◌, ◌≡◌}
 use Rattle.mdl_calls.specs.Words.{Downgrade}
 use Rattle.mdl_visits.specs.Numbers.{numbered}
 use Rattle.mdl_shared.specs.Passes.{view_of}
 use Rattle.mdl_shared.specs.SessionViews.{tickets_seen}
+use Rattle.mdl_steps.specs.declared.deed.Deed.TheVariants.{Alter}
+use Rattle.mdl_shared.proofs.MemberFacts.{alters-slow, spared}
 use Rattle.mdl_shared.proofs.Faults.{just-done, just-refused}
 use Rattle.mdl_shared.proofs.Fitting.{fit_there}
 use Rattle.mdl_shared.proofs.HeldTickets.{holds-ticket}
-use Rattle.mdl_shared.proofs.Members.{done-order, fault-seen, kept, lists-done, rescheduled, room-kept}
+use Rattle.mdl_shared.proofs.Members.{done-order, fast-same, fault-seen, kept, lists-done, rescheduled, room-kept, slow-done, unnumbered}
 use Rattle.mdl_shared.proofs.Props.{member}
 use Rattle.mdl_shared.proofs.Refusals.{own-shows}
 use Rattle.mdl_shared.proofs.TicketCalls.{downgrade-unfit, downgraded}
@@ -36,10 +38,16 @@ downgrade-requires g c =
     record {
       at = held.at;
       unwaited = held.unwaited;
-      held = held.own;
+      held = held.slow;
       fits = fit_there t.place c.args.mode m.seat.me.0.known may.1;
       weaker = may.0;
     }
+
+pub set_mode-requires : goal.set_mode-requires
+set_mode-requires g c =
+    let m = c.self.inside.member in
+    let t = c.in_ok-held.held in
+    record { slow = unnumbered m t.number (spared (member m) t.number t (holds-ticket m c.args.id t c.in_ok-held.ensures.found).slow) }
 
 pub invariant_of-member : goal.invariant_of-member
 invariant_of-member g c =
@@ -49,11 +57,11 @@ invariant_of-member g c =
     let held = holds-ticket m c.args.id t c.in_ok-held.ensures.found in
     let clear = fault-seen m (Downgrade m.seat.me.0.number c.args.id c.args.mode) None (just-done _ _ c.in_ok-held.ensures.just) in
     let did = c.downgrade.ensures in
-    let done = rescheduled m.seat c.downgrade.new.seat m.sessions did.downgraded in
+    let done = rescheduled m.seat c.downgrade.new.seat m.sessions (alters-slow is t.place t.number c.args.mode t held.slow) did.downgraded in
     record {
       lawful = ∣ kept is (done-order done is (inr refl))
           (downgraded m.seat c.downgrade.new.seat m.sessions c.args.id c.args.mode t is held clear did.downgraded did.step).0 ∣₁;
-      lists = lists-done m done c.set_mode.ensures.changed;
+      lists = lists-done m done (slow-done m t.place (Alter t.number c.args.mode ∷ []) c.set_mode.ensures.changed.0) (fast-same m c.set_mode.ensures.changed.1);
       room = λ ask asks. room-kept m.tickets c.set_mode.new.self c.set_mode.ensures.room (m.room ask asks);
     }
 

@@ -1,13 +1,14 @@
 -- The ticket goes, or there is none.
-use Rattle.std.proofs.Common.{false, inr, is_some, refl, sym, ap, subst, ◌∙◌}
+use Rattle.std.proofs.Common.{[], ap, false, inr, is_some, refl, subst, sym, ◌∙◌, ◌∷◌}
 use Rattle.mdl_calls.specs.declared.space_error.SpaceError.TheVariants.{NotHeld}
 use Rattle.mdl_calls.specs.Words.{Release}
 use Rattle.mdl_steps.specs.Deeds.{NotWaited}
 use Rattle.mdl_shared.specs.Passes.{view_of}
 use Rattle.mdl_shared.specs.SessionViews.{tickets_seen}
+use Rattle.mdl_steps.specs.declared.deed.Deed.TheVariants.{Lose}
 use Rattle.mdl_shared.proofs.HeldTickets.{holds-ticket}
-use Rattle.mdl_shared.proofs.MemberFacts.{speaks}
-use Rattle.mdl_shared.proofs.Members.{done-order, held-seen, kept, lists-done, rescheduled, room-kept}
+use Rattle.mdl_shared.proofs.MemberFacts.{held-slow, loses-slow, spared, speaks}
+use Rattle.mdl_shared.proofs.Members.{done-order, fast-struck, held-seen, kept, lists-done, rescheduled, room-kept, slow-done}
 use Rattle.mdl_shared.proofs.Props.{member}
 use Rattle.mdl_shared.proofs.SameSpace.{refused, same-stays}
 use Rattle.mdl_shared.proofs.SpaceTickets.{holds-told}
@@ -38,9 +39,11 @@ invariant_of-member g c =
     let m = c.self.inside.member in
     let is = member m in
     let its = held-seen m c.args.id c.get.result c.get.ensures.found ∙ c.in-Some.is in
-    let done = rescheduled m.seat c.release.new.seat m.sessions c.release.ensures.released in record {
+    let slow = held-slow is c.args.id c.in-Some.held its in
+    let done = rescheduled m.seat c.release.new.seat m.sessions (loses-slow is c.in-Some.held.place c.args.id c.in-Some.held slow) c.release.ensures.released in record {
       lawful = ∣ kept is (done-order done is (inr refl)) (release-joins is c.args.id c.in-Some.held its done) ∣₁;
-      lists = lists-done m done c.strike.ensures.struck;
+      lists = lists-done m done (slow-done m c.in-Some.held.place (Lose c.args.id ∷ []) c.strike.ensures.struck.0)
+          (fast-struck m c.in-Some.held.place c.args.id (spared is c.args.id c.in-Some.held slow) c.strike.ensures.struck.1);
       room = λ ask asks. room-kept m.tickets c.strike.new.self c.strike.ensures.room (m.room ask asks);
     }
 
@@ -48,5 +51,6 @@ pub returns-clause-joined : goal.returns-clause-joined
 returns-clause-joined g c =
     let m = c.self.inside.member in
     let its = held-seen m c.args.id c.get.result c.get.ensures.found ∙ c.in-Some.is in
+    let slow = loses-slow (member m) c.in-Some.held.place c.args.id c.in-Some.held (held-slow (member m) c.args.id c.in-Some.held its) in
     rw (← c.self.view_is)
-    (release-joins (member m) c.args.id c.in-Some.held its (rescheduled m.seat c.release.new.seat m.sessions c.release.ensures.released))
+    (release-joins (member m) c.args.id c.in-Some.held its (rescheduled m.seat c.release.new.seat m.sessions slow c.release.ensures.released))

@@ -19,5 +19,5 @@ reschedule-requires g c =
 pub invariant_of-self-inside : goal.invariant_of-self-inside
 invariant_of-self-inside g c =
     let m = c.self.inside.member in
-    let done = rescheduled m.seat c.reschedule.new.seat m.sessions c.reschedule.ensures.rescheduled in
+    let done = rescheduled m.seat c.reschedule.new.seat m.sessions refl c.reschedule.ensures.rescheduled in
     (∣ still-member done (member m) ∣₁, (m.lists ∙ sym (done-lists done), (m.room, tt)))
