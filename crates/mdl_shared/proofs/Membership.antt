@@ -122,8 +122,8 @@ still_counted place mode known more counted = by (kind_known place known) refl c
   where
     by : (o : Option Kind) → kind_known place known ≡ o → is_some (option_and_then (λ kind. increment_of kind mode) o) ≡ true
         → is_some (increment_at place mode (known ++ more)) ≡ true
-    by None e some = absurd (cc)
-    by (Some kind) e some = ap (λ (o : Option Kind). is_some (option_and_then (λ k. increment_of k mode) o)) (kind_still place kind known more e) ∙ some
+    by None e counts = absurd (cc)
+    by (Some kind) e counts = ap (λ (o : Option Kind). is_some (option_and_then (λ k. increment_of k mode) o)) (kind_still place kind known more e) ∙ counts
 
 pub counted_and : (known more : List Known) (fast : List Own) → are_counted known fast ≡ true → are_counted (known ++ more) fast ≡ true
 counted_and known more [] all = refl

@@ -2,7 +2,7 @@
 use Rattle.std.proofs.Common.{◌≡◌, ℕ, ◌<◌, ◌≤◌, List, [], ◌∷◌, true, Option, Some, None, is_some}
 use Rattle.std.specs.Prelude.{MatchOption}
 use Rattle.std.specs.Option.{IfSome}
-use Rattle.std.specs.Coded.{Coded-set}
+use Rattle.std.specs.Coded.{Coded-set, coded_list}
 use Rattle.std.proofs.Props.{props}
 use mathlib.Core.HLevel.{×_prop, Unit-prop, Π_prop}
 use mathlib.Core.Logic.{∥∥₁_elim}
@@ -15,6 +15,7 @@ use Rattle.mdl_defs.specs.declared.standing.Standing.{Standing}
 use Rattle.mdl_defs.specs.Definitions.{IsWellFormed}
 use Rattle.mdl_defs.specs.Standings.{MayStand, fits}
 use Rattle.mdl_calls.specs.Words.{IsRising, Wait, is_waiting}
+use Rattle.mdl_steps.specs.contracts.view.Own as view
 use Rattle.mdl_steps.specs.declared.view.Ask.{Ask}
 use Rattle.mdl_steps.specs.declared.view.Own.{Own}
 use Rattle.mdl_steps.specs.Layout.{word_count}
@@ -70,6 +71,9 @@ AreAlike-prop : (tickets : List Own) → IsProp (AreAlike tickets)
 AreAlike-prop [] = Unit-prop
 AreAlike-prop (t ∷ ts) = ×_prop (Each-prop (λ (x : Own). x.place ≡ t.place → x.noted ≡ t.noted) (λ x. Π_prop (λ e. note-prop x.noted t.noted)) ts) (AreAlike-prop ts)
 
+tickets-set : IsSet (List Own)
+tickets-set = Coded-set (coded_list view.the_row.coded)
+
 -- ---- what is always so
 
 awaited-prop : (a : Space) → IsProp (IfSome a.own.wait (λ (w : Wait). is_known w.place a.known ≡ true))
@@ -106,7 +110,7 @@ IsMember-prop : (s : SessionView) → IsProp (IsMember s)
 IsMember-prop s x y =
     let idle_prop : IsProp (IsIdle s.me) = hlevel props in
     let slow_prop : IsProp (HasSlowAlone s.me) = hlevel props in
-    let unfast_prop : IsProp ((a : Ask) → s.me.0.asks ≡ Some a → s.me.0.fast ≡ []) = Π_prop (λ a. Π_prop (λ e. Own-set s.me.0.fast [])) in
+    let unfast_prop : IsProp ((a : Ask) → s.me.0.asks ≡ Some a → s.me.0.fast ≡ []) = Π_prop (λ a. Π_prop (λ e. tickets-set s.me.0.fast [])) in
     let plain_prop : IsProp (are_counted s.me.0.known s.me.0.fast ≡ true) = hlevel props in
     let within_prop : IsProp (are_within s.table.slots s.me.0.known ≡ true) = hlevel props in
     let last_prop : IsProp (is_ask_last s.me.0.next s.me.0.asks ≡ true) = hlevel props in
