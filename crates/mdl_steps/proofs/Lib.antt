@@ -11,6 +11,8 @@ pub mod Owns
 pub mod Deeds
 pub mod OneEvent
 pub mod Unmixed
+pub mod Interleaving
+pub mod JoinedTickets
 pub mod Books
 pub mod WaitWords
 pub mod WaitBooks

@@ -22,14 +22,16 @@ use Rattle.mdl_steps.specs.declared.view.Known.{Known}
 use Rattle.mdl_steps.specs.declared.view.Own.{Own}
 use Rattle.mdl_steps.specs.declared.view.View.{View}
 use Rattle.mdl_steps.specs.Cells.{Asking, Part, Cell, all_fast, asking_at, cell, counted, due, holder_at, own_at, part_at, ticket_by, waits}
-use Rattle.mdl_steps.specs.FastPlays.{but_at, granting_all, moved, materialised, materialises, with_granted, IsAs, AreJoined, MayMaterialise}
+use Rattle.mdl_steps.specs.FastPlays.{but_at, granting_all, moved, materialised, materialises, with_granted, MayMaterialise}
+use Rattle.mdl_steps.specs.Interleavings.{interleaved}
 use Rattle.mdl_steps.specs.Layout.{lock_word}
 use Rattle.mdl_steps.specs.Lists.{Each, Once}
 use Rattle.mdl_steps.specs.Plays.{Mine}
 use Rattle.mdl_steps.specs.Rule.{Rule, PlaceOk, BookOk, PartOk, Counted, NoteAgrees, key_at}
-use Rattle.mdl_steps.proofs.Desks.{each-append}
 use Rattle.mdl_steps.proofs.FastSteps.{covers_fewer, each_fewer, encoded_small}
 use Rattle.mdl_steps.proofs.FastLists.{all_fast-all, all_fast-own, counted_set}
+use Rattle.mdl_steps.proofs.Interleaving.{each-interleaved}
+use Rattle.mdl_steps.proofs.JoinedTickets.{joined_elsewhere, joined_found}
 use Rattle.mdl_steps.proofs.Holder.{Under, under, holder_cell}
 use Rattle.mdl_steps.proofs.Lift.{Table, after, on_word, alone, alone_parts, seat_there}
 use Rattle.mdl_steps.proofs.Owns.{each-from_at, each-to_at}
@@ -116,12 +118,10 @@ kept_else place q (t ∷ ts) else = by_bool (t.place == place)
     (λ here. rw (here, other t.place q (λ e. else (sym e ∙ eqb-true _ _ here))) (kept_else place q ts else))
     (λ away. rw away (ap (λ xs. cond (t.place == q) (t ∷ xs) xs) (kept_else place q ts else)))
 
--- what holds of each of some tickets, whatever their modes, holds of each that is as one of them
-each_among : (P : Own → Type 0) → ((t u : Own) → IsAs t u → P u → P t) → (all : List Own) → Each P all
-    → (ts : List Own) → Each (λ (t : Own). (i : ℕ) × (u : Own) × (get_elem? all i ≡ some u) × IsAs t u) ts → Each P ts
-each_among P as_ all of_all [] among = tt
-each_among P as_ all of_all (t ∷ ts) among =
-    (let a = among.0 in as_ t a.1 a.3 (each_at P all of_all a.0 a.1 a.2), each_among P as_ all of_all ts among.1)
+-- what holds of each ticket holds of those at a place
+each_anyway : (P : Own → Type 0) (q : ℕ) (ts : List Own) → Each P ts → Each (λ (t : Own). t.place ≡ q → P t) ts
+each_anyway P q [] all = tt
+each_anyway P q (t ∷ ts) all = (λ _. all.0, each_anyway P q ts all.1)
 
 -- ---- the book and the parts
 
@@ -130,10 +130,14 @@ module _ (key : Option KeyName) (version : ℕ) (parts : List Part) (book : Book
     (is_alone : (j : ℕ) (x : Part) → get_elem? parts j ≡ some x → x.number ≡ v.number → j ≡ id)
     (some_key : (k : KeyName) × (key ≡ Some k))
     (ok : BookOk key version parts book)
-    (slow : List Own) (idle : v.asks ≡ None) (joined : AreJoined place v slow) (once : Once (moved place v))
+    (idle : v.asks ≡ None) (once : Once (moved place v))
     (apart : Each (λ (t : Own). ticket_of v.number t.number (map (ticket_by v.number) (own_at place v.slow)) ≡ None) (own_at place v.fast)) where
   abbrev was : Part
   was = part_at f place v
+
+  -- the slow tickets then
+  abbrev slow : List Own
+  slow = interleaved v.slow (own_at place v.fast)
 
   abbrev pub then_ : Part
   then_ = record was { fast = []; slow = own_at place slow }
@@ -174,7 +178,7 @@ module _ (key : Option KeyName) (version : ℕ) (parts : List Part) (book : Book
   found_slow m = old.slow_held.same m ∙ ap (λ (a : Option Asking). ticket_of v.number m (option_to_list (due a) ++ map (ticket_by v.number) (own_at place v.slow))) not_asking
 
   found_then : (m : ℕ) → ticket_of v.number m (book.granted ++ gone) ≡ ticket_of v.number m (map (ticket_by v.number) (own_at place slow))
-  found_then m = of_both v.number m book.granted (map (ticket_by v.number) (own_at place v.slow)) gone (found_slow m) ∙ sym (joined.same m)
+  found_then m = of_both v.number m book.granted (map (ticket_by v.number) (own_at place v.slow)) gone (found_slow m) ∙ sym (joined_found v.number place m v.slow v.fast once apart)
 
   none_found : (os : List Own) → Each (λ (t : Own). ticket_of v.number t.number (map (ticket_by v.number) (own_at place v.slow)) ≡ None) os → Each (λ (t : Own). ticket_of v.number t.number book.granted ≡ None) os
   none_found [] all = tt
@@ -183,11 +187,9 @@ module _ (key : Option KeyName) (version : ℕ) (parts : List Part) (book : Book
   notes_then : Each (NoteAgrees book) (own_at place slow)
   notes_then =
       each-to_at (NoteAgrees book) place slow
-      (each_among (λ (t : Own). t.place ≡ place → NoteAgrees book t)
-      (λ t u same agrees here version is. agrees (sym same.1 ∙ here) version (sym same.2 ∙ is))
-      (v.slow ++ v.fast)
-      (each-append _ v.slow v.fast (each-from_at (NoteAgrees book) place v.slow old.versions_agree.slow) (each-from_at (NoteAgrees book) place v.fast old.versions_agree.fast))
-      slow joined.among)
+      (each-interleaved (λ (t : Own). t.place ≡ place → NoteAgrees book t) v.slow (own_at place v.fast)
+      (each-from_at (NoteAgrees book) place v.slow old.versions_agree.slow)
+      (each_anyway (NoteAgrees book) place (own_at place v.fast) old.versions_agree.fast))
 
   pub joined_ok : BookOk key version then_parts (granting_all gone book)
   joined_ok = record {
@@ -244,7 +246,7 @@ or_from true b false first e = (let no = first refl in absurd (cc))
 or_from false b true first e = refl
 or_from false b false first e = e
 
-module _ (slots id place : ℕ) (me : Mine) (some_number : 0 < me.0.number) (first : 0 < place) (last : place < slots) (slow : List Own) (weight : ℕ) (h : LatchRecord) (may : MayMaterialise place slow weight h me) where
+module _ (slots id place : ℕ) (me : Mine) (some_number : 0 < me.0.number) (first : 0 < place) (last : place < slots) (weight : ℕ) (h : LatchRecord) (may : MayMaterialise place weight h me) where
   module _ (s : Table) (r : Rule s) (size : length s.homes ≡ slots) (seat : get_elem? s.views id ≡ some me.0) where
     abbrev found : ℕ
     found = get_or s.words (lock_word place) 0
@@ -258,8 +260,11 @@ module _ (slots id place : ℕ) (me : Mine) (some_number : 0 < me.0.number) (fir
     abbrev h′ : LatchRecord
     h′ = with_granted (moved place me.0) h
 
+    abbrev joined : List Own
+    joined = interleaved me.0.slow (own_at place me.0.fast)
+
     abbrev w : View
-    w = (materialised place slow found me).0
+    w = (materialised place found me).0
 
     within : place < length s.homes
     within = rw size last
@@ -287,7 +292,7 @@ module _ (slots id place : ℕ) (me : Mine) (some_number : 0 < me.0.number) (fir
         (k.1.key, ap (λ (q : ℕ). key_at r.keys q) (sym k.3) ∙ knows.1)
 
     abbrev parts′ : List Part
-    parts′ = set c.parts id (record (part_at (waits s) place me.0) { fast = []; slow = own_at place slow })
+    parts′ = set c.parts id (record (part_at (waits s) place me.0) { fast = []; slow = own_at place joined })
 
     alone_here : (j : ℕ) (x : Part) → get_elem? c.parts j ≡ some x → x.number ≡ me.0.number → j ≡ id
     alone_here = alone_parts s r place id me.0 seat some_number
@@ -296,7 +301,7 @@ module _ (slots id place : ℕ) (me : Mine) (some_number : 0 < me.0.number) (fir
     apart = unmixed_apart me.0.number place me.0.fast me.0.slow (r.views id me.0 seat).0.unmixed
 
     counts : (class : ℕ) → counted (lock_kind h.book) class (all_fast parts′) + counted (lock_kind h.book) class (moved place me.0) ≡ counted (lock_kind h.book) class (all_fast c.parts)
-    counts class = counted_less key c.version c.parts h.book (waits s) place id me.0 part_there alone_here key_is u.book_ok slow may.idle may.joined may.once apart class
+    counts class = counted_less key c.version c.parts h.book (waits s) place id me.0 part_there alone_here key_is u.book_ok may.idle may.once apart class
 
     lighter : (weight ≤ found) × Counted (lock_kind h.book) (found - weight) (all_fast parts′) h.slow h.obtrusive
     lighter =
@@ -331,20 +336,20 @@ module _ (slots id place : ℕ) (me : Mine) (some_number : 0 < me.0.number) (fir
       flagged = (
         (λ _. may.raised),
         λ some_. u.flagged.1 (or_from _ _ _ (any_both (lock_kind h.book) h.book.granted (moved place me.0)
-            (gone_unobtrusive key c.version c.parts h.book (waits s) place id me.0 part_there alone_here key_is u.book_ok slow may.idle may.joined may.once apart)) some_),
+            (gone_unobtrusive key c.version c.parts h.book (waits s) place id me.0 part_there alone_here key_is u.book_ok may.idle may.once apart)) some_),
       );
       noted = λ word is. (let old = u.noted word is in (
         old.0,
         covers_fewer (lock_kind h.book) word (all_fast c.parts) (all_fast parts′)
-            (fast_then key c.version c.parts h.book (waits s) place id me.0 part_there alone_here key_is u.book_ok slow may.idle may.joined may.once apart)
+            (fast_then key c.version c.parts h.book (waits s) place id me.0 part_there alone_here key_is u.book_ok may.idle may.once apart)
             (λ class. (let count = counts class in omega arith)) old.1,
       ));
-      book_ok = joined_ok key c.version c.parts h.book (waits s) place id me.0 part_there alone_here key_is u.book_ok slow may.idle may.joined may.once apart;
+      book_ok = joined_ok key c.version c.parts h.book (waits s) place id me.0 part_there alone_here key_is u.book_ok may.idle may.once apart;
     }
 
-    below : Each (λ (t : Own). t.number < me.0.next) slow
+    below : Each (λ (t : Own). t.number < me.0.next) joined
     below = let row = (r.views id me.0 seat).0 in
-        each_among (λ (t : Own). t.number < me.0.next) (λ t v same is. (let e = same.0 in omega arith)) (me.0.slow ++ me.0.fast) (each-append _ me.0.slow me.0.fast row.slow row.fast) slow may.joined.among
+        each-interleaved (λ (t : Own). t.number < me.0.next) me.0.slow (own_at place me.0.fast) row.slow (each_fewer _ (λ t. t.place == place) me.0.fast row.fast)
 
     pub materialised_rule : Rule (after s (lock_word place) ((found + (2 ^ 64 - weight)) % 2 ^ 64) id w s.homes)
     unfolding ok below
@@ -360,14 +365,14 @@ module _ (slots id place : ℕ) (me : Mine) (some_number : 0 < me.0.number) (fir
           numbered = record {
             fast = each_fewer _ (λ t. not (t.place == place)) me.0.fast row.fast;
             slow = below;
-            unmixed = unmixed_joined place me.0.fast me.0.slow slow may.joined.elsewhere row.unmixed;
+            unmixed = unmixed_joined place me.0.fast me.0.slow joined (joined_elsewhere place me.0.slow me.0.fast) row.unmixed;
             asks = λ a e. (let idle = may.idle in absurd (cc));
             apart = λ a e. (let idle = may.idle in absurd (cc));
             unfast = λ a e. (let idle = may.idle in absurd (cc));
           };
           slots = refl;
           home_else = λ q else. refl;
-          part_else = λ q else. λ i. record (part_at (waits s) q me.0) { fast = kept_else place q me.0.fast else i; slow = may.joined.elsewhere q else i };
+          part_else = λ q else. λ i. record (part_at (waits s) q me.0) { fast = kept_else place q me.0.fast else i; slow = joined_elsewhere place me.0.slow me.0.fast q else i };
           holder_else = λ q else. λ i. record { number = me.0.number; held = held_at-unchanged place (with_granted (moved place me.0)) (λ x. refl) q me.0.latches else i };
         }) refl (r.views id me.0 seat).1 (found - weight)
         (rw (gone_here place me.0.fast)
@@ -376,6 +381,6 @@ module _ (slots id place : ℕ) (me : Mine) (some_number : 0 < me.0.number) (fir
         (held_at-changed place (with_granted (moved place me.0)) (λ x. refl) me.0.latches h may.recorded)
         key (found - weight) c.version parts′ owed)))
 
-  pub materialises_allowed : Allows Rule slots id me (lock_word place) (λ x. (x + (2 ^ 64 - weight)) % 2 ^ 64) (materialises slow (step slots (lock_word place) weight 0 none) me)
+  pub materialises_allowed : Allows Rule slots id me (lock_word place) (λ x. (x + (2 ^ 64 - weight)) % 2 ^ 64) (materialises (step slots (lock_word place) weight 0 none) me)
   materialises_allowed s r size seat fits =
-      (w s r size seat, keeps, tt, materialised_rule s r size seat, (refl, λ q here. (let same : place ≡ q = omega arith in λ i. materialised (same i) slow (found s r size seat) me)))
+      (w s r size seat, keeps, tt, materialised_rule s r size seat, (refl, λ q here. (let same : place ≡ q = omega arith in λ i. materialised (same i) (found s r size seat) me)))

@@ -1,8 +1,7 @@
 -- The steps of a lock word's fast path: what each changes in the view of its session, and when it may be made. A fast ticket is in no list:
 -- the lock's word counts it. After MySQL 5.7, sql/mdl.cc: the fast paths of `MDL_context::try_acquire_lock_impl` and
 -- `MDL_context::release_lock`, and `MDL_context::materialize_fast_path_locks`.
-use Rattle.std.specs.Prelude.{◌≡◌, ◌≢◌, ℕ, ◌+◌, ◌<◌, ◌==◌, not, true, false, Bool, List, [], ◌∷◌, ◌++◌, map, filter, find, length, is_some, Option, Some, None}
-use Rattle.std.specs.List.{list_any}
+use Rattle.std.specs.Prelude.{◌≡◌, ◌≢◌, ℕ, ◌+◌, ◌<◌, ◌==◌, not, true, false, List, [], ◌∷◌, ◌++◌, map, filter, find, length, is_some, Option, Some, None}
 use Rattle.std.specs.Option.{option_and_then}
 use lib.ListN.{get_elem?}
 use mathlib.Core.Option.{some}
@@ -14,7 +13,6 @@ use Rattle.mdl_word.specs.Words.{encode, increment_of}
 use Rattle.mdl_book.specs.declared.book_view.BookView.{BookView}
 use Rattle.mdl_book.specs.declared.ticket.Ticket.{Ticket}
 use Rattle.mdl_book.specs.Books.{lock_kind}
-use Rattle.mdl_book.specs.Tickets.{ticket_of}
 use Rattle.mdl_steps.specs.declared.deed.Deed.TheVariants.{Gain, Lose}
 use Rattle.mdl_steps.specs.declared.slot.Slot.{Slot}
 use Rattle.mdl_steps.specs.declared.step_kind.StepKind.{StepKind}
@@ -25,9 +23,10 @@ use Rattle.mdl_steps.specs.declared.view.Own.{Own}
 use Rattle.mdl_steps.specs.declared.view.View.{View}
 use Rattle.mdl_steps.specs.Cells.{counted, held_at, own_at, ticket_by}
 use Rattle.mdl_steps.specs.Deeds.{KnowsPlace, is_own}
+use Rattle.mdl_steps.specs.Interleavings.{interleaved}
 use Rattle.mdl_steps.specs.Layout.{lock_word}
 use Rattle.mdl_steps.specs.Limits.{most_fast}
-use Rattle.mdl_steps.specs.Lists.{Each, Once}
+use Rattle.mdl_steps.specs.Lists.{Once}
 use Rattle.mdl_steps.specs.Plays.{Mine, changed, logged}
 
 -- ---- the view
@@ -80,19 +79,12 @@ with_granted tickets h = record h { book = granting_all tickets h.book }
 abbrev pub but_at : ℕ → List Own → List Own
 but_at place tickets = filter (λ t. not (t.place == place)) tickets
 
--- whether a number is in a list
-abbrev pub is_among : List ℕ → ℕ → Bool
-is_among numbers number = list_any (λ n. n == number) numbers
-
--- the tickets whose numbers aren't in a list
-abbrev pub numbered_else : List ℕ → List Own → List Own
-numbered_else numbers tickets = filter (λ t. not (is_among numbers t.number)) tickets
-
--- the fast tickets at a place became slow ones: the record of the latch has them granted in the book. `slow` are all slow tickets afterwards
-abbrev pub materialised : ℕ → List Own → ℕ → Mine → Mine
-materialised place slow found m =
-    let v = changed place (with_granted (moved place m.0)) (record m.0 { fast = but_at place m.0.fast; slow = slow }) in
-    (logged step.Materialise [] (lock_word place) found v.latches v, m.1)
+-- the fast tickets at a place became slow ones, among the others by their numbers: the record of the latch has them granted in the book
+abbrev pub materialised : ℕ → ℕ → Mine → Mine
+materialised place found m =
+    let v = record m.0 { fast = but_at place m.0.fast; slow = interleaved m.0.slow (own_at place m.0.fast) } in
+    let w = changed place (with_granted (moved place m.0)) v in
+    (logged step.Materialise [] (lock_word place) found w.latches w, m.1)
 
 -- ---- when it may be done
 
@@ -123,30 +115,18 @@ pub record MayReleaseFast (place number one : ℕ) (m : Mine) : Type 0 where
   pub only : filter (is_own place number) m.0.fast ≡ ticket ∷ []
   pub counted_so : IsCounted m.0 place ticket.mode one
 
--- two tickets are the same, but perhaps for their modes
-abbrev pub IsAs : Own → Own → Type 0
-IsAs t u = (t.number ≡ u.number) × (t.place ≡ u.place) × (t.noted ≡ u.noted)
-
--- `slow` are the slow tickets of a session after its fast ones at a place are added. Their order is free
-pub record AreJoined (place : ℕ) (v : View) (slow : List Own) : Type 0 where
-  pub same : (number : ℕ) →
-      ticket_of v.number number (map (ticket_by v.number) (own_at place slow)) ≡ ticket_of v.number number (map (ticket_by v.number) (own_at place v.slow) ++ moved place v)
-  pub elsewhere : (q : ℕ) → q ≢ place → own_at q slow ≡ own_at q v.slow
-  pub among : Each (λ t. (i : ℕ) × (u : Own) × (get_elem? (v.slow ++ v.fast) i ≡ some u) × IsAs t u) slow
-
 -- what these tickets add to a word
 abbrev pub weight_of : Kind → List Ticket → ℕ
 weight_of kind tickets = encode (counted kind 0 tickets) (counted kind 1 tickets) (counted kind 2 tickets) false false
 
 -- a session may materialise at a place: it holds the latch there, the flag SLOW is up by its record, and it waits for nothing. No two of its
 -- fast tickets there have the same number, and `weight` is what they add to the word
-pub record MayMaterialise (place : ℕ) (slow : List Own) (weight : ℕ) (h : LatchRecord) (m : Mine) : Type 0 where
+pub record MayMaterialise (place weight : ℕ) (h : LatchRecord) (m : Mine) : Type 0 where
   pub recorded : held_at place m.0.latches ≡ Some h
   pub raised : h.slow ≡ true
   pub idle : m.0.asks ≡ None
   pub known : KnowsPlace m.0 place
   pub once : Once (moved place m.0)
-  pub joined : AreJoined place m.0 slow
   pub weight_is : weight ≡ weight_of (lock_kind h.book) (moved place m.0)
 
 -- ---- the kinds of step: the session keeps its number
@@ -170,6 +150,6 @@ releases_fast number st m found m′ =
     (m′.0.number ≡ m.0.number) × ((place : ℕ) → st.word ≡ lock_word place → m′ ≡ released_fast place number found m)
 
 -- a session's fast tickets at a place become slow ones, under the latch
-abbrev pub materialises : List Own → Step Slot → Mine → ℕ → Mine → Type 0
-materialises slow st m found m′ =
-    (m′.0.number ≡ m.0.number) × ((place : ℕ) → st.word ≡ lock_word place → m′ ≡ materialised place slow found m)
+abbrev pub materialises : Step Slot → Mine → ℕ → Mine → Type 0
+materialises st m found m′ =
+    (m′.0.number ≡ m.0.number) × ((place : ℕ) → st.word ≡ lock_word place → m′ ≡ materialised place found m)

@@ -3,6 +3,7 @@ pub mod Copies
 pub mod Deeds
 pub mod FastPlays
 pub mod InHand
+pub mod Interleavings
 pub mod Layout
 pub mod Limits
 pub mod Lists

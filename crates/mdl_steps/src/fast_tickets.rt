@@ -2,18 +2,15 @@
 ghost use Rattle.std.specs.Prelude.{◌≡◌, ◌≢◌, ℕ, ◌+◌, ◌*◌, ◌^◌, ◌<◌, false, List, Option};
 ghost use Rattle.mdl_book.specs.declared.book_view.BookView.{BookView};
 ghost use Rattle.mdl_steps.specs.declared.view.LatchRecord.{LatchRecord};
-ghost use Rattle.mdl_steps.specs.declared.view.Own.{Own};
 ghost use Rattle.mdl_word.specs.Words.{obtrusive_flag};
-ghost use Rattle.mdl_steps.specs.FastPlays.{met_word, missed_fast, granted_fast, released_fast, materialised, moved, numbered_else, with_granted, MayGrantFast, MayReleaseFast, MayMaterialise};
+ghost use Rattle.mdl_steps.specs.FastPlays.{met_word, missed_fast, granted_fast, released_fast, materialised, moved, with_granted, MayGrantFast, MayReleaseFast, MayMaterialise};
 ghost use Rattle.mdl_steps.specs.Seats.{IsPlace, Holds, elsewhere};
 
 use crate::layout::lock_word;
 use crate::plays::{
-    GrantFast, GrantingFast, Materialise, Materialising, ReadWordUnlatched, ReleaseFast,
-    ReleasingFast,
+    GrantFast, GrantingFast, Materialise, ReadWordUnlatched, ReleaseFast, ReleasingFast,
 };
 use crate::table_seat::{Latched, TableSeat};
-use crate::view::Own;
 use mdl_key::Mode;
 use mdl_word::Word;
 use std::marker::Brand;
@@ -103,36 +100,17 @@ impl TableSeat {
     /// Makes the session's fast tickets at the place slow ones: the word no longer counts them, and the latch's record has them granted in the
     /// book. The caller writes them into the book in hand.
     ///
-    /// Of `tickets`, all that the session has, just those with the numbers `left` are fast afterwards. `weight` is the sum of the increments of
-    /// the tickets at the place.
-    pub fn materialise(&mut self, latch: &Latched, tickets: &[Own], left: &[u64], weight: u64)
+    /// `weight` is the sum of the increments of these tickets.
+    pub fn materialise(&mut self, latch: &Latched, weight: u64)
         requires place { IsPlace self.old.table latch.now.place }
-        requires moved { (h : LatchRecord) × MayMaterialise latch.now.place (numbered_else left.now tickets.now) weight h self.old.me }
-        ensures made { (found : ℕ) × (self.new ≡ record self.old { me = materialised latch.now.place (numbered_else left.now tickets.now) found self.old.me }) }
-        ensures keeps { (h : LatchRecord) (book : BookView) → Holds latch.now.place h book self.old.me
-            → Holds latch.now.place (with_granted (moved latch.now.place self.old.me.0) h) book self.new.me }
-        ensures apart { elsewhere latch.now.place self.new.me ≡ elsewhere latch.now.place self.old.me }
-    {
-        self.materialise_as::<Brand>(latch, tickets, left, weight);
-    }
-
-    fn materialise_as<J: Materialising>(
-        &mut self,
-        latch: &Latched,
-        _tickets: &[Own],
-        _left: &[u64],
-        weight: u64,
-    )
-        requires place { IsPlace self.old.table latch.now.place }
-        requires moved { (h : LatchRecord) × MayMaterialise latch.now.place (numbered_else _left.now _tickets.now) weight h self.old.me }
-        requires picked { (numbered_else _left.now _tickets.now) ≡ J.slow }
-        ensures made { (found : ℕ) × (self.new ≡ record self.old { me = materialised latch.now.place (numbered_else _left.now _tickets.now) found self.old.me }) }
+        requires moved { (h : LatchRecord) × MayMaterialise latch.now.place weight h self.old.me }
+        ensures made { (found : ℕ) × (self.new ≡ record self.old { me = materialised latch.now.place found self.old.me }) }
         ensures keeps { (h : LatchRecord) (book : BookView) → Holds latch.now.place h book self.old.me
             → Holds latch.now.place (with_granted (moved latch.now.place self.old.me.0) h) book self.new.me }
         ensures apart { elsewhere latch.now.place self.new.me ≡ elsewhere latch.now.place self.old.me }
     {
         self.table
             .shared
-            .fetch_sub::<Materialise<J>>(&mut self.seat, lock_word(latch.place), weight);
+            .fetch_sub::<Materialise>(&mut self.seat, lock_word(latch.place), weight);
     }
 }

@@ -4,7 +4,6 @@ ghost use Rattle.mdl_key.specs.declared.mode.Mode.{Mode};
 ghost use Rattle.mdl_key.specs.declared.mode.Mode.TheVariants.{S};
 ghost use Rattle.mdl_steps.specs.declared.deed.Deed.{Deed};
 ghost use Rattle.mdl_steps.specs.declared.view.Known.{Known};
-ghost use Rattle.mdl_steps.specs.declared.view.Own.{Own};
 ghost use Rattle.mdl_steps.specs.Cells.{blank, numbers_for, no_numbers};
 ghost use Rattle.mdl_steps.specs.FastPlays.{reads_word_unlatched, grants_fast, releases_fast, materialises};
 ghost use Rattle.mdl_steps.specs.Plays.{enrols, takes_latch, puts_latch, raises_flags, lowers_flags, reads_word, writes_version, takes_directory, puts_directory, puts_reading, puts_key};
@@ -259,21 +258,9 @@ impl<J: ReleasingFast> Play<Slot, View> for ReleaseFast<J> {
     ghost then = { releases_fast J.number };
 }
 
-/// The session's slow tickets, in order, after the fast ones of a place are among them.
-pub(crate) trait Materialising {
-    ghost slow: { List Own };
-}
-
-/// Each call picks it.
-impl Materialising for Brand {
-    ghost slow = { [] };
-}
-
 /// A session's fast tickets at a place become slow ones.
-pub(crate) struct Materialise<J: Materialising> {
-    marker: PhantomData<J>,
-}
+pub(crate) struct Materialise;
 
-impl<J: Materialising> Play<Slot, View> for Materialise<J> {
-    ghost then = { materialises J.slow };
+impl Play<Slot, View> for Materialise {
+    ghost then = { materialises };
 }

@@ -1,61 +1,57 @@
 -- The subtraction makes the session's fast tickets there slow ones.
-use Rattle.std.proofs.Common.{ℕ, ◌+◌, ◌-◌, ◌*◌, ◌%◌, ◌^◌, ◌<◌, List, refl, sym, ap, ◌∙◌, subst, arith}
+use Rattle.std.proofs.Common.{ℕ, ◌+◌, ◌-◌, ◌%◌, ◌^◌, ◌<◌, refl, sym, ap, ◌∙◌, subst, arith}
 use mathlib.Core.Option.{none}
 use Rattle.std.specs.Arc.{arc_value}
 use Rattle.atomic_table.specs.Seated.{TableId}
 use Rattle.atomic_table.specs.Table.{Allows, step}
 use Rattle.mdl_steps.specs.declared.view.LatchRecord.{LatchRecord}
-use Rattle.mdl_steps.specs.declared.view.Own.{Own}
-use Rattle.mdl_steps.specs.FastPlays.{materialised, materialises, moved, numbered_else, with_granted, MayMaterialise}
+use Rattle.mdl_steps.specs.FastPlays.{materialised, materialises, moved, with_granted, MayMaterialise}
 use Rattle.mdl_steps.specs.Plays.{Mine}
 use Rattle.mdl_steps.specs.Rule.{Rule}
 use Rattle.mdl_steps.specs.Seats.{Holds, IsPlace, elsewhere}
 use Rattle.mdl_steps.proofs.Materialising.{materialises_allowed}
 use Rattle.mdl_steps.proofs.Seating.{sits}
 use Rattle.mdl_steps.proofs.WaitHands.{holds_changed, elsewhere_changed}
-use Rattle.mdl_steps.proofs.table_seat.TableSeat.materialise_as.Goals as goal
+use Rattle.mdl_steps.proofs.table_seat.TableSeat.materialise.Goals as goal
 
 pub fetch_sub-requires : goal.fetch_sub-requires
-fetch_sub-requires g c =
+fetch_sub-requires c =
     let seat = c.self.inside.seat in
     let table = c.deref.result.now.shared.table_id in
     let slots = table.slots in
     let place = c.args.latch.now.place in
     let weight = c.args.weight in
-    let slow = numbered_else c.args._left.now c.args._tickets.now in
     let at = sits c.self.view_is c.self.invariant (ap (λ t. t.shared.table_id) c.deref.ensures) in
     let here = at.here (λ (t : TableId). IsPlace t place) c.requires.place in
-    let made_slow = at.mine (λ (m : Mine). (h : LatchRecord) × MayMaterialise place slow weight h m) c.requires.moved in
+    let made_slow = at.mine (λ (m : Mine). (h : LatchRecord) × MayMaterialise place weight h m) c.requires.moved in
     let sized = at.sized in
     let index = c.lock_word.ensures in
     let inside : c.lock_word.result < table.words = omega arith in (
       at.same,
       inside,
-      subst (λ (i : ℕ). Allows Rule slots seat.id seat.me i (λ n. (n + (2 ^ 64 - weight)) % 2 ^ 64) (materialises g.J.Materialising.slow (step slots i weight 0 none) seat.me)) (sym index)
-          (subst (λ (ts : List Own). Allows Rule slots seat.id seat.me (8 * place + 1) (λ n. (n + (2 ^ 64 - weight)) % 2 ^ 64) (materialises ts (step slots (8 * place + 1) weight 0 none) seat.me)) c.requires.picked
-          (materialises_allowed slots seat.id place seat.me at.positive here.0 here.1 slow weight made_slow.0 made_slow.1)),
+      subst (λ (i : ℕ). Allows Rule slots seat.id seat.me i (λ n. (n + (2 ^ 64 - weight)) % 2 ^ 64) (materialises (step slots i weight 0 none) seat.me)) (sym index)
+          (materialises_allowed slots seat.id place seat.me at.positive here.0 here.1 weight made_slow.0 made_slow.1),
     )
 
 pub returns-clause-made : goal.returns-clause-made
-returns-clause-made g c =
+returns-clause-made c =
     let place = c.args.latch.now.place in
-    let me = c.self.inside.seat.me in
-    let made = c.fetch_sub.ensures.2.1 place c.lock_word.ensures ∙ ap (λ (ts : List Own). materialised place ts c.fetch_sub.result me) (sym c.requires.picked) in
+    let made = c.fetch_sub.ensures.2.1 place c.lock_word.ensures in
     rw (← c.self.view_is) (c.fetch_sub.result, ap (λ (m : Mine). record { table = (arc_value c.self.inside.table).shared.table_id; me = m }) made)
 
 pub returns-clause-keeps : goal.returns-clause-keeps
-returns-clause-keeps g c =
+returns-clause-keeps c =
     let place = c.args.latch.now.place in
     let me = c.self.inside.seat.me in
     let made = c.fetch_sub.ensures.2.1 place c.lock_word.ensures in
     rw (← c.self.view_is) (λ h book has.
     subst (λ (m : Mine). Holds place (with_granted (moved place me.0) h) book m) (sym made)
-    (holds_changed place (with_granted (moved place me.0)) (λ x. refl) me (materialised place g.J.Materialising.slow c.fetch_sub.result me) refl refl h book has))
+    (holds_changed place (with_granted (moved place me.0)) (λ x. refl) me (materialised place c.fetch_sub.result me) refl refl h book has))
 
 pub returns-clause-apart : goal.returns-clause-apart
-returns-clause-apart g c =
+returns-clause-apart c =
     let place = c.args.latch.now.place in
     let me = c.self.inside.seat.me in
     let made = c.fetch_sub.ensures.2.1 place c.lock_word.ensures in
     rw (← c.self.view_is) (ap (elsewhere place) made
-    ∙ elsewhere_changed place (with_granted (moved place me.0)) (λ x. refl) me (materialised place g.J.Materialising.slow c.fetch_sub.result me) refl refl)
+    ∙ elsewhere_changed place (with_granted (moved place me.0)) (λ x. refl) me (materialised place c.fetch_sub.result me) refl refl)
