@@ -46,11 +46,6 @@ impl KnownKeys {
         }
     }
 
-    /// The allocator of the list.
-    pub fn allocator(&self) -> Global {
-        *self.indexes.allocator()
-    }
-
     /// The place of a key.
     #[tactic(auto, using(crate::proofs::KeyLists::place_found, crate::proofs::KeyLists::found_like))]
     pub fn place_of(&self, key: &Key) -> Option<usize>
@@ -139,13 +134,13 @@ fn index_under(indexes: &[usize], place: usize) -> Option<usize>
     indexes.get(place).copied()
 }
 
-// Adds places until there are so many. What stands under the others stays.
+// Adds places until there are so many, all at once. What stands under the others stays.
 fn reach(indexes: &mut Vec<usize>, slots: usize) -> Result<(), AllocError>
     ensures reach { OnOk result (slots ≤ length indexes.new.items) }
     ensures same { (place at : ℕ) → slice_get indexes.old.items place ≡ Some at → slice_get indexes.new.items place ≡ Some at }
 {
-    while indexes.len() < slots {
-        indexes.push(0)?;
+    if indexes.len() < slots {
+        indexes.resize(slots, 0)?;
     }
     Ok(())
 }
