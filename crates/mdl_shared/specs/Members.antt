@@ -30,7 +30,7 @@ are_within slots known = list_all (λ k. nat_lt 0 k.place && nat_lt k.place slot
 
 -- what is always so of a session between two calls: as a lock space it is sound; it holds no latch, and each of its tickets stands in a book; the places
 -- that it has looked up are the table's; the tickets of a place have one note; the ticket that it waits for has the last number that it gave, and it was told
--- nothing of a wait that it hasn't; it has had fewer waits than tickets; it is one of the sessions of the space, for whom the table has words
+-- nothing of a wait that it hasn't; it has given no more wait numbers than ticket numbers; it is one of the sessions of the space, for whom the table has words
 pub record IsMember (s : SessionView) : Type 0 where
   pub sound : IsSound (space_of s)
   pub idle : IsIdle s.me

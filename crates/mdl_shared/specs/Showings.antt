@@ -18,8 +18,9 @@ use Rattle.mdl_steps.specs.declared.view.Keys.{Keys}
 use Rattle.mdl_steps.specs.declared.view.Known.{Known}
 use Rattle.mdl_steps.specs.declared.view.Met.{Met}
 use Rattle.mdl_steps.specs.declared.view.Own.{Own}
+use Rattle.mdl_steps.specs.declared.wait_word.Loss.TheVariants as loss
 use Rattle.mdl_steps.specs.Schemas.{unknown}
-use Rattle.mdl_steps.specs.WaitStates.{granted_state, unsettled_state, wait_in}
+use Rattle.mdl_steps.specs.WaitStates.{granted_state, lost_state, unsettled_state, wait_in}
 use Rattle.mdl_visits.specs.declared.resolve_error.ResolveError.{ResolveError}
 use Rattle.mdl_visits.specs.declared.resolve_error.ResolveError.TheVariants as resolve_error
 use Rattle.mdl_visits.specs.Grantings.{HasRescheduled}
@@ -31,7 +32,7 @@ use Rattle.mdl_visits.specs.Readings.{Follows, MeetsRead, ReadsThere}
 use Rattle.mdl_visits.specs.Redefinitions.{IsRefusedAs, Redefines, exclusive_fault}
 use Rattle.mdl_visits.specs.Searches.{Searched}
 use Rattle.mdl_visits.specs.Tables.{AreTables, HasAsked}
-use Rattle.mdl_visits.specs.Visits.{AreStepsOf, Does, IsStepOf, MeetsBlocked, MeetsFull, MeetsGrantable, StaysOn, StaysQuiet}
+use Rattle.mdl_visits.specs.Visits.{AreStepsOf, Does, IsStepOf, MeetsBlocked, MeetsFull, MeetsGrantable, StaysOn, StaysQuiet, Visits}
 use Rattle.mdl_visits.specs.WaitEndings.{without_wait}
 use Rattle.mdl_visits.specs.WaitOpenings.{MeetsOpening}
 use Rattle.mdl_shared.specs.Doings.{merge_deeds, upgrade_deeds}
@@ -118,7 +119,8 @@ KeepsTold (Release who id) a b = Unit {0}
 KeepsTold (Downgrade who id mode) a b = Unit {0}
 KeepsTold _ a b = b.me.0.told ≡ a.me.0.told
 
--- calls that read or settle the word of a wait give no latch back and raise no flag, and one that reads a definition raises none
+-- calls that read or settle the word of a wait give no latch back and raise no flag; one that reads a definition raises none, and leaves the directory
+-- alone
 abbrev pub StepsSo : Call → SessionView → SessionView → Type 0
 StepsSo (Poll_wait who) a b = StaysOn a.me b.me
 StepsSo (Settle_timeout who) a b = StaysOn a.me b.me
@@ -146,12 +148,11 @@ SettlesSo (Search who) (Victim_is victim) l a b = Unit {0}
 SettlesSo (End_wait who) (Lost how) l a b = Unit {0}
 SettlesSo (Release who id) Done l a b = Unit {0}
 SettlesSo (Downgrade who id mode) Done l a b = Unit {0}
-SettlesSo (Settle_timeout who) (Timed_out ByThisCall) l a b = Settles a.me.0.number l.waits 4 a.me b.me
-SettlesSo (Kill target number) (Has_killed true) l a b = Settles target number 5 a.me b.me
+SettlesSo (Settle_timeout who) (Timed_out ByThisCall) l a b = Settles a.me.0.number l.waits (lost_state loss.Timeout) a.me b.me
+SettlesSo (Kill target number) (Has_killed true) l a b = Settles target number (lost_state loss.Killed) a.me b.me
 SettlesSo _ _ l a b = SettlesNothing a.me b.me
 
--- what they met. What isn't named here shows nothing: it is refused for what the session has of its own, or since memory ran out; or no session has the
--- call (`Read_kept`, `Unpin`)
+-- what they met. What isn't named here shows nothing: it is no answer to the call, or no session has the call (`Read_kept`, `Unpin`)
 abbrev pub MeetsSo : Call → Answer → Lists → SessionView → SessionView → Type 0
 MeetsSo (Resolve who key) (At_place place) l a b =
     (0 < place) × (place < a.table.slots)
@@ -199,8 +200,8 @@ MeetsSo (Clone_ticket who id mode) (Refused why) l a b =
     RefusesWish (own_fault (Clone_ticket who id mode) l) why
     (OfTicket id l (λ t. ShowsStep a b (MeetsFull t.place)))
 MeetsSo (Upgrade_now who id mode) Upgraded l a b =
-    (t : Own) → numbered id l.tickets ≡ Some t → covers t.mode mode ≡ false
-    → ShowsStep a b (MeetsGrantable t.place a.me.0.number mode (Alter id mode))
+    OfTicket id l (λ t. (covers t.mode mode ≡ true → MakesNoStep a b)
+    × (covers t.mode mode ≡ false → ShowsStep a b (MeetsGrantable t.place a.me.0.number mode (Alter id mode))))
 MeetsSo (Upgrade_now who id mode) Would_wait l a b =
     OfTicket id l (λ t. (covers t.mode mode ≡ false) × ShowsStep a b (MeetsBlocked t.place a.me.0.number mode))
 MeetsSo (Upgrade_now who id mode) (Refused why) l a b = own_fault (Upgrade_now who id mode) l ≡ Some why
@@ -214,6 +215,8 @@ MeetsSo (Read_definition who id) (Reads version definition) l a b =
     OfTicket id l (λ t. Follows t.place (record { version = version; definition = definition }) a.me
     × ReadsThere t.place (record { version = version; definition = definition }) a.me b.me
     × ShowsStep a b (MeetsRead t.place a.me.0.number id (record { version = version; definition = definition })))
+MeetsSo (Read_definition who id) (Refused why) l a b =
+    (own_fault (Read_definition who id) l ≡ Some why) ⊎ ((why ≡ cause.OutOfMemory) × OfTicket id l (λ t. Visits t.place [] a.me b.me))
 MeetsSo (Change_definition who id change) (Changed version) l a b =
     OfTicket id l (λ t. (t.mode ≡ X) × Redefines t.place change version a.me b.me)
 MeetsSo (Change_definition who id change) (Refused why) l a b =
@@ -231,8 +234,9 @@ MeetsSo _ _ l a b = Unit {0}
 -- ---- the whole
 
 -- the session, which has these lists before the call, is at the same table (`table`) of the same space (`sessions`); where it has a fault of its own, that
--- is the answer, and no step is made (`refused`); the call's steps did these deeds, and no others (`did`), settled these waits, and no others (`settled`), let the session know
--- no more of its own wait than they may (`told`), gave up nothing that they may not (`steps`), and met this (`met`)
+-- is the answer, and no step is made (`refused`); the call's steps did these deeds, and no others (`did`), settled these waits, and no others (`settled`),
+-- let the session know no more of its own wait than they may (`told`), gave no latch back and raised no flag where the call must not (`steps`), and met
+-- this (`met`)
 pub record ShowsBy (call : Call) (answer : Answer) (l : Lists) (a b : SessionView) : Type 0 where
   pub table : b.table ≡ a.table
   pub sessions : b.sessions ≡ a.sessions
