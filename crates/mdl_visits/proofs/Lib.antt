@@ -3,6 +3,7 @@ pub mod Seats
 pub mod Visiting
 pub mod Altering
 pub mod Trying
+pub mod FastTrying
 pub mod Leaving
 pub mod Steps
 pub mod Doing

@@ -1,5 +1,6 @@
 pub mod Audits
 pub mod Coverings
+pub mod FastTries
 pub mod Grantings
 pub mod Idle
 pub mod KnownLists

@@ -1,0 +1,135 @@
+-- What comes of a try for a fast ticket.
+use Rattle.std.proofs.Common.{◌≡◌, ◌≢◌, ℕ, ◌+◌, true, false, List, [], ◌∷◌, ◌++◌, refl, sym, ap, ◌∙◌, subst, append_assoc, append-nil, length-append, arith}
+use Rattle.std.specs.Prelude.{Option}
+use Rattle.mdl_key.specs.declared.mode.Mode.{Mode}
+use Rattle.mdl_word.specs.Words.{obtrusive_flag}
+use Rattle.mdl_steps.specs.declared.deed.Deed.{Deed}
+use Rattle.mdl_steps.specs.declared.deed.Deed.TheVariants.{Gain}
+use Rattle.mdl_steps.specs.declared.step_kind.StepKind.{StepKind}
+use Rattle.mdl_steps.specs.declared.step_kind.StepKind.TheVariants.{GrantFast, MissFast, ReadWord}
+use Rattle.mdl_steps.specs.declared.view.Met.{Met}
+use Rattle.mdl_steps.specs.FastPlays.{MayGrantFast, granted_fast, met_word, missed_fast}
+use Rattle.mdl_steps.specs.Layout.{lock_word}
+use Rattle.mdl_steps.specs.Lists.{Each}
+use Rattle.mdl_steps.specs.Plays.{Mine}
+use Rattle.mdl_visits.specs.FastTries.{AllMiss, GrantsFast, MeetsClear, MeetsObtrusive, Misses, last_found, with_fast}
+use Rattle.mdl_visits.specs.Visits.{IsStepOf, MakesSteps, StaysOn, StaysThere, and_made, gives_back, raises_flags}
+use Rattle.mdl_visits.proofs.Steps.{each_append, none_then}
+
+-- the step that a session with these latches made at a place
+abbrev pub met_at : StepKind → List Deed → ℕ → ℕ → Mine → Met
+met_at kind ds place found m = record { kind = kind; deeds = ds; word = lock_word place; found = found; held = m.0.latches; directory = m.0.directory }
+
+-- ---- steps that missed
+
+miss_push : (place before : ℕ) (tries : List Met) (e : Met) → AllMiss place before tries → e.kind ≡ MissFast → e.word ≡ lock_word place → e.found ≢ last_found before tries
+    → AllMiss place before (tries ++ e ∷ [])
+miss_push place before [] e all kind word other = (record { kind = kind; word = word; other = other }, tt)
+miss_push place before (x ∷ xs) e all kind word other = (all.0, miss_push place x.found xs e all.1 kind word other)
+
+last_push : (before : ℕ) (tries : List Met) (e : Met) → last_found before (tries ++ e ∷ []) ≡ e.found
+last_push before [] e = refl
+last_push before (x ∷ xs) e = last_push x.found xs e
+
+all_stay : (place before : ℕ) (tries : List Met) → AllMiss place before tries → Each StaysThere tries
+all_stay place before [] all = tt
+all_stay place before (x ∷ xs) all = ((ap gives_back all.0.kind, ap raises_flags all.0.kind), all_stay place x.found xs all.1)
+
+-- the last word that was found was found by a step
+last_step : (place : ℕ) (log : List Met) (read : Met) (tries : List Met) → read.word ≡ lock_word place → AllMiss place read.found tries
+    → (e : Met) × (before : List Met) × (log ++ read ∷ tries ≡ (log ++ before) ++ e ∷ []) × (e.word ≡ lock_word place) × (e.found ≡ last_found read.found tries)
+last_step place log read [] word all = (read, [], ap (λ (xs : List Met). xs ++ read ∷ []) (sym (append-nil log)), word, refl)
+last_step place log read (x ∷ xs) word all =
+    let later = last_step place (log ++ read ∷ []) x xs all.0.word all.1 in (
+      later.0,
+      read ∷ later.1,
+      sym (append_assoc log (read ∷ []) (x ∷ xs)) ∙ later.2 ∙ ap (λ (ys : List Met). ys ++ later.0 ∷ []) (append_assoc log (read ∷ []) later.1),
+      later.3,
+      later.4,
+    )
+
+-- ---- after so many of them
+
+-- the word was read
+pub first_read : (place word : ℕ) (m m′ : Mine) → m′ ≡ met_word place word m → Misses place 0 word m m′
+first_read place word m m′ is = record {
+  read = met_at ReadWord [] place word m;
+  tries = [];
+  now = is;
+  did = refl;
+  reads = (refl, refl);
+  miss = tt;
+  often = refl;
+  last = refl;
+}
+
+module _ {place count word : ℕ} {m m′ : Mine} (missed : Misses place count word m m′) where
+  -- the session may try again
+  pub may_again : (mode : Mode) (noted : Option ℕ) (one : ℕ) → MayGrantFast place mode noted one m → MayGrantFast place mode noted one m′
+  may_again mode noted one may =
+      subst (MayGrantFast place mode noted one) (sym missed.now)
+      (record { idle = may.idle; counted_so = may.counted_so; few = may.few; noted_there = may.noted_there })
+
+  -- it missed once more
+  pub missed_again : (found : ℕ) (m″ : Mine) → m″ ≡ missed_fast place found m′ → found ≢ word → Misses place (count + 1) found m m″
+  missed_again found m″ is other =
+      let e = met_at MissFast [] place found m in
+      let often = missed.often in
+      let longer = length-append missed.tries (e ∷ []) in
+      record {
+        read = missed.read;
+        tries = missed.tries ++ e ∷ [];
+        now = is ∙ ap (missed_fast place found) missed.now ∙ (λ i. (record m.0 { log = append_assoc m.0.log (missed.read ∷ missed.tries) (e ∷ []) i }, m.1));
+        did = none_then (missed.read ∷ missed.tries) (e ∷ []) [] missed.did refl;
+        reads = missed.reads;
+        miss = miss_push place missed.read.found missed.tries e missed.miss refl refl (λ same. other (same ∙ missed.last));
+        often = omega arith;
+        last = last_push missed.read.found missed.tries e;
+      }
+
+  pub only_steps : MakesSteps m m′
+  only_steps = (missed.read ∷ missed.tries, missed.now, missed.did)
+
+  stay_there : Each StaysThere (missed.read ∷ missed.tries)
+  stay_there = ((ap gives_back missed.reads.0, ap raises_flags missed.reads.0), all_stay place missed.read.found missed.tries missed.miss)
+
+  pub stays_missed : StaysOn m m′
+  stays_missed = (missed.read ∷ missed.tries, ap (λ (x : Mine). x.0.log) missed.now, stay_there)
+
+  -- the last step found the flag OBTRUSIVE up
+  pub met_obtrusive : obtrusive_flag word ≡ true → (e : Met) × IsStepOf m m′ e × MeetsObtrusive place word e
+  met_obtrusive up =
+      let e = last_step place m.0.log missed.read missed.tries missed.reads.1 missed.miss in
+      (e.0, (e.1, [], ap (λ (x : Mine). x.0.log) missed.now ∙ e.2), record { word = e.3; same = e.4 ∙ missed.last; up = up })
+
+  -- the next one granted the ticket
+  module _ (mode : Mode) (noted : Option ℕ) (found : ℕ) (m″ : Mine) (is : m″ ≡ granted_fast place mode noted found m′) where
+    grant : Met
+    grant = met_at GrantFast (Gain m.0.next mode ∷ []) place found m
+
+    made : List Met
+    made = missed.read ∷ missed.tries
+
+    whole : m″ ≡ granted_fast place mode noted found (and_made made m)
+    unfolding made
+    whole = is ∙ ap (granted_fast place mode noted found) missed.now
+
+    pub grants_fast : GrantsFast place mode noted m m″
+    unfolding grant made
+    grants_fast = record {
+      made = made ++ grant ∷ [];
+      now = whole ∙ (λ i. (record (with_fast place mode noted m.0) { log = append_assoc m.0.log made (grant ∷ []) i }, m.1));
+      did = none_then made (grant ∷ []) (Gain m.0.next mode ∷ []) missed.did refl;
+    }
+
+    pub met_clear : obtrusive_flag found ≡ false → (e : Met) × IsStepOf m m″ e × MeetsClear place (Gain m.0.next mode) e
+    unfolding grant made
+    met_clear clear = (grant, (made, [], ap (λ (x : Mine). x.0.log) whole), record { kind = refl; did = refl; word = refl; clear = clear })
+
+    pub stays_granted : StaysOn m m″
+    unfolding grant made
+    stays_granted = (
+      made ++ grant ∷ [],
+      ap (λ (x : Mine). x.0.log) whole ∙ append_assoc m.0.log made (grant ∷ []),
+      each_append StaysThere made (grant ∷ []) stay_there ((refl, refl), tt),
+    )

@@ -1,0 +1,69 @@
+-- The ticket was granted after tries that missed, the flag OBTRUSIVE was up, or each try missed.
+use Rattle.std.proofs.Common.{◌≡◌, sym, ap, ◌∙◌, subst}
+use Rattle.mdl_word.specs.declared.word.Word.{Word}
+use Rattle.mdl_word.specs.Words.{obtrusive_flag}
+use Rattle.mdl_visits.specs.declared.calls.try_fast.FastTried.TheVariants.{Obtruded}
+use Rattle.mdl_visits.specs.FastTries.{MeetsObtrusive}
+use Rattle.mdl_visits.specs.Visits.{HasStep}
+use Rattle.mdl_visits.proofs.FastTrying.{first_read, grants_fast, may_again, met_clear, met_obtrusive, missed_again, only_steps, stays_granted, stays_missed}
+use Rattle.mdl_visits.proofs.Seats.{mine, place_there, table_of}
+use Rattle.mdl_visits.proofs.calls.try_fast.try_fast.Goals as goal
+
+-- ---- the loop
+
+pub loop-init : goal.loop-init
+loop-init c =
+    let read = c.read_word_unlatched-word.ensures.made in
+    record { table = table_of read; missed = first_read c.args.place c.read_word_unlatched-word.result.0 c.args.seat.now.me _ (mine read) }
+
+pub grant_fast-found-requires : goal.grant_fast-found-requires
+grant_fast-found-requires c =
+    let inv = c.loop.invariant in
+    record {
+      place = place_there c.args.place inv.table c.requires.place;
+      down = sym c.obtrusive.ensures.any_number ∙ c.if-obtrusive.false;
+      gained = may_again inv.missed c.args.mode c.args.noted c.args.one c.requires.gained;
+    }
+
+pub loop-preserved : goal.loop-preserved
+loop-preserved c =
+    let inv = c.loop.invariant in
+    let tried = c.grant_fast-found in
+    let missed = tried.ensures.missed c.if-found-word.false in
+    record { table = table_of missed ∙ inv.table; missed = missed_again inv.missed tried.result.0 tried.new.self.me (mine missed) c.if-found-word.false }
+
+-- ---- what came of it
+
+one_word : (a b : Word) → Obtruded a ≡ Obtruded b → a ≡ b
+one_word a b e = cc
+
+pub returns-then-obtrusive-clause-obtruded : goal.returns-then-obtrusive-clause-obtruded
+returns-then-obtrusive-clause-obtruded c = λ word is.
+    let inv = c.loop.invariant in (
+      (inv.table, only_steps inv.missed),
+      subst (λ (w : Word). HasStep c.args.seat.now c.loop.seat (MeetsObtrusive c.args.place w.0)) (one_word c.loop.word word is)
+          (met_obtrusive inv.missed (sym c.obtrusive.ensures.any_number ∙ c.if-obtrusive.true)),
+    )
+
+pub returns-then-obtrusive-clause-stays : goal.returns-then-obtrusive-clause-stays
+returns-then-obtrusive-clause-stays c = stays_missed c.loop.invariant.missed
+
+pub returns-then-found-word-clause-granted : goal.returns-then-found-word-clause-granted
+returns-then-found-word-clause-granted c = λ is.
+    let inv = c.loop.invariant in
+    let tried = c.grant_fast-found in
+    let granted = tried.ensures.gained c.if-found-word.true in
+    let now = mine granted in
+    let mode = c.args.mode in
+    let noted = c.args.noted in
+    let found = tried.result.0 in
+    let down = ap obtrusive_flag c.if-found-word.true ∙ sym c.obtrusive.ensures.any_number ∙ c.if-obtrusive.false in
+    ((table_of granted ∙ inv.table, grants_fast inv.missed mode noted found _ now), met_clear inv.missed mode noted found _ now down)
+
+pub returns-then-found-word-clause-stays : goal.returns-then-found-word-clause-stays
+returns-then-found-word-clause-stays c =
+    let tried = c.grant_fast-found in
+    stays_granted c.loop.invariant.missed c.args.mode c.args.noted tried.result.0 _ (mine (tried.ensures.gained c.if-found-word.true))
+
+pub returns-clause-stays : goal.returns-clause-stays
+returns-clause-stays c = stays_missed c.loop.invariant.missed

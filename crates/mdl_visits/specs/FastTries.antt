@@ -1,0 +1,86 @@
+-- What comes of a try for a fast ticket, and of its release. After MySQL 5.7, sql/mdl.cc: the fast paths of `MDL_context::try_acquire_lock_impl`
+-- and `MDL_context::release_lock`.
+use Rattle.std.specs.Prelude.{◌≡◌, ◌≢◌, ℕ, ◌+◌, Bool, true, false, List, [], ◌∷◌, ◌++◌, length, Option}
+use Rattle.mdl_key.specs.declared.mode.Mode.{Mode}
+use Rattle.mdl_word.specs.Words.{obtrusive_flag, slow_flag}
+use Rattle.mdl_steps.specs.declared.deed.Deed.{Deed}
+use Rattle.mdl_steps.specs.declared.deed.Deed.TheVariants.{Gain, Lose}
+use Rattle.mdl_steps.specs.declared.step_kind.StepKind.TheVariants.{GrantFast, MissFast, ReadWord, ReleaseFast}
+use Rattle.mdl_steps.specs.declared.view.Met.{Met}
+use Rattle.mdl_steps.specs.declared.view.View.{View}
+use Rattle.mdl_steps.specs.FastPlays.{but_own, fast_own}
+use Rattle.mdl_steps.specs.Layout.{lock_word}
+use Rattle.mdl_steps.specs.Plays.{Mine}
+use Rattle.mdl_steps.specs.SeatStates.{AtItsTable, SeatState}
+use Rattle.mdl_visits.specs.Visits.{HasStep, and_made, deeds_of}
+
+-- ---- a fast ticket is granted
+
+-- a view with one fast ticket more, of its next number
+abbrev pub with_fast : ℕ → Mode → Option ℕ → View → View
+with_fast place mode noted v = record v { fast = v.fast ++ fast_own v.next place mode noted ∷ []; next = v.next + 1 }
+
+-- the session was granted a fast ticket at a place, its steps tell this one deed, and nothing else changed
+pub record GrantsFast (place : ℕ) (mode : Mode) (noted : Option ℕ) (m m′ : Mine) : Type 0 where
+  pub made : List Met
+  pub now : m′ ≡ and_made made (with_fast place mode noted m.0, m.1)
+  pub did : deeds_of made ≡ Gain m.0.next mode ∷ []
+
+-- a step that did this deed by a fast grant: the place's word, as it was just before, had the flag OBTRUSIVE down
+pub record MeetsClear (place : ℕ) (deed : Deed) (e : Met) : Type 0 where
+  pub kind : e.kind ≡ GrantFast
+  pub did : e.deeds ≡ deed ∷ []
+  pub word : e.word ≡ lock_word place
+  pub clear : obtrusive_flag e.found ≡ false
+
+-- the session was granted a fast ticket, and a step shows that the flag OBTRUSIVE was down then
+abbrev pub WasGrantedFast : ℕ → Mode → Option ℕ → SeatState → SeatState → Type 0
+WasGrantedFast place mode noted s s′ = AtItsTable s s′ (GrantsFast place mode noted) × HasStep s s′ (MeetsClear place (Gain s.me.0.next mode))
+
+-- ---- it isn't
+
+-- a step that found this word of the place, with the flag OBTRUSIVE up
+pub record MeetsObtrusive (place found : ℕ) (e : Met) : Type 0 where
+  pub word : e.word ≡ lock_word place
+  pub same : e.found ≡ found
+  pub up : obtrusive_flag found ≡ true
+
+-- a fast grant that missed: it found another word of the place than the step before it
+pub record MissesAfter (place before : ℕ) (e : Met) : Type 0 where
+  pub kind : e.kind ≡ MissFast
+  pub word : e.word ≡ lock_word place
+  pub other : e.found ≢ before
+
+-- each of these steps is a fast grant that missed. The step before the first one found this word
+abbrev pub AllMiss : ℕ → ℕ → List Met → Type 0
+AllMiss place before [] = Unit {0}
+AllMiss place before (e ∷ later) = MissesAfter place before e × AllMiss place e.found later
+
+-- what the last of some steps found. The step before them found this word
+abbrev pub last_found : ℕ → List Met → ℕ
+last_found before [] = before
+last_found before (e ∷ later) = last_found e.found later
+
+-- the session read the word of a place, and then so many fast grants missed, one after the other. The last step found this word, and nothing else
+-- changed
+pub record Misses (place count word : ℕ) (m m′ : Mine) : Type 0 where
+  pub read : Met
+  pub tries : List Met
+  pub now : m′ ≡ and_made (read ∷ tries) m
+  pub did : deeds_of (read ∷ tries) ≡ []
+  pub reads : (read.kind ≡ ReadWord) × (read.word ≡ lock_word place)
+  pub miss : AllMiss place read.found tries
+  pub often : length tries ≡ count
+  pub last : last_found read.found tries ≡ word
+
+-- ---- it is released
+
+-- the session released its fast ticket of a number at a place by one step, and nothing else changed. Waits there may have become grantable, if the
+-- word that the step found had the flag SLOW up
+pub record ReleasesFast (place number : ℕ) (owes : Bool) (m m′ : Mine) : Type 0 where
+  pub step : Met
+  pub now : m′ ≡ and_made (step ∷ []) (record m.0 { fast = but_own place number m.0.fast }, m.1)
+  pub kind : step.kind ≡ ReleaseFast
+  pub did : step.deeds ≡ Lose number ∷ []
+  pub word : step.word ≡ lock_word place
+  pub owes_is : owes ≡ slow_flag step.found
