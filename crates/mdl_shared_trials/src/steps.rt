@@ -1,6 +1,8 @@
 //! Tests of the shared lock table's steps: tables are made, sessions enrol, and latches are taken and put, by one thread and by two.
+mod holders;
 mod latches;
 mod lists;
+mod materialising;
 mod threads;
 mod visitors;
 mod visits;
