@@ -1,5 +1,5 @@
 -- What a session's list of fast tickets in turn tells.
-use Rattle.std.proofs.Common.{◌≡◌, ℕ, ◌+◌, ◌<◌, ◌==◌, ◌&&◌, Bool, true, false, List, [], ◌∷◌, ◌++◌, length, map, Some, None, refl, sym, ap, ◌∙◌, subst, arith, append-nil}
+use Rattle.std.proofs.Common.{◌≡◌, ℕ, ◌+◌, ◌<◌, ◌==◌, ◌&&◌, true, List, [], ◌∷◌, ◌++◌, length, map, Some, None, refl, sym, ap, ◌∙◌, subst, arith, append-nil}
 use Rattle.std.specs.Prelude.{Option, is_some, not}
 use Rattle.std.proofs.lemmas.Bool.{and_from, and_parts, eq-eqb, eqb-true}
 use Rattle.mdl_key.specs.declared.mode.Mode.{Mode}
@@ -10,7 +10,6 @@ use Rattle.mdl_steps.specs.Cells.{own_at, ticket_by}
 use Rattle.mdl_steps.specs.FastPlays.{fast_own, first_note, moved, noted_at}
 use Rattle.mdl_steps.specs.Lists.{Once}
 use Rattle.mdl_steps.proofs.Tickets.{of_other_number}
-use Rattle.mdl_steps.proofs.Views.{by_bool}
 use Rattle.mdl_shared_trials.specs.Holders.{are_in_turn}
 
 no_note : (noted : Option ℕ) → not (is_some noted) ≡ true → noted ≡ None

@@ -1,5 +1,5 @@
 -- A ticket more, whose number is the next, or only steps were made.
-use Rattle.std.proofs.Common.{◌≡◌, ◌≢◌, ℕ, ◌+◌, ◌<◌, ◌++◌, List, [], ◌∷◌, length, None, refl, true, sym, ap, ◌∙◌, subst, length-append, arith}
+use Rattle.std.proofs.Common.{◌≡◌, ◌≢◌, ℕ, ◌+◌, ◌++◌, List, [], ◌∷◌, length, None, refl, true, sym, ap, ◌∙◌, subst, length-append, arith}
 use Rattle.atomic_table.specs.Seated.{TableId}
 use Rattle.mdl_key.specs.declared.namespace.Kind.{Kind}
 use Rattle.mdl_word.specs.Words.{increment_of}
@@ -76,7 +76,7 @@ invariant_of-self-in_default-try_fast c =
     let place = self.place in
     let tried = c.try_fast in
     let steps = ungranted (AtItsTable self.seat tried.new.seat MakesSteps) tried.result c.in_default-try_fast.not-Granted
-        (λ word is. (tried.ensures.obtruded word is).0) (λ word is. let missed = tried.ensures.contended word is in (missed.0, only_steps missed.1)) in
+    (λ word is. (tried.ensures.obtruded word is).0) (λ word is. let missed = tried.ensures.contended word is in (missed.0, only_steps missed.1)) in
     let now = steps.1.1 in
     let listed = sym c.reserve.ensures.items in
     record {
