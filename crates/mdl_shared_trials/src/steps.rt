@@ -1,8 +1,10 @@
 //! Tests of the shared lock table's steps: tables are made, sessions enrol, and latches are taken and put, by one thread and by two.
 mod fast_tickets;
 mod fast_visitors;
+mod holders;
 mod latches;
 mod lists;
+mod materialising;
 mod threads;
 mod visitors;
 mod visits;
