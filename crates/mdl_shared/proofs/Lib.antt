@@ -32,3 +32,5 @@ pub mod Wishing
 pub mod WishShows
 pub mod EndSteps
 pub mod CloneCalls
+pub mod QuietDeeds
+pub mod FastDone

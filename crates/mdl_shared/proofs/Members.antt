@@ -72,7 +72,7 @@ pub same-fast : (known : List Known) (asks : Option Ask) (fast : List Own) → S
 same-fast known asks fast = record { unfast = λ a waits e. e; plain = λ e. e }
 
 -- what its seat's visit tells
-seat-changed : (seat seat′ : SeatState) (sessions : ℕ) → seat′.table ≡ seat.table → (m : Mine) → seat′.me ≡ m → session_at seat′ sessions ≡ record (session_at seat sessions) { me = m }
+pub seat-changed : (seat seat′ : SeatState) (sessions : ℕ) → seat′.table ≡ seat.table → (m : Mine) → seat′.me ≡ m → session_at seat′ sessions ≡ record (session_at seat sessions) { me = m }
 seat-changed seat seat′ sessions table m me = λ i. record { table = table i; sessions = sessions; me = me i }
 
 pub visited : {place : ℕ} {ds : List Deed} (seat seat′ : SeatState) (sessions : ℕ) → DoesSlow place ds seat.me.0 → AtItsTable seat seat′ (Visits place ds)

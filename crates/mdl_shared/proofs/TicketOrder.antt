@@ -111,7 +111,7 @@ LeavesFast place (Alter number mode) slow fast = is_no_number number fast ≡ tr
 LeavesFast place (Lose number) slow fast = is_no_number number fast ≡ true
 
 -- the note of a place is that of its slow tickets, where no fast one is there
-note-slow : (place : ℕ) (slow fast : List Own) → own_at place fast ≡ [] → note_at place (interleaved slow fast) ≡ note_at place slow
+pub note-slow : (place : ℕ) (slow fast : List Own) → own_at place fast ≡ [] → note_at place (interleaved slow fast) ≡ note_at place slow
 note-slow place slow [] none = refl
 note-slow place slow (f ∷ fs) none =
     by_bool (f.place == place)
