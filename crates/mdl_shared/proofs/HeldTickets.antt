@@ -10,7 +10,7 @@ use Rattle.mdl_visits.proofs.Numbers.{has_number}
 use Rattle.mdl_shared.specs.declared.member.Member.{Member}
 use Rattle.mdl_shared.specs.Passes.{view_of}
 use Rattle.mdl_shared.specs.SessionViews.{SessionView, tickets_seen}
-use Rattle.mdl_shared.proofs.MemberFacts.{held-slow, may-visit, place-known, slow-there, ticket-known, unwaited}
+use Rattle.mdl_shared.proofs.MemberFacts.{may-visit, place-known, slow-there, ticket-known, unwaited}
 use Rattle.mdl_shared.proofs.Members.{held-seen}
 use Rattle.mdl_shared.proofs.Props.{member}
 
@@ -25,18 +25,18 @@ pub record HoldsTicket (id : ℕ) (t : Own) (s : SessionView) : Type 0 where
   pub at : MayVisit t.place (record { table = s.table; me = s.me })
   pub known : KnowsPlace s.me.0 t.place
 
-pub holds-ticket : (m : Member) (id : ℕ) (t : Own) → numbered id (interleaved m.tickets.slow m.tickets.fast) ≡ Some t → HoldsTicket id t (view_of m)
-holds-ticket m id t found =
+pub holds-ticket : (m : Member) (id : ℕ) (t : Own) → numbered id (interleaved m.tickets.slow m.tickets.fast) ≡ Some t → numbered id m.seat.me.0.slow ≡ Some t
+    → HoldsTicket id t (view_of m)
+holds-ticket m id t found slow =
     let is = member m in
     let its = held-seen m id (Some t) (sym found) in
     let number = has_number id t (tickets_seen m.seat.me.0) its in
     let own = subst (λ (n : ℕ). numbered n (tickets_seen m.seat.me.0) ≡ Some t) (sym number) its in
-    let slow = held-slow is id t its in
     let known = ticket-known is id t its in record {
       its = its;
       number = number;
       own = own;
-      slow = held-slow is t.number t own;
+      slow = subst (λ (n : ℕ). numbered n m.seat.me.0.slow ≡ Some t) (sym number) slow;
       there = slow-there is id t slow;
       unwaited = unwaited is t.number (ap is_some own);
       at = may-visit is t.place known;

@@ -10,7 +10,9 @@ pub mod Faults
 pub mod TicketOrder
 pub mod Props
 pub mod MemberFacts
+pub mod SlowOrFast
 pub mod Members
+pub mod FastReleases
 pub mod HeldTickets
 pub mod Refusals
 pub mod WaitSteps
