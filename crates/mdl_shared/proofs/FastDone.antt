@@ -35,7 +35,7 @@ use Rattle.mdl_shared.proofs.TicketOrder.{counted-kept, counted-last, gained-fas
 first-same : (mark : Option ℕ) (tickets : List Own) → (tickets ≡ [] → mark ≡ None) → Each (λ (t : Own). t.noted ≡ mark) tickets → first_note tickets ≡ mark
 first-same mark [] none each = sym (none refl)
 first-same None (t ∷ ts) none each = rw each.0 (first-same None ts (λ e. refl) each.1)
-first-same (Some version) (t ∷ ts) none each = rw each.0 each.0
+first-same (Some version) (t ∷ ts) none each = rw each.0 refl
 
 -- of those at a place
 noted-there : (place : ℕ) (mark : Option ℕ) (tickets : List Own) → Each (λ (t : Own). t.place ≡ place → t.noted ≡ mark) tickets

@@ -36,3 +36,4 @@ pub mod EndSteps
 pub mod CloneCalls
 pub mod QuietDeeds
 pub mod FastDone
+pub mod FastFacts

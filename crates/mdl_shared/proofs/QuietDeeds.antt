@@ -1,28 +1,29 @@
 -- What a session did by steps that left all waits alone: one part after another, and what a call shows by all of them.
-use Rattle.std.proofs.Common.{◌≡◌, ℕ, List, [], None, sym, ap, subst, ◌∙◌}
+use Rattle.std.proofs.Common.{◌≡◌, ℕ, List, [], None, refl, sym, ap, subst, ◌∙◌, append-nil}
 use Rattle.mdl_calls.specs.Words.{Answer, Call}
 use Rattle.mdl_steps.specs.declared.deed.Deed.{Deed}
 use Rattle.mdl_steps.specs.declared.view.Met.{Met}
 use Rattle.mdl_steps.specs.Plays.{Mine}
+use Rattle.mdl_steps.specs.SeatStates.{AtItsTable, SeatState}
 use Rattle.mdl_visits.specs.Polls.{SettlesNothing}
-use Rattle.mdl_visits.specs.Visits.{Does, MakesMoreSteps, Visits}
+use Rattle.mdl_visits.specs.Visits.{Does, MakesMoreSteps, MakesSteps, Visits}
 use Rattle.mdl_visits.proofs.Steps.{does_then, step_after, step_before}
 use Rattle.mdl_shared.specs.declared.member.Member.{Member}
 use Rattle.mdl_shared.specs.DeedsDone.{DoesQuietly, HasDone}
 use Rattle.mdl_shared.specs.Passes.{view_of}
-use Rattle.mdl_shared.specs.SessionViews.{Lists, SessionView, lists_seen, tickets_of, tickets_seen}
+use Rattle.mdl_shared.specs.SessionViews.{Lists, SessionView, lists_seen, session_at, tickets_of, tickets_seen}
 use Rattle.mdl_shared.specs.Showings.{KeepsTold, MeetsSo, SettlesSo, ShowsStep, Shows, StepsSo, done_by, own_fault}
 use Rattle.mdl_shared.proofs.Faults.{if-clear}
-use Rattle.mdl_shared.proofs.Members.{done-then}
+use Rattle.mdl_shared.proofs.Members.{done-then, same-fast, seat-changed}
 
 -- ---- steps
 
 -- a step of a part of a call is one of the whole
-pub shows-first : {a b c : SessionView} {fact : Met → Type 0} → MakesMoreSteps b.me c.me → ShowsStep a b fact → ShowsStep a c fact
-shows-first {a} {b} {c} more shown = (shown.0, step_before a.me b.me c.me more shown.0 shown.1, shown.2)
+pub shows-first : (a b c : SessionView) {fact : Met → Type 0} → MakesMoreSteps b.me c.me → ShowsStep a b fact → ShowsStep a c fact
+shows-first a b c more shown = (shown.0, step_before a.me b.me c.me more shown.0 shown.1, shown.2)
 
-pub shows-later : {a b c : SessionView} {fact : Met → Type 0} → MakesMoreSteps a.me b.me → ShowsStep b c fact → ShowsStep a c fact
-shows-later {a} {b} {c} more shown = (shown.0, step_after a.me b.me c.me more shown.0 shown.1, shown.2)
+pub shows-later : (a b c : SessionView) {fact : Met → Type 0} → MakesMoreSteps a.me b.me → ShowsStep b c fact → ShowsStep a c fact
+shows-later a b c more shown = (shown.0, step_after a.me b.me c.me more shown.0 shown.1, shown.2)
 
 -- ---- parts of a call
 
@@ -39,7 +40,47 @@ quiet-then {at} {place} {ds} {a} {b} {c} first later = record {
   told = later.told ∙ first.told;
 }
 
--- the whole of a visit that granted nothing to others
+-- no step at all
+pub quiet-none : (s : SessionView) → DoesQuietly 0 [] s s
+quiet-none s = record {
+  done = record {
+    slow = s.me.0.slow;
+    fast = s.me.0.fast;
+    told = s.me.0.told;
+    settles = s.me.0.settles;
+    log = s.me.0.log;
+    now = refl;
+    tickets = refl;
+    fasts = same-fast s.me.0.known s.me.0.asks s.me.0.fast;
+    stays = λ state told. told;
+    unasked = λ none. refl;
+  };
+  did = ([], sym (append-nil s.me.0.log), refl);
+  settled = refl;
+  told = refl;
+}
+
+-- steps and nothing else
+pub quiet-made : (seat seat′ : SeatState) (sessions : ℕ) → AtItsTable seat seat′ MakesSteps → DoesQuietly 0 [] (session_at seat sessions) (session_at seat′ sessions)
+quiet-made seat seat′ sessions made = record {
+  done = record {
+    slow = seat.me.0.slow;
+    fast = seat.me.0.fast;
+    told = seat.me.0.told;
+    settles = seat.me.0.settles;
+    log = _;
+    now = seat-changed seat seat′ sessions made.0 _ made.1.1;
+    tickets = refl;
+    fasts = same-fast seat.me.0.known seat.me.0.asks seat.me.0.fast;
+    stays = λ state told. told;
+    unasked = λ none. refl;
+  };
+  did = (made.1.0, ap (λ (m : Mine). m.0.log) made.1.1, made.1.2);
+  settled = ap (λ (m : Mine). m.0.settles) made.1.1;
+  told = ap (λ (m : Mine). m.0.told) made.1.1;
+}
+
+-- a visit that granted nothing to others
 pub quiet-visit : {place : ℕ} {ds : List Deed} {s s′ : SessionView} → HasDone place ds s s′ → Visits place ds s.me s′.me → DoesQuietly place ds s s′
 quiet-visit done went = record {
   done = done;
