@@ -10,8 +10,9 @@ use Rattle.mdl_steps.specs.declared.view.Met.{Met}
 use Rattle.mdl_steps.specs.declared.view.Own.{Own}
 use Rattle.mdl_steps.specs.Deeds.{all_next, all_owned}
 use Rattle.mdl_steps.specs.Plays.{Mine}
+use Rattle.mdl_steps.specs.SeatStates.{AtItsTable, SeatState}
 use Rattle.mdl_visits.specs.FastTries.{ReleasesFast}
-use Rattle.mdl_visits.specs.Grantings.{ForgetsNobody, HasRescheduled, MeetsRescheduled}
+use Rattle.mdl_visits.specs.Grantings.{HasRescheduled, VisitsAndReschedules}
 use Rattle.mdl_visits.specs.Numbers.{numbered}
 use Rattle.mdl_visits.specs.Polls.{SettlesNothing}
 use Rattle.mdl_visits.specs.Visits.{Does, IsStepOf, LeavesBy, MakesMoreSteps, StaysOn}
@@ -19,7 +20,7 @@ use Rattle.mdl_visits.proofs.Steps.{goes_none, goes_staying, leaves_after, step_
 use Rattle.mdl_visits.proofs.Way.{granted_within, looked_within}
 use Rattle.mdl_shared.specs.DeedsDone.{DoesQuietly, HasDone, StaysFast}
 use Rattle.mdl_shared.specs.Members.{IsMember, holding_fault}
-use Rattle.mdl_shared.specs.SessionViews.{SessionView, tickets_seen}
+use Rattle.mdl_shared.specs.SessionViews.{SessionView, session_at, tickets_seen}
 use Rattle.mdl_shared.specs.Showings.{GivesUpFast, GivesUpSlow, LeavesWaits, MeetsFastRelease, Reschedules, Shows}
 
 -- ---- two parts of a call
@@ -77,7 +78,7 @@ rescheduled-since id place a b c stays number asks told settles way =
 
 -- ---- the release
 
-module _ {a b : SessionView} (t : Own) (owes : Bool) (released : ReleasesFast t.place t.number owes a.me b.me) where
+module _ (a b : SessionView) (t : Own) (owes : Bool) (released : ReleasesFast t.place t.number owes a.me b.me) where
   -- the step that released it
   release_then : IsStepOf a.me b.me released.step
   release_then = ([], [], ap (λ (m : Mine). m.0.log) released.now ∙ ap (λ (log : List Met). log ++ released.step ∷ []) (sym (append-nil a.me.0.log)))
@@ -90,17 +91,17 @@ module _ {a b : SessionView} (t : Own) (owes : Bool) (released : ReleasesFast t.
   gives-up quiet leaves = (
     released.step,
     release_then,
-    release_met,
-    (λ up. absurd (false≢true (sym quiet ∙ released.owes_is ∙ up))),
-    λ down. leaves,
+    (release_met, (λ up. absurd (false≢true (sym quiet ∙ released.owes_is ∙ up))), (λ down. leaves)),
   )
 
   -- and where it is the place was rescheduled
-  pub gives-up_then : {c : SessionView} → owes ≡ true → MakesMoreSteps b.me c.me → Reschedules a c t → GivesUpFast t.number a c t
-  gives-up_then {c} due more way = (
+  pub gives-up_after : {seat : SeatState} → DoesQuietly t.place (Lose t.number ∷ []) a b → StaysOn a.me b.me → owes ≡ true
+      → AtItsTable (record { table = b.table; me = b.me }) seat (VisitsAndReschedules b.table t.place []) → GivesUpFast t.number a (session_at seat b.sessions) t
+  gives-up_after {seat} lost stays due visit = (
     released.step,
-    step_before a.me b.me c.me more released.step release_then,
-    release_met,
-    (λ up. way),
-    λ down. absurd (false≢true (sym down ∙ sym released.owes_is ∙ due)),
+    step_before a.me b.me seat.me (visit.1.made, ap (λ (m : Mine). m.0.log) visit.1.now) released.step release_then,
+    (release_met, (λ up. subst (λ (id : TableId). HasRescheduled id t.place a.me seat.me) (ap (λ (s : SessionView). s.table) lost.done.now)
+        (rescheduled-since b.table t.place a.me b.me seat.me stays (ap (λ (s : SessionView). s.me.0.number) lost.done.now)
+        (ap (λ (s : SessionView). s.me.0.asks) lost.done.now) lost.told lost.settled visit.1.way)),
+    (λ down. absurd (false≢true (sym down ∙ sym released.owes_is ∙ due)))),
   )

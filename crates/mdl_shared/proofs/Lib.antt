@@ -23,6 +23,7 @@ pub mod TicketEdits
 pub mod TicketFaults
 pub mod TicketSearch
 pub mod TicketCalls
+pub mod ReleaseCalls
 pub mod WishFaults
 pub mod WishCalls
 pub mod EndCalls

@@ -1,7 +1,6 @@
 -- Which of a session's tickets are slow, and which are fast.
 use Rattle.std.proofs.Common.{◌≡◌, ◌⊎◌, inl, inr, ℕ, ◌==◌, true, List, [], ◌∷◌, Option, Some, None, is_some, refl, sym, ap, subst, ◌∙◌}
-use Rattle.std.specs.Prelude.{option_or}
-use Rattle.std.specs.Option.{option_and_then}
+use Rattle.std.specs.Option.{option_and_then, option_or}
 use Rattle.std.proofs.lemmas.Bool.{and_parts}
 use Rattle.std.proofs.lemmas.List.Folds.{find-append}
 use Rattle.mdl_key.specs.declared.mode.Mode.{Mode}
@@ -16,8 +15,9 @@ use Rattle.mdl_steps.specs.Interleavings.{interleaved}
 use Rattle.mdl_steps.proofs.Interleaving.{Rising, numbered-interleaved, rising-uninterleaved}
 use Rattle.mdl_steps.proofs.Views.{by_bool}
 use Rattle.mdl_visits.specs.Numbers.{numbered}
+use Rattle.mdl_shared.specs.declared.member.Member.{Member}
 use Rattle.mdl_shared.specs.Members.{IsMember, are_counted, increment_at, kind_known}
-use Rattle.mdl_shared.specs.SessionViews.{SessionView, tickets_seen}
+use Rattle.mdl_shared.specs.SessionViews.{Lists, SessionView, tickets_seen}
 use Rattle.mdl_shared.proofs.MemberFacts.{rising}
 use Rattle.mdl_shared.proofs.TicketOrder.{none-numbered, numbers-apart}
 
@@ -90,6 +90,10 @@ module _ {s : SessionView} (is : IsMember s) (id : ℕ) (t : Own) where
   -- one that isn't fast is slow
   pub slow-else : numbered id s.me.0.fast ≡ None → numbered id (tickets_seen s.me.0) ≡ Some t → numbered id s.me.0.slow ≡ Some t
   slow-else none its = sym (slow-found id s.me.0.slow s.me.0.fast (rising is) none) ∙ its
+
+-- one of a session's own list of the fast ones is one of its view, and there is none where that has none
+pub fast-seen : (m : Member) (id : ℕ) (o : Option Own) → o ≡ numbered id m.tickets.fast → numbered id m.seat.me.0.fast ≡ o
+fast-seen m id o found-so = ap (λ (l : Lists). numbered id l.fast) (sym m.lists) ∙ sym found-so
 
 -- one of all is either
 pub slow-or-fast : {s : SessionView} → IsMember s → (id : ℕ) (t : Own) → numbered id (tickets_seen s.me.0) ≡ Some t
