@@ -14,20 +14,17 @@ use Rattle.mdl_shared.proofs.MemberFacts.{may-visit, place-known, slow-there, ti
 use Rattle.mdl_shared.proofs.Members.{held-seen}
 use Rattle.mdl_shared.proofs.Props.{member}
 
--- the session holds a ticket of this number, which is slow, and may visit its place
+-- the session holds a ticket of this number, and may visit its place
 pub record HoldsTicket (id : ℕ) (t : Own) (s : SessionView) : Type 0 where
   pub its : numbered id (tickets_seen s.me.0) ≡ Some t
   pub number : t.number ≡ id
   pub own : numbered t.number (tickets_seen s.me.0) ≡ Some t
-  pub slow : numbered t.number s.me.0.slow ≡ Some t
-  pub there : HasTicket t.place id s.me.0.slow
   pub unwaited : NotWaited s.me.0 t.number
   pub at : MayVisit t.place (record { table = s.table; me = s.me })
   pub known : KnowsPlace s.me.0 t.place
 
-pub holds-ticket : (m : Member) (id : ℕ) (t : Own) → numbered id (interleaved m.tickets.slow m.tickets.fast) ≡ Some t → numbered id m.seat.me.0.slow ≡ Some t
-    → HoldsTicket id t (view_of m)
-holds-ticket m id t found slow =
+pub holds-ticket : (m : Member) (id : ℕ) (t : Own) → numbered id (interleaved m.tickets.slow m.tickets.fast) ≡ Some t → HoldsTicket id t (view_of m)
+holds-ticket m id t found =
     let is = member m in
     let its = held-seen m id (Some t) (sym found) in
     let number = has_number id t (tickets_seen m.seat.me.0) its in
@@ -36,9 +33,20 @@ holds-ticket m id t found slow =
       its = its;
       number = number;
       own = own;
-      slow = subst (λ (n : ℕ). numbered n m.seat.me.0.slow ≡ Some t) (sym number) slow;
-      there = slow-there is id t slow;
       unwaited = unwaited is t.number (ap is_some own);
       at = may-visit is t.place known;
       known = place-known is t.place known;
     }
+
+-- a ticket of this number is one of its slow ones
+pub record HoldsSlow (id : ℕ) (t : Own) (s : SessionView) : Type 0 where
+  pub its : numbered id s.me.0.slow ≡ Some t
+  pub slow : numbered t.number s.me.0.slow ≡ Some t
+  pub there : HasTicket t.place id s.me.0.slow
+
+pub holds-slow : (m : Member) (id : ℕ) (t : Own) → numbered id m.seat.me.0.slow ≡ Some t → HoldsSlow id t (view_of m)
+holds-slow m id t its = record {
+  its = its;
+  slow = subst (λ (n : ℕ). numbered n m.seat.me.0.slow ≡ Some t) (sym (has_number id t m.seat.me.0.slow its)) its;
+  there = slow-there (member m) id t its;
+}
