@@ -9,7 +9,7 @@ use Rattle.mdl_visits.proofs.Numbers.{has_number}
 use Rattle.mdl_shared.specs.Passes.{view_of}
 use Rattle.mdl_shared.specs.SessionViews.{Lists, tickets_seen}
 use Rattle.mdl_shared.proofs.HeldTickets.{holds-ticket}
-use Rattle.mdl_shared.proofs.MemberFacts.{loses-slow, spared, speaks}
+use Rattle.mdl_shared.proofs.MemberFacts.{loses-slow, slow-there, spared, speaks}
 use Rattle.mdl_shared.proofs.Members.{done-order, fast-struck, held-seen, kept, lists-done, lists-rescheduled, rescheduled, room-kept}
 use Rattle.mdl_shared.proofs.Props.{member}
 use Rattle.mdl_shared.proofs.ReleaseCalls.{released-fast, released-slow}
@@ -56,11 +56,11 @@ release-requires g c =
     let t = c.in-Some-get.held in
     let none = fast-seen m id None (sym c.in_default.is ∙ c.get_fast.ensures.found) in
     let its = held-seen m id c.get.result c.get.ensures.found ∙ c.in-Some-get.is in
-    let held = holds-ticket m id t (sym c.get.ensures.found ∙ c.in-Some-get.is) (slow-else (member m) id t none its) in record {
+    let held = holds-ticket m id t (sym c.get.ensures.found ∙ c.in-Some-get.is) in record {
       at = held.at;
       known = held.known;
       unwaited = subst (NotWaited m.seat.me.0) held.number held.unwaited;
-      held = held.there;
+      held = slow-there (member m) id t (slow-else (member m) id t none its);
     }
 
 pub invariant_of-member : goal.invariant_of-member
