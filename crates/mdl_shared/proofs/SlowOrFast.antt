@@ -66,7 +66,7 @@ uncounted place held known never = by (kind_known place known)
     by (Some kind) = never kind
 
 -- X is such a mode
-pub exclusive-uncounted : (kind : Kind) → increment_of kind mode.X ≡ None
+exclusive-uncounted : (kind : Kind) → increment_of kind mode.X ≡ None
 exclusive-uncounted Scoped = refl
 exclusive-uncounted Object = refl
 
@@ -113,3 +113,7 @@ uncounted-slow {s} is id t its never = elim (slow-or-fast is id t its) [
   let none = uncounted t.place t.mode s.me.0.known never in
   absurd (cc)
 ]
+
+-- so is an exclusive one
+pub exclusive-slow : {s : SessionView} → IsMember s → (id : ℕ) (t : Own) → numbered id (tickets_seen s.me.0) ≡ Some t → t.mode ≡ mode.X → numbered id s.me.0.slow ≡ Some t
+exclusive-slow is id t its exclusive = uncounted-slow is id t its (λ kind. ap (increment_of kind) exclusive ∙ exclusive-uncounted kind)
