@@ -38,3 +38,4 @@ pub mod CloneCalls
 pub mod QuietDeeds
 pub mod FastDone
 pub mod FastFacts
+pub mod SlowPlaces
