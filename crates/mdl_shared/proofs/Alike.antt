@@ -56,7 +56,7 @@ alike_altered place number mode (t ∷ ts) alike =
     (λ other. rw other (later, alike_altered place number mode ts alike.1))
 
 -- each ticket of a place has the note of the first
-all_noted : (place : ℕ) (tickets : List Own) → AreAlike tickets → Each (λ (x : Own). x.place ≡ place → x.noted ≡ note_at place tickets) tickets
+pub all_noted : (place : ℕ) (tickets : List Own) → AreAlike tickets → Each (λ (x : Own). x.place ≡ place → x.noted ≡ note_at place tickets) tickets
 all_noted place [] alike = tt
 all_noted place (t ∷ ts) alike =
     by_bool (t.place == place)

@@ -87,6 +87,10 @@ asked-below {s} is a asks =
     let none = and_parts _ (is_no_number a.number (tickets_seen s.me.0)) (ap (is_ask_apart s.me.0.next (tickets_seen s.me.0)) (sym asks) ∙ apart is) in
     below-asked s.me.0.next a.number (tickets_seen s.me.0) (ask-last is a asks) none.1 (below is)
 
+-- who waits has no fast ticket, so that the one that it waited for is the last of all
+gains : {s : SessionView} (is : IsMember s) (a : Ask) → s.me.0.asks ≡ Some a → DoesSlow a.place (Gain a.number a.mode ∷ []) s.me.0
+gains {s} is a asks = does-alone a.place (Gain a.number a.mode ∷ []) s.me.0 (is.unfast a asks)
+
 module _ {s s′ : SessionView} (is : IsMember s) where
   ended-order : {slow : List Own} → HasEnded slow s s′ → AreAlike (interleaved slow s.me.0.fast) → StaysInOrder s s′
   ended-order ends alike = subst (λ (x : SessionView). StaysInOrder s x) (sym ends.now) (record {
@@ -109,13 +113,9 @@ module _ {s s′ : SessionView} (is : IsMember s) where
     unsettled-joins stays unsettled =
         refused s s′ (End_wait s.me.0.number) Unsettled stays (speaks is) refl refl (waits s a asks) (λ state how met knows. absurd (unsettled how knows)) tt
 
-    -- it has no fast ticket, so that the new one is the last of all
-    gains : DoesSlow a.place (Gain a.number a.mode ∷ []) s.me.0
-    gains = does-alone a.place (Gain a.number a.mode ∷ []) s.me.0 (is.unfast a asks)
-
     -- won
     pub won-order : HasEnded (owned a.place (Gain a.number a.mode) s.me.0.slow) s s′ → StaysInOrder s s′
-    won-order ends = ended-order ends (subst AreAlike (sym gains) (alike_done a.place (Gain a.number a.mode ∷ []) (tickets_seen s.me.0) is.alike))
+    won-order ends = ended-order ends (subst AreAlike (sym (gains is a asks)) (alike_done a.place (Gain a.number a.mode ∷ []) (tickets_seen s.me.0) is.alike))
 
     pub won-joins : ((how : Settled) → (space_of s).settled ≡ Some how → settled_as.Granted ≡ how) → HasEnded (owned a.place (Gain a.number a.mode) s.me.0.slow) s s′
         → Joins (space_of s) (End_wait s.me.0.number) (Granted a.number) (space_of s′)
@@ -127,7 +127,7 @@ module _ {s s′ : SessionView} (is : IsMember s) where
           has = refl;
           fits = refl;
           number = refl;
-          own = ap (λ (ts : List Own). own_of (map told_of ts) None) gains
+          own = ap (λ (ts : List Own). own_of (map told_of ts) None) (gains is a asks)
               ∙ ap (λ held. own_of held None) (told-last (tickets_seen s.me.0) (record { number = a.number; place = a.place; mode = a.mode; noted = note_at a.place (tickets_seen s.me.0) }))
               ∙ sym (ap (λ (o : Option Ask). winning a.number (wait_by s.me.0.waits o) (space_of s).own) asks);
           numbers = (id, refl);
@@ -138,7 +138,7 @@ module _ {s s′ : SessionView} (is : IsMember s) where
           told = λ how told. cc;
           settled = refl;
           reads = nothing-read s (after-end (owned a.place (Gain a.number a.mode) s.me.0.slow) ends.settles ends.log s) refl
-              (λ at. subst (AllNoted at (noted_under at (tickets_seen s.me.0))) (sym gains) (one-note_done s is at a.place (Gain a.number a.mode)));
+              (λ at. subst (AllNoted at (noted_under at (tickets_seen s.me.0))) (sym (gains is a asks)) (one-note_done s is at a.place (Gain a.number a.mode)));
           truly = tt;
         })
 

@@ -79,6 +79,10 @@ learnt-order {more} {s} {s′} learnt is within = subst (λ (x : SessionView). S
 pub stepped : (seat seat′ : SeatState) (sessions : ℕ) → seat′.table ≡ seat.table → MakesSteps seat.me seat′.me → HasDone 0 [] (session_at seat sessions) (session_at seat′ sessions)
 stepped seat seat′ sessions table steps = visited seat seat′ sessions refl (table, record { made = steps.0; now = steps.1; did = steps.2 })
 
+-- which leave its lists
+pub lists-stepped : (m m′ : Mine) → MakesSteps m m′ → lists_seen m′.0 ≡ lists_seen m.0
+lists-stepped m m′ steps = ap (λ (m : Mine). lists_seen m.0) steps.1
+
 -- its own lists are those of its view still
 pub lists-learnt : (m : Member) {more known : List Known} {s : SessionView} → HasLearnt more (view_of m) s → known ≡ m.known.known ++ more
     → record { slow = m.tickets.slow; fast = m.tickets.fast; known = known; next = m.next; asks = m.asks; waits = m.waits } ≡ lists_seen s.me.0

@@ -32,3 +32,6 @@ pub mod Wishing
 pub mod WishShows
 pub mod EndSteps
 pub mod CloneCalls
+pub mod QuietDeeds
+pub mod FastDone
+pub mod FastFacts

@@ -72,7 +72,7 @@ pub same-fast : (known : List Known) (asks : Option Ask) (fast : List Own) → S
 same-fast known asks fast = record { unfast = λ a waits e. e; plain = λ e. e }
 
 -- what its seat's visit tells
-seat-changed : (seat seat′ : SeatState) (sessions : ℕ) → seat′.table ≡ seat.table → (m : Mine) → seat′.me ≡ m → session_at seat′ sessions ≡ record (session_at seat sessions) { me = m }
+pub seat-changed : (seat seat′ : SeatState) (sessions : ℕ) → seat′.table ≡ seat.table → (m : Mine) → seat′.me ≡ m → session_at seat′ sessions ≡ record (session_at seat sessions) { me = m }
 seat-changed seat seat′ sessions table m me = λ i. record { table = table i; sessions = sessions; me = me i }
 
 pub visited : {place : ℕ} {ds : List Deed} (seat seat′ : SeatState) (sessions : ℕ) → DoesSlow place ds seat.me.0 → AtItsTable seat seat′ (Visits place ds)
@@ -159,10 +159,6 @@ module _ {place : ℕ} {ds : List Deed} {s s′ : SessionView} (done : HasDone p
   pub done-reads : s′.me.0.reads ≡ s.me.0.reads
   done-reads = ap (λ (x : SessionView). x.me.0.reads) done.now
 
-  -- of its lists, too
-  pub done-lists : lists_seen s′.me.0 ≡ record (lists_seen s.me.0) { slow = done.slow; fast = done.fast; next = all_next ds s.me.0.next }
-  done-lists = ap (λ (x : SessionView). lists_seen x.me.0) done.now
-
 -- without a deed all else stays
 pub done-nothing : {place : ℕ} {s s′ : SessionView} → HasDone place [] s s′ → Stays s s′
 done-nothing done =
@@ -206,31 +202,32 @@ done-then {at} {place} {ds} {a} {b} {c} first later =
 
 -- ---- a session's own lists
 
--- they are those of its view still, where they were changed as it was
-pub lists-done : (m : Member) {place : ℕ} {ds : List Deed} {s : SessionView} {slow fast : List Own} (done : HasDone place ds (view_of m) s) → slow ≡ done.slow → fast ≡ done.fast
-    → record { slow = slow; fast = fast; known = m.known.known; next = all_next ds m.next; asks = m.asks; waits = m.waits } ≡ lists_seen s.me.0
-lists-done m {ds = ds} {slow = slow} {fast = fast} done slows fasts =
-    ap (λ (l : Lists). record l { slow = slow; fast = fast; next = all_next ds l.next }) m.lists
-    ∙ ap (λ (ts : List Own). record (lists_seen m.seat.me.0) { slow = ts; fast = fast; next = all_next ds m.seat.me.0.next }) slows
-    ∙ ap (λ (ts : List Own). record (lists_seen m.seat.me.0) { slow = done.slow; fast = ts; next = all_next ds m.seat.me.0.next }) fasts ∙ sym (done-lists done)
+-- after a visit
+abbrev pub deeds_listed : ℕ → List Deed → Lists → Lists
+deeds_listed place ds l = record l { slow = all_owned place ds l.slow; next = all_next ds l.next }
 
--- its slow tickets after deeds are those of its view, and the others are the same
-pub slow-done : (m : Member) (place : ℕ) (ds : List Deed) {slow : List Own} → slow ≡ all_owned place ds m.tickets.slow → slow ≡ all_owned place ds m.seat.me.0.slow
-slow-done m place ds same = same ∙ ap (λ (l : Lists). all_owned place ds l.slow) m.lists
+pub lists-visited : {place : ℕ} {ds : List Deed} {seat seat′ : SeatState} → AtItsTable seat seat′ (Visits place ds) → lists_seen seat′.me.0 ≡ deeds_listed place ds (lists_seen seat.me.0)
+lists-visited visits = ap (λ (m : Mine). lists_seen m.0) visits.1.now
 
-pub slow-same : (m : Member) {slow : List Own} → slow ≡ m.tickets.slow → slow ≡ m.seat.me.0.slow
-slow-same m same = same ∙ ap (λ (l : Lists). l.slow) m.lists
+pub lists-rescheduled : {place : ℕ} {ds : List Deed} {seat seat′ : SeatState} → AtItsTable seat seat′ (VisitsAndReschedules seat.table place ds)
+    → lists_seen seat′.me.0 ≡ deeds_listed place ds (lists_seen seat.me.0)
+lists-rescheduled visits = ap (λ (m : Mine). lists_seen m.0) visits.1.now
 
-pub fast-same : (m : Member) {fast : List Own} → fast ≡ m.tickets.fast → fast ≡ m.seat.me.0.fast
-fast-same m same = same ∙ ap (λ (l : Lists). l.fast) m.lists
+-- they are those of its view still, where the deeds were done to its own list of tickets
+pub lists-done : (m : Member) (place : ℕ) (ds : List Deed) {l : Lists} {slow fast : List Own} → l ≡ deeds_listed place ds (lists_seen m.seat.me.0)
+    → slow ≡ all_owned place ds m.tickets.slow → fast ≡ m.tickets.fast
+    → record { slow = slow; fast = fast; known = m.known.known; next = all_next ds m.next; asks = m.asks; waits = m.waits } ≡ l
+lists-done m place ds done slows fasts =
+    (λ i. record { slow = slows i; fast = fasts i; known = m.known.known; next = all_next ds m.next; asks = m.asks; waits = m.waits })
+    ∙ ap (deeds_listed place ds) m.lists ∙ sym done
 
 -- none of its own list of them has the number of a slow one
 pub unnumbered : (m : Member) (id : ℕ) → is_no_number id m.seat.me.0.fast ≡ true → numbered id m.tickets.fast ≡ None
 unnumbered m id none = ap (λ (l : Lists). numbered id l.fast) m.lists ∙ none-numbered id m.seat.me.0.fast none
 
--- where a slow one is struck
-pub fast-struck : (m : Member) (place id : ℕ) {fast : List Own} → is_no_number id m.seat.me.0.fast ≡ true → fast ≡ without_at place id m.tickets.fast → fast ≡ m.seat.me.0.fast
-fast-struck m place id none same = same ∙ ap (λ (l : Lists). without_at place id l.fast) m.lists ∙ none-struck place id m.seat.me.0.fast none
+-- so that they stay where a slow one is struck
+pub fast-struck : (m : Member) (place id : ℕ) {fast : List Own} → is_no_number id m.seat.me.0.fast ≡ true → fast ≡ without_at place id m.tickets.fast → fast ≡ m.tickets.fast
+fast-struck m place id none same = same ∙ none-struck place id m.tickets.fast (ap (λ (l : Lists). is_no_number id l.fast) m.lists ∙ none)
 
 -- and have the room that they had
 pub room-kept : {place : ℕ} (list list′ : TicketList) → (list.spare ≤ list′.spare) × (list′.reach ≡ list.reach) → HasRoom place list → HasRoom place list′

@@ -15,7 +15,7 @@ use Rattle.mdl_defs.specs.declared.standing.Standing.{Standing}
 use Rattle.mdl_defs.specs.Definitions.{IsWellFormed}
 use Rattle.mdl_defs.specs.Standings.{MayStand, fits}
 use Rattle.mdl_calls.specs.Words.{IsRising, Wait, is_waiting}
-use Rattle.mdl_steps.specs.contracts.view.Own as own
+use Rattle.mdl_steps.specs.contracts.view.Own as view
 use Rattle.mdl_steps.specs.declared.view.Ask.{Ask}
 use Rattle.mdl_steps.specs.declared.view.Own.{Own}
 use Rattle.mdl_steps.specs.Layout.{word_count}
@@ -60,9 +60,6 @@ FitsKey-prop a place standing = by (key_known place a.known)
 
 -- ---- lists
 
-Own-set : IsSet (List Own)
-Own-set = Coded-set (coded_list own.the_row.coded)
-
 Each-prop : {X : Type 0} (P : X → Type 0) → ((x : X) → IsProp (P x)) → (xs : List X) → IsProp (Each P xs)
 Each-prop P one [] = Unit-prop
 Each-prop P one (x ∷ xs) = ×_prop (one x) (Each-prop P one xs)
@@ -73,6 +70,9 @@ note-prop one other = hlevel props
 AreAlike-prop : (tickets : List Own) → IsProp (AreAlike tickets)
 AreAlike-prop [] = Unit-prop
 AreAlike-prop (t ∷ ts) = ×_prop (Each-prop (λ (x : Own). x.place ≡ t.place → x.noted ≡ t.noted) (λ x. Π_prop (λ e. note-prop x.noted t.noted)) ts) (AreAlike-prop ts)
+
+tickets-set : IsSet (List Own)
+tickets-set = Coded-set (coded_list view.the_row.coded)
 
 -- ---- what is always so
 
@@ -109,7 +109,7 @@ IsSound-prop a x y =
 IsMember-prop : (s : SessionView) → IsProp (IsMember s)
 IsMember-prop s x y =
     let idle_prop : IsProp (IsIdle s.me) = hlevel props in
-    let unfast_prop : IsProp ((a : Ask) → s.me.0.asks ≡ Some a → s.me.0.fast ≡ []) = Π_prop (λ a. Π_prop (λ e. Own-set s.me.0.fast [])) in
+    let unfast_prop : IsProp ((a : Ask) → s.me.0.asks ≡ Some a → s.me.0.fast ≡ []) = Π_prop (λ a. Π_prop (λ e. tickets-set s.me.0.fast [])) in
     let plain_prop : IsProp (are_counted s.me.0.known s.me.0.fast ≡ true) = hlevel props in
     let within_prop : IsProp (are_within s.table.slots s.me.0.known ≡ true) = hlevel props in
     let last_prop : IsProp (is_ask_last s.me.0.next s.me.0.asks ≡ true) = hlevel props in

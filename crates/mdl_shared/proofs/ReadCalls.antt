@@ -56,7 +56,7 @@ pub record HasNoted (place : ℕ) (standing : Standing) (s s′ : SessionView) :
     me = (
       record s.me.0 {
         fast = noting_version place standing.version s.me.0.fast;
-        slow = noting_version place standing.version (tickets_seen s.me.0);
+        slow = noting_version place standing.version s.me.0.slow;
         reads = s.me.0.reads ++ record { place = place; standing = standing } ∷ [];
         log = log;
       },

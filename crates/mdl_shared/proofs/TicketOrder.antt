@@ -14,10 +14,10 @@ use Rattle.mdl_steps.specs.declared.view.View.{View}
 use Rattle.mdl_steps.specs.Cells.{note_at, own_at}
 use Rattle.mdl_steps.specs.Deeds.{all_owned, is_own, owned}
 use Rattle.mdl_steps.specs.FastPlays.{but_at, but_own}
-use Rattle.mdl_steps.specs.Interleavings.{interleaved}
+use Rattle.mdl_steps.specs.Interleavings.{inserted, interleaved}
 use Rattle.mdl_steps.specs.Lists.{Each}
 use Rattle.mdl_steps.specs.Plays.{noting_version}
-use Rattle.mdl_steps.proofs.Interleaving.{AreOthers, Differ, IsOther, Rising, each-interleaved, each-uninterleaved, filter-interleaved, find-inserted_other, interleaved-moved, interleaved-push_fast, interleaved-push_slow, map-interleaved, rising-filtered, rising-uninterleaved}
+use Rattle.mdl_steps.proofs.Interleaving.{AreOthers, IsOther, Rising, each-interleaved, each-uninterleaved, filter-interleaved, find-inserted_other, interleaved-moved, interleaved-push_fast, interleaved-push_slow, map-interleaved, rising-filtered, rising-uninterleaved}
 use Rattle.mdl_steps.proofs.Views.{by_bool}
 use Rattle.mdl_visits.specs.Numbers.{is_no_number, numbered}
 use Rattle.mdl_shared.specs.Members.{are_counted, increment_at, without_at}
@@ -62,11 +62,11 @@ other-among id t tickets (f ∷ fs) its others = and_from _ _ (apart tickets its
 
 -- where the numbers of all tickets rise, no fast one has the number of a slow one
 pub apart-numbers : (id : ℕ) (t : Own) (slow fast : List Own) → Rising (interleaved slow fast) → numbered id slow ≡ Some t → is_no_number id fast ≡ true
-apart-numbers id t slow fast rising its = other-among id t slow fast its (rising-uninterleaved slow fast rising).2.1
+apart-numbers id t slow fast rising its = other-among id t slow fast its (rising-uninterleaved slow fast rising).2
 
 -- and no slow one that of a fast one
 pub numbers-apart : (id : ℕ) (t : Own) (slow fast : List Own) → Rising (interleaved slow fast) → numbered id fast ≡ Some t → is_no_number id slow ≡ true
-numbers-apart id t slow fast rising its = by fast its (rising-uninterleaved slow fast rising).2.1
+numbers-apart id t slow fast rising its = by fast its (rising-uninterleaved slow fast rising).2
   where
     others : (f : Own) (us : List Own) → IsOther f us → f.number ≡ id → is_no_number id us ≡ true
     others f [] other is = refl
@@ -111,12 +111,12 @@ LeavesFast place (Alter number mode) slow fast = is_no_number number fast ≡ tr
 LeavesFast place (Lose number) slow fast = is_no_number number fast ≡ true
 
 -- the note of a place is that of its slow tickets, where no fast one is there
-note-slow : (place : ℕ) (slow fast : List Own) → own_at place fast ≡ [] → note_at place (interleaved slow fast) ≡ note_at place slow
+pub note-slow : (place : ℕ) (slow fast : List Own) → own_at place fast ≡ [] → note_at place (interleaved slow fast) ≡ note_at place slow
 note-slow place slow [] none = refl
 note-slow place slow (f ∷ fs) none =
     by_bool (f.place == place)
     (λ here. let no = rw here at none in absurd (cc))
-    (λ there. note-slow place _ fs (rw there at none) ∙ ap (λ o. option_and_then (λ (t : Own). t.noted) o) (find-inserted_other (λ (t : Own). t.place == place) f slow there))
+    (λ there. note-slow place (inserted f slow) fs (rw there at none) ∙ ap (λ o. option_and_then (λ (t : Own). t.noted) o) (find-inserted_other (λ (t : Own). t.place == place) f slow there))
 
 -- those without a number stay as the ticket of it changes, or goes
 is-other : (place number : ℕ) (t : Own) → not (t.number == number) ≡ true → is_own place number t ≡ false

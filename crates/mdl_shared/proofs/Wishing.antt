@@ -19,7 +19,7 @@ use Rattle.mdl_shared.specs.SessionViews.{Lists, SessionView, lists_seen, sessio
 use Rattle.mdl_shared.specs.Waitings.{are_below}
 use Rattle.mdl_shared.proofs.MemberFacts.{below, gains-slow, may-visit, none-there}
 use Rattle.mdl_shared.proofs.Membership.{kind_place, kind_there}
-use Rattle.mdl_shared.proofs.Members.{HasDone, fast-same, fault-seen, visited}
+use Rattle.mdl_shared.proofs.Members.{HasDone, fault-seen, visited}
 use Rattle.mdl_shared.proofs.Props.{member}
 use Rattle.mdl_shared.proofs.SameSpace.{no-asks, waits-asks}
 use Rattle.mdl_shared.proofs.WishFaults.{wish-clear, wish-mode}
@@ -55,7 +55,7 @@ below-seen m slow fast same =
 
 -- no fast one of its own list is at a place
 pub none-seen : (m : Member) (place : ℕ) (fast : List Own) → fast ≡ m.tickets.fast → own_at place fast ≡ []
-none-seen m place fast same = ap (own_at place) (fast-same m same) ∙ none-there (member m) place
+none-seen m place fast same = ap (own_at place) same ∙ ap (λ (l : Lists). own_at place l.fast) m.lists ∙ none-there (member m) place
 
 -- who waits for nothing needs no room for a ticket
 pub unasked : (m : Member) → m.seat.me.0.asks ≡ None → (P : Ask → Type 0) (ask : Ask) → m.asks ≡ Some ask → P ask

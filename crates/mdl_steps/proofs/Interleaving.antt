@@ -33,6 +33,16 @@ abbrev pub AtMostOne : (Own → Bool) → List Own → Type 0
 AtMostOne p [] = Unit {0}
 AtMostOne p (t ∷ ts) = (p t ≡ true → find p ts ≡ None) × AtMostOne p ts
 
+-- what is above a number is above each smaller one
+above_all : (t u : Own) (us : List Own) → t.number < u.number → Each (λ (x : Own). u.number < x.number) us → Each (λ (x : Own). t.number < x.number) us
+above_all t u [] below all = tt
+above_all t u (x ∷ xs) below all = ((let more = all.0 in omega arith), above_all t u xs below all.1)
+
+-- and is another
+above_other : (t : Own) (us : List Own) → Each (λ (u : Own). t.number < u.number) us → IsOther t us
+above_other t [] all = tt
+above_other t (u ∷ us) all = ((let less = all.0 in λ e. omega arith), above_other t us all.1)
+
 -- ---- one ticket among others
 
 -- it comes before those with greater numbers
@@ -296,30 +306,24 @@ each-filtered P p (t ∷ ts) all = by_bool (p t)
 filter-inserted_kept : (p : Own → Bool) (t : Own) (us : List Own) → Rising us → p t ≡ true → filter p (inserted t us) ≡ inserted t (filter p us)
 filter-inserted_kept p t [] rising is = rw is refl
 filter-inserted_kept p t (u ∷ us) rising is = by_order t.number u.number
-    (λ below. ap (filter p) (inserted-before t u us below) ∙ rw is (sym (inserted-first t (filter p (u ∷ us)) (each-filtered (λ x. t.number < x.number) p (u ∷ us) (below, above_all us rising.0 below)))))
+    (λ below.
+    let above = each-filtered (λ x. t.number < x.number) p (u ∷ us) (below, above_all t u us below rising.0) in
+    ap (filter p) (inserted-before t u us below) ∙ rw is (sym (inserted-first t (filter p (u ∷ us)) above)))
     (λ above. ap (filter p) (inserted-after t u us above) ∙ by_bool (p u)
     (λ kept. rw kept (ap (λ xs. u ∷ xs) (filter-inserted_kept p t us rising.1 is) ∙ sym (inserted-after t u (filter p us) above)))
     (λ dropped. rw dropped (filter-inserted_kept p t us rising.1 is)))
-  where
-    above_all : (xs : List Own) → Each (λ (x : Own). u.number < x.number) xs → t.number < u.number → Each (λ (x : Own). t.number < x.number) xs
-    above_all [] all below = tt
-    above_all (x ∷ xs) all below = ((let more = all.0 in omega arith), above_all xs all.1 below)
 
 -- ---- numbers that rise
 
 rising-uninserted : (t : Own) (us : List Own) → Rising (inserted t us) → Rising us × IsOther t us
 rising-uninserted t [] rising = (tt, tt)
 rising-uninserted t (u ∷ us) rising = by_order t.number u.number
-    (λ below. (let rises = subst Rising (inserted-before t u us below) rising in (rises.1, others (u ∷ us) rises.0)))
+    (λ below. (let rises = subst Rising (inserted-before t u us below) rising in (rises.1, above_other t (u ∷ us) rises.0)))
     (λ above.
     let rises = subst Rising (inserted-after t u us above) rising in
     let parts = each-uninserted (λ (x : Own). u.number < x.number) t us rises.0 in
     let rest = rising-uninserted t us rises.1 in
     ((parts.1, rest.0), ((let less = parts.0 in λ e. omega arith), rest.1)))
-  where
-    others : (xs : List Own) → Each (λ (x : Own). t.number < x.number) xs → IsOther t xs
-    others [] all = tt
-    others (x ∷ xs) all = ((let less = all.0 in λ e. omega arith), others xs all.1)
 
 -- where the numbers of all of them rise, those of the first list do, and no two have the same number
 pub rising-uninterleaved : (slow fast : List Own) → Rising (interleaved slow fast) → Rising slow × Differ fast × AreOthers fast slow
@@ -340,13 +344,9 @@ rising-uninterleaved slow (f ∷ fast) rising =
 rising-inserted : (t : Own) (us : List Own) → Rising us → IsOther t us → Rising (inserted t us)
 rising-inserted t [] rising others = (tt, tt)
 rising-inserted t (u ∷ us) rising others = by_order t.number u.number
-    (λ below. subst Rising (sym (inserted-before t u us below)) ((below, above_all us rising.0 below), rising))
+    (λ below. subst Rising (sym (inserted-before t u us below)) ((below, above_all t u us below rising.0), rising))
     (λ above. subst Rising (sym (inserted-after t u us above))
     (each-inserted (λ (x : Own). u.number < x.number) t us (let differs = others.0 in omega arith) rising.0, rising-inserted t us rising.1 others.1))
-  where
-    above_all : (xs : List Own) → Each (λ (x : Own). u.number < x.number) xs → t.number < u.number → Each (λ (x : Own). t.number < x.number) xs
-    above_all [] all below = tt
-    above_all (x ∷ xs) all below = ((let more = all.0 in omega arith), above_all xs all.1 below)
 
 -- and the other way round
 pub rising-interleaved : (slow fast : List Own) → Rising slow → Differ fast → AreOthers fast slow → Rising (interleaved slow fast)
@@ -361,11 +361,7 @@ rising-interleaved slow (f ∷ fast) rising differ others =
 -- numbers that rise differ
 pub rising-differ : (ts : List Own) → Rising ts → Differ ts
 rising-differ [] rising = tt
-rising-differ (t ∷ ts) rising = (others ts rising.0, rising-differ ts rising.1)
-  where
-    others : (us : List Own) → Each (λ (u : Own). t.number < u.number) us → IsOther t us
-    others [] all = tt
-    others (u ∷ us) all = ((let less = all.0 in λ e. omega arith), others us all.1)
+rising-differ (t ∷ ts) rising = (above_other t ts rising.0, rising-differ ts rising.1)
 
 -- those that a filter keeps rise
 pub rising-filtered : (p : Own → Bool) (ts : List Own) → Rising ts → Rising (filter p ts)

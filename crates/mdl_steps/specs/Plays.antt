@@ -32,7 +32,7 @@ use Rattle.mdl_steps.specs.Deeds.{all_done, NotWaited}
 use Rattle.mdl_steps.specs.Layout.{latch_word, lock_word, version_word}
 use Rattle.mdl_steps.specs.Limits.{most_fast}
 use Rattle.mdl_steps.specs.Lists.{Distinct, Each, Once}
-use Rattle.mdl_steps.specs.Rule.{TellsLists, KnowsKeys, IsUnused, NoteAgrees, ReadAgrees, key_at}
+use Rattle.mdl_steps.specs.Rule.{AreUnmixed, TellsLists, KnowsKeys, IsUnused, NoteAgrees, ReadAgrees, key_at}
 use Rattle.mdl_steps.specs.WaitStates.{IsLost}
 
 -- a session's seat: its view, and the slots that it took
@@ -52,7 +52,8 @@ logged kind ds word found held v =
 -- and of that which the directory has for the place, where the session holds its latch.
 -- Each session waits at most once, for a mode of the kind, and so does the session itself where it met its wait lost. The definition fits
 -- the key and its version: no version that the session read is newer, what it read of this one is just that, and this is the version that it noted.
--- Its fast tickets there are in unobtrusive modes and compatible with all granted tickets, and the version agrees with what is noted under them
+-- Its fast tickets there are in unobtrusive modes and compatible with all granted tickets, and the version agrees with what is noted under them. No slow
+-- ticket has the number of a fast one of its place
 pub record IsFresh (place : ℕ) (h : LatchRecord) (m : Mine) : Type 0 where
   pub here : h.place ≡ place
   pub exact : TellsLists h.book h.slow h.obtrusive
@@ -76,6 +77,7 @@ pub record IsFresh (place : ℕ) (h : LatchRecord) (m : Mine) : Type 0 where
   pub fast_few : length (own_at place m.0.fast) ≤ most_fast
   pub fast_plain : Each (λ (t : Own). not (is_obtrusive (lock_kind h.book) t.mode) ≡ true) (own_at place m.0.fast)
   pub fast_beside : Each (λ (t : Own). is_compatible (lock_kind h.book) h.book.granted m.0.number t.mode ≡ true) (own_at place m.0.fast)
+  pub unmixed : AreUnmixed m.0.fast m.0.slow
 
 -- with a flag or both raised
 abbrev pub raised : Bool → Bool → LatchRecord → LatchRecord

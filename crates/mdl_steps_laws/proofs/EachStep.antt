@@ -21,7 +21,6 @@ use Rattle.mdl_steps.specs.declared.step_kind.StepKind.{StepKind}
 use Rattle.mdl_steps.specs.declared.step_kind.StepKind.TheVariants as step
 use Rattle.mdl_steps.specs.declared.view.Ask.{Ask}
 use Rattle.mdl_steps.specs.declared.view.LatchRecord.{LatchRecord}
-use Rattle.mdl_steps.specs.declared.view.Own.{Own}
 use Rattle.mdl_steps.specs.declared.view.View.{View}
 use Rattle.mdl_steps.specs.declared.wait_word.Loss.{Loss}
 use Rattle.mdl_steps.specs.Cells.{ticket_by, waiter_of, waits}
@@ -340,16 +339,16 @@ module _ (s t : State Slot View) (r : Rule s) (r′ : Rule t) (id : ℕ) (m m′
             (releasing_fast_releases s r r.keys (ruled_keys s r) i key.0 key.1 id m seat some_number number one may),
       )
 
-  moves_all : (q : ℕ) (slow : List Own) (weight : ℕ) (h : LatchRecord) → HasPlace s q → MayMaterialise q slow weight h m → st.word ≡ lock_word q → m′ ≡ materialised q slow found m
+  moves_all : (q weight : ℕ) (h : LatchRecord) → HasPlace s q → MayMaterialise q weight h m → st.word ≡ lock_word q → m′ ≡ materialised q found m
       → left ≡ (found + (2 ^ 64 - weight)) % 2 ^ 64 → act ≡ keeps → Rests s t
-  moves_all zero slow weight h has may at is word kept = nowhere has
-  moves_all (suc i) slow weight h has may at is word kept =
+  moves_all zero weight h has may at is word kept = nowhere has
+  moves_all (suc i) weight h has may at is word kept =
       let key = known_key s r id m.0 seat i may.known in
       let there = found_word (suc i) at in
       subst (Rests s)
-      (sym (worded (suc i) ((word_at s (suc i) + (2 ^ 64 - weight)) % 2 ^ 64) (materialised (suc i) slow (word_at s (suc i)) m) at
-      (word ∙ ap (λ (n : ℕ). (n + (2 ^ 64 - weight)) % 2 ^ 64) there) kept (is ∙ ap (λ (n : ℕ). materialised (suc i) slow n m) there)))
-      (materialising_rests s r r.keys (ruled_keys s r) i key.0 key.1 id m seat slow weight h may)
+      (sym (worded (suc i) ((word_at s (suc i) + (2 ^ 64 - weight)) % 2 ^ 64) (materialised (suc i) (word_at s (suc i)) m) at
+      (word ∙ ap (λ (n : ℕ). (n + (2 ^ 64 - weight)) % 2 ^ 64) there) kept (is ∙ ap (λ (n : ℕ). materialised (suc i) n m) there)))
+      (materialising_rests s r r.keys (ruled_keys s r) i key.0 key.1 id m seat weight h may)
 
   -- ---- the kinds of step
 
@@ -423,7 +422,7 @@ module _ (s t : State Slot View) (r : Rule s) (r′ : Rule t) (id : ℕ) (m m′
         λ missed. meets_word q step.MissFast whole.0 at (did.1 missed) (swap.2 missed) swap.0,
       )
   brings (Makes.ReleasesFast q number at play) whole = releases_one q number whole.2.0 whole.0 whole.1 whole.2.1 at (play.1 q at) whole.2.2.0 whole.2.2.1
-  brings (Makes.Materialises q slow weight h may at play) whole = moves_all q slow weight h whole.0 may at (play.1 q at) whole.1.0 whole.1.1
+  brings (Makes.Materialises q weight h may at play) whole = moves_all q weight h whole.0 may at (play.1 q at) whole.1.0 whole.1.1
 
 -- ---- each step
 

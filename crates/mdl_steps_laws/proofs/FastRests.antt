@@ -63,16 +63,16 @@ fast-parted (z ∷ zs) (suc id) x y at none t among = elim (Contains-append_case
 -- ---- to materialise
 
 pub materialising_rests : MaterialisingRests
-materialising_rests s r keys keys_are i key at id me seat slow weight h may =
+materialising_rests s r keys keys_are i key at id me seat weight h may =
     let place : ℕ = suc i in
     let gone : List Ticket = moved place me.0 in
-    let w : View = (materialised place slow (word_at s place) me).0 in
+    let w : View = (materialised place (word_at s place) me).0 in
     let n : ℕ = (word_at s place + (2 ^ 64 - weight)) % 2 ^ 64 in
-    let s′ : State Slot View = after_word s place n id (materialised place slow (word_at s place) me) in
+    let s′ : State Slot View = after_word s place n id (materialised place (word_at s place) me) in
     let first = first_place s r i key (in_rule s r keys keys_are i key at) in
     let last = inside s r keys keys_are i key at in
     let some_number = some_session s r keys keys_are i key at id me.0 seat h may.recorded in
-    let r′ : Rule (after_word s place n id (materialised place slow (word_at s place) me)) = materialised_rule (length s.homes) id place me some_number first last slow weight h may s r refl seat in
+    let r′ : Rule (after_word s place n id (materialised place (word_at s place) me)) = materialised_rule (length s.homes) id place me some_number first last weight h may s r refl seat in
     let held_else : (q : ℕ) → q ≢ place → held_at q w.latches ≡ held_at q me.0.latches = λ q else. held_at-unchanged place (with_granted gone) (λ x. refl) q me.0.latches else in
     let away : (q : ℕ) → q ≢ place → own_at q w.fast ≡ own_at q me.0.fast = λ q else. kept_else place q me.0.fast else in
     let part_there = at_map (part_at (waits s) place) s.views id me.0 seat in

@@ -86,7 +86,7 @@ module _ (s t : State Slot View) where
   is_a_step st m was m′ (Makes.GrantsFast _ mode _ _ _) brought = met_or_not st.first was brought (λ granted.
       happens (Grant (of_lock granted.0 (record { session = m.0.number; number = m.0.next; mode = mode }))) granted.2)
   is_a_step st m was m′ (Makes.ReleasesFast _ _ _ _) brought = happens (Release (of_lock brought.0 brought.2.0)) brought.2.2
-  is_a_step st m was m′ (Makes.Materialises _ _ _ _ _ _ _) brought = nothing brought
+  is_a_step st m was m′ (Makes.Materialises _ _ _ _ _ _) brought = nothing brought
 
 pub each_step_happens_or_rests : EachStepHappensOrRests
 each_step_happens_or_rests s t r r′ (Turn.Steps id m m′ st left act seat made moves) whole =

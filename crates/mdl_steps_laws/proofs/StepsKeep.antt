@@ -1,17 +1,13 @@
 -- By each kind of step a session keeps the notes of the tickets that it doesn't give up, but where it changes the definition.
-use Rattle.std.proofs.Common.{◌≡◌, ◌≢◌, ◌⊎◌, ℕ, zero, suc, ◌<◌, ◌==◌, true, not, inl, inr, List, [], ◌∷◌, ◌++◌, map, Some, None, refl, sym, ap, ◌∙◌, subst, arith, append-nil}
-use Rattle.std.specs.Prelude.{Contains, Option, slice_index_or}
-use Rattle.std.proofs.lemmas.Bool.{eq-eqb, eqb-true}
+use Rattle.std.proofs.Common.{◌≡◌, ◌≢◌, ◌⊎◌, ℕ, ◌<◌, ◌==◌, not, inl, inr, List, [], ◌∷◌, ◌++◌, Some, None, refl, sym, ap, ◌∙◌, subst, arith, append-nil}
+use Rattle.std.specs.Prelude.{Contains, Option}
 use Rattle.std.proofs.lemmas.List.Elements.{Contains-append_left, Contains-append_right, Contains-append_cases}
-use mathlib.Core.Option.{some, some-injective}
+use mathlib.Core.Option.{some}
 use lib.ListN.{get_elem?}
 use Rattle.atomic_table.specs.Table.{State, Step}
 use Rattle.atomic_table.proofs.Lists.{at_map}
 use Rattle.mdl_book.specs.declared.book_view.BookView.{BookView}
-use Rattle.mdl_book.specs.declared.ticket.Ticket.{Ticket}
 use Rattle.mdl_book.specs.Books.{empty_book, redefining}
-use Rattle.mdl_book.specs.Tickets.{is_ticket, ticket_of}
-use Rattle.mdl_book.proofs.TicketLemmas.{find-contains}
 use Rattle.mdl_steps.specs.declared.deed.Deed.{Deed}
 use Rattle.mdl_steps.specs.declared.deed.Deed.TheVariants.{Lose}
 use Rattle.mdl_steps.specs.declared.slot.Slot.{Slot}
@@ -20,33 +16,23 @@ use Rattle.mdl_steps.specs.declared.view.LatchRecord.{LatchRecord}
 use Rattle.mdl_steps.specs.declared.view.Own.{Own}
 use Rattle.mdl_steps.specs.declared.view.Read.{Read}
 use Rattle.mdl_steps.specs.declared.view.View.{View}
-use Rattle.mdl_steps.specs.Cells.{held_at, holder_at, note_at, own_at, ticket_by}
+use Rattle.mdl_steps.specs.Cells.{held_at, holder_at, note_at, own_at}
 use Rattle.mdl_steps.specs.Deeds.{MayDo, all_booked, all_owned, is_own}
-use Rattle.mdl_steps.specs.FastPlays.{AreJoined, IsAs, but_at, but_own, fast_own, moved}
+use Rattle.mdl_steps.specs.FastPlays.{but_at, but_own, fast_own}
+use Rattle.mdl_steps.specs.Interleavings.{interleaved}
 use Rattle.mdl_steps.specs.Plays.{Mine, noting_version}
 use Rattle.mdl_steps.specs.Rule.{Rule}
 use Rattle.mdl_steps.specs.WaitPlays.{taken_over, wait_in}
+use Rattle.mdl_steps.proofs.Interleaving.{Contains-interleaved_cases, Contains-interleaved_fast, Contains-interleaved_slow}
 use Rattle.mdl_steps.proofs.OneEvent.{may_all}
-use Rattle.mdl_steps.proofs.Tickets.{is_itself, is_passed}
-use Rattle.mdl_steps.proofs.Views.{at_inside, by_bool}
+use Rattle.mdl_steps.proofs.Views.{by_bool}
 use Rattle.mdl_system.proofs.Deciding.{nat_told}
-use Rattle.mdl_system.proofs.MemberLemmas.{Contains-map, Contains-map_from, Contains-none}
+use Rattle.mdl_system.proofs.MemberLemmas.{Contains-none}
 use Rattle.mdl_steps_laws.specs.Headline.{HasNoted, HasPlace}
 use Rattle.mdl_steps_laws.specs.SessionSteps.{Changes, GivesUp, Makes}
-use Rattle.mdl_steps_laws.proofs.Keeping.{Kept, among_filter, filter_among, filter_passes, kept_both, kept_deeds, kept_filter, kept_noting, kept_push, kept_same, own_is, own_parts}
+use Rattle.mdl_steps_laws.proofs.Keeping.{Kept, among_filter, filter_among, kept_both, kept_deeds, kept_filter, kept_noting, kept_push, kept_same, own_parts}
 use Rattle.mdl_steps_laws.proofs.NotesKept.{noted_stands}
-use Rattle.mdl_steps_laws.proofs.OwnTickets.{each_in, own_among}
-use Rattle.mdl_steps_laws.proofs.TicketMembers.{found-passes, none-passes}
-
--- ---- lists
-
-index_of_at : {A : Type 0} → (xs : List A) (i : ℕ) (x : A) → get_elem? xs i ≡ some x → slice_index_or xs i x ≡ x
-index_of_at [] i x at = refl
-index_of_at (y ∷ ys) zero x at = some-injective y x at
-index_of_at (y ∷ ys) (suc i) x at = index_of_at ys i x at
-
-there_among : {A : Type 0} → (xs : List A) (i : ℕ) (x : A) → get_elem? xs i ≡ some x → Contains xs x
-there_among xs i x at = (i, at_inside xs i x at, index_of_at xs i x at)
+use Rattle.mdl_steps_laws.proofs.OwnTickets.{each_in}
 
 -- ---- what a step keeps
 
@@ -64,68 +50,31 @@ module _ (place number version : ℕ) where
 
   -- ---- to materialise
 
-  module _ (q : ℕ) (v : View) (slow : List Own) (joined : AreJoined q v slow) where
-    joined_back : (t : Own) → Contains (slow ++ but_at q v.fast) t → is_own place number t ≡ true
-        → (u : Own) × Contains (v.slow ++ v.fast) u × (is_own place number u ≡ true) × (u.noted ≡ Some version → t.noted ≡ Some version)
-    joined_back t among is = elim (Contains-append_cases slow (but_at q v.fast) t among) [
-      | inl here ↦
-          let from = each_in (λ (o : Own). (i : ℕ) × (u : Own) × (get_elem? (v.slow ++ v.fast) i ≡ some u) × IsAs o u) slow joined.among t here in
-          let mine = own_parts place number t is in (
-            from.1,
-            there_among (v.slow ++ v.fast) from.0 from.1 from.2,
-            own_is place number from.1 (sym from.3.1 ∙ mine.0) (sym from.3.0 ∙ mine.1),
-            λ e. from.3.2 ∙ e,
-          )
-      | inr away ↦ (t, Contains-append_right v.slow v.fast t (among_filter (λ (o : Own). not (o.place == q)) v.fast t away), is, λ e. e)
+  module _ (q : ℕ) (slow fast : List Own) where
+    joined_back : (t : Own) → Contains (interleaved slow (own_at q fast) ++ but_at q fast) t → Contains (slow ++ fast) t
+    joined_back t among = elim (Contains-append_cases (interleaved slow (own_at q fast)) (but_at q fast) t among) [
+      | inl here ↦ elim (Contains-interleaved_cases t slow (own_at q fast) here) [
+        | inl old ↦ Contains-append_left slow fast t old
+        | inr moved ↦ Contains-append_right slow fast t (among_filter (λ (o : Own). o.place == q) fast t moved)
+      ]
+      | inr away ↦ Contains-append_right slow fast t (among_filter (λ (o : Own). not (o.place == q)) fast t away)
     ]
 
-    -- one is found where one was
-    found_here : (q ≡ place) → (u : Own) → Contains (map (ticket_by v.number) (own_at q v.slow) ++ moved q v) (ticket_by v.number u) → is_own place number u ≡ true
-        → (t : Own) × Contains slow t × (is_own place number t ≡ true)
-    found_here here u among is = go (ticket_of v.number number (map (ticket_by v.number) (own_at q slow))) refl
-      where
-        passes : is_ticket v.number number (ticket_by v.number u) ≡ true
-        passes = subst (λ (n : ℕ). is_ticket v.number n (ticket_by v.number u) ≡ true) (own_parts place number u is).1 (is_itself (ticket_by v.number u))
-
-        go : (o : Option Ticket) → ticket_of v.number number (map (ticket_by v.number) (own_at q slow)) ≡ o → (t : Own) × Contains slow t × (is_own place number t ≡ true)
-        go None none =
-            absurd (none-passes v.number number (map (ticket_by v.number) (own_at q v.slow) ++ moved q v) (sym (joined.same number) ∙ none) (ticket_by v.number u) among passes)
-        go (Some x) found =
-            let listed = find-contains (is_ticket v.number number) (map (ticket_by v.number) (own_at q slow)) x found in
-            let from = Contains-map_from (ticket_by v.number) (own_at q slow) x listed in
-            let named = is_passed v.number number x (found-passes v.number number (map (ticket_by v.number) (own_at q slow)) x found) in
-            let there : from.0.place ≡ q = eqb-true from.0.place q (filter_passes (λ (o : Own). o.place == q) slow from.0 from.1) in
-            (from.0, own_among q slow from.0 from.1, own_is place number from.0 (there ∙ here) (ap (λ (y : Ticket). y.number) (sym from.2) ∙ named.1))
-
-    joined_ahead : (u : Own) → Contains (v.slow ++ v.fast) u → is_own place number u ≡ true → (t : Own) × Contains (slow ++ but_at q v.fast) t × (is_own place number t ≡ true)
-    joined_ahead u among is = elim (nat_told q place) [
-      | inl here ↦
-          let at : (u.place == q) ≡ true = eq-eqb u.place q ((own_parts place number u is).0 ∙ sym here) in
-          let show : List Own → List Ticket = map (ticket_by v.number) in
-          let t = found_here here u (elim (Contains-append_cases v.slow v.fast u among) [
-            | inl old ↦ Contains-append_left (map (ticket_by v.number) (own_at q v.slow)) (moved q v) (ticket_by v.number u)
-                (Contains-map (ticket_by v.number) (own_at q v.slow) u (filter_among (λ (o : Own). o.place == q) v.slow u old at))
-            | inr fast ↦ Contains-append_right (map (ticket_by v.number) (own_at q v.slow)) (moved q v) (ticket_by v.number u)
-                (Contains-map (ticket_by v.number) (own_at q v.fast) u (filter_among (λ (o : Own). o.place == q) v.fast u fast at))
-          ]) is in
-          (t.0, Contains-append_left slow (but_at q v.fast) t.0 t.1, t.2)
-      | inr away ↦
-          let mine = own_parts place number u is in
-          elim (Contains-append_cases v.slow v.fast u among) [
-            | inl old ↦
-                let at : Contains (own_at place v.slow) u = filter_among (λ (o : Own). o.place == place) v.slow u old (eq-eqb u.place place mine.0) in
-                (u, Contains-append_left slow (but_at q v.fast) u (own_among place slow u (subst (λ ts. Contains ts u) (sym (joined.elsewhere place (λ e. away (sym e)))) at)), is)
-            | inr fast ↦ (
-              u,
-              Contains-append_right slow (but_at q v.fast) u (filter_among (λ (o : Own). not (o.place == q)) v.fast u fast
-                  (by_bool (u.place == q) (λ e. absurd (away (sym (eqb-true u.place q e) ∙ mine.0))) (λ e. rw e refl))),
-              is,
-            )
-          ]
+    joined_ahead : (t : Own) → Contains (slow ++ fast) t → Contains (interleaved slow (own_at q fast) ++ but_at q fast) t
+    joined_ahead t among = elim (Contains-append_cases slow fast t among) [
+      | inl old ↦ Contains-append_left (interleaved slow (own_at q fast)) (but_at q fast) t (Contains-interleaved_slow t slow (own_at q fast) old)
+      | inr kept ↦ by_bool (t.place == q)
+          (λ here. Contains-append_left (interleaved slow (own_at q fast)) (but_at q fast) t
+          (Contains-interleaved_fast t slow (own_at q fast) (filter_among (λ (o : Own). o.place == q) fast t kept here)))
+          (λ away. Contains-append_right (interleaved slow (own_at q fast)) (but_at q fast) t
+          (filter_among (λ (o : Own). not (o.place == q)) fast t kept (rw away refl)))
     ]
 
-    kept_joined : Kept place number version (v.slow ++ v.fast) (slow ++ but_at q v.fast)
-    kept_joined = record { back = joined_back; ahead = joined_ahead }
+    kept_joined : Kept place number version (slow ++ fast) (interleaved slow (own_at q fast) ++ but_at q fast)
+    kept_joined = record {
+      back = λ t among is. (t, joined_back t among, is, λ e. e);
+      ahead = λ t among is. (t, joined_ahead t among, is);
+    }
 
 -- ---- the kinds of step
 
@@ -258,7 +207,7 @@ module _ (s : State Slot View) (r : Rule s) (place : ℕ) (has : HasPlace s plac
         (λ miss. rw miss refl)) m.0.fast);
     reads = λ x among. among;
   })
-  made_keeps st found m′ (Makes.Materialises q slow weight h may at play) spares = via m′ _ (play.1 q at) (record {
-    tickets = kept_joined place number version q m.0 slow may.joined;
+  made_keeps st found m′ (Makes.Materialises q weight h may at play) spares = via m′ _ (play.1 q at) (record {
+    tickets = kept_joined place number version q m.0.slow m.0.fast;
     reads = λ x among. among;
   })

@@ -91,7 +91,7 @@ IsWhole s left act {st} {m} {found} (Makes.GrantsFast place mode noted _ _) =
     × ((one : ℕ) × MayGrantFast place mode noted one m × Swaps st.first (st.first + one) found left act)
 IsWhole s left act {st} {m} {found} (Makes.ReleasesFast place number _ _) =
     HasPlace s place × (0 < m.0.number) × ((one : ℕ) × MayReleaseFast place number one m × Writes ((found + (2 ^ 64 - one)) % 2 ^ 64) left act)
-IsWhole s left act {st} {m} {found} (Makes.Materialises place _ weight _ _ _ _) =
+IsWhole s left act {st} {m} {found} (Makes.Materialises place weight _ _ _ _) =
     HasPlace s place × Writes ((found + (2 ^ 64 - weight)) % 2 ^ 64) left act
 
 -- and of what happens to the table: what a seat has in hand after a step shows which slot it took or gave back

@@ -12,7 +12,6 @@ use Rattle.mdl_book.specs.declared.ticket.Ticket.{Ticket}
 use Rattle.mdl_steps.specs.declared.slot.Slot.{Slot}
 use Rattle.mdl_steps.specs.declared.step_kind.StepKind.{StepKind}
 use Rattle.mdl_steps.specs.declared.view.LatchRecord.{LatchRecord}
-use Rattle.mdl_steps.specs.declared.view.Own.{Own}
 use Rattle.mdl_steps.specs.declared.view.View.{View}
 use Rattle.mdl_steps.specs.Cells.{ticket_by}
 use Rattle.mdl_steps.specs.FastPlays.{granted_fast, released_fast, materialised, met_word_by, MayGrantFast, MayReleaseFast, MayMaterialise}
@@ -60,8 +59,8 @@ ReleasingFastReleases =
 abbrev pub MaterialisingRests : Type 0
 MaterialisingRests =
     (s : State Slot View) → Rule s → (keys : List KeyName) → AreKeysOf s keys → (i : ℕ) (key : KeyName) → get_elem? keys i ≡ some key →
-    (id : ℕ) (me : Mine) → get_elem? s.views id ≡ some me.0 → (slow : List Own) (weight : ℕ) (h : LatchRecord) → MayMaterialise (suc i) slow weight h me →
-    Rests s (after_word s (suc i) ((word_at s (suc i) + (2 ^ 64 - weight)) % 2 ^ 64) id (materialised (suc i) slow (word_at s (suc i)) me))
+    (id : ℕ) (me : Mine) → get_elem? s.views id ≡ some me.0 → (weight : ℕ) (h : LatchRecord) → MayMaterialise (suc i) weight h me →
+    Rests s (after_word s (suc i) ((word_at s (suc i) + (2 ^ 64 - weight)) % 2 ^ 64) id (materialised (suc i) (word_at s (suc i)) me))
 
 -- to read the word of a place without its latch, or to find there another than a fast grant expects, is to do nothing
 abbrev pub ReadingUnlatchedRests : Type 0

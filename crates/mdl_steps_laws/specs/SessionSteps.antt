@@ -13,7 +13,6 @@ use Rattle.mdl_steps.specs.declared.view.Ask.{Ask}
 use Rattle.mdl_steps.specs.declared.view.LatchRecord.{LatchRecord}
 use Rattle.mdl_steps.specs.declared.view.Keys.{Keys}
 use Rattle.mdl_steps.specs.declared.view.Known.{Known}
-use Rattle.mdl_steps.specs.declared.view.Own.{Own}
 use Rattle.mdl_steps.specs.declared.view.View.{View}
 use Rattle.mdl_steps.specs.FastPlays.{MayMaterialise, grants_fast, materialises, reads_word_unlatched, releases_fast}
 use Rattle.mdl_steps.specs.Layout.{latch_word, lock_word, version_word, wait_word}
@@ -54,8 +53,8 @@ pub data Makes (st : Step Slot) (m : Mine) (found : ℕ) (m′ : Mine) : Type 0 
   ReadsWordUnlatched : (place : ℕ) → st.word ≡ lock_word place → reads_word_unlatched st m found m′ → Makes st m found m′
   GrantsFast : (place : ℕ) (mode : Mode) (noted : Option ℕ) → st.word ≡ lock_word place → grants_fast mode noted st m found m′ → Makes st m found m′
   ReleasesFast : (place number : ℕ) → st.word ≡ lock_word place → releases_fast number st m found m′ → Makes st m found m′
-  Materialises : (place : ℕ) (slow : List Own) (weight : ℕ) (h : LatchRecord) → MayMaterialise place slow weight h m →
-      st.word ≡ lock_word place → materialises slow st m found m′ → Makes st m found m′
+  Materialises : (place weight : ℕ) (h : LatchRecord) → MayMaterialise place weight h m →
+      st.word ≡ lock_word place → materialises st m found m′ → Makes st m found m′
 
 -- what happens to the table: a seat makes a step, or the first seat gives a number that it drew to one more seat
 pub data Turn (s t : State Slot View) : Type 0 where

@@ -15,6 +15,7 @@ pub mod Losing
 pub mod Covered
 pub mod Weaker
 pub mod OwnGrants
+pub mod Materialising
 pub mod Uniting
 pub mod Numbers
 pub mod Reading

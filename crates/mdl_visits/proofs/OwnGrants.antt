@@ -1,7 +1,5 @@
 -- Tickets of a session come to be the last that are granted in a book, and are taken out of it again.
-use Rattle.std.proofs.Common.{◌≡◌, ℕ, suc, ◌+◌, ◌*◌, ◌^◌, ◌<◌, ◌≤◌, ◌&&◌, Bool, true, false, List, [], ◌∷◌, ◌++◌, map, take, drop, length, get_or, Some, None, Result, Err, refl, sym, ap, ◌∙◌, subst, inl, inr, arith, append_assoc, append-nil}
-use Rattle.std.specs.Prelude.{◌⊎◌}
-use Rattle.std.specs.List.{list_all}
+use Rattle.std.proofs.Common.{◌≡◌, ℕ, ◌+◌, ◌^◌, ◌<◌, ◌≤◌, true, false, List, [], ◌∷◌, ◌++◌, map, take, drop, length, get_or, Some, None, Err, refl, sym, ap, ◌∙◌, subst, inl, inr, arith, append_assoc, append-nil}
 use Rattle.std.proofs.lemmas.Bool.{and_from, eq-eqb}
 use Rattle.std.proofs.lemmas.List.{drop_more, length-append, length-take-le, map_more, take-append-drop}
 use Rattle.std.proofs.lemmas.List.Folds.{list_all-append}
@@ -14,7 +12,7 @@ use Rattle.mdl_book.specs.declared.book_error.BookError.{BookError}
 use Rattle.mdl_book.specs.declared.book_error.BookError.TheVariants as fault
 use Rattle.mdl_book.specs.declared.book_view.BookView.{BookView}
 use Rattle.mdl_book.specs.declared.ticket.Ticket.{Ticket}
-use Rattle.mdl_book.specs.Books.{grant_fault, granting, lock_kind, removing, ticket_count}
+use Rattle.mdl_book.specs.Books.{grant_fault, granting, lock_kind, removing}
 use Rattle.mdl_book.specs.FastTickets.{is_of_class, may_stand}
 use Rattle.mdl_book.specs.Granting.{is_compatible, stands_beside}
 use Rattle.mdl_book.specs.Tickets.{is_ticket, ticket_of, without}
@@ -25,11 +23,10 @@ use Rattle.mdl_steps.specs.FastPlays.{weight_of}
 use Rattle.mdl_steps.specs.Limits.{most_fast}
 use Rattle.mdl_steps.specs.Lists.{Each}
 use Rattle.mdl_steps.specs.SeatStates.{SeatState}
-use Rattle.mdl_steps.specs.Seats.{written}
 use Rattle.mdl_steps.proofs.FastLists.{count-append, length_mapped, one_counted}
 use Rattle.mdl_steps.proofs.Tickets.{without-hit, without-miss}
 use Rattle.mdl_steps.proofs.Views.{by_bool}
-use Rattle.mdl_visits.specs.Materialisings.{AreUngranted, CanStand, LacksRoomIn, Stand, granting_own}
+use Rattle.mdl_visits.specs.Materialisings.{AreUngranted, CanStand, LacksRoomIn, Stand, granting_own, with_book}
 use Rattle.mdl_visits.specs.Visits.{HasInHand}
 use Rattle.mdl_visits.proofs.Trying.{refusal}
 
@@ -64,9 +61,9 @@ module _ (session : ℕ) where
       → granting (ticket_by session (get_or tickets i d)) (granting_own session (take i tickets) book) ≡ granting_own session (take (i + 1) tickets) book
   granting_more tickets i d book inside = λ k. record book {
     granted = (
-      append_assoc book.granted (map (ticket_by session) (take i tickets)) (ticket_by session (get_or tickets i d) ∷ [])
-      ∙ ap (λ (ts : List Ticket). book.granted ++ ts) (sym (map_more (ticket_by session) tickets i d inside))
-    ) k;
+        append_assoc book.granted (map (ticket_by session) (take i tickets)) (ticket_by session (get_or tickets i d) ∷ [])
+        ∙ ap (λ (ts : List Ticket). book.granted ++ ts) (sym (map_more (ticket_by session) tickets i d inside))
+        ) k;
   }
 
   -- ---- the first of them is taken out
@@ -75,17 +72,21 @@ module _ (session : ℕ) where
     itself : is_ticket session t.number (ticket_by session t) ≡ true
     itself = and_from _ _ (eq-eqb session session refl) (eq-eqb t.number t.number refl)
 
-    found_first : (granted : List Ticket) → ticket_of session t.number granted ≡ None → ticket_of session t.number (granted ++ ticket_by session t ∷ more) ≡ Some (ticket_by session t)
+    found_first : (granted : List Ticket) → ticket_of session t.number granted ≡ None
+        → ticket_of session t.number (granted ++ ticket_by session t ∷ more) ≡ Some (ticket_by session t)
     found_first [] none = rw itself refl
     found_first (x ∷ xs) none = by_bool (is_ticket session t.number x)
         (λ hit. (let found = rw hit at none in absurd (cc)))
         (λ miss. rw miss (found_first xs (rw miss at none)))
 
-    without_first : (granted : List Ticket) → ticket_of session t.number granted ≡ None → without session t.number (granted ++ ticket_by session t ∷ more) ≡ granted ++ more
+    without_first : (granted : List Ticket) → ticket_of session t.number granted ≡ None
+        → without session t.number (granted ++ ticket_by session t ∷ more) ≡ granted ++ more
     without_first [] none = without-hit session t.number (ticket_by session t) more itself
     without_first (x ∷ xs) none = by_bool (is_ticket session t.number x)
         (λ hit. (let found = rw hit at none in absurd (cc)))
-        (λ miss. without-miss session t.number x (xs ++ ticket_by session t ∷ more) miss ∙ ap (λ (ys : List Ticket). x ∷ ys) (without_first xs (rw miss at none)))
+        (λ miss.
+        without-miss session t.number x (xs ++ ticket_by session t ∷ more) miss
+        ∙ ap (λ (ys : List Ticket). x ∷ ys) (without_first xs (rw miss at none)))
 
   module _ (tickets : List Own) (i : ℕ) (d : Own) (book : BookView) (inside : i < length tickets) (none : AreUngranted session tickets book) where
     abbrev t : Own
@@ -128,19 +129,20 @@ module _ (T : Type 0) (session : ℕ) (tickets : List Own) (i : ℕ) (d : Own) (
       (beside_own (lock_kind book) session ticket before)
 
   -- there is no room for it
-  pub no_room_then : (cause : BookError) → Refuses {T = T} (grant_fault (ticket_by session ticket) 0 (granting_own session before book)) fault.OutOfMemory (Err cause)
+  pub no_room_then : (cause : BookError)
+      → Refuses {T = T} (grant_fault (ticket_by session ticket) 0 (granting_own session before book)) fault.OutOfMemory (Err cause)
       → LacksRoomIn book (length tickets) cause
   no_room_then cause refuses = elim (refusal T (ticket_by session ticket) 0 (granting_own session before book) cause stands refuses) [
     | inl memory ↦ inl memory
     | inr full ↦ inr (
       full.0,
       (
-        let many = full.1 in
-        let granted = length-append book.granted (map (ticket_by session) before) in
-        let mapped = length_mapped (ticket_by session) before in
-        let few = length-take-le i tickets (omega arith) in
-        omega arith
-      ),
+          let many = full.1 in
+          let granted = length-append book.granted (map (ticket_by session) before) in
+          let mapped = length_mapped (ticket_by session) before in
+          let few = length-take-le i tickets (omega arith) in
+          omega arith
+          ),
     )
   ]
 
@@ -171,7 +173,8 @@ module _ (kind : Kind) (session : ℕ) (tickets : List Own) (i : ℕ) (d : Own) 
   abbrev mode_weight : Own → ℕ
   mode_weight t = encode (one_in 0 kind t.mode) (one_in 1 kind t.mode) (one_in 2 kind t.mode) false false
 
-  pub weight-more : weight_of kind (map (ticket_by session) (take (i + 1) tickets)) ≡ weight_of kind (map (ticket_by session) (take i tickets)) + mode_weight (get_or tickets i d)
+  pub weight-more : weight_of kind (map (ticket_by session) (take (i + 1) tickets))
+      ≡ weight_of kind (map (ticket_by session) (take i tickets)) + mode_weight (get_or tickets i d)
   weight-more = ap (weight_of kind) (map_more (ticket_by session) tickets i d inside) ∙ weight-push kind (so_far i) (ticket_by session (get_or tickets i d))
 
   -- there is room for it in a word
@@ -187,13 +190,13 @@ module _ (kind : Kind) (session : ℕ) (tickets : List Own) (i : ℕ) (d : Own) 
 
 -- the first so many stand there once they were written
 pub first_stand : (place : ℕ) (tickets : List Own) (i : ℕ) (book : BookView) (s w : SeatState) → CanStand place tickets book s
-    → w ≡ record s { me = written place (granting_own s.me.0.number (take i tickets) book) s.me } → Stand place (take i tickets) book w
+    → w ≡ with_book place (granting_own s.me.0.number (take i tickets) book) s → Stand place (take i tickets) book w
 first_stand place tickets i book s w can is =
     subst (Stand place (take i tickets) book) (sym is)
     (record { in_hand = refl; ungranted = each_taken (λ (t : Own). ticket_of s.me.0.number t.number book.granted ≡ None) i tickets can.ungranted })
 
 -- the book that was in hand was written
-pub none_written : (place : ℕ) (book : BookView) (s : SeatState) → HasInHand place book s → record s { me = written place book s.me } ≡ s
+pub none_written : (place : ℕ) (book : BookView) (s : SeatState) → HasInHand place book s → with_book place book s ≡ s
 none_written place book s in_hand = λ i. record s { me = (s.me.0, sym in_hand i) }
 
 -- what stands where no ticket does

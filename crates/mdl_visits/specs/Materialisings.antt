@@ -1,6 +1,6 @@
--- How a session's fast tickets at a place become slow ones: they are granted in the book of the place, and the lock's word no longer counts them. After
--- MySQL 5.7: `MDL_context::materialize_fast_path_locks` of sql/mdl.cc.
-use Rattle.std.specs.Prelude.{◌≡◌, ◌≢◌, ℕ, ◌+◌, ◌<◌, true, List, [], ◌++◌, length, map, Some, None, ◌⊎◌}
+-- How a session's fast tickets at a place become slow ones: they are granted in the book of the place, and the lock's word no longer counts them.
+-- After MySQL 5.7: `MDL_context::materialize_fast_path_locks` of sql/mdl.cc.
+use Rattle.std.specs.Prelude.{◌≡◌, ◌≢◌, ℕ, ◌+◌, ◌<◌, true, List, [], ◌++◌, map, Some, None, ◌⊎◌}
 use Rattle.mdl_book.specs.declared.book_error.BookError.{BookError}
 use Rattle.mdl_book.specs.declared.book_error.BookError.TheVariants as fault
 use Rattle.mdl_book.specs.declared.book_view.BookView.{BookView}
@@ -20,6 +20,7 @@ use Rattle.mdl_steps.specs.Layout.{lock_word}
 use Rattle.mdl_steps.specs.Lists.{Each}
 use Rattle.mdl_steps.specs.Plays.{Mine}
 use Rattle.mdl_steps.specs.SeatStates.{AtItsTable, SeatState}
+use Rattle.mdl_steps.specs.Seats.{written}
 use Rattle.mdl_visits.specs.Visits.{HasInHand, HasStep, and_made, deeds_of}
 
 -- ---- what the session has then
@@ -34,7 +35,7 @@ pub record Materialises (place : ℕ) (m m′ : Mine) : Type 0 where
   pub now : m′ ≡ and_made made (all_slow place m.0, m.1)
   pub did : deeds_of made ≡ []
 
--- the step on the lock's word by which the word no longer counts these tickets, under the latch: by its record they are granted in the book, the last of all
+-- the step by which the lock's word no longer counts these tickets: by the record of the latch they are granted in the book, behind all others
 pub record MeetsMaterialised (place : ℕ) (tickets : List Ticket) (e : Met) : Type 0 where
   pub kind : e.kind ≡ Materialise
   pub word : e.word ≡ lock_word place
@@ -61,6 +62,10 @@ abbrev pub LacksRoomFor : ℕ → ℕ → BookError → SeatState → SeatState 
 LacksRoomFor n place cause s s′ = (cause ≡ fault.OutOfMemory) ⊎ ((cause ≡ fault.Full) × HasStep s s′ (MeetsFullFor n place))
 
 -- ---- the book in hand
+
+-- the session has this book of a place in hand instead
+abbrev pub with_book : ℕ → BookView → SeatState → SeatState
+with_book place book s = record s { me = written place book s.me }
 
 -- a book with these tickets of a session granted last
 abbrev pub granting_own : ℕ → List Own → BookView → BookView

@@ -6,8 +6,7 @@ ghost use Rattle.mdl_steps.specs.FastPlays.{moved, weight_of};
 ghost use Rattle.mdl_steps.specs.Limits.{most_fast};
 ghost use Rattle.mdl_steps.specs.Lists.{Once};
 ghost use Rattle.mdl_steps.specs.SeatStates.{AtItsTable};
-ghost use Rattle.mdl_steps.specs.Seats.{written};
-ghost use Rattle.mdl_visits.specs.Materialisings.{CanStand, LacksRoomFor, LacksRoomIn, Stand, WasMaterialised, granting_own};
+ghost use Rattle.mdl_visits.specs.Materialisings.{CanStand, LacksRoomFor, LacksRoomIn, Stand, WasMaterialised, granting_own, with_book};
 ghost use Rattle.mdl_visits.specs.Visits.{KnowsKind, MayVisit, Visits};
 ghost use Rattle.mdl_word.specs.Words.{encode, one_in};
 
@@ -57,9 +56,10 @@ pub fn materialise<R: Wait>(
 fn write_gains(seat: &mut TableSeat, latch: &Latched, tickets: &[Own]) -> Result<(), BookError>
     requires can { (book : BookView) × CanStand latch.now.place tickets.now book seat.old }
     ensures written { (book : BookView) → CanStand latch.now.place tickets.now book seat.old
-        → OnOk result (seat.new ≡ record seat.old { me = written latch.now.place (granting_own seat.old.me.0.number tickets.now book) seat.old.me }) }
+        → OnOk result (seat.new ≡ with_book latch.now.place (granting_own seat.old.me.0.number tickets.now book) seat.old) }
     ensures unchanged { OnErr result (seat.new ≡ seat.old) }
-    ensures refused { (book : BookView) → CanStand latch.now.place tickets.now book seat.old → IfErr result (LacksRoomIn book (length tickets.now)) }
+    ensures refused { (book : BookView) → CanStand latch.now.place tickets.now book seat.old
+        → IfErr result (LacksRoomIn book (length tickets.now)) }
 {
     for (at, ticket) in tickets.iter().enumerate() {
         if let Err(cause) = seat.write_gain(latch, ticket.number, ticket.mode, NO_FAST_TICKETS) {
@@ -73,8 +73,7 @@ fn write_gains(seat: &mut TableSeat, latch: &Latched, tickets: &[Own]) -> Result
 // Takes these tickets of the session, which are the last ones granted in the book in hand, out again. It takes no memory.
 fn write_losses(seat: &mut TableSeat, latch: &Latched, tickets: &[Own])
     requires stand { (book : BookView) × Stand latch.now.place tickets.now book seat.old }
-    ensures written { (book : BookView) → Stand latch.now.place tickets.now book seat.old
-        → seat.new ≡ record seat.old { me = written latch.now.place book seat.old.me } }
+    ensures written { (book : BookView) → Stand latch.now.place tickets.now book seat.old → seat.new ≡ with_book latch.now.place book seat.old }
 {
     for ticket in tickets {
         let _gone = seat.write_loss(latch, ticket.number);

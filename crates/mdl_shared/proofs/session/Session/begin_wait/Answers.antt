@@ -11,7 +11,7 @@ use Rattle.mdl_shared.specs.SessionViews.{Lists, SessionView, lists_seen}
 use Rattle.mdl_shared.specs.TicketLists.{HasRoom}
 use Rattle.mdl_steps.specs.declared.deed.Deed.TheVariants.{Gain}
 use Rattle.mdl_shared.proofs.MemberFacts.{no-fast}
-use Rattle.mdl_shared.proofs.Members.{done-nothing, done-order, fast-same, fault-seen, kept, lists-done, slow-done, slow-same, visited}
+use Rattle.mdl_shared.proofs.Members.{done-nothing, done-order, fault-seen, kept, lists-done, lists-visited, visited}
 use Rattle.mdl_shared.proofs.Props.{member}
 use Rattle.mdl_shared.proofs.Refusals.{own-shows}
 use Rattle.mdl_shared.proofs.SameSpace.{same-stays}
@@ -59,10 +59,11 @@ begin_wait-requires g c =
 pub invariant_of-member-in-Err-1 : goal.invariant_of-member-in-Err-1
 invariant_of-member-in-Err-1 g c =
     let m = c.self.inside.member in
-    let done = visited m.seat c.begin_wait.new.seat m.sessions refl c.in-Err.ensures.unchanged in
+    let visit = c.in-Err.ensures.unchanged in
+    let done = visited m.seat c.begin_wait.new.seat m.sessions refl visit in
     record {
       lawful = ∣ still-member done (member m) ∣₁;
-      lists = lists-done m done (slow-same m c.reserve.ensures.same.0) (fast-same m c.reserve.ensures.same.1);
+      lists = lists-done m c.args.place [] (lists-visited visit) c.reserve.ensures.same.0 c.reserve.ensures.same.1;
       room = unasked m (may-wish m c.args.place c.in_ok-kind.kind c.args.mode c.in_ok-kind.ensures).wish.idle _;
     }
 
@@ -92,12 +93,13 @@ pub invariant_of-member-in-Ok-Granted : goal.invariant_of-member-in-Ok-Granted
 invariant_of-member-in-Ok-Granted g c =
     let m = c.self.inside.member in
     let may = may-wish m c.args.place c.in_ok-kind.kind c.args.mode c.in_ok-kind.ensures in
-    let done = gained-by m c.begin_wait.new.seat c.args.place c.args.mode (c.begin_wait.ensures.granted (c.in-Ok-Granted.is ∙ ap Ok c.in-Ok-Granted.field-0-is)).0 in
+    let visit = (c.begin_wait.ensures.granted (c.in-Ok-Granted.is ∙ ap Ok c.in-Ok-Granted.field-0-is)).0 in
+    let done = gained-by m c.begin_wait.new.seat c.args.place c.args.mode visit in
     record {
       lawful = ∣ kept (member m) (done-order done (member m) (inl may.wish.idle)) (begin-granted (member m) c.args.place c.args.mode may.clear (ap (λ (l : Lists). l.next) m.lists) done) ∣₁;
-      lists = lists-done m done
-          (slow-done m c.args.place (Gain m.next c.args.mode ∷ []) (gained-seen c.args.place m.next c.args.mode m.tickets.slow c.reserve.new.self.slow c.push_reserved.new.self.slow c.reserve.ensures.same.0 c.push_reserved.ensures.gained))
-          (fast-same m (c.push_reserved.ensures.same ∙ c.reserve.ensures.same.1));
+      lists = lists-done m c.args.place (Gain m.next c.args.mode ∷ []) (lists-visited visit)
+          (gained-seen c.args.place m.next c.args.mode m.tickets.slow c.reserve.new.self.slow c.push_reserved.new.self.slow c.reserve.ensures.same.0 c.push_reserved.ensures.gained)
+          (c.push_reserved.ensures.same ∙ c.reserve.ensures.same.1);
       room = unasked m may.wish.idle _;
     }
 

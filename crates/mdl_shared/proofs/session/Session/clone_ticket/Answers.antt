@@ -10,7 +10,7 @@ use Rattle.mdl_shared.proofs.CloneCalls.{clone-joins, clone-refused, clone-shows
 use Rattle.mdl_shared.proofs.Faults.{just-done, just-refused}
 use Rattle.mdl_shared.proofs.Fitting.{fit_there}
 use Rattle.mdl_shared.proofs.HeldTickets.{holds-ticket}
-use Rattle.mdl_shared.proofs.Members.{done-nothing, done-order, fast-same, fault-seen, kept, lists-done, slow-done, slow-same, visited}
+use Rattle.mdl_shared.proofs.Members.{done-nothing, done-order, fault-seen, kept, lists-done, lists-visited, visited}
 use Rattle.mdl_shared.proofs.Props.{member}
 use Rattle.mdl_shared.proofs.Refusals.{own-shows}
 use Rattle.mdl_shared.proofs.SameSpace.{same-stays}
@@ -68,10 +68,11 @@ invariant_of-member-in-Err-1 g c =
     let held = holds-ticket m c.args.id t c.in_ok-held.ensures.found in
     let clear = fault-seen m (Clone_ticket m.seat.me.0.number c.args.id c.args.mode) None (just-done _ _ c.in_ok-held.ensures.just) in
     let may = clone-passed m.seat.me.0.asks c.args.mode m.seat.me.0.known m.seat.me.0.next (numbered c.args.id (tickets_seen m.seat.me.0)) t held.its clear in
-    let done = visited m.seat c.clone_ticket.new.seat m.sessions refl c.in-Err.ensures.unchanged in
+    let visit = c.in-Err.ensures.unchanged in
+    let done = visited m.seat c.clone_ticket.new.seat m.sessions refl visit in
     record {
       lawful = ∣ still-member done (member m) ∣₁;
-      lists = lists-done m done (slow-same m c.reserve.ensures.same.0) (fast-same m c.reserve.ensures.same.1);
+      lists = lists-done m t.place [] (lists-visited visit) c.reserve.ensures.same.0 c.reserve.ensures.same.1;
       room = unasked m may.0 _;
     }
 
@@ -105,12 +106,13 @@ invariant_of-member-2 g c =
     let held = holds-ticket m c.args.id t c.in_ok-held.ensures.found in
     let clear = fault-seen m (Clone_ticket m.seat.me.0.number c.args.id c.args.mode) None (just-done _ _ c.in_ok-held.ensures.just) in
     let may = clone-passed m.seat.me.0.asks c.args.mode m.seat.me.0.known m.seat.me.0.next (numbered c.args.id (tickets_seen m.seat.me.0)) t held.its clear in
-    let done = gained-by m c.clone_ticket.new.seat t.place c.args.mode c.in_default.ensures.cloned in
+    let visit = c.in_default.ensures.cloned in
+    let done = gained-by m c.clone_ticket.new.seat t.place c.args.mode visit in
     record {
       lawful = ∣ kept is (done-order done is (inl may.0)) (clone-joins is c.args.id c.args.mode clear t held.its (ap (λ (l : Lists). l.next) m.lists) done) ∣₁;
-      lists = lists-done m done
-          (slow-done m t.place (Gain m.next c.args.mode ∷ []) (gained-seen t.place m.next c.args.mode m.tickets.slow c.reserve.new.self.slow c.push_reserved.new.self.slow c.reserve.ensures.same.0 c.push_reserved.ensures.gained))
-          (fast-same m (c.push_reserved.ensures.same ∙ c.reserve.ensures.same.1));
+      lists = lists-done m t.place (Gain m.next c.args.mode ∷ []) (lists-visited visit)
+          (gained-seen t.place m.next c.args.mode m.tickets.slow c.reserve.new.self.slow c.push_reserved.new.self.slow c.reserve.ensures.same.0 c.push_reserved.ensures.gained)
+          (c.push_reserved.ensures.same ∙ c.reserve.ensures.same.1);
       room = unasked m may.0 _;
     }
 

@@ -9,7 +9,7 @@ use Rattle.mdl_shared.proofs.MemberFacts.{alters-slow, spared}
 use Rattle.mdl_shared.proofs.Faults.{just-done, just-refused}
 use Rattle.mdl_shared.proofs.Fitting.{fit_there}
 use Rattle.mdl_shared.proofs.HeldTickets.{holds-ticket}
-use Rattle.mdl_shared.proofs.Members.{done-order, fast-same, fault-seen, kept, lists-done, rescheduled, room-kept, slow-done, unnumbered}
+use Rattle.mdl_shared.proofs.Members.{done-order, fault-seen, kept, lists-done, lists-rescheduled, rescheduled, room-kept, unnumbered}
 use Rattle.mdl_shared.proofs.Props.{member}
 use Rattle.mdl_shared.proofs.Refusals.{own-shows}
 use Rattle.mdl_shared.proofs.TicketCalls.{downgrade-unfit, downgraded}
@@ -57,11 +57,12 @@ invariant_of-member g c =
     let held = holds-ticket m c.args.id t c.in_ok-held.ensures.found in
     let clear = fault-seen m (Downgrade m.seat.me.0.number c.args.id c.args.mode) None (just-done _ _ c.in_ok-held.ensures.just) in
     let did = c.downgrade.ensures in
-    let done = rescheduled m.seat c.downgrade.new.seat m.sessions (alters-slow is t.place t.number c.args.mode t held.slow) did.downgraded in
+    let visit = did.downgraded in
+    let done = rescheduled m.seat c.downgrade.new.seat m.sessions (alters-slow is t.place t.number c.args.mode t held.slow) visit in
     record {
       lawful = ∣ kept is (done-order done is (inr refl))
           (downgraded m.seat c.downgrade.new.seat m.sessions c.args.id c.args.mode t is held clear did.downgraded did.step).0 ∣₁;
-      lists = lists-done m done (slow-done m t.place (Alter t.number c.args.mode ∷ []) c.set_mode.ensures.changed.0) (fast-same m c.set_mode.ensures.changed.1);
+      lists = lists-done m t.place (Alter t.number c.args.mode ∷ []) (lists-rescheduled visit) c.set_mode.ensures.changed.0 c.set_mode.ensures.changed.1;
       room = λ ask asks. room-kept m.tickets c.set_mode.new.self c.set_mode.ensures.room (m.room ask asks);
     }
 

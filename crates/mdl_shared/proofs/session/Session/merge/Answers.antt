@@ -7,7 +7,7 @@ use Rattle.mdl_steps.specs.declared.deed.Deed.TheVariants.{Alter, Lose}
 use Rattle.mdl_shared.proofs.MemberFacts.{merges-slow, spared}
 use Rattle.mdl_shared.proofs.Faults.{just-done, just-refused}
 use Rattle.mdl_shared.proofs.HeldTickets.{holds-ticket}
-use Rattle.mdl_shared.proofs.Members.{done-order, fast-struck, fault-seen, kept, lists-done, room-kept, slow-done, unnumbered, visited}
+use Rattle.mdl_shared.proofs.Members.{done-order, fast-struck, fault-seen, kept, lists-done, lists-visited, room-kept, unnumbered, visited}
 use Rattle.mdl_shared.proofs.Props.{member}
 use Rattle.mdl_shared.proofs.Refusals.{own-shows}
 use Rattle.mdl_shared.proofs.TicketCalls.{merge-unfit, merged}
@@ -52,12 +52,13 @@ invariant_of-member g c =
     let one = holds-ticket m c.args.old t c.in_ok-kept.ensures.found.0 in
     let other = holds-ticket m c.args.new gone c.in_ok-kept.ensures.found.1 in
     let clear = fault-seen m (Merge m.seat.me.0.number c.args.old c.args.new) None (just-done _ _ c.in_ok-kept.ensures.just) in
-    let done = visited m.seat c.merge.new.seat m.sessions (merges-slow is t.place t.number gone.number gone.mode t gone one.slow other.slow) c.merge.ensures.merged in
+    let visit = c.merge.ensures.merged in
+    let done = visited m.seat c.merge.new.seat m.sessions (merges-slow is t.place t.number gone.number gone.mode t gone one.slow other.slow) visit in
     record {
       lawful = ∣ kept is (done-order done is (inr refl))
           (merged m.seat c.merge.new.seat m.sessions c.args.old c.args.new t gone is one other clear c.merge.ensures.merged c.merge.ensures.step).0 ∣₁;
-      lists = lists-done m done
-          (slow-done m t.place (Alter t.number gone.mode ∷ Lose gone.number ∷ []) (c.strike.ensures.struck.0 ∙ ap (without_at t.place gone.number) c.set_mode.ensures.changed.0))
+      lists = lists-done m t.place (Alter t.number gone.mode ∷ Lose gone.number ∷ []) (lists-visited visit)
+          (c.strike.ensures.struck.0 ∙ ap (without_at t.place gone.number) c.set_mode.ensures.changed.0)
           (fast-struck m t.place gone.number (spared is gone.number gone other.slow) (c.strike.ensures.struck.1 ∙ ap (without_at t.place gone.number) c.set_mode.ensures.changed.1));
       room = λ ask asks. room-kept c.set_mode.new.self c.strike.new.self c.strike.ensures.room (room-kept m.tickets c.set_mode.new.self c.set_mode.ensures.room (m.room ask asks));
     }

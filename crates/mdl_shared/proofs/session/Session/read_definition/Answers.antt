@@ -1,12 +1,14 @@
 -- What stands under a ticket is read, and noted under each ticket of its place.
-use Rattle.std.proofs.Common.{false, inr, is_some, refl, ap, ◌∙◌}
+use Rattle.std.proofs.Common.{[], ap, false, inr, is_some, refl, ◌∙◌}
 use Rattle.mdl_calls.specs.declared.space_error.SpaceError.TheVariants.{NotHeld}
 use Rattle.mdl_calls.specs.Words.{Read_definition}
 use Rattle.mdl_visits.proofs.Doing.{does_learns}
 use Rattle.mdl_shared.specs.Passes.{view_of}
 use Rattle.mdl_shared.specs.SessionViews.{tickets_seen}
+use Rattle.mdl_visits.specs.Visits.{Visits}
+use Rattle.mdl_steps.specs.SeatStates.{AtItsTable}
 use Rattle.mdl_shared.proofs.MemberFacts.{held-slow, may-visit, slow-there, speaks, ticket-known, unwaited}
-use Rattle.mdl_shared.proofs.Members.{done-nothing, done-order, fast-same, held-seen, kept, lists-done, room-kept, slow-same, visited}
+use Rattle.mdl_shared.proofs.Members.{done-nothing, done-order, held-seen, kept, lists-done, lists-visited, room-kept, visited}
 use Rattle.mdl_shared.proofs.Props.{member}
 use Rattle.mdl_shared.proofs.ReadCalls.{lists-noted, noted-by, noted-order, read-joins, read-shows, unread-joins}
 use Rattle.mdl_shared.proofs.SameSpace.{refused, same-stays}
@@ -36,10 +38,11 @@ invariant_of-member g c =
     let is = member m in
     let its = held-seen m c.args.id c.get.result c.get.ensures.found ∙ c.in-Some.is in
     let did = c.in_default-read_definition.ensures in
-    let done = visited m.seat c.read_definition.new.seat m.sessions refl (did.quiet.0, did.unchanged) in
+    let visit : AtItsTable m.seat c.read_definition.new.seat (Visits c.in-Some.held.place []) = (did.quiet.0, did.unchanged) in
+    let done = visited m.seat c.read_definition.new.seat m.sessions refl visit in
     record {
       lawful = ∣ kept is (done-order done is (inr refl)) (unread-joins is c.args.id c.in-Some.held its (done-nothing done)) ∣₁;
-      lists = lists-done m done (slow-same m refl) (fast-same m refl);
+      lists = lists-done m c.in-Some.held.place [] (lists-visited visit) refl refl;
       room = m.room;
     }
 

@@ -8,7 +8,7 @@ use Rattle.mdl_shared.specs.SessionViews.{tickets_seen}
 use Rattle.mdl_steps.specs.declared.deed.Deed.TheVariants.{Lose}
 use Rattle.mdl_shared.proofs.HeldTickets.{holds-ticket}
 use Rattle.mdl_shared.proofs.MemberFacts.{held-slow, loses-slow, spared, speaks}
-use Rattle.mdl_shared.proofs.Members.{done-order, fast-struck, held-seen, kept, lists-done, rescheduled, room-kept, slow-done}
+use Rattle.mdl_shared.proofs.Members.{done-order, fast-struck, held-seen, kept, lists-done, lists-rescheduled, rescheduled, room-kept}
 use Rattle.mdl_shared.proofs.Props.{member}
 use Rattle.mdl_shared.proofs.SameSpace.{refused, same-stays}
 use Rattle.mdl_shared.proofs.SpaceTickets.{holds-told}
@@ -40,9 +40,10 @@ invariant_of-member g c =
     let is = member m in
     let its = held-seen m c.args.id c.get.result c.get.ensures.found ∙ c.in-Some.is in
     let slow = held-slow is c.args.id c.in-Some.held its in
-    let done = rescheduled m.seat c.release.new.seat m.sessions (loses-slow is c.in-Some.held.place c.args.id c.in-Some.held slow) c.release.ensures.released in record {
+    let visit = c.release.ensures.released in
+    let done = rescheduled m.seat c.release.new.seat m.sessions (loses-slow is c.in-Some.held.place c.args.id c.in-Some.held slow) visit in record {
       lawful = ∣ kept is (done-order done is (inr refl)) (release-joins is c.args.id c.in-Some.held its done) ∣₁;
-      lists = lists-done m done (slow-done m c.in-Some.held.place (Lose c.args.id ∷ []) c.strike.ensures.struck.0)
+      lists = lists-done m c.in-Some.held.place (Lose c.args.id ∷ []) (lists-rescheduled visit) c.strike.ensures.struck.0
           (fast-struck m c.in-Some.held.place c.args.id (spared is c.args.id c.in-Some.held slow) c.strike.ensures.struck.1);
       room = λ ask asks. room-kept m.tickets c.strike.new.self c.strike.ensures.room (m.room ask asks);
     }

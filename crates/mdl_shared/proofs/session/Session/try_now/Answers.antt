@@ -4,7 +4,7 @@ use Rattle.mdl_calls.specs.Words.{Try_now}
 use Rattle.mdl_shared.specs.Passes.{view_of}
 use Rattle.mdl_shared.specs.SessionViews.{Lists}
 use Rattle.mdl_steps.specs.declared.deed.Deed.TheVariants.{Gain}
-use Rattle.mdl_shared.proofs.Members.{done-nothing, done-order, fast-same, fault-seen, kept, lists-done, slow-done, slow-same, visited}
+use Rattle.mdl_shared.proofs.Members.{done-nothing, done-order, fault-seen, kept, lists-done, lists-visited, visited}
 use Rattle.mdl_shared.proofs.Props.{member}
 use Rattle.mdl_shared.proofs.Refusals.{own-shows}
 use Rattle.mdl_shared.proofs.SameSpace.{same-stays}
@@ -55,10 +55,11 @@ overflow_add-member g c =
 pub invariant_of-member-in-Ok-Blocked : goal.invariant_of-member-in-Ok-Blocked
 invariant_of-member-in-Ok-Blocked g c =
     let m = c.self.inside.member in
-    let done = visited m.seat c.try_now.new.seat m.sessions refl (c.try_now.ensures.blocked (c.in-Ok-Blocked.is ∙ ap Ok c.in-Ok-Blocked.field-0-is)).0 in
+    let visit = (c.try_now.ensures.blocked (c.in-Ok-Blocked.is ∙ ap Ok c.in-Ok-Blocked.field-0-is)).0 in
+    let done = visited m.seat c.try_now.new.seat m.sessions refl visit in
     record {
       lawful = ∣ still-member done (member m) ∣₁;
-      lists = lists-done m done (slow-same m c.reserve.ensures.same.0) (fast-same m c.reserve.ensures.same.1);
+      lists = lists-done m c.args.place [] (lists-visited visit) c.reserve.ensures.same.0 c.reserve.ensures.same.1;
       room = unasked m (may-wish m c.args.place c.in_ok-kind.kind c.args.mode c.in_ok-kind.ensures).wish.idle _;
     }
 
@@ -75,10 +76,11 @@ returns-in-Ok-Blocked g c =
 pub invariant_of-member-in-Err-1 : goal.invariant_of-member-in-Err-1
 invariant_of-member-in-Err-1 g c =
     let m = c.self.inside.member in
-    let done = visited m.seat c.try_now.new.seat m.sessions refl c.in-Err.ensures.unchanged in
+    let visit = c.in-Err.ensures.unchanged in
+    let done = visited m.seat c.try_now.new.seat m.sessions refl visit in
     record {
       lawful = ∣ still-member done (member m) ∣₁;
-      lists = lists-done m done (slow-same m c.reserve.ensures.same.0) (fast-same m c.reserve.ensures.same.1);
+      lists = lists-done m c.args.place [] (lists-visited visit) c.reserve.ensures.same.0 c.reserve.ensures.same.1;
       room = unasked m (may-wish m c.args.place c.in_ok-kind.kind c.args.mode c.in_ok-kind.ensures).wish.idle _;
     }
 
@@ -94,12 +96,13 @@ pub invariant_of-member-2 : goal.invariant_of-member-2
 invariant_of-member-2 g c =
     let m = c.self.inside.member in
     let may = may-wish m c.args.place c.in_ok-kind.kind c.args.mode c.in_ok-kind.ensures in
-    let done = gained-by m c.try_now.new.seat c.args.place c.args.mode (c.try_now.ensures.granted (c.in-Ok-Granted.is ∙ ap Ok c.in-Ok-Granted.field-0-is)).0 in
+    let visit = (c.try_now.ensures.granted (c.in-Ok-Granted.is ∙ ap Ok c.in-Ok-Granted.field-0-is)).0 in
+    let done = gained-by m c.try_now.new.seat c.args.place c.args.mode visit in
     record {
       lawful = ∣ kept (member m) (done-order done (member m) (inl may.wish.idle)) (try-granted (member m) c.args.place c.args.mode may.clear (ap (λ (l : Lists). l.next) m.lists) done) ∣₁;
-      lists = lists-done m done
-          (slow-done m c.args.place (Gain m.next c.args.mode ∷ []) (gained-seen c.args.place m.next c.args.mode m.tickets.slow c.reserve.new.self.slow c.push_reserved.new.self.slow c.reserve.ensures.same.0 c.push_reserved.ensures.gained))
-          (fast-same m (c.push_reserved.ensures.same ∙ c.reserve.ensures.same.1));
+      lists = lists-done m c.args.place (Gain m.next c.args.mode ∷ []) (lists-visited visit)
+          (gained-seen c.args.place m.next c.args.mode m.tickets.slow c.reserve.new.self.slow c.push_reserved.new.self.slow c.reserve.ensures.same.0 c.push_reserved.ensures.gained)
+          (c.push_reserved.ensures.same ∙ c.reserve.ensures.same.1);
       room = unasked m may.wish.idle _;
     }
 

@@ -8,7 +8,7 @@ use Rattle.mdl_steps.specs.declared.deed.Deed.TheVariants.{Alter}
 use Rattle.mdl_shared.proofs.MemberFacts.{alters-slow, held-slow, spared}
 use Rattle.mdl_shared.proofs.Faults.{just-done, just-refused}
 use Rattle.mdl_shared.proofs.HeldTickets.{holds-ticket}
-use Rattle.mdl_shared.proofs.Members.{done-order, fast-same, fault-seen, kept, lists-done, room-kept, slow-done, slow-same, unnumbered, visited}
+use Rattle.mdl_shared.proofs.Members.{done-order, fault-seen, kept, lists-done, lists-visited, room-kept, unnumbered, visited}
 use Rattle.mdl_shared.proofs.Membership.{kind_there}
 use Rattle.mdl_shared.proofs.Props.{member}
 use Rattle.mdl_shared.proofs.Refusals.{own-shows}
@@ -56,10 +56,11 @@ upgrade_now-requires-clause-wish g c =
 pub invariant_of-member : goal.invariant_of-member
 invariant_of-member g c =
     let m = c.self.inside.member in
-    let done = visited m.seat c.upgrade_now.new.seat m.sessions refl (c.upgrade_now.ensures.blocked c.in-Blocked.is).0 in
+    let visit = (c.upgrade_now.ensures.blocked c.in-Blocked.is).0 in
+    let done = visited m.seat c.upgrade_now.new.seat m.sessions refl visit in
     record {
       lawful = ∣ still-member done (member m) ∣₁;
-      lists = lists-done m done (slow-same m refl) (fast-same m refl);
+      lists = lists-done m c.in_ok-held.held.place [] (lists-visited visit) refl refl;
       room = m.room;
     }
 
@@ -92,10 +93,11 @@ invariant_of-member-2 g c =
     let t = c.in_ok-held.held in
     let its = (holds-ticket m c.args.id t c.in_ok-held.ensures.found).its in
     let clear = fault-seen m (Upgrade_now m.seat.me.0.number c.args.id c.args.mode) None (just-done _ _ c.in_ok-held.ensures.just) in
-    let done = visited m.seat c.upgrade_now.new.seat m.sessions (alters-slow is t.place c.args.id c.args.mode t (held-slow is c.args.id t its)) (c.upgrade_now.ensures.granted c.in-Granted.is).0 in
+    let visit = (c.upgrade_now.ensures.granted c.in-Granted.is).0 in
+    let done = visited m.seat c.upgrade_now.new.seat m.sessions (alters-slow is t.place c.args.id c.args.mode t (held-slow is c.args.id t its)) visit in
     record {
       lawful = ∣ kept is (done-order done is (inr refl)) (upgrade-joins is c.args.id t its c.args.mode clear (sym c.covers.ensures ∙ c.if-covers.false) done) ∣₁;
-      lists = lists-done m done (slow-done m t.place (Alter c.args.id c.args.mode ∷ []) c.set_mode.ensures.changed.0) (fast-same m c.set_mode.ensures.changed.1);
+      lists = lists-done m t.place (Alter c.args.id c.args.mode ∷ []) (lists-visited visit) c.set_mode.ensures.changed.0 c.set_mode.ensures.changed.1;
       room = λ ask asks. room-kept m.tickets c.set_mode.new.self c.set_mode.ensures.room (m.room ask asks);
     }
 

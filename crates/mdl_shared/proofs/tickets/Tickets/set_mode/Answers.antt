@@ -1,4 +1,5 @@
 -- The numbers and the places are as they were.
+use Rattle.std.proofs.Common.{refl}
 use Rattle.mdl_shared.proofs.TicketEdits.{kept_mode, mode_none}
 use Rattle.mdl_shared.proofs.tickets.Tickets.set_mode.Goals as goal
 
@@ -9,4 +10,4 @@ invariant_of-self c =
 
 pub returns-in_default-clause-changed : goal.returns-in_default-clause-changed
 returns-in_default-clause-changed c =
-    rw (← c.self.view_is) (mode_none c.args.place c.args.id c.args.mode c.self.inside.places.items c.self.inside.gained.items (rw (c.in_default.is, c.deref.ensures.value) at c.index_at.ensures))
+    rw (← c.self.view_is) (mode_none c.args.place c.args.id c.args.mode c.self.inside.places.items c.self.inside.gained.items (rw (c.in_default.is, c.deref.ensures.value) at c.index_at.ensures), refl)

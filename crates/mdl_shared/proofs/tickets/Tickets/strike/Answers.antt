@@ -1,5 +1,5 @@
 -- The ticket is taken out where it stands, and its place has one less.
-use Rattle.std.proofs.Common.{ap, ◌∙◌}
+use Rattle.std.proofs.Common.{refl, ap, ◌∙◌}
 use Rattle.std.specs.Prelude.{map}
 use Rattle.mdl_shared.specs.OwnTickets.{own_of}
 use Rattle.mdl_shared.proofs.TicketEdits.{kept_strike, same_notes, strike_at, strike_none, has_one}
@@ -21,8 +21,8 @@ returns-in-Some-clause-struck c =
     let stands = rw (c.in-Some.is, c.deref.ensures.value) at c.index_at.ensures in
     let notes = same_notes c.self.inside.places.items c.uncount_one.new.places.items c.remove.new.self.items (λ q some. c.uncount_one.ensures.noted q) in
     let struck = strike_at c.args.place c.args.id c.self.inside.places.items c.self.inside.gained.items c.in-Some.at c.self.invariant.rising stands.0 stands.1 in
-    rw (← c.self.view_is) (notes ∙ ap (map (own_of c.self.inside.places.items)) c.remove.ensures.items ∙ struck)
+    rw (← c.self.view_is) (notes ∙ ap (map (own_of c.self.inside.places.items)) c.remove.ensures.items ∙ struck, refl)
 
 pub returns-in_default-clause-struck : goal.returns-in_default-clause-struck
 returns-in_default-clause-struck c =
-    rw (← c.self.view_is) (strike_none c.args.place c.args.id c.self.inside.places.items c.self.inside.gained.items (rw (c.in_default.is, c.deref.ensures.value) at c.index_at.ensures))
+    rw (← c.self.view_is) (strike_none c.args.place c.args.id c.self.inside.places.items c.self.inside.gained.items (rw (c.in_default.is, c.deref.ensures.value) at c.index_at.ensures), refl)

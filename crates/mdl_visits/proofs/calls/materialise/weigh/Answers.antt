@@ -1,5 +1,5 @@
 -- What one more adds fits, since they are few.
-use Rattle.std.proofs.Common.{◌<◌, ◌^◌, arith, length}
+use Rattle.std.proofs.Common.{arith}
 use Rattle.mdl_visits.proofs.OwnGrants.{no_own, weight-more, weight-small}
 use Rattle.mdl_visits.proofs.calls.materialise.weigh.Goals as goal
 

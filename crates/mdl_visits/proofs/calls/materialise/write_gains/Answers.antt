@@ -1,6 +1,6 @@
 -- The next one may stand beside all that are granted, and beside the session's own before it, so it is granted, or there is no room for it and those
 -- before it are taken out again.
-use Rattle.std.proofs.Common.{◌≡◌, ℕ, List, take, get_or, Err, refl, sym, ap, ◌∙◌, subst}
+use Rattle.std.proofs.Common.{ℕ, List, take, get_or, Err, refl, sym, ap, ◌∙◌, subst}
 use Rattle.mdl_key.specs.Refusals.{Refuses}
 use Rattle.mdl_book.specs.declared.book_error.BookError.TheVariants as fault
 use Rattle.mdl_book.specs.declared.book_view.BookView.{BookView}
@@ -8,8 +8,7 @@ use Rattle.mdl_book.specs.Books.{grant_fault, granting}
 use Rattle.mdl_steps.specs.declared.view.Own.{Own}
 use Rattle.mdl_steps.specs.Cells.{ticket_by}
 use Rattle.mdl_steps.specs.SeatStates.{SeatState}
-use Rattle.mdl_steps.specs.Seats.{written}
-use Rattle.mdl_visits.specs.Materialisings.{granting_own}
+use Rattle.mdl_visits.specs.Materialisings.{granting_own, with_book}
 use Rattle.mdl_visits.specs.Visits.{HasInHand}
 use Rattle.mdl_visits.proofs.OwnGrants.{first_stand, granting_more, no_own, no_room_then, none_written}
 use Rattle.mdl_visits.proofs.calls.materialise.write_gains.Goals as goal
@@ -25,7 +24,8 @@ write_gain-requires c =
 pub write_losses-requires : goal.write_losses-requires
 write_losses-requires c =
     let can = c.requires.can in
-    record { stand = (can.0, first_stand c.args.latch.now.place c.args.tickets.now c.loop-at.at can.0 c.args.seat.now c.write_gain.new.self can.1 (c.in-Err.ensures.unchanged ∙ c.loop-at.invariant can.0 can.1)) }
+    let is = c.in-Err.ensures.unchanged ∙ c.loop-at.invariant can.0 can.1 in
+    record { stand = (can.0, first_stand c.args.latch.now.place c.args.tickets.now c.loop-at.at can.0 c.args.seat.now c.write_gain.new.self can.1 is) }
 
 pub returns-in-Err-clause-unchanged : goal.returns-in-Err-clause-unchanged
 returns-in-Err-clause-unchanged c =
@@ -33,7 +33,7 @@ returns-in-Err-clause-unchanged c =
     let can = c.requires.can in
     let is = c.in-Err.ensures.unchanged ∙ c.loop-at.invariant can.0 can.1 in
     c.write_losses.ensures.written can.0 (first_stand place c.args.tickets.now c.loop-at.at can.0 c.args.seat.now c.write_gain.new.self can.1 is)
-    ∙ ap (λ (x : SeatState). record x { me = written place can.0 x.me }) is
+    ∙ ap (λ (x : SeatState). with_book place can.0 x) is
     ∙ none_written place can.0 c.args.seat.now can.1.in_hand
 
 pub returns-in-Err-clause-refused : goal.returns-in-Err-clause-refused
@@ -61,5 +61,5 @@ loop-at-preserved c = λ book can.
     let so_far : BookView = granting_own who (take i tickets) book in
     let was = c.loop-at.invariant book can in
     c.in_default.ensures.written so_far (subst (HasInHand place so_far) (sym was) refl)
-    ∙ ap (λ (x : SeatState). record x { me = written place (granting (ticket_by x.me.0.number t) so_far) x.me }) was
-    ∙ ap (λ (b : BookView). record s { me = written place b s.me }) (granting_more who tickets i no_own book c.loop-at-test.true)
+    ∙ ap (λ (x : SeatState). with_book place (granting (ticket_by x.me.0.number t) so_far) x) was
+    ∙ ap (λ (b : BookView). with_book place b s) (granting_more who tickets i no_own book c.loop-at-test.true)

@@ -1,10 +1,9 @@
 -- The tickets so far are granted.
 use Rattle.std.proofs.Common.{◌≡◌, take}
 use Rattle.mdl_book.specs.declared.book_view.BookView.{BookView}
-use Rattle.mdl_steps.specs.Seats.{written}
-use Rattle.mdl_visits.specs.Materialisings.{CanStand, granting_own}
+use Rattle.mdl_visits.specs.Materialisings.{CanStand, granting_own, with_book}
 use Rattle.mdl_visits.proofs.calls.materialise.write_gains.Given as goal
 
 abbrev pub invariant-loop-at : goal.invariant-loop-at
 invariant-loop-at l = (book : BookView) → CanStand l.fn.latch.place l.fn.tickets book l.fn.seat
-    → l.seat ≡ record l.fn.seat { me = written l.fn.latch.place (granting_own l.fn.seat.me.0.number (take l.at l.fn.tickets) book) l.fn.seat.me }
+    → l.seat ≡ with_book l.fn.latch.place (granting_own l.fn.seat.me.0.number (take l.at l.fn.tickets) book) l.fn.seat

@@ -1,5 +1,5 @@
 -- The next one is the first that is granted behind what was there before, so it is found and taken out.
-use Rattle.std.proofs.Common.{◌≡◌, ℕ, ◌+◌, true, List, drop, get_or, refl, sym, ap, ◌∙◌, subst}
+use Rattle.std.proofs.Common.{◌≡◌, ℕ, true, List, drop, get_or, refl, sym, ap, ◌∙◌, subst}
 use Rattle.std.specs.Prelude.{is_some}
 use Rattle.mdl_book.specs.declared.book_error.BookError.TheVariants.{NotHere}
 use Rattle.mdl_book.specs.declared.book_view.BookView.{BookView}
@@ -7,8 +7,7 @@ use Rattle.mdl_book.specs.Books.{removing}
 use Rattle.mdl_book.specs.Tickets.{ticket_of}
 use Rattle.mdl_steps.specs.declared.view.Own.{Own}
 use Rattle.mdl_steps.specs.SeatStates.{SeatState}
-use Rattle.mdl_steps.specs.Seats.{written}
-use Rattle.mdl_visits.specs.Materialisings.{granting_own}
+use Rattle.mdl_visits.specs.Materialisings.{granting_own, with_book}
 use Rattle.mdl_visits.specs.Visits.{HasInHand}
 use Rattle.mdl_visits.proofs.Losing.{taken_out}
 use Rattle.mdl_visits.proofs.OwnGrants.{next_found, next_out, no_own}
@@ -24,10 +23,12 @@ loop-ticket-preserved c = λ book stand.
     let t : Own = get_or tickets i no_own in
     let left : BookView = granting_own who (drop i tickets) book in
     let inside = c.loop-ticket-test.true in
-    let was : c.loop-ticket.seat ≡ record s { me = written place left s.me } = c.loop-ticket.invariant book stand in
+    let was : c.loop-ticket.seat ≡ with_book place left s = c.loop-ticket.invariant book stand in
     let carried = subst (HasInHand place left) (sym was) refl in
-    let there = subst (λ (x : SeatState). is_some (ticket_of x.me.0.number t.number left.granted) ≡ true) (sym was) (ap is_some (next_found who tickets i no_own book inside stand.ungranted)) in
+    let there = subst (λ (x : SeatState). is_some (ticket_of x.me.0.number t.number left.granted) ≡ true) (sym was)
+    (ap is_some (next_found who tickets i no_own book inside stand.ungranted)) in
     let gone = c.write_loss-gone in
-    taken_out (ticket_of c.loop-ticket.seat.me.0.number t.number left.granted) NotHere gone.result there (gone.ensures.refused left carried) (gone.ensures.written left carried)
-    ∙ ap (λ (x : SeatState). record x { me = written place (removing x.me.0.number t.number left) x.me }) was
-    ∙ ap (λ (b : BookView). record s { me = written place b s.me }) (next_out who tickets i no_own book inside stand.ungranted)
+    taken_out (ticket_of c.loop-ticket.seat.me.0.number t.number left.granted) NotHere gone.result there (gone.ensures.refused left carried)
+    (gone.ensures.written left carried)
+    ∙ ap (λ (x : SeatState). with_book place (removing x.me.0.number t.number left) x) was
+    ∙ ap (λ (b : BookView). with_book place b s) (next_out who tickets i no_own book inside stand.ungranted)

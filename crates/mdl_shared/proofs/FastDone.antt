@@ -1,0 +1,150 @@
+-- What a session has once a fast ticket of its is granted, or released, or once those of a place are slow ones.
+use Rattle.std.proofs.Common.{◌≡◌, ℕ, ◌==◌, Bool, not, List, [], ◌∷◌, ◌++◌, filter, is_some, Option, Some, None, refl, sym, ap, ◌∙◌}
+use Rattle.std.proofs.lemmas.Bool.{eqb-true}
+use Rattle.mdl_key.specs.declared.mode.Mode.{Mode}
+use Rattle.mdl_steps.specs.declared.deed.Deed.{Deed}
+use Rattle.mdl_steps.specs.declared.deed.Deed.TheVariants.{Gain, Lose}
+use Rattle.mdl_steps.specs.declared.view.Ask.{Ask}
+use Rattle.mdl_steps.specs.declared.view.Known.{Known}
+use Rattle.mdl_steps.specs.declared.view.Own.{Own}
+use Rattle.mdl_steps.specs.Cells.{note_at, own_at}
+use Rattle.mdl_steps.specs.Deeds.{is_own}
+use Rattle.mdl_steps.specs.FastPlays.{but_at, but_own, fast_own, first_note, noted_at}
+use Rattle.mdl_steps.specs.Interleavings.{interleaved}
+use Rattle.mdl_steps.specs.Lists.{Each}
+use Rattle.mdl_steps.specs.Plays.{Mine}
+use Rattle.mdl_steps.specs.SeatStates.{AtItsTable, SeatState}
+use Rattle.mdl_steps.proofs.Interleaving.{each-uninterleaved}
+use Rattle.mdl_steps.proofs.Views.{by_bool}
+use Rattle.mdl_visits.specs.FastTries.{GrantsFast, ReleasesFast}
+use Rattle.mdl_visits.specs.Materialisings.{Materialises}
+use Rattle.mdl_visits.specs.Numbers.{numbered}
+use Rattle.mdl_visits.proofs.Steps.{each_append}
+use Rattle.mdl_shared.specs.DeedsDone.{DoesQuietly, StaysFast}
+use Rattle.mdl_shared.specs.Members.{IsMember, increment_at}
+use Rattle.mdl_shared.specs.Rememberings.{AreAlike}
+use Rattle.mdl_shared.specs.SessionViews.{session_at, tickets_seen}
+use Rattle.mdl_shared.proofs.Alike.{all_noted}
+use Rattle.mdl_shared.proofs.MemberFacts.{below, rising}
+use Rattle.mdl_shared.proofs.Members.{seat-changed}
+use Rattle.mdl_shared.proofs.TicketOrder.{counted-kept, counted-last, gained-fast, made-slow, note-slow, numbers-apart, released-fast}
+
+-- ---- the note of a place
+
+-- it is what all tickets there have
+first-same : (mark : Option ℕ) (tickets : List Own) → (tickets ≡ [] → mark ≡ None) → Each (λ (t : Own). t.noted ≡ mark) tickets → first_note tickets ≡ mark
+first-same mark [] none each = sym (none refl)
+first-same None (t ∷ ts) none each = rw each.0 (first-same None ts (λ e. refl) each.1)
+first-same (Some version) (t ∷ ts) none each = rw each.0 refl
+
+-- of those at a place
+noted-there : (place : ℕ) (mark : Option ℕ) (tickets : List Own) → Each (λ (t : Own). t.place ≡ place → t.noted ≡ mark) tickets
+    → Each (λ (t : Own). t.noted ≡ mark) (own_at place tickets)
+noted-there place mark [] each = tt
+noted-there place mark (t ∷ ts) each =
+    by_bool (t.place == place)
+    (λ here. rw here (each.0 (eqb-true t.place place here), noted-there place mark ts each.1))
+    (λ there. rw there (noted-there place mark ts each.1))
+
+-- where no ticket is there, none
+none-at : (place : ℕ) (tickets : List Own) → own_at place tickets ≡ [] → note_at place tickets ≡ None
+none-at place [] none = refl
+none-at place (t ∷ ts) none =
+    by_bool (t.place == place) (λ here. let no = rw here at none in absurd (cc)) (λ there. rw there (none-at place ts (rw there at none)))
+
+nil-parts : {X : Type 0} (xs ys : List X) → xs ++ ys ≡ [] → (xs ≡ []) × (ys ≡ [])
+nil-parts [] ys e = (refl, e)
+nil-parts (x ∷ xs) ys e = absurd (cc)
+
+-- the first version that is noted under the fast tickets or the slow ones is that of the place
+pub one-noted : (place : ℕ) (slow fast : List Own) → AreAlike (interleaved slow fast) → first_note (own_at place fast ++ own_at place slow) ≡ note_at place (interleaved slow fast)
+one-noted place slow fast alike =
+    let mark = note_at place (interleaved slow fast) in
+    let each = each-uninterleaved (λ (t : Own). t.place ≡ place → t.noted ≡ mark) slow fast (all_noted place (interleaved slow fast) alike) in
+    first-same mark (own_at place fast ++ own_at place slow)
+    (λ none. let parts = nil-parts (own_at place fast) (own_at place slow) none in note-slow place slow fast parts.0 ∙ none-at place slow parts.1)
+    (each_append (λ (t : Own). t.noted ≡ mark) (own_at place fast) (own_at place slow) (noted-there place mark fast each.1) (noted-there place mark slow each.0))
+
+-- ---- the session
+
+-- fewer fast tickets are counted as they were
+fewer-fast : (known : List Known) (asks : Option Ask) (fast : List Own) (keep : Own → Bool) → StaysFast known asks fast (filter keep fast)
+fewer-fast known asks fast keep = record {
+  unfast = λ a waits none. ap (filter keep) none;
+  plain = counted-kept keep known fast;
+}
+
+module _ (seat seat′ : SeatState) (sessions : ℕ) (is : IsMember (session_at seat sessions)) where
+  -- a fast ticket was granted
+  pub fast-granted : {place one : ℕ} {mode : Mode} {noted : Option ℕ} → seat.me.0.asks ≡ None → increment_at place mode seat.me.0.known ≡ Some one
+      → noted ≡ noted_at place seat.me.0 → AtItsTable seat seat′ (GrantsFast place mode noted)
+      → DoesQuietly place (Gain seat.me.0.next mode ∷ []) (session_at seat sessions) (session_at seat′ sessions)
+  fast-granted {place} {one} {mode} {noted} idle counted it granted =
+      let v = seat.me.0 in
+      let its : noted ≡ note_at place (tickets_seen v) = it ∙ one-noted place v.slow v.fast is.alike in
+      let t : Own = fast_own v.next place mode noted in
+      let now = granted.1.now in record {
+        done = record {
+          slow = v.slow;
+          fast = v.fast ++ t ∷ [];
+          told = v.told;
+          settles = v.settles;
+          log = _;
+          now = seat-changed seat seat′ sessions granted.0 _ now;
+          tickets = gained-fast t v.slow v.fast (below is) ∙ ap (λ (n : Option ℕ). tickets_seen v ++ fast_own v.next place mode n ∷ []) its;
+          fasts = record {
+            unfast = λ a waits none. (let no = sym waits ∙ idle in cc);
+            plain = λ all. counted-last v.known v.fast t all (ap is_some counted);
+          };
+          stays = λ state told. told;
+          unasked = λ none. refl;
+        };
+        did = (granted.1.made, ap (λ (m : Mine). m.0.log) now, granted.1.did);
+        settled = ap (λ (m : Mine). m.0.settles) now;
+        told = ap (λ (m : Mine). m.0.told) now;
+      }
+
+  -- one was released
+  pub fast-released : {place number : ℕ} {owes : Bool} {t : Own} → numbered number seat.me.0.fast ≡ Some t → AtItsTable seat seat′ (ReleasesFast place number owes)
+      → DoesQuietly place (Lose number ∷ []) (session_at seat sessions) (session_at seat′ sessions)
+  fast-released {place} {number} {owes} {t} its released =
+      let v = seat.me.0 in
+      let now = released.1.now in record {
+        done = record {
+          slow = v.slow;
+          fast = but_own place number v.fast;
+          told = v.told;
+          settles = v.settles;
+          log = _;
+          now = seat-changed seat seat′ sessions released.0 _ now;
+          tickets = released-fast place number v.slow v.fast (rising is) (numbers-apart number t v.slow v.fast (rising is) its);
+          fasts = fewer-fast v.known v.asks v.fast (λ u. not (is_own place number u));
+          stays = λ state told. told;
+          unasked = λ none. refl;
+        };
+        did = (released.1.step ∷ [], ap (λ (m : Mine). m.0.log) now, ap (λ (ds : List Deed). ds ++ []) released.1.did);
+        settled = ap (λ (m : Mine). m.0.settles) now;
+        told = ap (λ (m : Mine). m.0.told) now;
+      }
+
+  -- those of a place became slow ones
+  pub fast-materialised : {place : ℕ} → AtItsTable seat seat′ (Materialises place) → DoesQuietly 0 [] (session_at seat sessions) (session_at seat′ sessions)
+  fast-materialised {place} moved =
+      let v = seat.me.0 in
+      let now = moved.1.now in record {
+        done = record {
+          slow = interleaved v.slow (own_at place v.fast);
+          fast = but_at place v.fast;
+          told = v.told;
+          settles = v.settles;
+          log = _;
+          now = seat-changed seat seat′ sessions moved.0 _ now;
+          tickets = made-slow place v.slow v.fast (rising is);
+          fasts = fewer-fast v.known v.asks v.fast (λ u. not (u.place == place));
+          stays = λ state told. told;
+          unasked = λ none. refl;
+        };
+        did = (moved.1.made, ap (λ (m : Mine). m.0.log) now, moved.1.did);
+        settled = ap (λ (m : Mine). m.0.settles) now;
+        told = ap (λ (m : Mine). m.0.told) now;
+      }

@@ -1,0 +1,126 @@
+-- What a session did by steps that left all waits alone: one part after another, and what a call shows by all of them.
+use Rattle.std.proofs.Common.{◌≡◌, ℕ, List, [], None, refl, sym, ap, subst, ◌∙◌, append-nil}
+use Rattle.mdl_calls.specs.Words.{Answer, Call}
+use Rattle.mdl_steps.specs.declared.deed.Deed.{Deed}
+use Rattle.mdl_steps.specs.declared.view.Met.{Met}
+use Rattle.mdl_steps.specs.Plays.{Mine}
+use Rattle.mdl_steps.specs.SeatStates.{AtItsTable, SeatState}
+use Rattle.mdl_visits.specs.Polls.{SettlesNothing}
+use Rattle.mdl_visits.specs.Visits.{Does, MakesMoreSteps, MakesSteps, Visits}
+use Rattle.mdl_visits.proofs.Steps.{does_then, step_after, step_before}
+use Rattle.mdl_shared.specs.declared.member.Member.{Member}
+use Rattle.mdl_shared.specs.DeedsDone.{DoesQuietly, HasDone}
+use Rattle.mdl_shared.specs.Passes.{view_of}
+use Rattle.mdl_shared.specs.SessionViews.{Lists, SessionView, lists_seen, session_at, tickets_of, tickets_seen}
+use Rattle.mdl_shared.specs.Showings.{KeepsTold, MeetsSo, SettlesSo, ShowsStep, Shows, StepsSo, done_by, own_fault}
+use Rattle.mdl_shared.proofs.Faults.{if-clear}
+use Rattle.mdl_shared.proofs.Members.{done-then, same-fast, seat-changed}
+
+-- ---- steps
+
+-- a step of a part of a call is one of the whole
+pub shows-first : (a b c : SessionView) {fact : Met → Type 0} → MakesMoreSteps b.me c.me → ShowsStep a b fact → ShowsStep a c fact
+shows-first a b c more shown = (shown.0, step_before a.me b.me c.me more shown.0 shown.1, shown.2)
+
+pub shows-later : (a b c : SessionView) {fact : Met → Type 0} → MakesMoreSteps a.me b.me → ShowsStep b c fact → ShowsStep a c fact
+shows-later a b c more shown = (shown.0, step_after a.me b.me c.me more shown.0 shown.1, shown.2)
+
+-- ---- parts of a call
+
+-- its steps
+pub quiet-steps : {place : ℕ} {ds : List Deed} {s s′ : SessionView} → DoesQuietly place ds s s′ → MakesMoreSteps s.me s′.me
+quiet-steps quiet = (quiet.did.0, quiet.did.1)
+
+-- deeds after none are these deeds
+pub quiet-then : {at place : ℕ} {ds : List Deed} {a b c : SessionView} → DoesQuietly at [] a b → DoesQuietly place ds b c → DoesQuietly place ds a c
+quiet-then {at} {place} {ds} {a} {b} {c} first later = record {
+  done = done-then first.done later.done;
+  did = does_then [] ds a.me b.me c.me first.did later.did;
+  settled = later.settled ∙ first.settled;
+  told = later.told ∙ first.told;
+}
+
+-- no step at all
+pub quiet-none : (s : SessionView) → DoesQuietly 0 [] s s
+quiet-none s = record {
+  done = record {
+    slow = s.me.0.slow;
+    fast = s.me.0.fast;
+    told = s.me.0.told;
+    settles = s.me.0.settles;
+    log = s.me.0.log;
+    now = refl;
+    tickets = refl;
+    fasts = same-fast s.me.0.known s.me.0.asks s.me.0.fast;
+    stays = λ state told. told;
+    unasked = λ none. refl;
+  };
+  did = ([], sym (append-nil s.me.0.log), refl);
+  settled = refl;
+  told = refl;
+}
+
+-- steps and nothing else
+pub quiet-made : (seat seat′ : SeatState) (sessions : ℕ) → AtItsTable seat seat′ MakesSteps → DoesQuietly 0 [] (session_at seat sessions) (session_at seat′ sessions)
+quiet-made seat seat′ sessions made = record {
+  done = record {
+    slow = seat.me.0.slow;
+    fast = seat.me.0.fast;
+    told = seat.me.0.told;
+    settles = seat.me.0.settles;
+    log = _;
+    now = seat-changed seat seat′ sessions made.0 _ made.1.1;
+    tickets = refl;
+    fasts = same-fast seat.me.0.known seat.me.0.asks seat.me.0.fast;
+    stays = λ state told. told;
+    unasked = λ none. refl;
+  };
+  did = (made.1.0, ap (λ (m : Mine). m.0.log) made.1.1, made.1.2);
+  settled = ap (λ (m : Mine). m.0.settles) made.1.1;
+  told = ap (λ (m : Mine). m.0.told) made.1.1;
+}
+
+-- a visit that granted nothing to others
+pub quiet-visit : {place : ℕ} {ds : List Deed} {s s′ : SessionView} → HasDone place ds s s′ → Visits place ds s.me s′.me → DoesQuietly place ds s s′
+quiet-visit done went = record {
+  done = done;
+  did = (went.made, ap (λ (m : Mine). m.0.log) went.now, went.did);
+  settled = ap (λ (m : Mine). m.0.settles) went.now;
+  told = ap (λ (m : Mine). m.0.told) went.now;
+}
+
+-- what a call shows by it
+pub quiet-shows : {place : ℕ} {ds : List Deed} {s s′ : SessionView} {call : Call} {answer : Answer} → DoesQuietly place ds s s′ → ds ≡ done_by call answer (tickets_seen s.me.0)
+    → own_fault call (lists_seen s.me.0) ≡ None → (SettlesNothing s.me s′.me → SettlesSo call answer (lists_seen s.me.0) s s′)
+    → (s′.me.0.told ≡ s.me.0.told → KeepsTold call s s′) → StepsSo call s s′ → MeetsSo call answer (lists_seen s.me.0) s s′ → Shows call answer s s′
+quiet-shows {ds = ds} {s = s} {s′ = s′} {call = call} quiet is clear settled told steps met = record {
+  table = ap (λ (x : SessionView). x.table) quiet.done.now;
+  sessions = ap (λ (x : SessionView). x.sessions) quiet.done.now;
+  refused = if-clear _ (own_fault call (lists_seen s.me.0)) clear;
+  did = subst (λ (d : List Deed). Does d s.me s′.me) is quiet.did;
+  settled = settled quiet.settled;
+  told = told quiet.told;
+  steps = steps;
+  met = met;
+}
+
+-- ---- a session's own lists after a part without deeds
+
+-- all but which tickets are slow is the same
+pub record HasSameLists (m m′ : Member) : Type 0 where
+  pub tickets : tickets_of (record { slow = m′.tickets.slow; fast = m′.tickets.fast; known = m′.known.known; next = m′.next; asks = m′.asks; waits = m′.waits })
+      ≡ tickets_of (record { slow = m.tickets.slow; fast = m.tickets.fast; known = m.known.known; next = m.next; asks = m.asks; waits = m.waits })
+  pub known : m′.known.known ≡ m.known.known
+  pub next : m′.next ≡ m.next
+  pub asks : m′.asks ≡ m.asks
+  pub waits : m′.waits ≡ m.waits
+
+pub same-lists : {place : ℕ} (m m′ : Member) → HasDone place [] (view_of m) (view_of m′) → HasSameLists m m′
+same-lists m m′ done =
+    let lists : lists_seen m′.seat.me.0 ≡ record (lists_seen m.seat.me.0) { slow = done.slow; fast = done.fast } = ap (λ (x : SessionView). lists_seen x.me.0) done.now in record {
+      tickets = ap tickets_of m′.lists ∙ ap tickets_of lists ∙ done.tickets ∙ sym (ap tickets_of m.lists);
+      known = ap (λ (l : Lists). l.known) m′.lists ∙ ap (λ (l : Lists). l.known) lists ∙ sym (ap (λ (l : Lists). l.known) m.lists);
+      next = ap (λ (l : Lists). l.next) m′.lists ∙ ap (λ (l : Lists). l.next) lists ∙ sym (ap (λ (l : Lists). l.next) m.lists);
+      asks = ap (λ (l : Lists). l.asks) m′.lists ∙ ap (λ (l : Lists). l.asks) lists ∙ sym (ap (λ (l : Lists). l.asks) m.lists);
+      waits = ap (λ (l : Lists). l.waits) m′.lists ∙ ap (λ (l : Lists). l.waits) lists ∙ sym (ap (λ (l : Lists). l.waits) m.lists);
+    }

@@ -1,0 +1,316 @@
+-- A session's fast tickets at a place come to stand in the book there, under the latch, and the lock's word no longer counts them.
+use Rattle.std.proofs.Common.{◌≡◌, ℕ, ◌+◌, ◌<◌, ◌==◌, ◌||◌, Bool, true, false, cond, List, [], ◌∷◌, ◌++◌, length, map, Some, None, refl, sym, ap, ◌∙◌, subst, inl, inr, arith, append_assoc, append-nil}
+use Rattle.std.specs.Prelude.{◌⊎◌, not, nat_lt}
+use Rattle.std.specs.List.{filter}
+use Rattle.std.proofs.lemmas.Bool.{lt-ltb}
+use Rattle.std.proofs.lemmas.List.{length-append}
+use Rattle.std.proofs.lemmas.List.Folds.{list_any-append}
+use Rattle.mdl_key.specs.declared.namespace.Kind.{Kind}
+use Rattle.mdl_key.specs.Words.{KeyName, is_obtrusive, kind_of}
+use Rattle.mdl_book.specs.declared.book_error.BookError.{BookError}
+use Rattle.mdl_book.specs.declared.book_error.BookError.TheVariants as fault
+use Rattle.mdl_book.specs.declared.book_view.BookView.{BookView}
+use Rattle.mdl_book.specs.declared.ticket.Ticket.{Ticket}
+use Rattle.mdl_book.specs.Books.{any_obtrusive, lock_kind, ticket_count}
+use Rattle.mdl_book.specs.Granting.{is_compatible}
+use Rattle.mdl_book.specs.Tickets.{ticket_of}
+use Rattle.mdl_steps.specs.declared.step_kind.StepKind.TheVariants.{Materialise, PutLatch, RaiseFlags}
+use Rattle.mdl_steps.specs.declared.view.LatchRecord.{LatchRecord}
+use Rattle.mdl_steps.specs.declared.view.Met.{Met}
+use Rattle.mdl_steps.specs.declared.view.Own.{Own}
+use Rattle.mdl_steps.specs.Cells.{held_at, own_at, ticket_by}
+use Rattle.mdl_steps.specs.Deeds.{KnowsPlace}
+use Rattle.mdl_steps.specs.FastPlays.{MayMaterialise, but_at, granting_all, materialised, moved, weight_of, with_granted}
+use Rattle.mdl_steps.specs.Interleavings.{interleaved}
+use Rattle.mdl_steps.specs.Layout.{latch_word, lock_word}
+use Rattle.mdl_steps.specs.Lists.{Each, Once}
+use Rattle.mdl_steps.specs.Plays.{IsFresh, Mine, raised, stepped, unlatched}
+use Rattle.mdl_steps.specs.Rule.{TellsLists}
+use Rattle.mdl_steps.specs.SeatStates.{AtItsTable, SeatState}
+use Rattle.mdl_steps.specs.Seats.{Holds, IsPlace, MayPut}
+use Rattle.mdl_steps.proofs.FastLists.{length_mapped}
+use Rattle.mdl_steps.proofs.Hands.{elsewhere-stepped, holds_written}
+use Rattle.mdl_steps.proofs.Unmixed.{unmixed_apart}
+use Rattle.mdl_steps.proofs.Views.{by_bool}
+use Rattle.mdl_visits.specs.Leavings.{DidUnder, HasWorked}
+use Rattle.mdl_visits.specs.Materialisings.{AreUngranted, CanStand, LacksRoomFor, Materialises, WasMaterialised, all_slow, granting_own, with_book}
+use Rattle.mdl_visits.specs.Visits.{Arrives, HasStep, IsInside, IsStepOf, KnowsKind, Visits}
+use Rattle.mdl_visits.proofs.Arriving.{met}
+use Rattle.mdl_visits.proofs.Numbers.{idle_waits_not}
+use Rattle.mdl_visits.proofs.Seats.{mine, place_there, table_of}
+use Rattle.mdl_visits.proofs.Steps.{each_map, none_then}
+use Rattle.mdl_visits.proofs.Visiting.{inside_at, inside_stepped, inside_written}
+
+-- ---- flags
+
+-- a book with some more tickets has one
+some_tickets : (ts granted waiting : List Ticket) → 0 < length ts → true ≡ nat_lt 0 (length (granted ++ ts) + length waiting)
+some_tickets ts granted waiting some = let longer = length-append granted ts in sym (lt-ltb 0 _ (omega arith))
+
+-- unobtrusive ones are none that are obtrusive
+none_obtrusive : (kind : Kind) (session : ℕ) (ts : List Own) → Each (λ (t : Own). not (is_obtrusive kind t.mode) ≡ true) ts
+    → any_obtrusive kind (map (ticket_by session) ts) ≡ false
+none_obtrusive kind session [] all = refl
+none_obtrusive kind session (t ∷ ts) all = by_bool (is_obtrusive kind t.mode)
+    (λ is. (let never = rw is at all.0 in absurd (cc)))
+    (λ isnt. rw isnt (none_obtrusive kind session ts all.1))
+
+or_none : (b : Bool) → (b || false) ≡ b
+or_none true = refl
+or_none false = refl
+
+-- so the flag SLOW is right with them, and OBTRUSIVE as it was
+tells_more : (book : BookView) (slow obtrusive : Bool) (ts : List Ticket) → TellsLists book slow obtrusive → 0 < length ts
+    → any_obtrusive (lock_kind book) ts ≡ false → TellsLists (granting_all ts book) true obtrusive
+tells_more book slow obtrusive ts exact some plain = (
+  some_tickets ts book.granted book.waiting some,
+  exact.1
+      ∙ ap (λ (b : Bool). b || any_obtrusive (lock_kind book) book.waiting)
+      (sym (list_any-append (λ (x : Ticket). is_obtrusive (lock_kind book) x.mode) book.granted ts
+      ∙ ap (λ (b : Bool). any_obtrusive (lock_kind book) book.granted || b) plain
+      ∙ or_none (any_obtrusive (lock_kind book) book.granted))),
+)
+
+-- ---- without any
+
+none_taken : (place : ℕ) (ts : List Own) → own_at place ts ≡ [] → but_at place ts ≡ ts
+none_taken place [] none = refl
+none_taken place (t ∷ ts) none = by_bool (t.place == place)
+    (λ here. (let some = rw here at none in absurd (cc)))
+    (λ away. rw away (ap (λ (us : List Own). t ∷ us) (none_taken place ts (rw away at none))))
+
+-- a session that has none there has materialised them
+pub nothing_fast : (place : ℕ) (s : SeatState) → own_at place s.me.0.fast ≡ [] → WasMaterialised place s s
+nothing_fast place s none = (
+  (
+    refl,
+    record {
+      made = [];
+      now = λ i. (
+        record (all_slow place s.me.0) {
+          fast = sym (none_taken place s.me.0.fast none) i;
+          slow = ap (λ (ts : List Own). interleaved s.me.0.slow ts) (sym none) i;
+          log = sym (append-nil s.me.0.log) i;
+        },
+        s.me.1,
+      );
+      did = refl;
+    },
+  ),
+  λ some. absurd (some none),
+)
+
+-- ---- the step, and the latch given back
+
+module _ (place found : ℕ) (m m′ m″ m‴ : Mine) (inside : IsInside place m m′) (makes : m″ ≡ materialised place found m′)
+    (puts : m‴ ≡ unlatched place [] m″) where
+  abbrev in_hand : Mine
+  in_hand = inside_at place inside.latches inside.book m (m.0.log ++ inside.made)
+
+  abbrev latches : List LatchRecord
+  latches = map (λ (h : LatchRecord). cond (h.place == place) (with_granted (moved place m.0) h) h) inside.latches
+
+  abbrev materialises : Met
+  materialises = record { kind = Materialise; deeds = []; word = lock_word place; found = found; held = latches; directory = m.0.directory }
+
+  abbrev gives : Met
+  gives = record { kind = PutLatch; deeds = []; word = latch_word place; found = m.0.number; held = latches; directory = m.0.directory }
+
+  there : m″ ≡ materialised place found in_hand
+  there = makes ∙ ap (materialised place found) inside.now
+
+  others : filter (λ (h : LatchRecord). not (h.place == place)) latches ≡ m.0.latches
+  others = elsewhere-stepped Materialise place found (with_granted (moved place m.0)) in_hand (λ x. refl) ∙ inside.others
+
+  both : ((m.0.log ++ inside.made) ++ materialises ∷ []) ++ gives ∷ [] ≡ (m.0.log ++ inside.made) ++ materialises ∷ gives ∷ []
+  both = append_assoc (m.0.log ++ inside.made) (materialises ∷ []) (gives ∷ [])
+
+  longer : ((m.0.log ++ inside.made) ++ materialises ∷ []) ++ gives ∷ [] ≡ m.0.log ++ (inside.made ++ materialises ∷ gives ∷ [])
+  longer = both ∙ append_assoc m.0.log inside.made (materialises ∷ gives ∷ [])
+
+  pub slow_then : Materialises place m m‴
+  slow_then = record {
+    made = inside.made ++ materialises ∷ gives ∷ [];
+    now = puts ∙ ap (unlatched place []) there ∙ (λ i. (record (all_slow place m.0) { latches = others i; log = longer i }, m.1));
+    did = none_then inside.made (materialises ∷ gives ∷ []) [] inside.did refl;
+  }
+
+  -- the step shows the tickets, as the record of the latch had them then
+  pub step_then : (h : LatchRecord) → held_at place m″.0.latches ≡ Some h
+      → (e : Met) × IsStepOf m m‴ e × (e.kind ≡ Materialise) × (e.word ≡ lock_word place) × (held_at place e.held ≡ Some h)
+  step_then h recorded = (
+    materialises,
+    (inside.made, gives ∷ [], ap (λ (x : Mine). x.0.log) (puts ∙ ap (unlatched place []) there) ∙ both),
+    refl,
+    refl,
+    ap (λ (x : Mine). held_at place x.0.latches) (sym there) ∙ recorded,
+  )
+
+-- ---- of a session that came to the place, and raised the flag SLOW
+
+-- it waits for nothing, and has these fast tickets there
+pub record IsReady (place : ℕ) (s : SeatState) (q : ℕ) (fast : List Own) (b : SeatState) : Type 0 where
+  pub idle : s.me.0.asks ≡ None
+  pub these : fast ≡ own_at place s.me.0.fast
+  pub at : q ≡ place
+  pub is_place : IsPlace b.table q
+  pub table : b.table ≡ s.table
+  pub found : LatchRecord
+  pub fresh : IsFresh place found s.me
+  pub holds : Holds q (raised true false found) found.book b.me
+  pub inside : IsInside q s.me b.me
+
+pub ready : {place : ℕ} {s : SeatState} {q : ℕ} {c : SeatState} (a : Arrives place s q c) (fast : List Own) (b : SeatState)
+    → (met : ℕ) × (b ≡ record c { me = stepped (RaiseFlags true false) q met (raised true false) c.me })
+    → ((h : LatchRecord) (k : BookView) → Holds q h k c.me → Holds q (raised true false h) k b.me)
+    → fast ≡ own_at place s.me.0.fast → s.me.0.asks ≡ None → IsReady place s q fast b
+ready {place} {s} {q} {c} a fast b raises keeps these idle = record {
+  idle = idle;
+  these = these;
+  at = a.at;
+  is_place = place_there q (table_of raises.1) a.is_place;
+  table = table_of raises.1 ∙ a.came.0;
+  found = a.latch;
+  fresh = a.fresh;
+  holds = keeps a.latch a.latch.book a.holds;
+  inside = inside_stepped (RaiseFlags true false) q raises.0 (raised true false) s.me c.me b.me (λ x. refl) a.came.1 (mine raises.1);
+}
+
+module _ {place : ℕ} {s : SeatState} {q : ℕ} {fast : List Own} {b : SeatState} (r : IsReady place s q fast b) where
+  abbrev up : LatchRecord
+  up = raised true false r.found
+
+  abbrev book : BookView
+  book = r.found.book
+
+  abbrev session : ℕ
+  session = s.me.0.number
+
+  who : s.me.0.number ≡ b.me.0.number
+  who = sym (ap (λ (x : Mine). x.0.number) r.inside.now)
+
+  none_granted : AreUngranted session (own_at place s.me.0.fast) book
+  none_granted = each_map
+      (λ (t : Own). ticket_of session t.number (map (ticket_by session) (own_at place s.me.0.slow)) ≡ None)
+      (λ (t : Own). ticket_of session t.number book.granted ≡ None)
+      (λ t none. r.fresh.own t.number (idle_waits_not s.me.0 t.number r.idle) ∙ none)
+      (own_at place s.me.0.fast)
+      (unmixed_apart session place s.me.0.fast s.me.0.slow r.fresh.unmixed)
+
+  -- the tickets may stand in the book
+  pub can_stand : CanStand q fast book b
+  can_stand =
+      let Beside : ℕ → List Own → Type 0 = λ n ts. Each (λ (t : Own). is_compatible (lock_kind book) book.granted n t.mode ≡ true) ts in
+      record {
+        in_hand = r.holds.carried;
+        ungranted = subst (λ (n : ℕ). AreUngranted n fast book) who (subst (λ (ts : List Own). AreUngranted session ts book) (sym r.these) none_granted);
+        beside = subst (λ (n : ℕ). Beside n fast) who (subst (λ (ts : List Own). Beside session ts) (sym r.these) r.fresh.fast_beside);
+      }
+
+  -- ---- if there is no room for them
+
+  module _ {w : SeatState} (same : w ≡ b) where
+    pub rests : HasWorked q [] w
+    rests = subst (HasWorked q []) (sym same) (record {
+      is_place = r.is_place;
+      latch = up;
+      done = record { holds = r.holds; act = inr refl; may = tt };
+      flagged = ((λ some. refl), λ some. r.fresh.exact.1 ∙ some);
+      once = record { once = r.fresh.once; single = r.fresh.single };
+    })
+
+    inside_still : AtItsTable s w (IsInside q)
+    inside_still = subst (λ (x : SeatState). AtItsTable s x (IsInside q)) (sym same) (r.table, r.inside)
+
+    pub nothing_done : (n : SeatState) → ((x : SeatState) → AtItsTable x w (IsInside q) → AtItsTable x n (Visits q [])) → AtItsTable s n (Visits place [])
+    nothing_done n visited = subst (λ (p : ℕ). AtItsTable s n (Visits p [])) r.at (visited s inside_still)
+
+    pub lacks_room : (count : ℕ) (cause : BookError) (n : SeatState) → HasStep w n (DidUnder q [] w)
+        → (cause ≡ fault.OutOfMemory) ⊎ ((cause ≡ fault.Full) × (65535 < ticket_count book + count)) → LacksRoomFor count place cause s n
+    lacks_room count cause n step (inl memory) = inl memory
+    lacks_room count cause n step (inr full) =
+        let recorded = ap (λ (x : SeatState). held_at q x.me.0.latches) same ∙ r.holds.recorded in
+        let m = met place s q w n r.at inside_still.1 up recorded [] step in
+        inr (full.0, (m.0, m.1, record { word = m.2; latch = up; held = m.3; full = full.1 }))
+
+  -- ---- if they stand there
+
+  module _ {w : SeatState} (wrote : w ≡ with_book q (granting_own b.me.0.number fast book) b) where
+    abbrev book_then : BookView
+    book_then = granting_own b.me.0.number fast book
+
+    holds_then : Holds q up book_then w.me
+    holds_then = subst (λ (x : SeatState). Holds q up book_then x.me) (sym wrote) (holds_written q up book book_then b.me r.holds)
+
+    inside_then : IsInside q s.me w.me
+    inside_then = inside_written q book_then s.me b.me w.me r.inside (mine wrote)
+
+    pub place_then : IsPlace w.table q
+    place_then = place_there q (table_of wrote) r.is_place
+
+    all_moved : moved q w.me.0 ≡ moved place s.me.0
+    all_moved = ap (λ (x : Mine). moved q x.0) inside_then.now ∙ ap (λ (p : ℕ). moved p s.me.0) r.at
+
+    all_granted : map (ticket_by b.me.0.number) fast ≡ moved q w.me.0
+    all_granted = ap (λ (n : ℕ). map (ticket_by n) fast) (sym who) ∙ ap (map (ticket_by session)) r.these ∙ sym all_moved
+
+    pub may_materialise : (kind : Kind) → KnowsKind s.me.0 place kind → Once (moved place s.me.0) → (weight : ℕ)
+        → ((n : ℕ) → weight ≡ weight_of kind (map (ticket_by n) fast)) → MayMaterialise q weight up w.me
+    may_materialise kind knows once weight weighs =
+        let named = r.fresh.named knows.0 knows.1 knows.2 knows.3 in
+        let kind_is : lock_kind book ≡ kind = ap (λ (key : KeyName). kind_of key.namespace) named ∙ knows.4 in
+        let known = subst (λ (x : Mine). KnowsPlace x.0 place) (sym inside_then.now) (knows.0, knows.1, knows.2, knows.3) in
+        record {
+          recorded = holds_then.recorded;
+          raised = refl;
+          idle = ap (λ (x : Mine). x.0.asks) inside_then.now ∙ r.idle;
+          known = subst (KnowsPlace w.me.0) (sym r.at) known;
+          once = subst Once (sym all_moved) once;
+          weight_is = weighs b.me.0.number ∙ ap (weight_of kind) all_granted ∙ ap (λ (k : Kind). weight_of k (moved q w.me.0)) (sym kind_is);
+        }
+
+    -- so they are slow ones
+    module _ {d : SeatState} (makes : (met : ℕ) × (d ≡ record w { me = materialised q met w.me }))
+        (keeps : (h : LatchRecord) (k : BookView) → Holds q h k w.me → Holds q (with_granted (moved q w.me.0) h) k d.me) where
+      abbrev latch_then : LatchRecord
+      latch_then = with_granted (moved q w.me.0) up
+
+      holds_last : Holds q latch_then latch_then.book d.me
+      holds_last =
+          subst (λ (k : BookView). Holds q latch_then k d.me) (ap (λ (ts : List Ticket). granting_all ts book) all_granted)
+          (keeps up book_then holds_then)
+
+      pub place_last : IsPlace d.table q
+      place_last = place_there q (table_of makes.1) place_then
+
+      pub may_put : 0 < length fast → MayPut q [] d.me
+      may_put some =
+          let plain = none_obtrusive (lock_kind book) session (own_at place s.me.0.fast) r.fresh.fast_plain in
+          let mapped = length_mapped (ticket_by b.me.0.number) fast in
+          let longer : length (moved q w.me.0) ≡ length fast = ap length (sym all_granted) ∙ mapped in (
+            latch_then,
+            record { holds = holds_last; act = inr refl; may = tt },
+            tells_more book r.found.slow r.found.obtrusive (moved q w.me.0) r.fresh.exact (omega arith)
+                (ap (any_obtrusive (lock_kind book)) all_moved ∙ plain),
+          )
+
+      pub was_materialised : (n : SeatState) → n ≡ record d { me = unlatched q [] d.me } → WasMaterialised place s n
+      was_materialised n puts =
+          let step = step_then q makes.0 s.me w.me d.me n.me inside_then (mine makes.1) (mine puts) latch_then holds_last.recorded in (
+            (
+              table_of puts ∙ table_of makes.1 ∙ table_of wrote ∙ r.table,
+              subst (λ (p : ℕ). Materialises p s.me n.me) r.at (slow_then q makes.0 s.me w.me d.me n.me inside_then (mine makes.1) (mine puts)),
+            ),
+            λ some. (
+              step.0,
+              step.1,
+              record {
+                kind = step.2;
+                word = step.3 ∙ ap lock_word r.at;
+                latch = latch_then;
+                held = subst (λ (p : ℕ). held_at p step.0.held ≡ Some latch_then) r.at step.4;
+                before = book.granted;
+                granted = ap (λ (ts : List Ticket). book.granted ++ ts) all_moved;
+              },
+            ),
+          )
