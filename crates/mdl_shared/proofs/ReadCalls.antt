@@ -78,7 +78,6 @@ module _ {place : ℕ} {standing : Standing} {s s′ : SessionView} (noted : Has
     table = refl;
     sessions = refl;
     idle = is.idle;
-    slow = none_noted place standing.version s.me.0.fast is.slow;
     unfast = λ a asks. ap (noting_version place standing.version) (is.unfast a asks);
     plain = counted-noted place standing.version s.me.0.known s.me.0.fast is.plain;
     within = is.within;
