@@ -39,7 +39,6 @@ use Rattle.mdl_shared.proofs.Alike.{alike_noting}
 use Rattle.mdl_shared.proofs.Faults.{if-clear, test-failed}
 use Rattle.mdl_shared.proofs.MemberFacts.{speaks}
 use Rattle.mdl_shared.proofs.Members.{StaysInOrder}
-use Rattle.mdl_shared.proofs.Membership.{none_noted}
 use Rattle.mdl_shared.proofs.SameSpace.{KeepsRest, Stays, joins-held, refused, same-stays, sees-same}
 use Rattle.mdl_shared.proofs.SpaceLists.{key-told, ticket-told}
 use Rattle.mdl_shared.proofs.SpaceNotes.{noting-told}
