@@ -36,3 +36,4 @@ pub mod QuietDeeds
 pub mod FastDone
 pub mod FastFacts
 pub mod FastWishing
+pub mod FastWishShows
