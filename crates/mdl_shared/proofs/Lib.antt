@@ -37,3 +37,4 @@ pub mod FastDone
 pub mod FastFacts
 pub mod FastWishing
 pub mod FastWishShows
+pub mod SlowPlaces
