@@ -39,4 +39,6 @@ pub mod CloneCalls
 pub mod QuietDeeds
 pub mod FastDone
 pub mod FastFacts
+pub mod FastWishing
+pub mod FastWishShows
 pub mod SlowPlaces
