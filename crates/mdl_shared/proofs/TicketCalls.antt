@@ -198,7 +198,7 @@ merged seat seat′ sessions old new kept gone is one other clear visit step =
     (subst (λ (n : ℕ). Joins (space_of (session_at seat sessions)) (Merge seat.me.0.number kept.number n) Done (space_of (session_at seat′ sessions))
     × Shows (Merge seat.me.0.number kept.number n) Done (session_at seat sessions) (session_at seat′ sessions)) other.number (
       merge-joins is kept.number kept one.own gone.number gone other.own free
-      (visited seat seat′ sessions (merges-slow is kept.place kept.number gone.number gone.mode kept gone one.slow other.slow) visit),
+          (visited seat seat′ sessions (merges-slow is kept.place kept.number gone.number gone.mode kept gone one.slow other.slow) visit),
       record {
         table = visit.0;
         sessions = refl;
