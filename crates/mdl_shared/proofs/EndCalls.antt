@@ -97,7 +97,6 @@ module _ {s s′ : SessionView} (is : IsMember s) where
     table = refl;
     sessions = refl;
     idle = is.idle;
-    slow = is.slow;
     unfast = λ one asks. cc;
     plain = is.plain;
     within = is.within;

@@ -1,5 +1,5 @@
 -- What a session has once a fast ticket of its is granted, or released, or once those of a place are slow ones.
-use Rattle.std.proofs.Common.{◌≡◌, ℕ, ◌==◌, Bool, not, List, [], ◌∷◌, ◌++◌, filter, is_some, Option, Some, None, refl, sym, ap, ◌∙◌}
+use Rattle.std.proofs.Common.{◌≡◌, ℕ, ◌+◌, ◌==◌, Bool, not, List, [], ◌∷◌, ◌++◌, filter, is_some, Option, Some, None, refl, sym, ap, ◌∙◌}
 use Rattle.std.proofs.lemmas.Bool.{eqb-true}
 use Rattle.mdl_key.specs.declared.mode.Mode.{Mode}
 use Rattle.mdl_steps.specs.declared.deed.Deed.{Deed}
@@ -20,10 +20,11 @@ use Rattle.mdl_visits.specs.FastTries.{GrantsFast, ReleasesFast}
 use Rattle.mdl_visits.specs.Materialisings.{Materialises}
 use Rattle.mdl_visits.specs.Numbers.{numbered}
 use Rattle.mdl_visits.proofs.Steps.{each_append}
+use Rattle.mdl_shared.specs.declared.member.Member.{Member}
 use Rattle.mdl_shared.specs.DeedsDone.{DoesQuietly, StaysFast}
 use Rattle.mdl_shared.specs.Members.{IsMember, increment_at}
 use Rattle.mdl_shared.specs.Rememberings.{AreAlike}
-use Rattle.mdl_shared.specs.SessionViews.{session_at, tickets_seen}
+use Rattle.mdl_shared.specs.SessionViews.{Lists, lists_seen, session_at, tickets_seen}
 use Rattle.mdl_shared.proofs.Alike.{all_noted}
 use Rattle.mdl_shared.proofs.MemberFacts.{below, rising}
 use Rattle.mdl_shared.proofs.Members.{seat-changed}
@@ -148,3 +149,32 @@ module _ (seat seat′ : SeatState) (sessions : ℕ) (is : IsMember (session_at 
         settled = ap (λ (m : Mine). m.0.settles) now;
         told = ap (λ (m : Mine). m.0.told) now;
       }
+
+-- ---- its own lists
+
+-- they are those of its view still once a fast ticket was granted
+pub lists-granted : (m : Member) (seat′ : SeatState) {place : ℕ} {mode : Mode} {noted : Option ℕ} {slow fast : List Own} → AtItsTable m.seat seat′ (GrantsFast place mode noted)
+    → slow ≡ m.tickets.slow → fast ≡ m.tickets.fast ++ fast_own m.next place mode noted ∷ []
+    → record { slow = slow; fast = fast; known = m.known.known; next = m.next + 1; asks = m.asks; waits = m.waits } ≡ lists_seen seat′.me.0
+lists-granted m seat′ {place} {mode} {noted} granted slows fasts =
+    (λ i. record { slow = slows i; fast = fasts i; known = m.known.known; next = m.next + 1; asks = m.asks; waits = m.waits })
+    ∙ ap (λ (l : Lists). record l { fast = l.fast ++ fast_own l.next place mode noted ∷ []; next = l.next + 1 }) m.lists
+    ∙ sym (ap (λ (x : Mine). lists_seen x.0) granted.1.now)
+
+-- once one was released
+pub lists-released : (m : Member) (seat′ : SeatState) {place number : ℕ} {owes : Bool} {slow fast : List Own} → AtItsTable m.seat seat′ (ReleasesFast place number owes)
+    → slow ≡ m.tickets.slow → fast ≡ but_own place number m.tickets.fast
+    → record { slow = slow; fast = fast; known = m.known.known; next = m.next; asks = m.asks; waits = m.waits } ≡ lists_seen seat′.me.0
+lists-released m seat′ {place} {number} released slows fasts =
+    (λ i. record { slow = slows i; fast = fasts i; known = m.known.known; next = m.next; asks = m.asks; waits = m.waits })
+    ∙ ap (λ (l : Lists). record l { fast = but_own place number l.fast }) m.lists
+    ∙ sym (ap (λ (x : Mine). lists_seen x.0) released.1.now)
+
+-- once those of a place are slow
+pub lists-materialised : (m : Member) (seat′ : SeatState) {place : ℕ} {slow fast : List Own} → AtItsTable m.seat seat′ (Materialises place)
+    → slow ≡ interleaved m.tickets.slow (own_at place m.tickets.fast) → fast ≡ but_at place m.tickets.fast
+    → record { slow = slow; fast = fast; known = m.known.known; next = m.next; asks = m.asks; waits = m.waits } ≡ lists_seen seat′.me.0
+lists-materialised m seat′ {place} moved slows fasts =
+    (λ i. record { slow = slows i; fast = fasts i; known = m.known.known; next = m.next; asks = m.asks; waits = m.waits })
+    ∙ ap (λ (l : Lists). record l { slow = interleaved l.slow (own_at place l.fast); fast = but_at place l.fast }) m.lists
+    ∙ sym (ap (λ (x : Mine). lists_seen x.0) moved.1.now)

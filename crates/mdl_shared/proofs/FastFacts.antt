@@ -40,7 +40,7 @@ kind-counted place mode known one counted = by (kind_known place known) refl cou
 
 -- a wish for it has no fault where the session waits for nothing and has numbers left
 no-fault : (kind : Kind) (mode : Mode) (next : ℕ) → is_mode_of kind mode ≡ true → next < most_numbers → wish_fault (Some kind) None mode next ≡ None
-no-fault kind mode next fits some = rw fits (rw (lt-leb-false most_numbers next some) refl)
+no-fault kind mode next fits some = rw fits (rw (lt-leb most_numbers next some) refl)
 
 -- ---- a fast ticket is asked for
 

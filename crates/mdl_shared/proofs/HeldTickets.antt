@@ -10,17 +10,15 @@ use Rattle.mdl_visits.proofs.Numbers.{has_number}
 use Rattle.mdl_shared.specs.declared.member.Member.{Member}
 use Rattle.mdl_shared.specs.Passes.{view_of}
 use Rattle.mdl_shared.specs.SessionViews.{SessionView, tickets_seen}
-use Rattle.mdl_shared.proofs.MemberFacts.{held-slow, may-visit, place-known, slow-there, ticket-known, unwaited}
+use Rattle.mdl_shared.proofs.MemberFacts.{may-visit, place-known, slow-there, ticket-known, unwaited}
 use Rattle.mdl_shared.proofs.Members.{held-seen}
 use Rattle.mdl_shared.proofs.Props.{member}
 
--- the session holds a ticket of this number, which is slow, and may visit its place
+-- the session holds a ticket of this number, and may visit its place
 pub record HoldsTicket (id : ℕ) (t : Own) (s : SessionView) : Type 0 where
   pub its : numbered id (tickets_seen s.me.0) ≡ Some t
   pub number : t.number ≡ id
   pub own : numbered t.number (tickets_seen s.me.0) ≡ Some t
-  pub slow : numbered t.number s.me.0.slow ≡ Some t
-  pub there : HasTicket t.place id s.me.0.slow
   pub unwaited : NotWaited s.me.0 t.number
   pub at : MayVisit t.place (record { table = s.table; me = s.me })
   pub known : KnowsPlace s.me.0 t.place
@@ -31,14 +29,24 @@ holds-ticket m id t found =
     let its = held-seen m id (Some t) (sym found) in
     let number = has_number id t (tickets_seen m.seat.me.0) its in
     let own = subst (λ (n : ℕ). numbered n (tickets_seen m.seat.me.0) ≡ Some t) (sym number) its in
-    let slow = held-slow is id t its in
     let known = ticket-known is id t its in record {
       its = its;
       number = number;
       own = own;
-      slow = held-slow is t.number t own;
-      there = slow-there is id t slow;
       unwaited = unwaited is t.number (ap is_some own);
       at = may-visit is t.place known;
       known = place-known is t.place known;
     }
+
+-- a ticket of this number is one of its slow ones
+pub record HoldsSlow (id : ℕ) (t : Own) (s : SessionView) : Type 0 where
+  pub its : numbered id s.me.0.slow ≡ Some t
+  pub slow : numbered t.number s.me.0.slow ≡ Some t
+  pub there : HasTicket t.place id s.me.0.slow
+
+pub holds-slow : (m : Member) (id : ℕ) (t : Own) → numbered id m.seat.me.0.slow ≡ Some t → HoldsSlow id t (view_of m)
+holds-slow m id t its = record {
+  its = its;
+  slow = subst (λ (n : ℕ). numbered n m.seat.me.0.slow ≡ Some t) (sym (has_number id t m.seat.me.0.slow its)) its;
+  there = slow-there (member m) id t its;
+}

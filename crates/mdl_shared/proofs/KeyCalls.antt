@@ -65,7 +65,6 @@ learnt-order {more} {s} {s′} learnt is within = subst (λ (x : SessionView). S
   table = refl;
   sessions = refl;
   idle = is.idle;
-  slow = is.slow;
   unfast = is.unfast;
   plain = counted_and s.me.0.known more s.me.0.fast is.plain;
   within = within_and s.table.slots s.me.0.known more is.within within;

@@ -104,12 +104,6 @@ place_within slots place key (k ∷ ks) all e =
     rw (sym is) (ltb-true 0 k.place here.0, ltb-true k.place slots here.1))
     (λ miss. place_within slots place key ks parts.1 (rw miss at e))
 
-pub none_noted : (place version : ℕ) (tickets : List Own) → length tickets ≡ 0 → length (noting_version place version tickets) ≡ 0
-none_noted place version [] none = refl
-none_noted place version (t ∷ ts) none = absurd (omega arith)
-
--- ---- fast tickets
-
 -- a kind that is known is known still
 pub kind_still : (place : ℕ) (kind : Kind) (known more : List Known) → kind_known place known ≡ Some kind → kind_known place (known ++ more) ≡ Some kind
 kind_still place kind [] more e = absurd (cc)

@@ -41,7 +41,7 @@ quiet-then {at} {place} {ds} {a} {b} {c} first later = record {
 }
 
 -- no step at all
-pub quiet-none : (s : SessionView) → DoesQuietly 0 [] s s
+pub quiet-none : {place : ℕ} (s : SessionView) → DoesQuietly place [] s s
 quiet-none s = record {
   done = record {
     slow = s.me.0.slow;
@@ -61,7 +61,7 @@ quiet-none s = record {
 }
 
 -- steps and nothing else
-pub quiet-made : (seat seat′ : SeatState) (sessions : ℕ) → AtItsTable seat seat′ MakesSteps → DoesQuietly 0 [] (session_at seat sessions) (session_at seat′ sessions)
+pub quiet-made : {place : ℕ} (seat seat′ : SeatState) (sessions : ℕ) → AtItsTable seat seat′ MakesSteps → DoesQuietly place [] (session_at seat sessions) (session_at seat′ sessions)
 quiet-made seat seat′ sessions made = record {
   done = record {
     slow = seat.me.0.slow;
@@ -105,6 +105,11 @@ quiet-shows {ds = ds} {s = s} {s′ = s′} {call = call} quiet is clear settled
 }
 
 -- ---- a session's own lists after a part without deeds
+
+-- they are those of its view still where only steps were made
+pub lists-made : (m : Member) (seat′ : SeatState) → AtItsTable m.seat seat′ MakesSteps
+    → record { slow = m.tickets.slow; fast = m.tickets.fast; known = m.known.known; next = m.next; asks = m.asks; waits = m.waits } ≡ lists_seen seat′.me.0
+lists-made m seat′ made = m.lists ∙ sym (ap (λ (x : Mine). lists_seen x.0) made.1.1)
 
 -- all but which tickets are slow is the same
 pub record HasSameLists (m m′ : Member) : Type 0 where

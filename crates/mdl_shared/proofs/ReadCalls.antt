@@ -39,7 +39,6 @@ use Rattle.mdl_shared.proofs.Alike.{alike_noting}
 use Rattle.mdl_shared.proofs.Faults.{if-clear, test-failed}
 use Rattle.mdl_shared.proofs.MemberFacts.{speaks}
 use Rattle.mdl_shared.proofs.Members.{StaysInOrder}
-use Rattle.mdl_shared.proofs.Membership.{none_noted}
 use Rattle.mdl_shared.proofs.SameSpace.{KeepsRest, Stays, joins-held, refused, same-stays, sees-same}
 use Rattle.mdl_shared.proofs.SpaceLists.{key-told, ticket-told}
 use Rattle.mdl_shared.proofs.SpaceNotes.{noting-told}
@@ -78,7 +77,6 @@ module _ {place : ℕ} {standing : Standing} {s s′ : SessionView} (noted : Has
     table = refl;
     sessions = refl;
     idle = is.idle;
-    slow = none_noted place standing.version s.me.0.fast is.slow;
     unfast = λ a asks. ap (noting_version place standing.version) (is.unfast a asks);
     plain = counted-noted place standing.version s.me.0.known s.me.0.fast is.plain;
     within = is.within;

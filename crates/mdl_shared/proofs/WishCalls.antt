@@ -150,7 +150,6 @@ module _ {s s′ : SessionView} (is : IsMember s) {place : ℕ} {mode : Mode} (c
         table = refl;
         sessions = refl;
         idle = is.idle;
-        slow = is.slow;
         unfast = λ a asks. none;
         plain = is.plain;
         within = is.within;

@@ -53,19 +53,23 @@ pub below-seen : (m : Member) (slow fast : List Own) → (slow ≡ m.tickets.slo
 below-seen m slow fast same =
     (λ i. are_below m.next (interleaved (same.0 i) (same.1 i))) ∙ ap (λ (l : Lists). are_below l.next (tickets_of l)) m.lists ∙ below (member m)
 
--- no fast one of its own list is at a place
-pub none-seen : (m : Member) (place : ℕ) (fast : List Own) → fast ≡ m.tickets.fast → own_at place fast ≡ []
-none-seen m place fast same = ap (own_at place) same ∙ ap (λ (l : Lists). own_at place l.fast) m.lists ∙ none-there (member m) place
+-- no fast one of its own list is at a place, where there is none at all
+pub none-seen : (m : Member) (place : ℕ) (fast : List Own) → m.tickets.fast ≡ [] → fast ≡ m.tickets.fast → own_at place fast ≡ []
+none-seen m place fast none same = ap (own_at place) (same ∙ none)
+
+-- and none of its view
+pub unfast-seen : (m : Member) → m.tickets.fast ≡ [] → m.seat.me.0.fast ≡ []
+unfast-seen m none = sym (ap (λ (l : Lists). l.fast) m.lists) ∙ none
 
 -- who waits for nothing needs no room for a ticket
 pub unasked : (m : Member) → m.seat.me.0.asks ≡ None → (P : Ask → Type 0) (ask : Ask) → m.asks ≡ Some ask → P ask
 unasked m idle P ask asks = let no = sym asks ∙ ap (λ (l : Lists). l.asks) m.lists ∙ idle in cc
 
 -- a visit that gained the next ticket did that
-pub gained-by : (m : Member) (seat′ : SeatState) (place : ℕ) (mode : Mode) → AtItsTable m.seat seat′ (Visits place (Gain m.next mode ∷ []))
+pub gained-by : (m : Member) (seat′ : SeatState) (place : ℕ) (mode : Mode) → m.tickets.fast ≡ [] → AtItsTable m.seat seat′ (Visits place (Gain m.next mode ∷ []))
     → HasDone place (Gain m.next mode ∷ []) (view_of m) (session_at seat′ m.sessions)
-gained-by m seat′ place mode visit =
-    visited m.seat seat′ m.sessions (gains-slow (member m) place m.next mode (ap (λ (l : Lists). l.next) m.lists) (none-there (member m) place)) visit
+gained-by m seat′ place mode none visit =
+    visited m.seat seat′ m.sessions (gains-slow (member m) place m.next mode (ap (λ (l : Lists). l.next) m.lists) (none-there (member m) (unfast-seen m none) place)) visit
 
 -- the ticket that was gained is the last slow one of its own list
 pub gained-seen : (place number : ℕ) (mode : Mode) (own slow slow′ : List Own) → slow ≡ own → slow′ ≡ owned place (Gain number mode) slow

@@ -1,18 +1,24 @@
 -- The session has one fast ticket more, or made only steps.
-use Rattle.std.proofs.Common.{◌≡◌, inl, [], ◌∷◌, refl, sym, ap, ◌∙◌, arith}
+use Rattle.std.proofs.Common.{inl, ℕ, [], ◌∷◌, ◌++◌, length, Option, refl, sym, ap, subst, ◌∙◌, arith}
 use Rattle.mdl_steps.specs.Cells.{own_at}
-use Rattle.mdl_steps.specs.FastPlays.{first_note}
+use Rattle.mdl_steps.specs.FastPlays.{fast_own, first_note}
+use Rattle.mdl_steps.specs.declared.deed.Deed.TheVariants.{Gain}
+use Rattle.mdl_steps.specs.SeatStates.{AtItsTable}
+use Rattle.mdl_visits.specs.FastTries.{MeetsClear}
+use Rattle.mdl_visits.specs.Visits.{MakesSteps}
 use Rattle.mdl_visits.proofs.FastTrying.{only_steps}
+use Rattle.mdl_shared.specs.DeedsDone.{DoesQuietly}
 use Rattle.mdl_shared.specs.Passes.{view_of}
-use Rattle.mdl_shared.specs.SessionViews.{Lists}
-use Rattle.mdl_shared.proofs.FastDone.{fast-granted}
+use Rattle.mdl_shared.specs.SessionViews.{Lists, session_at}
+use Rattle.mdl_shared.specs.Showings.{ShowsStep}
+use Rattle.mdl_shared.proofs.FastDone.{fast-granted, lists-granted}
 use Rattle.mdl_shared.proofs.FastFacts.{may-ask-fast}
-use Rattle.mdl_shared.proofs.Members.{done-order, kept, lists-done, slow-same, fast-same}
+use Rattle.mdl_shared.proofs.Members.{done-order, kept}
 use Rattle.mdl_shared.proofs.Props.{member}
-use Rattle.mdl_shared.proofs.QuietDeeds.{quiet-made, quiet-none}
+use Rattle.mdl_shared.proofs.QuietDeeds.{lists-made, quiet-made, quiet-none}
 use Rattle.mdl_shared.proofs.WaitSteps.{still-member}
 use Rattle.mdl_shared.proofs.WishCalls.{try-granted}
-use Rattle.mdl_shared.proofs.Wishing.{below-seen}
+use Rattle.mdl_shared.proofs.Wishing.{below-seen, unasked}
 use Rattle.mdl_shared.proofs.member.Member.gain_fast.Goals as goal
 
 pub returns-then-fast_at-ge-MOST_FAST-clause-unchanged : goal.returns-then-fast_at-ge-MOST_FAST-clause-unchanged
@@ -40,26 +46,26 @@ try_fast-requires-clause-gained c =
 pub invariant_of-self : goal.invariant_of-self
 invariant_of-self c =
     let m = c.args.self.now in
-    let done = (quiet-made m.seat c.try_fast.new.seat m.sessions (c.in-Obtruded.ensures.obtruded c.in-Obtruded.word c.in-Obtruded.is).0).done in record {
-      lawful = ∣ still-member done (member m) ∣₁;
-      lists = lists-done m done (slow-same m refl) (fast-same m refl);
+    let made = (c.in-Obtruded.ensures.obtruded c.in-Obtruded.word refl).0 in record {
+      lawful = ∣ still-member (quiet-made {place = 0} m.seat c.try_fast.new.seat m.sessions made).done (member m) ∣₁;
+      lists = lists-made m c.try_fast.new.seat made;
       room = m.room;
     }
 
 pub invariant_of-self-in-Contended-1 : goal.invariant_of-self-in-Contended-1
 invariant_of-self-in-Contended-1 c =
     let m = c.args.self.now in
-    let missed = c.in-Contended.ensures.contended c.in-Contended.word c.in-Contended.is in
-    let done = (quiet-made m.seat c.try_fast.new.seat m.sessions (missed.0, only_steps missed.1)).done in record {
-      lawful = ∣ still-member done (member m) ∣₁;
-      lists = lists-done m done (slow-same m refl) (fast-same m refl);
+    let missed = c.in-Contended.ensures.contended c.in-Contended.word refl in
+    let made : AtItsTable m.seat c.try_fast.new.seat MakesSteps = (missed.0, only_steps missed.1) in record {
+      lawful = ∣ still-member (quiet-made {place = 0} m.seat c.try_fast.new.seat m.sessions made).done (member m) ∣₁;
+      lists = lists-made m c.try_fast.new.seat made;
       room = m.room;
     }
 
 pub returns-in-Contended-clause-unchanged : goal.returns-in-Contended-clause-unchanged
 returns-in-Contended-clause-unchanged c =
     let m = c.args.self.now in
-    let missed = c.in-Contended.ensures.contended c.in-Contended.word c.in-Contended.is in
+    let missed = c.in-Contended.ensures.contended c.in-Contended.word refl in
     (quiet-made m.seat c.try_fast.new.seat m.sessions (missed.0, only_steps missed.1), refl)
 
 -- ---- the ticket was granted
@@ -72,9 +78,24 @@ invariant_of-self-2 c =
     let m = c.args.self.now in
     let is = member m in
     let may = may-ask-fast m c.args.place c.args.mode c.args.one c.requires.idle c.requires.counted c.requires.number in
-    let granted = c.in-Granted.ensures.granted c.in-Granted.is in
+    let granted = c.in-Granted.ensures.granted refl in
     let noted = c.note_of-noted.ensures ∙ ap (λ (l : Lists). first_note (own_at c.args.place l.fast ++ own_at c.args.place l.slow)) m.lists in
-    let quiet = fast-granted m.seat c.try_fast.new.seat m.sessions is may.idle may.counted noted granted.0 in ?
+    let done = (fast-granted m.seat c.try_fast.new.seat m.sessions is may.idle may.counted noted granted.0).done in record {
+      lawful = ∣ kept is (done-order done is (inl may.idle)) (try-granted is c.args.place c.args.mode may.clear refl done) ∣₁;
+      lists = lists-granted m c.try_fast.new.seat granted.0 c.push_fast.ensures.same
+          (c.push_fast.ensures.gained ∙ ap (λ (n : Option ℕ). m.tickets.fast ++ fast_own m.next c.args.place c.args.mode n ∷ []) (sym c.note_of-noted.ensures));
+      room = unasked m may.idle _;
+    }
 
 pub returns-clause-granted : goal.returns-clause-granted
-returns-clause-granted c = ?
+returns-clause-granted c =
+    let m = c.args.self.now in
+    let may = may-ask-fast m c.args.place c.args.mode c.args.one c.requires.idle c.requires.counted c.requires.number in
+    let granted = c.in-Granted.ensures.granted refl in
+    let noted = c.note_of-noted.ensures ∙ ap (λ (l : Lists). first_note (own_at c.args.place l.fast ++ own_at c.args.place l.slow)) m.lists in
+    let first = ap (λ (l : Lists). l.next) m.lists in
+    let quiet = fast-granted m.seat c.try_fast.new.seat m.sessions (member m) may.idle may.counted noted granted.0 in (
+      refl,
+      subst (λ (n : ℕ). DoesQuietly c.args.place (Gain n c.args.mode ∷ []) (view_of m) (session_at c.try_fast.new.seat m.sessions)) (sym first) quiet,
+      subst (λ (n : ℕ). ShowsStep (view_of m) (session_at c.try_fast.new.seat m.sessions) (MeetsClear c.args.place (Gain n c.args.mode))) (sym first) granted.1,
+    )
