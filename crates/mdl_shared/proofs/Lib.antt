@@ -35,3 +35,4 @@ pub mod CloneCalls
 pub mod QuietDeeds
 pub mod FastDone
 pub mod FastFacts
+pub mod SlowHeld

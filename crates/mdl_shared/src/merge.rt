@@ -57,10 +57,12 @@ impl Member {
         Ok((kept, gone))
     }
 
-    // Lets a slow ticket have the mode of another slow one of its place, and gives that one up, under the latch of the place.
+    // Lets a slow ticket have the mode of another slow one of its place, and gives that one up, under the latch of the place. The session has no
+    // fast ticket.
     fn merge_by_latch<R: Wait>(&mut self, rt: &R, kept: Own, gone: Own)
         requires held { (numbered kept.number self.old.tickets.slow ≡ Some kept) × (numbered gone.number self.old.tickets.slow ≡ Some gone) }
         requires clear { merge_fault (Some kept) (Some gone) self.old.asks ≡ None }
+        requires unfast { self.old.tickets.fast ≡ [] }
         ensures merged { DoesQuietly kept.place (Alter kept.number gone.mode ∷ Lose gone.number ∷ []) (view_of self.old) (view_of self.new) }
         ensures met { MergesOwn kept gone self.old.seat self.new.seat }
     {

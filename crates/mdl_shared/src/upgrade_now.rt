@@ -60,11 +60,12 @@ impl Member {
         Ok(held)
     }
 
-    // Asks for a mode of a slow ticket, which it hasn't and may be upgraded to, under the latch of its place.
+    // Asks for a mode of a slow ticket, which it hasn't and may be upgraded to, under the latch of its place. The session has no fast ticket.
     fn upgrade_by_latch<R: Wait>(&mut self, rt: &R, held: Own, mode: Mode) -> Upgrade
         requires held { numbered held.number self.old.tickets.slow ≡ Some held }
         requires clear { upgrade_fault mode self.old.known.known self.old.asks (Some held) ≡ None }
         requires short { covers held.mode mode ≡ false }
+        requires unfast { self.old.tickets.fast ≡ [] }
         ensures upgraded { result ≡ Upgraded → DoesQuietly held.place (Alter held.number mode ∷ []) (view_of self.old) (view_of self.new)
             × ShowsStep (view_of self.old) (view_of self.new) (MeetsGrantable held.place self.old.seat.me.0.number mode (Alter held.number mode)) }
         ensures blocked { result ≡ WouldWait → DoesQuietly held.place [] (view_of self.old) (view_of self.new)
