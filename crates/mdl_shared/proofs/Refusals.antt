@@ -58,6 +58,7 @@ own-met (Clone_ticket who id mode) why l s e = inl e
 own-met (Upgrade_now who id mode) why l s e = inl e
 own-met (Merge who old new) why l s e = inl e
 own-met (Downgrade who id mode) why l s e = e
+own-met (Read_definition who id) why l s e = inl e
 own-met (Change_definition who id change) why l s e = inl e
 own-met (Tables_of who schema) why l s e = cc
 own-met (Key_of who place) why l s e = refl
