@@ -39,3 +39,4 @@ pub mod QuietDeeds
 pub mod FastDone
 pub mod FastFacts
 pub mod SlowHeld
+pub mod FastWishing
