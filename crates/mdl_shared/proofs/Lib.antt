@@ -40,3 +40,4 @@ pub mod FastDone
 pub mod FastFacts
 pub mod SlowHeld
 pub mod FastWishing
+pub mod SlowFirst

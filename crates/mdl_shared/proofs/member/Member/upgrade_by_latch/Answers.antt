@@ -70,4 +70,4 @@ returns-clause-upgraded g c =
     let t = c.args.held in
     let held = slow-held m t c.requires.unfast c.requires.held in
     let went = c.upgrade_now.ensures.granted c.in-Granted.is in
-    (quiet-visit (visited m.seat c.upgrade_now.new.seat m.sessions (alters-slow (member m) t.place t.number c.args.mode t held.1.its) went.0) went.0.1, went.1)
+    λ e. (quiet-visit (visited m.seat c.upgrade_now.new.seat m.sessions (alters-slow (member m) t.place t.number c.args.mode t held.1.its) went.0) went.0.1, went.1)
