@@ -1,6 +1,6 @@
 -- What a session with fast tickets, or one that asks for one, gives the steps of its fast path.
 use Rattle.std.proofs.Common.{◌≡◌, ◌≢◌, ℕ, ◌+◌, ◌<◌, ◌==◌, ◌&&◌, Bool, true, false, not, nat_le, List, [], ◌∷◌, filter, map, length, is_some, Option, Some, None, refl, sym, ap, subst, ◌∙◌, arith}
-use Rattle.std.specs.Option.{option_and_then}
+use Rattle.std.specs.Option.{option_and_then, unwrap_or}
 use Rattle.std.proofs.lemmas.Bool.{and_parts, eq-eqb, eqb-true, false≢true, lt-leb}
 use Rattle.mdl_key.specs.declared.mode.Mode.{Mode}
 use Rattle.mdl_key.specs.declared.namespace.Kind.{Kind}
@@ -14,17 +14,18 @@ use Rattle.mdl_steps.specs.Deeds.{is_own}
 use Rattle.mdl_steps.specs.FastPlays.{IsCounted, MayReleaseFast, moved}
 use Rattle.mdl_steps.specs.Lists.{Each, Once}
 use Rattle.mdl_steps.proofs.FastLists.{counted_mode}
-use Rattle.mdl_steps.proofs.Interleaving.{Differ, IsOther, rising-uninterleaved}
+use Rattle.mdl_steps.proofs.Interleaving.{Differ, IsOther, each-filtered}
 use Rattle.mdl_steps.proofs.Views.{by_bool}
-use Rattle.mdl_visits.specs.Numbers.{numbered}
+use Rattle.mdl_visits.specs.Numbers.{is_no_number, numbered}
 use Rattle.mdl_visits.specs.Visits.{KnowsKind, MayVisit}
 use Rattle.mdl_shared.specs.declared.member.Member.{Member}
-use Rattle.mdl_shared.specs.Members.{IsMember, are_counted, increment_at, is_known_place, kind_known, most_numbers, wish_fault}
+use Rattle.mdl_shared.specs.Members.{are_counted, increment_at, is_known_place, kind_known, most_numbers, wish_fault, without_at}
 use Rattle.mdl_shared.specs.Passes.{view_of}
 use Rattle.mdl_shared.specs.SessionViews.{Lists, SessionView}
-use Rattle.mdl_shared.proofs.MemberFacts.{may-visit, rising}
+use Rattle.mdl_shared.proofs.MemberFacts.{differ, fast-alone, may-visit}
 use Rattle.mdl_shared.proofs.Membership.{counted_so, kind_place, kind_there}
 use Rattle.mdl_shared.proofs.Props.{member}
+use Rattle.mdl_shared.proofs.TicketOrder.{none-struck}
 
 -- ---- modes that the word counts
 
@@ -66,3 +67,132 @@ may-ask-fast m place mode one none counts some =
       at = may-visit (member m) place (kind_place place kind.0 m.seat.me.0.known kind.1);
       clear = (λ i. wish_fault (kind.1 i) (idle i) mode m.seat.me.0.next) ∙ no-fault kind.0 mode m.seat.me.0.next fits left;
     }
+
+-- ---- fast tickets that it has
+
+-- each is counted, so the session has looked up the key of its place
+some-kind : (place : ℕ) (mode : Mode) (known : List Known) → is_some (increment_at place mode known) ≡ true → is_some (kind_known place known) ≡ true
+some-kind place mode known counts = by (kind_known place known) counts
+  where
+    by : (o : Option Kind) → is_some (option_and_then (λ kind. increment_of kind mode) o) ≡ true → is_some o ≡ true
+    by None counts = counts
+    by (Some kind) counts = refl
+
+pub counted-found : (known : List Known) (id : ℕ) (fast : List Own) (t : Own) → numbered id fast ≡ Some t → are_counted known fast ≡ true
+    → is_some (increment_at t.place t.mode known) ≡ true
+counted-found known id [] t its all = absurd (cc)
+counted-found known id (f ∷ fs) t its all =
+    let parts = and_parts (is_some (increment_at f.place f.mode known)) (are_counted known fs) all in
+    by_bool (f.number == id)
+    (λ hit. let found = rw hit at its in let is : f ≡ t = cc in ap (λ (u : Own). is_some (increment_at u.place u.mode known)) (sym is) ∙ parts.0)
+    (λ miss. counted-found known id fs t (rw miss at its) parts.1)
+
+pub kind-fast : (known : List Known) (place : ℕ) (fast : List Own) → 0 < length (own_at place fast) → are_counted known fast ≡ true → is_some (kind_known place known) ≡ true
+kind-fast known place [] some all = absurd (omega (arith, some))
+kind-fast known place (f ∷ fs) some all =
+    let parts = and_parts (is_some (increment_at f.place f.mode known)) (are_counted known fs) all in
+    by_bool (f.place == place)
+    (λ here. ap (λ (q : ℕ). is_some (kind_known q known)) (sym (eqb-true f.place place here)) ∙ some-kind f.place f.mode known parts.0)
+    (λ there. kind-fast known place fs (rw there at some) parts.1)
+
+-- the kind that is known
+known-kind : (o : Option Kind) → is_some o ≡ true → (kind : Kind) × (o ≡ Some kind)
+known-kind None some = absurd (cc)
+known-kind (Some kind) some = (kind, refl)
+
+-- one of a number is the only one
+none-own : (place number : ℕ) (t : Own) (fast : List Own) → t.number ≡ number → IsOther t fast → filter (is_own place number) fast ≡ []
+none-own place number t [] its other = refl
+none-own place number t (f ∷ fs) its other =
+    by_bool (f.number == number)
+    (λ same. absurd (other.0 (eqb-true f.number number same ∙ sym its)))
+    (λ differ. by_bool (f.place == place) (λ here. rw (here, differ) (none-own place number t fs its other.1)) (λ there. rw there (none-own place number t fs its other.1)))
+
+only-own : (number : ℕ) (t : Own) (fast : List Own) → Differ fast → numbered number fast ≡ Some t → filter (is_own t.place number) fast ≡ t ∷ []
+only-own number t [] differ its = absurd (cc)
+only-own number t (f ∷ fs) differ its =
+    by_bool (f.number == number)
+    (λ hit.
+    let found = rw hit at its in
+    let is : f ≡ t = cc in
+    let here = eq-eqb f.place t.place (ap (λ (u : Own). u.place) is) in
+    rw (here, hit) (ap (λ (us : List Own). f ∷ us) (none-own t.place number f fs (eqb-true f.number number hit) differ.0) ∙ ap (λ (u : Own). u ∷ []) is))
+    (λ miss. by_bool (f.place == t.place)
+    (λ here. rw (here, miss) (only-own number t fs differ.1 (rw miss at its)))
+    (λ there. rw there (only-own number t fs differ.1 (rw miss at its))))
+
+-- a fast ticket may be released
+pub may-release : (m : Member) (t : Own) (one : ℕ) → numbered t.number m.tickets.fast ≡ Some t → increment_at t.place t.mode m.known.known ≡ Some one
+    → MayReleaseFast t.place t.number one m.seat.me
+may-release m t one held counts = record {
+  ticket = t;
+  only = only-own t.number t m.seat.me.0.fast (differ (member m)) (ap (λ (l : Lists). numbered t.number l.fast) (sym m.lists) ∙ held);
+  counted_so = counted_so m.seat.me.0 t.place t.mode one (ap (λ (l : Lists). increment_at t.place t.mode l.known) (sym m.lists) ∙ counts);
+}
+
+-- no slow one goes with it
+pub fast-struck : (m : Member) (t : Own) {slow : List Own} → numbered t.number m.tickets.fast ≡ Some t → slow ≡ without_at t.place t.number m.tickets.slow → slow ≡ m.tickets.slow
+fast-struck m t held struck =
+    let none = fast-alone (member m) t.number t (ap (λ (l : Lists). numbered t.number l.fast) (sym m.lists) ∙ held) in
+    struck ∙ none-struck t.place t.number m.tickets.slow (ap (λ (l : Lists). is_no_number t.number l.slow) m.lists ∙ none)
+
+-- the session may go to the place of one
+pub fast-place : (m : Member) (t : Own) → numbered t.number m.tickets.fast ≡ Some t → MayVisit t.place m.seat
+fast-place m t held =
+    let is = member m in
+    let counts = counted-found m.seat.me.0.known t.number m.seat.me.0.fast t (ap (λ (l : Lists). numbered t.number l.fast) (sym m.lists) ∙ held) is.plain in
+    let kind = known-kind (kind_known t.place m.seat.me.0.known) (some-kind t.place t.mode m.seat.me.0.known counts) in
+    may-visit is t.place (kind_place t.place kind.0 m.seat.me.0.known kind.1)
+
+-- what the word counts one by
+counted-by : (o : Option Kind) (mode : Mode) → is_some (option_and_then (λ kind. increment_of kind mode) o) ≡ true
+    → option_and_then (λ kind. increment_of kind mode) o ≡ Some (unwrap_or (option_and_then (λ kind. increment_of kind mode) o) 0)
+counted-by o mode counts = some (option_and_then (λ kind. increment_of kind mode) o) counts
+  where
+    some : (n : Option ℕ) → is_some n ≡ true → n ≡ Some (unwrap_or n 0)
+    some None e = absurd (cc)
+    some (Some one) e = refl
+
+pub one-of : (m : Member) (t : Own) → numbered t.number m.tickets.fast ≡ Some t
+    → increment_at t.place t.mode m.known.known ≡ Some (unwrap_or (increment_at t.place t.mode m.known.known) 0)
+one-of m t held =
+    counted-by (kind_known t.place m.known.known) t.mode
+    (counted-found m.known.known t.number m.tickets.fast t held (ap (λ (l : Lists). are_counted l.known l.fast) m.lists ∙ (member m).plain))
+
+-- what makes those of a place slow
+pub record MayMakeSlow (place : ℕ) (kind : Kind) (s : SessionView) : Type 0 where
+  pub at : MayVisit place (record { table = s.table; me = s.me })
+  pub knows : KnowsKind s.me.0 place kind
+  pub once : Once (moved place s.me.0)
+
+-- in a book each stands once
+differ-filtered : (keep : Own → Bool) (ts : List Own) → Differ ts → Differ (filter keep ts)
+differ-filtered keep [] differ = tt
+differ-filtered keep (t ∷ ts) differ =
+    by_bool (keep t)
+    (λ stays. rw stays (each-filtered (λ (u : Own). u.number ≢ t.number) keep ts differ.0, differ-filtered keep ts differ.1))
+    (λ goes. rw goes (differ-filtered keep ts differ.1))
+
+unlisted : (session : ℕ) (t : Own) (ts : List Own) → IsOther t ts → ticket_of session t.number (map (ticket_by session) ts) ≡ None
+unlisted session t [] other = refl
+unlisted session t (u ∷ us) other =
+    by_bool (u.number == t.number)
+    (λ same. absurd (other.0 (eqb-true u.number t.number same)))
+    (λ differ. rw (eq-eqb session session refl, differ) (unlisted session t us other.1))
+
+listed-once : (session : ℕ) (ts : List Own) → Differ ts → Once (map (ticket_by session) ts)
+listed-once session [] differ = tt
+listed-once session (t ∷ ts) differ = (unlisted session t ts differ.0, listed-once session ts differ.1)
+
+pub may-make-slow : (m : Member) (place : ℕ) (kind : Kind) → kind_known place m.known.known ≡ Some kind → MayMakeSlow place kind (view_of m)
+may-make-slow m place kind knows =
+    let is = member m in
+    let known = ap (λ (l : Lists). kind_known place l.known) (sym m.lists) ∙ knows in record {
+      at = may-visit is place (kind_place place kind m.seat.me.0.known known);
+      knows = kind_there place kind m.seat.me.0.known known;
+      once = listed-once m.seat.me.0.number (own_at place m.seat.me.0.fast) (differ-filtered (λ (t : Own). t.place == place) m.seat.me.0.fast (differ is));
+    }
+
+-- the kind of their place is known
+pub kind-of-fast : (m : Member) (place : ℕ) → 0 < length (own_at place m.tickets.fast) → is_some (kind_known place m.known.known) ≡ true
+kind-of-fast m place some = kind-fast m.known.known place m.tickets.fast some (ap (λ (l : Lists). are_counted l.known l.fast) m.lists ∙ (member m).plain)

@@ -1,5 +1,5 @@
 -- What is always so of a session between two calls, in the words that its calls need.
-use Rattle.std.proofs.Common.{◌≡◌, ℕ, ◌<◌, ◌+◌, ◌-◌, ◌==◌, Bool, true, not, ◌&&◌, nat_lt, List, [], ◌∷◌, length, map, is_some, Option, Some, None, refl, sym, ap, subst, ◌∙◌, arith}
+use Rattle.std.proofs.Common.{◌≡◌, ◌⊎◌, inl, inr, ℕ, ◌<◌, ◌+◌, ◌-◌, ◌==◌, Bool, true, not, ◌&&◌, nat_lt, List, [], ◌∷◌, ◌++◌, find, length, map, is_some, Option, Some, None, refl, sym, ap, subst, ◌∙◌, arith}
 use Rattle.std.specs.Option.{IfSome, option_map}
 use Rattle.std.proofs.lemmas.Bool.{and_from, and_parts, eqb-true, lt-ltb, ltb-true}
 use Rattle.std.proofs.lemmas.List.Folds.{list_all-map}
@@ -17,7 +17,7 @@ use Rattle.mdl_steps.specs.Deeds.{KnowsPlace, NotWaited}
 use Rattle.mdl_steps.specs.Interleavings.{interleaved}
 use Rattle.mdl_steps.specs.Lists.{Each}
 use Rattle.mdl_steps.specs.Seats.{IsPlace, IsRising}
-use Rattle.mdl_steps.proofs.Interleaving.{Rising}
+use Rattle.mdl_steps.proofs.Interleaving.{Differ, Rising, numbered-interleaved, rising-uninterleaved}
 use Rattle.mdl_steps.proofs.Views.{by_bool}
 use Rattle.mdl_session_laws.specs.SessionSpaces.{SpeaksFor, are_below as are_below_told, are_placed as are_placed_told, first_free, is_known as is_known_in}
 use Rattle.mdl_visits.specs.Leavings.{HasTicket}
@@ -31,7 +31,7 @@ use Rattle.mdl_shared.specs.Waitings.{are_below, is_ask_last, is_ask_told}
 use Rattle.mdl_shared.proofs.Membership.{are_placed, has_numbered, known_within, placed_at, some_key}
 use Rattle.mdl_shared.proofs.SameSpace.{numbers_by, wait_by}
 use Rattle.mdl_shared.proofs.SpaceLists.{apart-told, known-told, known_of}
-use Rattle.mdl_shared.proofs.TicketOrder.{AllLeaveFast, DoesSlow, all-owned-slow, all-parts, apart-numbers, rising-told}
+use Rattle.mdl_shared.proofs.TicketOrder.{AllLeaveFast, DoesSlow, all-owned-slow, all-parts, apart-numbers, none-numbered, numbers-apart, rising-told}
 
 -- ---- numbers
 
@@ -65,6 +65,16 @@ placed-told known [] = refl
 placed-told known (t ∷ ts) =
     ap (λ b. b && are_placed_told (map known_of known) (map told_of ts)) (known-told t.place known)
     ∙ ap (λ b. is_known_place known t.place && b) (placed-told known ts)
+
+-- ---- look-ups in two lists
+
+found-first : {X : Type 0} (p : X → Bool) (xs ys : List X) (x : X) → find p xs ≡ Some x → find p (xs ++ ys) ≡ Some x
+found-first p [] ys x found = absurd (cc)
+found-first p (z ∷ zs) ys x found = by_bool (p z) (λ hit. rw hit (rw hit at found)) (λ miss. rw miss (found-first p zs ys x (rw miss at found)))
+
+found-later : {X : Type 0} (p : X → Bool) (xs ys : List X) → find p xs ≡ None → find p (xs ++ ys) ≡ find p ys
+found-later p [] ys none = refl
+found-later p (z ∷ zs) ys none = by_bool (p z) (λ hit. let no = rw hit at none in absurd (cc)) (λ miss. rw miss (found-later p zs ys (rw miss at none)))
 
 module _ {s : SessionView} (is : IsMember s) where
   -- it speaks for its number
@@ -177,6 +187,10 @@ module _ {s : SessionView} (is : IsMember s) where
   pub rising : Rising (tickets_seen s.me.0)
   rising = rising-told (tickets_seen s.me.0) is.sound.rising
 
+  -- no two fast ones have the same number
+  pub differ : Differ s.me.0.fast
+  differ = (rising-uninterleaved s.me.0.slow s.me.0.fast rising).1
+
   -- so none of the fast ones has the number of a slow one
   pub spared : (id : ℕ) (t : Own) → numbered id s.me.0.slow ≡ Some t → is_no_number id s.me.0.fast ≡ true
   spared id t its = apart-numbers id t s.me.0.slow s.me.0.fast rising its
@@ -209,3 +223,31 @@ module _ {s : SessionView} (is : IsMember s) where
   pub merges-slow : (place old new : ℕ) (mode : Mode) (kept gone : Own) → numbered old s.me.0.slow ≡ Some kept → numbered new s.me.0.slow ≡ Some gone
       → DoesSlow place (Alter old mode ∷ Lose new ∷ []) s.me.0
   merges-slow place old new mode kept gone one other = does-slow place (Alter old mode ∷ Lose new ∷ []) (spared old kept one, (spared new gone other, tt))
+
+  -- ---- a ticket of its is slow or fast
+
+  -- a slow one, or a fast one, is one of all
+  pub slow-held : (id : ℕ) (t : Own) → numbered id s.me.0.slow ≡ Some t → numbered id (tickets_seen s.me.0) ≡ Some t
+  slow-held id t its =
+      numbered-interleaved id s.me.0.slow s.me.0.fast differ (inr (none-numbered id s.me.0.fast (spared id t its))) ∙ found-first (λ (u : Own). u.number == id) s.me.0.slow s.me.0.fast t its
+
+  pub fast-held : (id : ℕ) (t : Own) → numbered id s.me.0.fast ≡ Some t → numbered id (tickets_seen s.me.0) ≡ Some t
+  fast-held id t its =
+      let none = none-numbered id s.me.0.slow (numbers-apart id t s.me.0.slow s.me.0.fast rising its) in
+      numbered-interleaved id s.me.0.slow s.me.0.fast differ (inl none) ∙ found-later (λ (u : Own). u.number == id) s.me.0.slow s.me.0.fast none ∙ its
+
+  -- and each is one of either
+  pub held-either : (id : ℕ) (t : Own) → numbered id (tickets_seen s.me.0) ≡ Some t → (numbered id s.me.0.slow ≡ Some t) ⊎ (numbered id s.me.0.fast ≡ Some t)
+  held-either id t its = by (numbered id s.me.0.slow) refl
+    where
+      by : (o : Option Own) → numbered id s.me.0.slow ≡ o → (numbered id s.me.0.slow ≡ Some t) ⊎ (numbered id s.me.0.fast ≡ Some t)
+      by (Some u) found = inl (found ∙ sym (slow-held id u found) ∙ its)
+      by None none =
+          inr (sym (numbered-interleaved id s.me.0.slow s.me.0.fast differ (inl none) ∙ found-later (λ (u : Own). u.number == id) s.me.0.slow s.me.0.fast none) ∙ its)
+
+  -- none is both
+  pub slow-alone : (id : ℕ) (t : Own) → numbered id s.me.0.slow ≡ Some t → numbered id s.me.0.fast ≡ None
+  slow-alone id t its = none-numbered id s.me.0.fast (spared id t its)
+
+  pub fast-alone : (id : ℕ) (t : Own) → numbered id s.me.0.fast ≡ Some t → is_no_number id s.me.0.slow ≡ true
+  fast-alone id t its = numbers-apart id t s.me.0.slow s.me.0.fast rising its

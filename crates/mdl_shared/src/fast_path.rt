@@ -134,9 +134,9 @@ impl Member {
         requires held { numbered held.number self.now.tickets.fast ≡ Some held }
         ensures { increment_at held.place held.mode self.now.known.known ≡ Some result }
     {
-        self.known
-            .kind_at(held.place)
-            .and_then(|kind| Word::increment(kind, held.mode))
-            .unwrap_or(0)
+        match self.known.kind_at(held.place) {
+            Some(kind) => Word::increment(kind, held.mode).unwrap_or(0),
+            None => 0,
+        }
     }
 }
