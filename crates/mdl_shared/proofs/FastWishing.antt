@@ -2,6 +2,7 @@
 use Rattle.std.proofs.Common.{◌≡◌, ◌⊎◌, inl, inr, ℕ, ◌+◌, List, [], map, Option, Some, None, length, refl, sym, ap, subst, ◌∙◌, arith}
 use Rattle.std.specs.Option.{option_map}
 use Rattle.std.specs.Prelude.{◌-◌, filter_map}
+use Rattle.mdl_calls.specs.Words.{Answer, Call}
 use Rattle.mdl_steps.specs.declared.deed.Deed.{Deed}
 use Rattle.mdl_steps.specs.declared.view.Ask.{Ask}
 use Rattle.mdl_steps.specs.declared.view.Met.{Met}
@@ -10,13 +11,14 @@ use Rattle.mdl_steps.specs.Cells.{own_at}
 use Rattle.mdl_steps.specs.Lists.{Each}
 use Rattle.mdl_session_laws.specs.SessionSpaces.{Space}
 use Rattle.mdl_visits.specs.Materialisings.{MeetsFullFor}
-use Rattle.mdl_visits.specs.Visits.{MakesMoreSteps, MeetsFull}
-use Rattle.mdl_visits.proofs.Steps.{each_map, goes_none, goes_on}
+use Rattle.mdl_visits.specs.Visits.{Does, MakesMoreSteps, MeetsFull}
+use Rattle.mdl_visits.proofs.Steps.{does_then, each_map, goes_none, goes_on}
 use Rattle.mdl_shared.specs.DeedsDone.{DoesQuietly}
 use Rattle.mdl_shared.specs.FastWishes.{BecomesSlow}
 use Rattle.mdl_shared.specs.OwnLists.{told_of}
-use Rattle.mdl_shared.specs.SessionViews.{SessionView, note_of, settled_told, space_of, tickets_seen}
-use Rattle.mdl_shared.specs.Showings.{AllMadeSlow, FromUnfast, FullForFast, FullForOne, MakesSlow, ShowsStep}
+use Rattle.mdl_shared.specs.SessionViews.{SessionView, lists_seen, note_of, settled_told, space_of, tickets_seen}
+use Rattle.mdl_shared.specs.Showings.{AllMadeSlow, FromUnfast, FullForFast, FullForOne, KeepsTold, MakesSlow, MeetsSo, SettlesSo, Shows, ShowsStep, StepsSo, done_by, own_fault}
+use Rattle.mdl_shared.proofs.Faults.{if-clear}
 use Rattle.mdl_shared.proofs.QuietDeeds.{quiet-steps, shows-first, shows-later}
 use Rattle.mdl_shared.proofs.SameSpace.{numbers_by, own_by, reading_of}
 use Rattle.mdl_shared.proofs.SpaceLists.{known_of}
@@ -50,8 +52,8 @@ made-first a b c more made =
     each_map (λ (t : Own). ShowsStep a b (MakesSlow t.place)) (λ (t : Own). ShowsStep a c (MakesSlow t.place)) (λ t shown. shows-first a b c more shown) a.me.0.fast made
 
 module _ {a b : SessionView} (slow : BecomesSlow a b) where
-  pub slow-number : b.me.0.number ≡ a.me.0.number
-  slow-number = ap (λ (x : SessionView). x.me.0.number) slow.quiet.done.now
+  pub number-slow : b.me.0.number ≡ a.me.0.number
+  number-slow = ap (λ (x : SessionView). x.me.0.number) slow.quiet.done.now
 
   -- what is so from a later moment on
   pub from-slow : (c : SessionView) {fact : SessionView → Type 0} → FromUnfast b c fact → FromUnfast a c fact
@@ -76,6 +78,23 @@ module _ {a b : SessionView} (slow : BecomesSlow a b) where
   pub full-one_slow : (place : ℕ) (c : SessionView) → FullForOne place b c → FullForOne place a c
   full-one_slow place c (inl full) = inl (shows-slow c full)
   full-one_slow place c (inr full) = inr (full-slow c full)
+
+  -- what the whole call shows, by what the rest of it does
+  pub shows-since : {c : SessionView} {call : Call} {answer : Answer} → own_fault call (lists_seen a.me.0) ≡ None
+      → done_by call answer (tickets_seen b.me.0) ≡ done_by call answer (tickets_seen a.me.0)
+      → (SettlesSo call answer (lists_seen b.me.0) b c → SettlesSo call answer (lists_seen a.me.0) a c) → (KeepsTold call b c → KeepsTold call a c)
+      → (StepsSo call b c → StepsSo call a c)
+      → (MeetsSo call answer (lists_seen b.me.0) b c → MeetsSo call answer (lists_seen a.me.0) a c) → Shows call answer b c → Shows call answer a c
+  shows-since {c} {call} {answer} clear same settled told steps met shown = record {
+    table = shown.table ∙ ap (λ (x : SessionView). x.table) slow.quiet.done.now;
+    sessions = shown.sessions ∙ ap (λ (x : SessionView). x.sessions) slow.quiet.done.now;
+    refused = if-clear _ (own_fault call (lists_seen a.me.0)) clear;
+    did = subst (λ (ds : List Deed). Does ds a.me c.me) same (does_then [] (done_by call answer (tickets_seen b.me.0)) a.me b.me c.me slow.quiet.did shown.did);
+    settled = settled shown.settled;
+    told = told shown.told;
+    steps = steps shown.steps;
+    met = met shown.met;
+  }
 
 -- ---- where there was no room for the fast ones
 

@@ -41,3 +41,4 @@ pub mod FastFacts
 pub mod SlowHeld
 pub mod FastWishing
 pub mod SlowFirst
+pub mod FastWishShows
