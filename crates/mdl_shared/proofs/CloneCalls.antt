@@ -1,5 +1,6 @@
 -- Second tickets that are made of held ones.
-use Rattle.std.proofs.Common.{◌≡◌, ◌⊎◌, inl, inr, ℕ, false, Some, None, [], ◌∷◌, refl, ap, ◌∙◌}
+use Rattle.std.proofs.Common.{◌≡◌, ◌⊎◌, inl, inr, ℕ, false, Some, None, [], ◌∷◌, Result, Ok, Err, refl, ap, subst₂, ◌∙◌}
+use Rattle.std.specs.Prelude.{IfErr, IfOk, OnErr}
 use Rattle.std.specs.Option.{option_map}
 use Rattle.mdl_key.specs.declared.mode.Mode.{Mode}
 use Rattle.mdl_book.specs.declared.book_error.BookError.{BookError}
@@ -7,21 +8,28 @@ use Rattle.mdl_book.specs.declared.book_error.BookError.TheVariants as fault
 use Rattle.mdl_calls.specs.declared.space_error.SpaceError.{SpaceError}
 use Rattle.mdl_calls.specs.declared.space_error.SpaceError.TheVariants.{Full, OutOfMemory}
 use Rattle.mdl_calls.specs.Own.{cloning}
-use Rattle.mdl_calls.specs.Words.{Clone_ticket, Granted, IsCause, MayClone, OfHeld, Refused, is_waiting}
+use Rattle.mdl_calls.specs.Words.{Clone_ticket, cloned, Granted, IsCause, MayClone, OfHeld, Refused, is_waiting}
 use Rattle.mdl_steps.specs.declared.deed.Deed.TheVariants.{Gain}
 use Rattle.mdl_steps.specs.declared.view.Own.{Own}
 use Rattle.mdl_session_laws.specs.SessionJoins.{Joins}
 use Rattle.mdl_session_laws.specs.SessionSpaces.{Knows}
+use Rattle.mdl_visits.specs.Leavings.{MeetsOwn}
 use Rattle.mdl_visits.specs.Numbers.{numbered}
+use Rattle.mdl_visits.specs.Visits.{MeetsFull}
+use Rattle.mdl_visits.proofs.Numbers.{has_number}
 use Rattle.mdl_shared.specs.DeedsDone.{DoesQuietly}
+use Rattle.mdl_shared.specs.FastDeeds.{LacksRoomForFast}
+use Rattle.mdl_shared.specs.FastWishes.{BecomesSlow, GainsFast}
 use Rattle.mdl_shared.specs.Members.{IsMember}
 use Rattle.mdl_shared.specs.Modes.{clone_fault}
 use Rattle.mdl_shared.specs.OwnLists.{told_of}
 use Rattle.mdl_shared.specs.SessionViews.{SessionView, lists_seen, space_of, tickets_seen}
-use Rattle.mdl_shared.specs.Showings.{FullForOne, MeetsClone, OfTicket, Shows, ShowsStep}
+use Rattle.mdl_shared.specs.Showings.{FullForOne, MeetsClone, MeetsTicket, OfTicket, Shows, ShowsStep}
+use Rattle.mdl_shared.proofs.FastWishing.{number-slow, shows-slow}
+use Rattle.mdl_shared.proofs.FastWishShows.{lack-cause}
 use Rattle.mdl_shared.proofs.MemberFacts.{speaks}
-use Rattle.mdl_shared.proofs.Members.{HasDone}
-use Rattle.mdl_shared.proofs.QuietDeeds.{quiet-shows}
+use Rattle.mdl_shared.proofs.Members.{HasDone, done-nothing}
+use Rattle.mdl_shared.proofs.QuietDeeds.{quiet-shows, quiet-then}
 use Rattle.mdl_shared.proofs.SameSpace.{Stays, refused, same-stays, waits-asks}
 use Rattle.mdl_shared.proofs.SpaceLists.{ticket-told}
 use Rattle.mdl_shared.proofs.WishCalls.{by-cause, gain-joins}
@@ -70,3 +78,44 @@ module _ {s : SessionView} (is : IsMember s) (id : ℕ) (mode : Mode) where
       pub clone-shows : {s′ : SessionView} {new : ℕ} → DoesQuietly t.place (Gain new mode ∷ []) s s′ → ShowsStep s s′ (MeetsClone t.place s.me.0.number id (Gain new mode))
           → Shows (Clone_ticket s.me.0.number id mode) (Granted new) s s′
       clone-shows quiet met = quiet-shows quiet refl clear (λ e. e) (λ e. e) tt (t, its, met)
+
+      -- by the fast path
+      pub fast-cloned : {b : SessionView} {new : ℕ} → GainsFast t.place mode new s b
+          → Joins (space_of s) (Clone_ticket s.me.0.number id mode) (Granted new) (space_of b) × Shows (Clone_ticket s.me.0.number id mode) (Granted new) s b
+      fast-cloned gains = (
+        clone-joins gains.first gains.quiet.done,
+        clone-shows gains.quiet (gains.met.0, gains.met.1, inr gains.met.2),
+      )
+
+      -- there was no room for the fast tickets
+      lacks-one : {b : SessionView} {why : SpaceError} → LacksRoomForFast why s b
+          → (why ≡ OutOfMemory) ⊎ ((why ≡ Full) × OfTicket id (lists_seen s.me.0) (λ u. FullForOne u.place s b))
+      lacks-one (inl memory) = inl memory
+      lacks-one (inr full) = inr (full.0, (t, its, inr full.1))
+
+      pub clone-full : {b : SessionView} {why : SpaceError} → DoesQuietly 0 [] s b → LacksRoomForFast why s b
+          → Joins (space_of s) (Clone_ticket s.me.0.number id mode) (Refused why) (space_of b) × Shows (Clone_ticket s.me.0.number id mode) (Refused why) s b
+      clone-full quiet lacks = (clone-refused (done-nothing quiet.done) (lack-cause lacks), refused-shows quiet (lacks-one lacks))
+
+      -- by the latch of the place, once they are slow ones
+      module _ {b c : SessionView} (slow : BecomesSlow s b) where
+        pub cloned-slow : (next : ℕ) → next ≡ s.me.0.next → (result : Result ℕ SpaceError)
+            → IfOk result (λ new. (new ≡ next) × DoesQuietly t.place (Gain new mode ∷ []) b c × MeetsTicket t.number (Gain new mode ∷ []) b c t)
+            → OnErr result (DoesQuietly t.place [] b c) → IfErr result (λ why. (why ≡ OutOfMemory) ⊎ ((why ≡ Full) × ShowsStep b c (MeetsFull t.place)))
+            → Joins (space_of s) (Clone_ticket s.me.0.number id mode) (cloned result) (space_of c) × Shows (Clone_ticket s.me.0.number id mode) (cloned result) s c
+        cloned-slow next first (Ok new) made unchanged why =
+            let quiet = quiet-then slow.quiet made.1 in
+            let met = made.2 in
+            let own = subst₂ (λ (who n : ℕ). MeetsOwn t.place who n met.0) (number-slow slow) (has_number id t (tickets_seen s.me.0) its) met.2.0 in
+            (clone-joins (made.0 ∙ first) quiet.done, clone-shows quiet (shows-slow slow c (met.0, met.1, inl (own, met.2.1))))
+        cloned-slow next first (Err why) made unchanged causes =
+            let quiet = quiet-then slow.quiet unchanged in
+            (clone-refused (done-nothing quiet.done) (either-cause causes), refused-shows quiet (full-one causes))
+          where
+            either-cause : (why ≡ OutOfMemory) ⊎ ((why ≡ Full) × ShowsStep b c (MeetsFull t.place)) → (why ≡ OutOfMemory) ⊎ (why ≡ Full)
+            either-cause (inl memory) = inl memory
+            either-cause (inr full) = inr full.0
+
+            full-one : (why ≡ OutOfMemory) ⊎ ((why ≡ Full) × ShowsStep b c (MeetsFull t.place)) → (why ≡ OutOfMemory) ⊎ ((why ≡ Full) × OfTicket id (lists_seen s.me.0) (λ u. FullForOne u.place s c))
+            full-one (inl memory) = inl memory
+            full-one (inr full) = inr (full.0, (t, its, inl (shows-slow slow c full.1)))

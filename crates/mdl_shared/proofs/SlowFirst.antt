@@ -7,7 +7,7 @@ use Rattle.mdl_calls.specs.declared.answers.Upgrade.{Upgrade}
 use Rattle.mdl_calls.specs.declared.answers.Upgrade.TheVariants as upgrade
 use Rattle.mdl_calls.specs.declared.space_error.SpaceError.{SpaceError}
 use Rattle.mdl_calls.specs.declared.space_error.SpaceError.TheVariants.{Full, OutOfMemory}
-use Rattle.mdl_calls.specs.Words.{Done, IsCause, Merge, Refused, Upgrade_now, Upgraded, Would_wait}
+use Rattle.mdl_calls.specs.Words.{Done, IsCause, Merge, Refused, Upgrade_now, Upgraded, Would_wait, upgrade_tried}
 use Rattle.mdl_steps.specs.declared.deed.Deed.{Deed}
 use Rattle.mdl_steps.specs.declared.deed.Deed.TheVariants.{Alter, Lose}
 use Rattle.mdl_steps.specs.declared.view.Met.{Met}
@@ -30,7 +30,8 @@ use Rattle.mdl_shared.specs.Passes.{view_of}
 use Rattle.mdl_shared.specs.SessionViews.{SessionView, space_of, tickets_seen}
 use Rattle.mdl_shared.specs.Showings.{AllMadeSlow, Shows, ShowsStep}
 use Rattle.mdl_shared.specs.Upgrades.{upgrade_fault}
-use Rattle.mdl_shared.proofs.FastWishing.{shows-slow, slow-number}
+use Rattle.mdl_shared.proofs.FastWishing.{number-slow, shows-slow}
+use Rattle.mdl_shared.proofs.FastWishShows.{lack-cause}
 use Rattle.mdl_shared.proofs.MemberFacts.{speaks}
 use Rattle.mdl_shared.proofs.Members.{done-nothing}
 use Rattle.mdl_shared.proofs.QuietDeeds.{quiet-shows, quiet-steps, quiet-then, same-lists}
@@ -54,11 +55,6 @@ slow-then m m′ done none id t found =
     let slow = subst (λ (ts : List Own). numbered id (interleaved m′.tickets.slow ts) ≡ Some t) none its in
     subst (λ (n : ℕ). numbered n m′.tickets.slow ≡ Some t) (sym (has_number id t m′.tickets.slow slow)) slow
 
--- why there was no room for them
-pub causes-of : {why : SpaceError} {a b : SessionView} → LacksRoomForFast why a b → (why ≡ OutOfMemory) ⊎ (why ≡ Full)
-causes-of (inl memory) = inl memory
-causes-of (inr full) = inr full.0
-
 -- ---- upgrades, to a mode that the ticket's own doesn't cover
 
 module _ {a : SessionView} (is : IsMember a) (id : ℕ) (t : Own) (its : numbered id (tickets_seen a.me.0) ≡ Some t) (mode : Mode)
@@ -68,7 +64,7 @@ module _ {a : SessionView} (is : IsMember a) (id : ℕ) (t : Own) (its : numbere
       → Joins (space_of a) (Upgrade_now a.me.0.number id mode) (Refused why) (space_of b) × Shows (Upgrade_now a.me.0.number id mode) (Refused why) a b
   upgrade-refused {b} {why} quiet lacks = (
     refused a b (Upgrade_now a.me.0.number id mode) why (done-nothing quiet.done) (speaks is) refl refl
-        (by-cause (λ w. IsCause (Knows (space_of a) a.me.0.number) (Upgrade_now a.me.0.number id mode) w (space_of a).own) why tt (may-rise is id t its mode clear) (causes-of lacks))
+        (by-cause (λ w. IsCause (Knows (space_of a) a.me.0.number) (Upgrade_now a.me.0.number id mode) w (space_of a).own) why tt (may-rise is id t its mode clear) (lack-cause lacks))
         (λ state how is. cc) tt,
     quiet-shows quiet refl clear (λ e. e) (λ e. e) tt (inr lacks),
   )
@@ -78,26 +74,35 @@ module _ {a : SessionView} (is : IsMember a) (id : ℕ) (t : Own) (its : numbere
     deeds answer = sym (ap (upgrade_deeds id mode (Ok answer)) its ∙ ap (λ b. if b then [] else rise_deeds id mode answer) short)
 
     -- it has the mode
-    pub upgraded-slow : DoesQuietly t.place (Alter t.number mode ∷ []) b c × ShowsStep b c (MeetsGrantable t.place b.me.0.number mode (Alter t.number mode))
+    upgraded-slow : DoesQuietly t.place (Alter t.number mode ∷ []) b c × ShowsStep b c (MeetsGrantable t.place b.me.0.number mode (Alter t.number mode))
         → Joins (space_of a) (Upgrade_now a.me.0.number id mode) Upgraded (space_of c) × Shows (Upgrade_now a.me.0.number id mode) Upgraded a c
     upgraded-slow went =
         let number = has_number id t (tickets_seen a.me.0) its in
         let quiet = quiet-then slow.quiet (subst (λ (n : ℕ). DoesQuietly t.place (Alter n mode ∷ []) b c) number went.0) in
         let met = subst (λ (n : ℕ). ShowsStep b c (MeetsGrantable t.place b.me.0.number mode (Alter n mode))) number went.1 in
-        let by = subst (λ (who : ℕ). ShowsStep b c (MeetsGrantable t.place who mode (Alter id mode))) (slow-number slow) met in (
+        let by = subst (λ (who : ℕ). ShowsStep b c (MeetsGrantable t.place who mode (Alter id mode))) (number-slow slow) met in (
           upgrade-joins is id t its mode clear short quiet.done,
           quiet-shows quiet (deeds upgrade.Upgraded) clear (λ e. e) (λ e. e) tt (t, its, ((λ has. let no = sym has ∙ short in cc), (λ less. shows-slow slow c by))),
         )
 
     -- it would have to wait
-    pub blocked-slow : DoesQuietly t.place [] b c × ShowsStep b c (MeetsBlocked t.place b.me.0.number mode)
+    blocked-slow : DoesQuietly t.place [] b c × ShowsStep b c (MeetsBlocked t.place b.me.0.number mode)
         → Joins (space_of a) (Upgrade_now a.me.0.number id mode) Would_wait (space_of c) × Shows (Upgrade_now a.me.0.number id mode) Would_wait a c
     blocked-slow went =
         let quiet = quiet-then slow.quiet went.0 in
-        let by = subst (λ (who : ℕ). ShowsStep b c (MeetsBlocked t.place who mode)) (slow-number slow) went.1 in (
+        let by = subst (λ (who : ℕ). ShowsStep b c (MeetsBlocked t.place who mode)) (number-slow slow) went.1 in (
           blocked-joins is id t its mode clear short quiet.done,
           quiet-shows quiet (deeds upgrade.WouldWait) clear (λ e. e) (λ e. e) tt (t, its, (short, (b, quiet-steps slow.quiet, slow.made, by))),
         )
+
+    -- either
+    pub tried-slow : (answer : Upgrade)
+        → (answer ≡ upgrade.Upgraded → DoesQuietly t.place (Alter t.number mode ∷ []) b c × ShowsStep b c (MeetsGrantable t.place b.me.0.number mode (Alter t.number mode)))
+        → (answer ≡ upgrade.WouldWait → DoesQuietly t.place [] b c × ShowsStep b c (MeetsBlocked t.place b.me.0.number mode))
+        → Joins (space_of a) (Upgrade_now a.me.0.number id mode) (upgrade_tried (Ok answer)) (space_of c)
+        × Shows (Upgrade_now a.me.0.number id mode) (upgrade_tried (Ok answer)) a c
+    tried-slow upgrade.Upgraded granted blocked = upgraded-slow (granted refl)
+    tried-slow upgrade.WouldWait granted blocked = blocked-slow (blocked refl)
 
 -- ---- merges
 
@@ -111,7 +116,7 @@ module _ {a : SessionView} (is : IsMember a) (old new : ℕ) (kept gone : Own) (
       → Joins (space_of a) (Merge a.me.0.number old new) (Refused why) (space_of b) × Shows (Merge a.me.0.number old new) (Refused why) a b
   merge-refused {b} {why} quiet lacks = (
     refused a b (Merge a.me.0.number old new) why (done-nothing quiet.done) (speaks is) refl refl
-        (by-cause (λ w. IsCause (Knows (space_of a) a.me.0.number) (Merge a.me.0.number old new) w (space_of a).own) why tt (merge-clear a old new kept gone its other free) (causes-of lacks))
+        (by-cause (λ w. IsCause (Knows (space_of a) a.me.0.number) (Merge a.me.0.number old new) w (space_of a).own) why tt (merge-clear a old new kept gone its other free) (lack-cause lacks))
         (λ state how is. cc) tt,
     quiet-shows quiet refl clear (λ e. e) (λ e. e) tt (inr lacks),
   )
@@ -126,7 +131,7 @@ module _ {a : SessionView} (is : IsMember a) (old new : ℕ) (kept gone : Own) (
       let two = has_number new gone (tickets_seen a.me.0) other in
       let quiet = quiet-then slow.quiet (subst₂ (λ (n p : ℕ). DoesQuietly kept.place (Alter n gone.mode ∷ Lose p ∷ []) b c) one two went) in
       let met = subst₃ (λ (who n p : ℕ). MeetsOwn kept.place who n step.0 × MeetsOwn kept.place who p step.0 × (step.0.deeds ≡ Alter n gone.mode ∷ Lose p ∷ []))
-      (slow-number slow) one two step.2 in (
+      (number-slow slow) one two (step.2, step.3, step.4) in (
         merge-joins is old kept its new gone other free quiet.done,
         quiet-shows quiet (sym (ap (merge_deeds old new (Ok tt)) other)) clear (λ e. e) (λ e. e) tt (kept, its, (gone, other, shows-slow slow c (step.0, step.1, met))),
       )
