@@ -181,8 +181,8 @@ unlisted session t (u ∷ us) other =
     (λ differ. rw (eq-eqb session session refl, differ) (unlisted session t us other.1))
 
 listed-once : (session : ℕ) (ts : List Own) → Differ ts → Once (map (ticket_by session) ts)
-listed-once session [] differ = tt
-listed-once session (t ∷ ts) differ = (unlisted session t ts differ.0, listed-once session ts differ.1)
+listed-once session [] apart = tt
+listed-once session (t ∷ ts) apart = (unlisted session t ts apart.0, listed-once session ts apart.1)
 
 pub may-make-slow : (m : Member) (place : ℕ) (kind : Kind) → kind_known place m.known.known ≡ Some kind → MayMakeSlow place kind (view_of m)
 may-make-slow m place kind knows =

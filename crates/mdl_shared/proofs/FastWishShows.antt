@@ -25,6 +25,16 @@ use Rattle.mdl_shared.proofs.QuietDeeds.{quiet-shows}
 
 -- ---- at once
 
+-- there was no room for the fast tickets that the session had
+lacks-room : (place : ℕ) (a b : SessionView) {why : SpaceError} → LacksRoomForFast why a b → (why ≡ OutOfMemory) ⊎ ((why ≡ Full) × FullForOne place a b)
+lacks-room place a b (inl memory) = inl memory
+lacks-room place a b (inr full) = inr (full.0, inr full.1)
+
+-- as a lock space tells it
+pub lack-cause : (a b : SessionView) {why : SpaceError} → LacksRoomForFast why a b → (why ≡ OutOfMemory) ⊎ (why ≡ Full)
+lack-cause a b (inl memory) = inl memory
+lack-cause a b (inr full) = inr full.0
+
 module _ {a b : SessionView} {place : ℕ} {mode : Mode} (clear : wish_fault (kind_known place a.me.0.known) a.me.0.asks mode a.me.0.next ≡ None) where
   -- a fast ticket was granted
   pub try-fast-shows : {id : ℕ} → GainsFast place mode id a b → Shows (Try_now a.me.0.number place mode) (Granted id) a b
@@ -33,25 +43,20 @@ module _ {a b : SessionView} {place : ℕ} {mode : Mode} (clear : wish_fault (ki
   pub begin-fast-shows : {id : ℕ} → GainsFast place mode id a b → Shows (Begin_wait a.me.0.number place mode) (Granted id) a b
   begin-fast-shows gains = quiet-shows gains.quiet refl clear (λ s. s) (λ t. t) tt (gains.met.0, gains.met.1, inr gains.met.2)
 
-  -- there was no room for those that the session had
-  lacks-room : {why : SpaceError} → LacksRoomForFast why a b → (why ≡ OutOfMemory) ⊎ ((why ≡ Full) × FullForOne place a b)
-  lacks-room (inl memory) = inl memory
-  lacks-room (inr full) = inr (full.0, inr full.1)
-
+  -- there was no room
   pub try-full-shows : {why : SpaceError} → DoesQuietly 0 [] a b → LacksRoomForFast why a b → Shows (Try_now a.me.0.number place mode) (Refused why) a b
-  try-full-shows quiet lacks = quiet-shows quiet refl clear (λ s. s) (λ t. t) tt (inr (lacks-room lacks))
+  try-full-shows quiet lacks = quiet-shows quiet refl clear (λ s. s) (λ t. t) tt (inr (lacks-room place a b lacks))
 
   pub begin-full-shows : {why : SpaceError} → DoesQuietly 0 [] a b → LacksRoomForFast why a b → Shows (Begin_wait a.me.0.number place mode) (Refused why) a b
-  begin-full-shows quiet lacks = quiet-shows quiet refl clear (λ s. s) (λ t. t) tt (inr (lacks-room lacks))
-
--- why, as a lock space tells it
-pub lack-cause : {why : SpaceError} {a b : SessionView} → LacksRoomForFast why a b → (why ≡ OutOfMemory) ⊎ (why ≡ Full)
-lack-cause (inl memory) = inl memory
-lack-cause (inr full) = inr full.0
+  begin-full-shows quiet lacks = quiet-shows quiet refl clear (λ s. s) (λ t. t) tt (inr (lacks-room place a b lacks))
 
 -- ---- by the latch of the place, once all fast tickets are slow ones
 
-module _ {a b c : SessionView} (slow : BecomesSlow a b) {place : ℕ} {mode : Mode} where
+-- the space is the same then
+joins-since : {a b : SessionView} {call : Call} {answer : Answer} {space : Space} → BecomesSlow a b → Joins (space_of b) call answer space → Joins (space_of a) call answer space
+joins-since {call = call} {answer = answer} {space = space} slow joins = subst (λ (s : Space). Joins s call answer space) (same-space slow.quiet) joins
+
+module _ {a b : SessionView} (slow : BecomesSlow a b) (c : SessionView) (place : ℕ) (mode : Mode) where
   -- refused there for what the session has, or for want of room
   refuses-since : {why : SpaceError} → RefusesWish (wish_fault (kind_known place b.me.0.known) b.me.0.asks mode b.me.0.next) why (FullForOne place b c)
       → RefusesWish (wish_fault (kind_known place a.me.0.known) a.me.0.asks mode a.me.0.next) why (FullForOne place a c)
@@ -79,19 +84,15 @@ module _ {a b c : SessionView} (slow : BecomesSlow a b) {place : ℕ} {mode : Mo
       × MeetsOpening x.table.slots place x.me.0.number x.me.0.waits x.me.0.next mode f)) slow.quiet.done.now met)
   begin-met who (Err why) met = refuses-since met
 
-  -- the space is the same then
-  joins-since : {call : Call} {answer : Answer} {space : Space} → Joins (space_of b) call answer space → Joins (space_of a) call answer space
-  joins-since {call} {answer} {space} joins = subst (λ (s : Space). Joins s call answer space) (same-space slow.quiet) joins
-
   pub try-joins-since : (result : Result Attempt SpaceError) → Joins (space_of b) (Try_now b.me.0.number place mode) (attempted result) (space_of c)
       → Joins (space_of a) (Try_now a.me.0.number place mode) (attempted result) (space_of c)
   try-joins-since result joins =
-      joins-since (subst (λ (n : ℕ). Joins (space_of b) (Try_now n place mode) (attempted result) (space_of c)) (number-slow slow) joins)
+      joins-since slow (subst (λ (n : ℕ). Joins (space_of b) (Try_now n place mode) (attempted result) (space_of c)) (number-slow slow) joins)
 
   pub begin-joins-since : (result : Result Begun SpaceError) → Joins (space_of b) (Begin_wait b.me.0.number place mode) (begun result) (space_of c)
       → Joins (space_of a) (Begin_wait a.me.0.number place mode) (begun result) (space_of c)
   begin-joins-since result joins =
-      joins-since (subst (λ (n : ℕ). Joins (space_of b) (Begin_wait n place mode) (begun result) (space_of c)) (number-slow slow) joins)
+      joins-since slow (subst (λ (n : ℕ). Joins (space_of b) (Begin_wait n place mode) (begun result) (space_of c)) (number-slow slow) joins)
 
   -- and the call shows by the whole what it does by the rest
   try-did : (who : ℕ) (result : Result Attempt SpaceError)

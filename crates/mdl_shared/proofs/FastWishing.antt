@@ -2,6 +2,7 @@
 use Rattle.std.proofs.Common.{◌≡◌, ◌⊎◌, inl, inr, ℕ, ◌+◌, List, [], map, Option, Some, None, length, refl, sym, ap, subst, ◌∙◌, arith}
 use Rattle.std.specs.Option.{option_map}
 use Rattle.std.specs.Prelude.{◌-◌, filter_map}
+use Rattle.mdl_calls.specs.declared.space_error.SpaceError.{SpaceError}
 use Rattle.mdl_calls.specs.Words.{Answer, Call}
 use Rattle.mdl_steps.specs.declared.deed.Deed.{Deed}
 use Rattle.mdl_steps.specs.declared.view.Ask.{Ask}
@@ -13,10 +14,12 @@ use Rattle.mdl_session_laws.specs.SessionSpaces.{Space}
 use Rattle.mdl_visits.specs.Materialisings.{MeetsFullFor}
 use Rattle.mdl_visits.specs.Visits.{Does, MakesMoreSteps, MeetsFull}
 use Rattle.mdl_visits.proofs.Steps.{does_then, each_map, goes_none, goes_on}
+use Rattle.mdl_shared.specs.declared.member.Member.{Member}
 use Rattle.mdl_shared.specs.DeedsDone.{DoesQuietly}
+use Rattle.mdl_shared.specs.FastDeeds.{LacksRoomForFast}
 use Rattle.mdl_shared.specs.FastWishes.{BecomesSlow}
 use Rattle.mdl_shared.specs.OwnLists.{told_of}
-use Rattle.mdl_shared.specs.SessionViews.{SessionView, lists_seen, note_of, settled_told, space_of, tickets_seen}
+use Rattle.mdl_shared.specs.SessionViews.{Lists, SessionView, lists_seen, note_of, settled_told, space_of, tickets_seen}
 use Rattle.mdl_shared.specs.Showings.{AllMadeSlow, FromUnfast, FullForFast, FullForOne, KeepsTold, MakesSlow, MeetsSo, SettlesSo, Shows, ShowsStep, StepsSo, done_by, own_fault}
 use Rattle.mdl_shared.proofs.Faults.{if-clear}
 use Rattle.mdl_shared.proofs.QuietDeeds.{quiet-steps, shows-first, shows-later}
@@ -96,10 +99,22 @@ module _ {a b : SessionView} (slow : BecomesSlow a b) where
     met = met shown.met;
   }
 
--- ---- where there was no room for the fast ones
+-- ---- after steps that left the fast tickets as they were
 
--- steps without a deed came before, and left the fast tickets as they were
+pub made-later : (a b c : SessionView) → MakesMoreSteps a.me b.me → b.me.0.fast ≡ a.me.0.fast → AllMadeSlow b c → AllMadeSlow a c
+made-later a b c more same made =
+    each_map (λ (t : Own). ShowsStep b c (MakesSlow t.place)) (λ (t : Own). ShowsStep a c (MakesSlow t.place)) (λ t shown. shows-later a b c more shown) a.me.0.fast
+    (subst (λ (fast : List Own). Each (λ (t : Own). ShowsStep b c (MakesSlow t.place)) fast) same made)
+
 pub full-later : (a b c : SessionView) → MakesMoreSteps a.me b.me → b.me.0.fast ≡ a.me.0.fast → FullForFast b c → FullForFast a c
 full-later a b c more same full =
     let shown = shows-later a b c more full.1 in
     (full.0, (shown.0, shown.1, subst (λ (fast : List Own). MeetsFullFor (length (own_at full.0 fast)) full.0 shown.0) same shown.2))
+
+pub lacks-later : (a b c : SessionView) {why : SpaceError} → MakesMoreSteps a.me b.me → b.me.0.fast ≡ a.me.0.fast → LacksRoomForFast why b c → LacksRoomForFast why a c
+lacks-later a b c more same (inl memory) = inl memory
+lacks-later a b c more same (inr full) = inr (full.0, full-later a b c more same full.1)
+
+-- so they are where its own list of them is
+pub fast-still : (m m′ : Member) → m′.tickets.fast ≡ m.tickets.fast → m′.seat.me.0.fast ≡ m.seat.me.0.fast
+fast-still m m′ same = sym (ap (λ (l : Lists). l.fast) m′.lists) ∙ same ∙ ap (λ (l : Lists). l.fast) m.lists

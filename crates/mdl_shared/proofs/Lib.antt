@@ -42,3 +42,4 @@ pub mod SlowHeld
 pub mod FastWishing
 pub mod SlowFirst
 pub mod FastWishShows
+pub mod SlowPlaces

@@ -80,6 +80,10 @@ quiet-made seat seat′ sessions made = record {
   told = ap (λ (m : Mine). m.0.told) made.1.1;
 }
 
+-- a visit without a deed is steps and nothing else
+pub steps-visited : {place : ℕ} (seat seat′ : SeatState) → AtItsTable seat seat′ (Visits place []) → AtItsTable seat seat′ MakesSteps
+steps-visited seat seat′ went = (went.0, (went.1.made, went.1.now, went.1.did))
+
 -- a visit that granted nothing to others
 pub quiet-visit : {place : ℕ} {ds : List Deed} {s s′ : SessionView} → HasDone place ds s s′ → Visits place ds s.me s′.me → DoesQuietly place ds s s′
 quiet-visit done went = record {

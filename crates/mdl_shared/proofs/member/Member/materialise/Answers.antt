@@ -1,0 +1,48 @@
+-- All places are done, or one has no room.
+use Rattle.std.proofs.Common.{rules, ◌≡◌, ◌<◌, ℕ, length, Err, sym, ap, subst, ◌∙◌}
+use Rattle.mdl_steps.specs.FastPlays.{but_at}
+use Rattle.mdl_shared.specs.Passes.{view_of}
+use Rattle.mdl_shared.specs.SessionViews.{Lists}
+use Rattle.mdl_shared.proofs.QuietDeeds.{quiet-none, quiet-steps, quiet-then, same-lists}
+use Rattle.mdl_shared.proofs.SlowPlaces.{all-slow, fewer-left, lacks-after, same-at-first, slow-more}
+use Rattle.mdl_shared.proofs.member.Member.materialise.Goals as goal
+
+pub loop-place-init : goal.loop-place-init
+loop-place-init g c =
+    let s = view_of c.args.self.now in
+    record { idle = c.requires.idle; done = quiet-none s; slow = same-at-first s; room = search rules }
+
+pub loop-place-smaller : goal.loop-place-smaller
+loop-place-smaller g c =
+    let fast = c.in_ok-materialise_at.ensures.slow.0 in
+    subst (λ (n : ℕ). n < length c.loop-place.self.tickets.fast) (sym (ap length fast)) (fewer-left c.in-Some.place c.loop-place.self.tickets.fast c.in-Some.ensures)
+
+pub loop-place-preserved : goal.loop-place-preserved
+loop-place-preserved g c =
+    let m = c.loop-place.self in
+    let n = c.materialise_at.new.self in
+    let place = c.in-Some.place in
+    let done = c.materialise_at.ensures.done in
+    let made = c.in_ok-materialise_at.ensures.slow in
+    record {
+      idle = (same-lists m n done.done).asks ∙ c.loop-place.invariant.idle;
+      done = quiet-then c.loop-place.invariant.done done;
+      slow = slow-more (view_of c.args.self.now) (view_of m) (view_of n) place (quiet-steps c.loop-place.invariant.done) (quiet-steps done) c.loop-place.invariant.slow
+          (sym (ap (λ (l : Lists). l.fast) n.lists) ∙ made.0 ∙ ap (λ (l : Lists). but_at place l.fast) m.lists) made.1;
+      room = search rules;
+    }
+
+pub returns-in_err-materialise_at-clause-done : goal.returns-in_err-materialise_at-clause-done
+returns-in_err-materialise_at-clause-done g c = quiet-then c.loop-place.invariant.done c.materialise_at.ensures.done
+
+pub returns-in_err-materialise_at-clause-refused : goal.returns-in_err-materialise_at-clause-refused
+returns-in_err-materialise_at-clause-refused g c =
+    let why = c.in_err-materialise_at.field-0.0 in
+    let refused : c.from_residual.result ≡ Err why = search rules in
+    rw refused (lacks-after (view_of c.args.self.now) (view_of c.loop-place.self) (view_of c.materialise_at.new.self) why (quiet-steps c.loop-place.invariant.done)
+    c.loop-place.invariant.slow c.in_err-materialise_at.ensures.refused)
+
+pub returns-clause-slow : goal.returns-clause-slow
+returns-clause-slow g c =
+    let m = c.loop-place.self in
+    (c.in_default.ensures, all-slow (view_of c.args.self.now) (view_of m) c.loop-place.invariant.slow (sym (ap (λ (l : Lists). l.fast) m.lists) ∙ c.in_default.ensures))

@@ -1,0 +1,62 @@
+-- The fast tickets of the place are slow ones then, or stay as they were for want of room.
+use Rattle.std.proofs.Common.{is_some, sym, ap, ◌∙◌}
+use Rattle.std.proofs.lemmas.Bool.{false≢true}
+use Rattle.mdl_shared.specs.Passes.{view_of}
+use Rattle.mdl_shared.proofs.FastDone.{fast-materialised, lists-materialised}
+use Rattle.mdl_shared.proofs.FastFacts.{kind-of-fast, may-make-slow}
+use Rattle.mdl_shared.proofs.Members.{room-kept}
+use Rattle.mdl_shared.proofs.Props.{member}
+use Rattle.mdl_shared.proofs.QuietDeeds.{lists-made, quiet-made, quiet-none, steps-visited}
+use Rattle.mdl_shared.proofs.WaitSteps.{still-member}
+use Rattle.mdl_shared.proofs.member.Member.materialise_at.Goals as goal
+
+-- ---- nothing is tried
+
+pub returns-in_default-clause-done : goal.returns-in_default-clause-done
+returns-in_default-clause-done g c = quiet-none (view_of c.args.self.now)
+
+pub returns-in_default-clause-slow : goal.returns-in_default-clause-slow
+returns-in_default-clause-slow g c =
+    let some = kind-of-fast c.args.self.now c.args.place c.requires.some in
+    absurd (false≢true (ap is_some (sym c.in_default.is ∙ c.kind_at.ensures) ∙ some))
+
+pub returns-in_default-list_fast-clause-done : goal.returns-in_default-list_fast-clause-done
+returns-in_default-list_fast-clause-done g c = quiet-none (view_of c.args.self.now)
+
+-- ---- the visit
+
+pub materialise-requires-clause-at : goal.materialise-requires-clause-at
+materialise-requires-clause-at g c = (may-make-slow c.args.self.now c.args.place c.in-Some.kind (sym c.kind_at.ensures ∙ c.in-Some.is)).at
+
+pub materialise-requires-clause-knows : goal.materialise-requires-clause-knows
+materialise-requires-clause-knows g c = (may-make-slow c.args.self.now c.args.place c.in-Some.kind (sym c.kind_at.ensures ∙ c.in-Some.is)).knows
+
+pub materialise-requires-clause-once : goal.materialise-requires-clause-once
+materialise-requires-clause-once g c = (may-make-slow c.args.self.now c.args.place c.in-Some.kind (sym c.kind_at.ensures ∙ c.in-Some.is)).once
+
+-- ---- there was no room
+
+pub invariant_of-self : goal.invariant_of-self
+invariant_of-self g c =
+    let m = c.args.self.now in
+    let made = steps-visited m.seat c.materialise.new.seat c.in-Err.ensures.unchanged in record {
+      lawful = ∣ still-member (quiet-made {place = 0} m.seat c.materialise.new.seat m.sessions made).done (member m) ∣₁;
+      lists = lists-made m c.materialise.new.seat made;
+      room = m.room;
+    }
+
+-- ---- they are slow
+
+pub invariant_of-self-2 : goal.invariant_of-self-2
+invariant_of-self-2 g c =
+    let m = c.args.self.now in
+    let moved = c.in_default-materialise.ensures.materialised.0 in record {
+      lawful = ∣ still-member (fast-materialised m.seat c.materialise.new.seat m.sessions (member m) moved).done (member m) ∣₁;
+      lists = lists-materialised m c.materialise.new.seat moved c.make_slow.ensures.slow c.make_slow.ensures.fast;
+      room = λ ask asks. room-kept m.tickets c.make_slow.new.self c.make_slow.ensures.room (m.room ask asks);
+    }
+
+pub returns-clause-done : goal.returns-clause-done
+returns-clause-done g c =
+    let m = c.args.self.now in
+    fast-materialised m.seat c.materialise.new.seat m.sessions (member m) c.in_default-materialise.ensures.materialised.0
