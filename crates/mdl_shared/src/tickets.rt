@@ -13,7 +13,7 @@ ghost use Rattle.mdl_shared.specs.Members.{without_at};
 ghost use Rattle.mdl_shared.specs.Modes.{in_mode_at};
 ghost use Rattle.mdl_shared.specs.OwnLists.{told_of};
 ghost use Rattle.mdl_shared.specs.Waitings.{are_below};
-ghost use Rattle.mdl_shared.specs.TicketLists.{HasRoom};
+ghost use Rattle.mdl_shared.specs.TicketLists.{HasRoom, HasRoomFor};
 ghost use Rattle.mdl_shared.specs.OwnTickets.{StandsAt, counted_at, noted_in, own_of, AreRising};
 
 use mdl_calls::{Held, Place, TicketId};
@@ -92,6 +92,19 @@ impl Tickets {
     {
         reach(&mut self.places, place)?;
         self.gained.reserve(1)
+    }
+
+    /// Makes room for so many more tickets, at places below this one.
+    pub(crate) fn reserve_many(&mut self, count: usize, places: usize) -> Result<(), AllocError>
+        requires { places ≤ 65536 }
+        ensures same { (self.new.slow ≡ self.old.slow) × (self.new.fast ≡ self.old.fast) }
+        ensures kept { (self.old.spare ≤ self.new.spare) × (self.old.reach ≤ self.new.reach) }
+        ensures room { OnOk result (HasRoomFor count places self.new) }
+    {
+        if 0 < places {
+            reach(&mut self.places, places - 1)?;
+        }
+        self.gained.reserve(count)
     }
 
     /// Puts a new ticket last, with the note of those at its place. It takes no memory.
