@@ -20,6 +20,7 @@ pub use Rattle.mdl_visits.specs.WaitOpenings
 pub mod DeedsDone
 pub mod Doings
 pub mod Endings
+pub mod FastCalls
 pub mod FastDeeds
 pub mod FastWishes
 pub mod Members

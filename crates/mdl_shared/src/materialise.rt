@@ -1,0 +1,30 @@
+//! A session's fast tickets become slow ones.
+//!
+//! After MySQL 5.7, sql/mdl.cc: `MDL_context::materialize_fast_path_locks`.
+ghost use Rattle.std.specs.Prelude.{◌≡◌, [], IfErr, OnOk};
+ghost use Rattle.mdl_shared.specs.DeedsDone.{DoesQuietly};
+ghost use Rattle.mdl_shared.specs.FastDeeds.{LacksRoomForFast};
+ghost use Rattle.mdl_shared.specs.SessionViews.{space_of};
+ghost use Rattle.mdl_shared.specs.Showings.{AllMadeSlow};
+
+use crate::Session;
+use mdl_calls::SpaceError;
+use std::sync::Wait;
+
+impl<R: Wait> Session<R> {
+    /// Makes slow ones of the session's fast tickets, one place after the other, so that they stand in the books. It has the same tickets as
+    /// before. If there is no room for those of a place, they stay fast, as those of the places after it.
+    ///
+    /// A session that waits has no fast ticket.
+    pub fn materialise(&mut self) -> Result<(), SpaceError>
+        ensures same { space_of self.new ≡ space_of self.old }
+        ensures quiet { DoesQuietly 0 [] self.old self.new }
+        ensures slow { OnOk result ((self.new.me.0.fast ≡ []) × AllMadeSlow self.old self.new) }
+        ensures refused { IfErr result (λ why. LacksRoomForFast why self.old self.new) }
+    {
+        if self.member.asks.is_some() {
+            return Ok(());
+        }
+        self.member.materialise(&self.rt)
+    }
+}

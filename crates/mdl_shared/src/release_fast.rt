@@ -1,0 +1,36 @@
+//! A fast ticket is given up without the latch of its place.
+//!
+//! After MySQL 5.7, sql/mdl.cc: the fast path of `MDL_context::release_lock`.
+ghost use Rattle.std.specs.Prelude.{◌≡◌, None, IfErr, IfOk};
+ghost use Rattle.mdl_visits.specs.Numbers.{numbered};
+ghost use Rattle.mdl_visits.specs.Visits.{StaysOn};
+ghost use Rattle.mdl_calls.specs.declared.space_error.SpaceError.TheVariants.{NotHeld};
+ghost use Rattle.mdl_shared.specs.FastCalls.{GaveUpFast};
+
+use crate::Session;
+use mdl_calls::{SpaceError, TicketId};
+
+/// What comes of a fast release.
+#[derive(Clone, Copy, Debug, PartialEq, Eq)]
+pub struct Released {
+    /// Whether waits at the place of the ticket may have become grantable. Then the session owes the place a [`Session::reschedule`].
+    pub owes: bool,
+}
+
+impl<R> Session<R> {
+    /// Gives up a fast ticket without the latch of its place. It takes no memory.
+    ///
+    /// Whether the session owes its place a [`Session::reschedule`] is said by the flag SLOW of the word that its one step found. Until it makes
+    /// that call, waits there may stand that could be granted.
+    pub fn release_fast(&mut self, id: TicketId) -> Result<Released, SpaceError>
+        ensures released { IfOk result (λ released. GaveUpFast id released.owes self.old self.new) }
+        ensures refused { IfErr result (λ why. (why ≡ NotHeld) × (numbered id self.old.me.0.fast ≡ None) × (self.new ≡ self.old)) }
+        ensures stays { StaysOn self.old.me self.new.me }
+    {
+        let Some(held) = self.member.tickets.get_fast(id) else {
+            return Err(SpaceError::NotHeld);
+        };
+        let owes = self.member.lose_fast(held);
+        Ok(Released { owes })
+    }
+}

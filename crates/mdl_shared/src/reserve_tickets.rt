@@ -1,0 +1,21 @@
+//! Room is made for tickets ahead.
+ghost use Rattle.std.specs.Prelude.{◌≡◌, IfErr};
+ghost use Rattle.mdl_calls.specs.declared.space_error.SpaceError.TheVariants.{OutOfMemory};
+
+use crate::Session;
+use mdl_calls::SpaceError;
+
+impl<R> Session<R> {
+    /// Makes room for so many more tickets, at whichever places. The next as many that the session gains take no memory of its own for them; for
+    /// fast tickets that is all that they take.
+    pub fn reserve_tickets(&mut self, count: usize) -> Result<(), SpaceError>
+        ensures same { self.new ≡ self.old }
+        ensures refused { IfErr result (λ why. why ≡ OutOfMemory) }
+    {
+        let places = self.member.seat.slot_count();
+        if self.member.tickets.reserve_many(count, places).is_err() {
+            return Err(SpaceError::OutOfMemory);
+        }
+        Ok(())
+    }
+}
