@@ -1,4 +1,8 @@
 //! Calls of a session and what comes of them, as the rows of tests have them.
+ghost use Rattle.std.specs.Prelude.{◌≡◌, true};
+ghost use Rattle.mdl_session_laws.specs.SessionSpaces.{is_known};
+ghost use Rattle.mdl_shared.specs.SessionViews.{space_of};
+
 use crate::audits::{Shown, are_shown};
 use mdl_calls::{
     Attempt, Begun, Ended, Held, Place, Poll, Search, Settled, SpaceError, TicketId, TimedOut,
@@ -6,7 +10,8 @@ use mdl_calls::{
 };
 use mdl_defs::{Change, Column, Columns, Definition, Standing};
 use mdl_key::{Key, KeyError, Mode};
-use mdl_shared::Session;
+use mdl_shared::{Fast, Released, Session};
+use mdl_word::Word;
 use std::alloc::Global;
 use std::sync::Wait;
 
@@ -70,11 +75,18 @@ fn table(alloc: Global) -> Option<Definition> {
 pub(crate) enum Act {
     Resolve(Lock),
     Try(Place, Mode),
+    // It tries without the latch, at a place that it knows.
+    TryFast(Place, Mode),
     Upgrade(TicketId, Mode),
     Downgrade(TicketId, Mode),
     Clone(TicketId, Mode),
     Merge(TicketId, TicketId),
     Release(TicketId),
+    ReleaseFast(TicketId),
+    // Its fast tickets become slow ones.
+    Materialise,
+    // It makes room for so many tickets.
+    Reserve(usize),
     Read(TicketId),
     Change(TicketId, Edit),
     // It puts a schema as often, and tells what comes of the last time.
@@ -96,7 +108,7 @@ pub(crate) enum Act {
     // It kills the wait of a session that has this number.
     Kill(u16, u64),
     WaitOf(u16),
-    // It makes way at a place whose key it knows.
+    // It makes way at a place that it knows.
     Reschedule(Place),
     // It looks for a deadlock.
     Search,
@@ -107,9 +119,14 @@ pub(crate) enum Act {
 pub(crate) enum Reply {
     Place(Place),
     Granted(TicketId),
+    Obtruded(Word),
+    Contended(Word),
+    Limit,
     WouldWait,
     Upgraded,
     Done,
+    // Its ticket is given up. Whether it owes the place a reschedule.
+    Owes(bool),
     Version(u64),
     // What stands is nothing, and never was anything else.
     New,
@@ -134,11 +151,15 @@ pub(crate) fn make<R: Wait>(alloc: Global, session: &mut Session<R>, act: Act) -
     match act {
         Act::Resolve(lock) => resolve(alloc, session, lock),
         Act::Try(place, mode) => attempted(session.try_now(place, mode)),
+        Act::TryFast(place, mode) => try_fast(session, place, mode),
         Act::Upgrade(id, mode) => upgraded(session.upgrade_now(id, mode)),
         Act::Downgrade(id, mode) => done(session.downgrade(id, mode)),
         Act::Clone(id, mode) => cloned(session.clone_ticket(id, mode)),
         Act::Merge(old, new) => done(session.merge(old, new)),
         Act::Release(id) => done(session.release(id)),
+        Act::ReleaseFast(id) => released(session.release_fast(id)),
+        Act::Materialise => done(session.materialise()),
+        Act::Reserve(count) => done(session.reserve_tickets(count)),
         Act::Read(id) => read(session, id),
         Act::Change(id, edit) => change(alloc, session, id, edit),
         Act::PutOften(id, times) => put_often(session, id, times),
@@ -168,10 +189,11 @@ pub(crate) fn make_at_last<R: Wait>(alloc: Global, session: &mut Session<R>, act
     }
 }
 
-const NO_MEMORY: Reply = Reply::Refused(SpaceError::OutOfMemory);
+/// The reply to an act that found no memory.
+pub(crate) const NO_MEMORY: Reply = Reply::Refused(SpaceError::OutOfMemory);
 
-// A release, a merge, an upgrade and a downgrade take none, nor what is done with a wait once it has begun, nor does it to put a schema or to
-// drop what stands. Before it makes way, a session asks for the place's key, which takes some.
+// A release and a downgrade take none, nor what is done with a wait once it has begun, nor does it to put a schema or to drop what stands. Where no
+// ticket is fast, a merge and an upgrade take none, and where room was made before, a fast ticket takes none.
 fn may_take_memory(act: Act) -> bool {
     match act {
         Act::Resolve(_)
@@ -185,7 +207,8 @@ fn may_take_memory(act: Act) -> bool {
         | Act::Names(_, _)
         | Act::Audit(_)
         | Act::Begin(_, _)
-        | Act::Reschedule(_)
+        | Act::Materialise
+        | Act::Reserve(_)
         | Act::Search => true,
         _ => false,
     }
@@ -268,13 +291,42 @@ fn searched(outcome: Result<Search, SpaceError>) -> Reply {
     }
 }
 
-// A place whose key is told is one that the session knows.
-fn reschedule<R: Wait>(session: &mut Session<R>, place: Place) -> Reply {
+fn released(outcome: Result<Released, SpaceError>) -> Reply {
+    match outcome {
+        Ok(Released { owes }) => Reply::Owes(owes),
+        Err(why) => Reply::Refused(why),
+    }
+}
+
+const NO_PLACE: Reply = Reply::Refused(SpaceError::NoPlace);
+
+// Whether the session knows a place: it does unless it is refused the key for that.
+fn knows<R>(session: &mut Session<R>, place: Place) -> bool
+    ensures { result ≡ true → is_known place (space_of session.new).known ≡ true }
+{
     match session.key_of(place) {
-        Ok(_key) => {
-            session.reschedule(place);
-            Reply::Done
-        }
+        Err(SpaceError::NoPlace) => false,
+        _ => true,
+    }
+}
+
+fn reschedule<R: Wait>(session: &mut Session<R>, place: Place) -> Reply {
+    if !knows(session, place) {
+        return NO_PLACE;
+    }
+    session.reschedule(place);
+    Reply::Done
+}
+
+fn try_fast<R>(session: &mut Session<R>, place: Place, mode: Mode) -> Reply {
+    if !knows(session, place) {
+        return NO_PLACE;
+    }
+    match session.try_fast(place, mode) {
+        Ok(Fast::Granted(id)) => Reply::Granted(id),
+        Ok(Fast::Obtruded(word)) => Reply::Obtruded(word),
+        Ok(Fast::Contended(word)) => Reply::Contended(word),
+        Ok(Fast::Limit) => Reply::Limit,
         Err(why) => Reply::Refused(why),
     }
 }

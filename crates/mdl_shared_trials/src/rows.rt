@@ -14,6 +14,9 @@ pub(crate) type Row = (Act, Reply);
 /// The same with the session's number, 1 or 2.
 pub(crate) type RowOfTwo = (u16, Act, Reply);
 
+/// The same with a number up to 3.
+pub(crate) type RowOfThree = (u16, Act, Reply);
+
 /// Two sessions of one space.
 struct Two<R> {
     one: Session<R>,
@@ -58,6 +61,40 @@ impl<R: Drop> Two<R> {
     }
 }
 
+/// Three sessions of one space.
+struct Three<R> {
+    pair: Two<R>,
+    three: Session<R>,
+}
+
+impl<R: Wait> Three<R> {
+    // The session of a number.
+    fn session(&mut self, number: u16) -> &mut Session<R> {
+        match number {
+            3 => &mut self.three,
+            _ => self.pair.session(number),
+        }
+    }
+
+    // Which row comes to something else, if there is one.
+    fn first_wrong(&mut self, alloc: Global, rows: &[RowOfThree]) -> Option<usize> {
+        for (at, (number, act, wanted)) in rows.iter().enumerate() {
+            if make(alloc, self.session(*number), *act) != *wanted {
+                return Some(at);
+            }
+        }
+        None
+    }
+}
+
+impl<R: Drop> Three<R> {
+    fn close(self, rt: &impl Abort) {
+        let Three { pair, three } = self;
+        pair.close(rt);
+        closed(rt, three);
+    }
+}
+
 /// Which row of one session comes to something else, if there is one.
 pub(crate) fn first_wrong<R: Wait>(
     alloc: Global,
@@ -72,8 +109,8 @@ pub(crate) fn first_wrong<R: Wait>(
     None
 }
 
-// The same, where memory may be refused once.
-fn first_wrong_at_last<R: Wait>(
+/// The same, where memory may be refused once.
+pub(crate) fn first_wrong_at_last<R: Wait>(
     alloc: Global,
     session: &mut Session<R>,
     rows: &[Row],
@@ -109,6 +146,23 @@ pub(crate) fn are_right_of_two<R: Wait + Abort + AllocGlobal>(
     let two = Session::open(rt, &manager, passes.remove(1));
     let one = Session::open(rt, &manager, passes.remove(0));
     let mut sessions = Two { one, two };
+    assert_eq!(rt; sessions.first_wrong(rt.alloc(), rows), None);
+    sessions.close(rt);
+    Ok(())
+}
+
+/// The rows are right of the three sessions of a space of so many places.
+pub(crate) fn are_right_of_three<R: Wait + Abort + AllocGlobal>(
+    rt: &R,
+    places: u16,
+    rows: &[RowOfThree],
+) -> Result<(), Fail> {
+    let (manager, mut passes) = Manager::new(rt.alloc(), places, 3)?;
+    let three = Session::open(rt, &manager, passes.remove(2));
+    let two = Session::open(rt, &manager, passes.remove(1));
+    let one = Session::open(rt, &manager, passes.remove(0));
+    let pair = Two { one, two };
+    let mut sessions = Three { pair, three };
     assert_eq!(rt; sessions.first_wrong(rt.alloc(), rows), None);
     sessions.close(rt);
     Ok(())
