@@ -35,4 +35,5 @@ pub mod CloneCalls
 pub mod QuietDeeds
 pub mod FastDone
 pub mod FastFacts
+pub mod FastCalls
 pub mod SlowPlaces
