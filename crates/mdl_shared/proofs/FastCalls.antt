@@ -1,10 +1,11 @@
 -- Calls that try for a fast ticket and give one up: what they tell and do.
-use Rattle.std.proofs.Common.{◌≡◌, ℕ, List, [], ◌∷◌, None, Some, refl, sym, ap, ◌∙◌}
+use Rattle.std.proofs.Common.{◌≡◌, ℕ, Bool, [], ◌∷◌, None, Some, sym, ap, subst, ◌∙◌}
 use Rattle.mdl_key.specs.declared.mode.Mode.{Mode}
 use Rattle.mdl_steps.specs.declared.deed.Deed.TheVariants.{Gain, Lose}
 use Rattle.mdl_steps.specs.declared.view.Own.{Own}
-use Rattle.mdl_visits.specs.FastTries.{MeetsClear, MeetsObtrusive, Misses, ReleasesFast}
+use Rattle.mdl_visits.specs.FastTries.{MeetsClear, ReleasesFast}
 use Rattle.mdl_visits.specs.Numbers.{numbered}
+use Rattle.mdl_visits.proofs.Numbers.{has_number}
 use Rattle.mdl_shared.specs.declared.member.Member.{Member}
 use Rattle.mdl_shared.specs.declared.try_fast.Fast.TheVariants.{Granted}
 use Rattle.mdl_shared.specs.DeedsDone.{DoesQuietly}
@@ -14,7 +15,9 @@ use Rattle.mdl_shared.specs.Passes.{view_of}
 use Rattle.mdl_shared.specs.SessionViews.{Lists, SessionView, lists_seen}
 use Rattle.mdl_shared.specs.Showings.{ShowsStep}
 use Rattle.mdl_shared.specs.TicketLists.{TicketList}
+use Rattle.mdl_shared.proofs.MemberFacts.{fast-held}
 use Rattle.mdl_shared.proofs.Props.{member}
+use Rattle.mdl_shared.proofs.TicketCalls.{release-joins}
 use Rattle.mdl_shared.proofs.WishCalls.{try-granted}
 
 -- ---- a try
@@ -49,3 +52,19 @@ tried-nothing m m′ {place} room same missed =
       },
       quiet,
     )
+
+-- ---- a release
+
+-- the session holds the fast ticket of a number
+pub its-number : (m : Member) (id : ℕ) (t : Own) → numbered id m.tickets.fast ≡ Some t → numbered t.number m.tickets.fast ≡ Some t
+its-number m id t held = subst (λ (n : ℕ). numbered n m.tickets.fast ≡ Some t) (sym (has_number id t m.tickets.fast held)) held
+
+-- it was given up
+pub gave-up-fast : (m : Member) (b : SessionView) (id : ℕ) (t : Own) {owes : Bool} → numbered id m.tickets.fast ≡ Some t
+    → DoesQuietly t.place (Lose t.number ∷ []) (view_of m) b → ReleasesFast t.place t.number owes m.seat.me b.me → GaveUpFast id owes (view_of m) b
+gave-up-fast m b id t {owes} held quiet released =
+    let is : t.number ≡ id = has_number id t m.tickets.fast held in
+    let its : numbered id m.seat.me.0.fast ≡ Some t = ap (λ (l : Lists). numbered id l.fast) (sym m.lists) ∙ held in
+    let gone : DoesQuietly t.place (Lose id ∷ []) (view_of m) b = subst (λ (n : ℕ). DoesQuietly t.place (Lose n ∷ []) (view_of m) b) is quiet in
+    let by : ReleasesFast t.place id owes m.seat.me b.me = subst (λ (n : ℕ). ReleasesFast t.place n owes m.seat.me b.me) is released in
+    (release-joins (member m) id t (fast-held (member m) id t its) gone.done, (t, its, gone, by))
