@@ -36,5 +36,7 @@ pub mod CloneCalls
 pub mod QuietDeeds
 pub mod FastDone
 pub mod FastFacts
+pub mod FastWishing
+pub mod FastWishShows
 pub mod FastCalls
 pub mod SlowPlaces

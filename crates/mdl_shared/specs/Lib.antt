@@ -22,6 +22,7 @@ pub mod Doings
 pub mod Endings
 pub mod FastCalls
 pub mod FastDeeds
+pub mod FastWishes
 pub mod Members
 pub mod Modes
 pub mod OwnLists
