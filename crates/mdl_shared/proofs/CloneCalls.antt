@@ -17,7 +17,7 @@ use Rattle.mdl_visits.specs.Visits.{MeetsFull, Visits}
 use Rattle.mdl_shared.specs.Members.{IsMember}
 use Rattle.mdl_shared.specs.Modes.{clone_fault}
 use Rattle.mdl_shared.specs.OwnLists.{told_of}
-use Rattle.mdl_shared.specs.SessionViews.{SessionView, lists_seen, space_of}
+use Rattle.mdl_shared.specs.SessionViews.{SessionView, lists_seen, space_of, tickets_seen}
 use Rattle.mdl_shared.specs.Showings.{ShowsStep, MeetsTicket, OfTicket, Shows}
 use Rattle.mdl_shared.proofs.MemberFacts.{speaks}
 use Rattle.mdl_shared.proofs.Members.{HasDone}
@@ -35,16 +35,16 @@ refusal-met more cause why full memory (inr is) = inr (full is.0, more is.1)
 
 module _ {s : SessionView} (is : IsMember s) (id : ℕ) (mode : Mode) where
   -- refused for what the session has
-  pub clone-unfit : (why : SpaceError) → clone_fault (numbered id s.me.0.slow) s.me.0.asks mode s.me.0.known s.me.0.next ≡ Some why
+  pub clone-unfit : (why : SpaceError) → clone_fault (numbered id (tickets_seen s.me.0)) s.me.0.asks mode s.me.0.known s.me.0.next ≡ Some why
       → Joins (space_of s) (Clone_ticket s.me.0.number id mode) (Refused why) (space_of s)
   clone-unfit why fault =
       refused s s (Clone_ticket s.me.0.number id mode) why (same-stays s) (speaks is) refl refl
-      (clone-cause s (λ w. IsCause (Knows (space_of s) s.me.0.number) (Clone_ticket s.me.0.number id mode) w (space_of s).own) id mode why (numbered id s.me.0.slow) refl
+      (clone-cause s (λ w. IsCause (Knows (space_of s) s.me.0.number) (Clone_ticket s.me.0.number id mode) w (space_of s).own) id mode why (numbered id (tickets_seen s.me.0)) refl
       (λ h. h) (λ h. h) (λ h. h) (λ h. h) fault) (λ state how is. cc) tt
 
-  module _ (clear : clone_fault (numbered id s.me.0.slow) s.me.0.asks mode s.me.0.known s.me.0.next ≡ None) where
+  module _ (clear : clone_fault (numbered id (tickets_seen s.me.0)) s.me.0.asks mode s.me.0.known s.me.0.next ≡ None) where
     may-clone : (is_waiting (space_of s).own ≡ false) × OfHeld id (space_of s).own (MayClone (Knows (space_of s) s.me.0.number) mode)
-    may-clone = let h = clone-clear s id mode (numbered id s.me.0.slow) refl clear in (waits-asks s.me.0.asks s.me.0.waits ∙ h.0, h.1)
+    may-clone = let h = clone-clear s id mode (numbered id (tickets_seen s.me.0)) refl clear in (waits-asks s.me.0.asks s.me.0.waits ∙ h.0, h.1)
 
     -- refused, as memory ran out or the book is full
     pub clone-refused : {s′ : SessionView} → Stays s s′ → {why : SpaceError} → (why ≡ OutOfMemory) ⊎ (why ≡ Full)
@@ -60,12 +60,12 @@ module _ {s : SessionView} (is : IsMember s) (id : ℕ) (mode : Mode) where
     refused-shows table sessions went met = shows table sessions clear (did went) (settles went) (told went) tt (inr met)
 
     -- made
-    module _ (t : Own) (its : numbered id s.me.0.slow ≡ Some t) where
+    module _ (t : Own) (its : numbered id (tickets_seen s.me.0) ≡ Some t) where
       pub clone-joins : {s′ : SessionView} {new : ℕ} → new ≡ s.me.0.next → HasDone t.place (Gain new mode ∷ []) s s′
           → Joins (space_of s) (Clone_ticket s.me.0.number id mode) (Granted new) (space_of s′)
       clone-joins {s′} {new} first done =
           gain-joins is first done (Clone_ticket s.me.0.number id mode) (speaks is) refl refl
-          (ap (λ o. cloning new mode o (space_of s).own) (ticket-told id s.me.0.slow ∙ ap (option_map told_of) its)) (λ d. d)
+          (ap (λ o. cloning new mode o (space_of s).own) (ticket-told id (tickets_seen s.me.0) ∙ ap (option_map told_of) its)) (λ d. d)
           may-clone tt refl (λ state how is. cc) (λ how is. cc) refl (λ r. r) tt
 
       pub clone-shows : {s′ : SessionView} {new : ℕ} → s′.table ≡ s.table → s′.sessions ≡ s.sessions → Visits t.place (Gain new mode ∷ []) s.me s′.me

@@ -1,5 +1,5 @@
 -- The end of a session's wait.
-use Rattle.std.proofs.Common.{◌≡◌, ℕ, ◌+◌, ◌-◌, true, is_some, List, [], ◌∷◌, Option, Some, None, Ok, refl, sym, ap, subst, ◌∙◌, arith}
+use Rattle.std.proofs.Common.{◌≡◌, ℕ, ◌+◌, ◌-◌, true, is_some, List, [], ◌∷◌, map, Option, Some, None, Ok, refl, sym, ap, subst, ◌∙◌, arith}
 use Rattle.std.proofs.lemmas.Bool.{and_parts}
 use Rattle.std.proofs.lemmas.Bool.Decides.{nat_tests}
 use Rattle.mdl_calls.specs.declared.answers.Ended.{Ended}
@@ -16,22 +16,25 @@ use Rattle.mdl_steps.specs.declared.view.Own.{Own}
 use Rattle.mdl_steps.specs.declared.view.Settlement.{Settlement}
 use Rattle.mdl_steps.specs.Cells.{note_at}
 use Rattle.mdl_steps.specs.Deeds.{owned}
+use Rattle.mdl_steps.specs.Interleavings.{interleaved}
 use Rattle.mdl_steps.specs.WaitStates.{IsLost}
 use Rattle.mdl_session_laws.specs.SessionJoins.{Joins}
 use Rattle.mdl_visits.specs.Numbers.{is_ask_apart, is_no_number}
 use Rattle.mdl_visits.specs.Polls.{state_of}
 use Rattle.mdl_shared.specs.Endings.{lost_end}
 use Rattle.mdl_shared.specs.Members.{IsMember}
+use Rattle.mdl_shared.specs.OwnLists.{told_of}
 use Rattle.mdl_shared.specs.Rememberings.{AreAlike}
-use Rattle.mdl_shared.specs.SessionViews.{SessionView, space_of}
+use Rattle.mdl_shared.specs.SessionViews.{SessionView, space_of, tickets_seen}
 use Rattle.mdl_shared.specs.Waitings.{are_below}
 use Rattle.mdl_shared.proofs.Alike.{alike_done}
 use Rattle.mdl_shared.proofs.MemberFacts.{apart, ask-last, below, speaks}
 use Rattle.mdl_shared.proofs.Members.{StaysInOrder}
 use Rattle.mdl_shared.proofs.NotedOnce.{one-note, one-note_done}
 use Rattle.mdl_shared.proofs.SameSpace.{Stays, own_of, refused, same-stays, wait_by, waits-asks}
-use Rattle.mdl_shared.proofs.SpaceNotes.{nothing-read}
+use Rattle.mdl_shared.proofs.SpaceNotes.{AllNoted, noted_under, nothing-read}
 use Rattle.mdl_shared.proofs.SpaceTickets.{told-last}
+use Rattle.mdl_shared.proofs.TicketOrder.{DoesSlow, does-alone}
 
 -- ---- how it ended
 
@@ -51,15 +54,15 @@ granted-so settled_as.Killed e = cc
 
 -- ---- what the session has then
 
--- a session that has ended its wait, with these tickets, after these steps, which settled these waits
+-- a session that has ended its wait, with these slow tickets, after these steps, which settled these waits
 abbrev pub after-end : List Own → List Settlement → List Met → SessionView → SessionView
-after-end tickets settles log s = record s { me = (record s.me.0 { slow = tickets; asks = None; told = None; settles = settles; log = log }, s.me.1) }
+after-end slow settles log s = record s { me = (record s.me.0 { slow = slow; asks = None; told = None; settles = settles; log = log }, s.me.1) }
 
 -- nothing else changed
-pub record HasEnded (tickets : List Own) (s s′ : SessionView) : Type 0 where
+pub record HasEnded (slow : List Own) (s s′ : SessionView) : Type 0 where
   pub settles : List Settlement
   pub log : List Met
-  pub now : s′ ≡ after-end tickets settles log s
+  pub now : s′ ≡ after-end slow settles log s
 
 -- without a wait there is nothing to end
 pub idle-joins : {s : SessionView} → IsMember s → s.me.0.asks ≡ None → Joins (space_of s) (End_wait s.me.0.number) (Refused NoWait) (space_of s)
@@ -79,18 +82,24 @@ below-asked : (next number : ℕ) (tickets : List Own) → number + 1 ≡ next �
 below-asked next number [] last apart all = refl
 below-asked next number (t ∷ ts) last apart all = grind (arith, nat_tests, below-asked next number ts)
 
-pub asked-below : {s : SessionView} (is : IsMember s) (a : Ask) → s.me.0.asks ≡ Some a → are_below a.number s.me.0.slow ≡ true
+pub asked-below : {s : SessionView} (is : IsMember s) (a : Ask) → s.me.0.asks ≡ Some a → are_below a.number (tickets_seen s.me.0) ≡ true
 asked-below {s} is a asks =
-    let none = and_parts _ (is_no_number a.number s.me.0.slow) (ap (is_ask_apart s.me.0.next s.me.0.slow) (sym asks) ∙ apart is) in
-    below-asked s.me.0.next a.number s.me.0.slow (ask-last is a asks) none.1 (below is)
+    let none = and_parts _ (is_no_number a.number (tickets_seen s.me.0)) (ap (is_ask_apart s.me.0.next (tickets_seen s.me.0)) (sym asks) ∙ apart is) in
+    below-asked s.me.0.next a.number (tickets_seen s.me.0) (ask-last is a asks) none.1 (below is)
+
+-- who waits has no fast ticket, so that the one that it waited for is the last of all
+gains : {s : SessionView} (is : IsMember s) (a : Ask) → s.me.0.asks ≡ Some a → DoesSlow a.place (Gain a.number a.mode ∷ []) s.me.0
+gains {s} is a asks = does-alone a.place (Gain a.number a.mode ∷ []) s.me.0 (is.unfast a asks)
 
 module _ {s s′ : SessionView} (is : IsMember s) where
-  ended-order : {tickets : List Own} → HasEnded tickets s s′ → AreAlike tickets → StaysInOrder s s′
+  ended-order : {slow : List Own} → HasEnded slow s s′ → AreAlike (interleaved slow s.me.0.fast) → StaysInOrder s s′
   ended-order ends alike = subst (λ (x : SessionView). StaysInOrder s x) (sym ends.now) (record {
     table = refl;
     sessions = refl;
     idle = is.idle;
     slow = is.slow;
+    unfast = λ one asks. cc;
+    plain = is.plain;
     within = is.within;
     alike = alike;
     last = refl;
@@ -106,7 +115,7 @@ module _ {s s′ : SessionView} (is : IsMember s) where
 
     -- won
     pub won-order : HasEnded (owned a.place (Gain a.number a.mode) s.me.0.slow) s s′ → StaysInOrder s s′
-    won-order ends = ended-order ends (alike_done a.place (Gain a.number a.mode ∷ []) s.me.0.slow is.alike)
+    won-order ends = ended-order ends (subst AreAlike (sym (gains is a asks)) (alike_done a.place (Gain a.number a.mode ∷ []) (tickets_seen s.me.0) is.alike))
 
     pub won-joins : ((how : Settled) → (space_of s).settled ≡ Some how → settled_as.Granted ≡ how) → HasEnded (owned a.place (Gain a.number a.mode) s.me.0.slow) s s′
         → Joins (space_of s) (End_wait s.me.0.number) (Granted a.number) (space_of s′)
@@ -118,7 +127,8 @@ module _ {s s′ : SessionView} (is : IsMember s) where
           has = refl;
           fits = refl;
           number = refl;
-          own = ap (λ held. own_of held None) (told-last s.me.0.slow (record { number = a.number; place = a.place; mode = a.mode; noted = note_at a.place s.me.0.slow }))
+          own = ap (λ (ts : List Own). own_of (map told_of ts) None) (gains is a asks)
+              ∙ ap (λ held. own_of held None) (told-last (tickets_seen s.me.0) (record { number = a.number; place = a.place; mode = a.mode; noted = note_at a.place (tickets_seen s.me.0) }))
               ∙ sym (ap (λ (o : Option Ask). winning a.number (wait_by s.me.0.waits o) (space_of s).own) asks);
           numbers = (id, refl);
           explained = waits s a asks;
@@ -127,7 +137,8 @@ module _ {s s′ : SessionView} (is : IsMember s) where
           agreed = λ state how met knows. let e : Some settled_as.Granted ≡ state = cc in sym e ∙ ap Some (agreed how knows);
           told = λ how told. cc;
           settled = refl;
-          reads = nothing-read s (after-end (owned a.place (Gain a.number a.mode) s.me.0.slow) ends.settles ends.log s) refl (λ at. one-note_done s is at a.place (Gain a.number a.mode));
+          reads = nothing-read s (after-end (owned a.place (Gain a.number a.mode) s.me.0.slow) ends.settles ends.log s) refl
+              (λ at. subst (AllNoted at (noted_under at (tickets_seen s.me.0))) (sym (gains is a asks)) (one-note_done s is at a.place (Gain a.number a.mode)));
           truly = tt;
         })
 

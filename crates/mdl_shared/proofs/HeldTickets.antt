@@ -2,38 +2,42 @@
 use Rattle.std.proofs.Common.{◌≡◌, ℕ, is_some, Some, sym, ap, subst}
 use Rattle.mdl_steps.specs.declared.view.Own.{Own}
 use Rattle.mdl_steps.specs.Deeds.{KnowsPlace, NotWaited}
+use Rattle.mdl_steps.specs.Interleavings.{interleaved}
 use Rattle.mdl_visits.specs.Leavings.{HasTicket}
 use Rattle.mdl_visits.specs.Numbers.{numbered}
 use Rattle.mdl_visits.specs.Visits.{MayVisit}
 use Rattle.mdl_visits.proofs.Numbers.{has_number}
 use Rattle.mdl_shared.specs.declared.member.Member.{Member}
 use Rattle.mdl_shared.specs.Passes.{view_of}
-use Rattle.mdl_shared.specs.SessionViews.{SessionView}
-use Rattle.mdl_shared.proofs.MemberFacts.{may-visit, place-known, ticket-known, ticket-there, unwaited}
+use Rattle.mdl_shared.specs.SessionViews.{SessionView, tickets_seen}
+use Rattle.mdl_shared.proofs.MemberFacts.{held-slow, may-visit, place-known, slow-there, ticket-known, unwaited}
 use Rattle.mdl_shared.proofs.Members.{held-seen}
 use Rattle.mdl_shared.proofs.Props.{member}
 
--- the session holds a ticket of this number, and may visit its place
+-- the session holds a ticket of this number, which is slow, and may visit its place
 pub record HoldsTicket (id : ℕ) (t : Own) (s : SessionView) : Type 0 where
-  pub its : numbered id s.me.0.slow ≡ Some t
+  pub its : numbered id (tickets_seen s.me.0) ≡ Some t
   pub number : t.number ≡ id
-  pub own : numbered t.number s.me.0.slow ≡ Some t
+  pub own : numbered t.number (tickets_seen s.me.0) ≡ Some t
+  pub slow : numbered t.number s.me.0.slow ≡ Some t
   pub there : HasTicket t.place id s.me.0.slow
   pub unwaited : NotWaited s.me.0 t.number
   pub at : MayVisit t.place (record { table = s.table; me = s.me })
   pub known : KnowsPlace s.me.0 t.place
 
-pub holds-ticket : (m : Member) (id : ℕ) (t : Own) → numbered id m.tickets.own ≡ Some t → HoldsTicket id t (view_of m)
+pub holds-ticket : (m : Member) (id : ℕ) (t : Own) → numbered id (interleaved m.tickets.slow m.tickets.fast) ≡ Some t → HoldsTicket id t (view_of m)
 holds-ticket m id t found =
     let is = member m in
     let its = held-seen m id (Some t) (sym found) in
-    let number = has_number id t m.seat.me.0.slow its in
-    let own = subst (λ (n : ℕ). numbered n m.seat.me.0.slow ≡ Some t) (sym number) its in
+    let number = has_number id t (tickets_seen m.seat.me.0) its in
+    let own = subst (λ (n : ℕ). numbered n (tickets_seen m.seat.me.0) ≡ Some t) (sym number) its in
+    let slow = held-slow is id t its in
     let known = ticket-known is id t its in record {
       its = its;
       number = number;
       own = own;
-      there = ticket-there is id t its;
+      slow = held-slow is t.number t own;
+      there = slow-there is id t slow;
       unwaited = unwaited is t.number (ap is_some own);
       at = may-visit is t.place known;
       known = place-known is t.place known;

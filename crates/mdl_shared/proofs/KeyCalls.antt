@@ -41,7 +41,7 @@ use Rattle.mdl_shared.specs.Showings.{Shows}
 use Rattle.mdl_shared.proofs.KnownKeys.{all_learnt, apart_and, new_place}
 use Rattle.mdl_shared.proofs.MemberFacts.{keys-apart, speaks}
 use Rattle.mdl_shared.proofs.Members.{HasDone, StaysInOrder, visited}
-use Rattle.mdl_shared.proofs.Membership.{within_and}
+use Rattle.mdl_shared.proofs.Membership.{counted_and, within_and}
 use Rattle.mdl_shared.proofs.SameSpace.{Stays, joins-still, keeps-settled, refused, same-stays, sees-same}
 use Rattle.mdl_shared.proofs.SpaceLists.{apart-told, key-told, known-told, known_of, place-told}
 
@@ -66,6 +66,8 @@ learnt-order {more} {s} {s′} learnt is within = subst (λ (x : SessionView). S
   sessions = refl;
   idle = is.idle;
   slow = is.slow;
+  unfast = is.unfast;
+  plain = counted_and s.me.0.known more s.me.0.fast is.plain;
   within = within_and s.table.slots s.me.0.known more is.within within;
   alike = is.alike;
   last = is.last;
@@ -75,13 +77,17 @@ learnt-order {more} {s} {s′} learnt is within = subst (λ (x : SessionView). S
 
 -- steps alone
 pub stepped : (seat seat′ : SeatState) (sessions : ℕ) → seat′.table ≡ seat.table → MakesSteps seat.me seat′.me → HasDone 0 [] (session_at seat sessions) (session_at seat′ sessions)
-stepped seat seat′ sessions table steps = visited seat seat′ sessions (table, record { made = steps.0; now = steps.1; did = steps.2 })
+stepped seat seat′ sessions table steps = visited seat seat′ sessions refl (table, record { made = steps.0; now = steps.1; did = steps.2 })
+
+-- which leave its lists
+pub lists-stepped : (m m′ : Mine) → MakesSteps m m′ → lists_seen m′.0 ≡ lists_seen m.0
+lists-stepped m m′ steps = ap (λ (m : Mine). lists_seen m.0) steps.1
 
 -- its own lists are those of its view still
 pub lists-learnt : (m : Member) {more known : List Known} {s : SessionView} → HasLearnt more (view_of m) s → known ≡ m.known.known ++ more
-    → record { tickets = m.tickets.own; known = known; next = m.next; asks = m.asks; waits = m.waits } ≡ lists_seen s.me.0
+    → record { slow = m.tickets.slow; fast = m.tickets.fast; known = known; next = m.next; asks = m.asks; waits = m.waits } ≡ lists_seen s.me.0
 lists-learnt m {more} {known} {s} learnt same =
-    ap (λ (ks : List Known). record { tickets = m.tickets.own; known = ks; next = m.next; asks = m.asks; waits = m.waits }) same
+    ap (λ (ks : List Known). record { slow = m.tickets.slow; fast = m.tickets.fast; known = ks; next = m.next; asks = m.asks; waits = m.waits }) same
     ∙ ap (λ (l : Lists). record l { known = l.known ++ more }) m.lists ∙ sym (ap (λ (x : SessionView). lists_seen x.me.0) learnt.now)
 
 -- ---- the place of a key

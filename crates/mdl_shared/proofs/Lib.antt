@@ -7,6 +7,7 @@ pub mod SpaceTickets
 pub mod SpaceNotes
 pub mod Alike
 pub mod Faults
+pub mod TicketOrder
 pub mod Props
 pub mod MemberFacts
 pub mod Members

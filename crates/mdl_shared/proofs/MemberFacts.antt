@@ -2,16 +2,23 @@
 use Rattle.std.proofs.Common.{◌≡◌, ℕ, ◌<◌, ◌+◌, ◌-◌, ◌==◌, Bool, true, not, ◌&&◌, nat_lt, List, [], ◌∷◌, length, map, is_some, Option, Some, None, refl, sym, ap, subst, ◌∙◌, arith}
 use Rattle.std.specs.Option.{IfSome, option_map}
 use Rattle.std.proofs.lemmas.Bool.{and_from, and_parts, eqb-true, lt-ltb, ltb-true}
+use Rattle.std.proofs.lemmas.List.{nil_from_length}
 use Rattle.std.proofs.lemmas.List.Folds.{list_all-map}
 use Rattle.mdl_calls.specs.declared.answers.Held.{Held}
 use Rattle.mdl_calls.specs.Words.{Wait}
+use Rattle.mdl_key.specs.declared.mode.Mode.{Mode}
+use Rattle.mdl_steps.specs.declared.deed.Deed.{Deed}
+use Rattle.mdl_steps.specs.declared.deed.Deed.TheVariants.{Gain, Alter, Lose}
 use Rattle.mdl_steps.specs.declared.view.Ask.{Ask}
 use Rattle.mdl_steps.specs.declared.view.Known.{Known}
 use Rattle.mdl_steps.specs.declared.view.LatchRecord.{LatchRecord}
 use Rattle.mdl_steps.specs.declared.view.Own.{Own}
+use Rattle.mdl_steps.specs.Cells.{own_at}
 use Rattle.mdl_steps.specs.Deeds.{KnowsPlace, NotWaited}
+use Rattle.mdl_steps.specs.Interleavings.{interleaved}
 use Rattle.mdl_steps.specs.Lists.{Each}
 use Rattle.mdl_steps.specs.Seats.{IsPlace, IsRising}
+use Rattle.mdl_steps.proofs.Interleaving.{Rising}
 use Rattle.mdl_steps.proofs.Views.{by_bool}
 use Rattle.mdl_session_laws.specs.SessionSpaces.{SpeaksFor, are_below as are_below_told, are_placed as are_placed_told, first_free, is_known as is_known_in}
 use Rattle.mdl_visits.specs.Leavings.{HasTicket}
@@ -20,11 +27,12 @@ use Rattle.mdl_visits.specs.Numbers.{all_numbers, is_ask_apart, is_no_number, nu
 use Rattle.mdl_visits.proofs.Numbers.{not_waited}
 use Rattle.mdl_shared.specs.Members.{IsMember, are_apart, is_known_place}
 use Rattle.mdl_shared.specs.OwnLists.{told_of}
-use Rattle.mdl_shared.specs.SessionViews.{SessionView, space_of}
+use Rattle.mdl_shared.specs.SessionViews.{SessionView, space_of, tickets_seen}
 use Rattle.mdl_shared.specs.Waitings.{are_below, is_ask_last, is_ask_told}
 use Rattle.mdl_shared.proofs.Membership.{are_placed, has_numbered, known_within, placed_at, some_key}
 use Rattle.mdl_shared.proofs.SameSpace.{numbers_by, wait_by}
 use Rattle.mdl_shared.proofs.SpaceLists.{apart-told, known-told, known_of}
+use Rattle.mdl_shared.proofs.TicketOrder.{AllLeaveFast, DoesSlow, all-owned-slow, all-parts, apart-numbers, rising-told}
 
 -- ---- numbers
 
@@ -84,33 +92,33 @@ module _ {s : SessionView} (is : IsMember s) where
   pub next-some : 0 < s.me.0.next
   next-some = let fewer = is.fewer.0 in omega arith
 
-  below-free : (asks : Option Ask) → s.me.0.asks ≡ asks → (are_below s.me.0.next s.me.0.slow ≡ true) × (is_ask_apart s.me.0.next s.me.0.slow asks ≡ true)
+  below-free : (asks : Option Ask) → s.me.0.asks ≡ asks → (are_below s.me.0.next (tickets_seen s.me.0) ≡ true) × (is_ask_apart s.me.0.next (tickets_seen s.me.0) asks ≡ true)
   below-free None asks =
       let all : (s.me.0.next - 1) + 1 ≡ s.me.0.next = (let some = next-some in omega arith) in
-      let free = subst (λ (o : Option Ask). are_below_told (first_free (is_some (wait_by s.me.0.waits o)) (numbers_by s.me.0.next s.me.0.waits)) (map told_of s.me.0.slow) ≡ true) asks is.sound.below in
-      (sym (ap (λ (n : ℕ). are_below_told n (map told_of s.me.0.slow)) all ∙ below-told s.me.0.next s.me.0.slow) ∙ free, refl)
+      let free = subst (λ (o : Option Ask). are_below_told (first_free (is_some (wait_by s.me.0.waits o)) (numbers_by s.me.0.next s.me.0.waits)) (map told_of (tickets_seen s.me.0)) ≡ true) asks is.sound.below in
+      (sym (ap (λ (n : ℕ). are_below_told n (map told_of (tickets_seen s.me.0))) all ∙ below-told s.me.0.next (tickets_seen s.me.0)) ∙ free, refl)
   below-free (Some a) asks =
       let last = ask-last a asks in
       let number : s.me.0.next - 1 ≡ a.number = omega arith in
-      let free = subst (λ (o : Option Ask). are_below_told (first_free (is_some (wait_by s.me.0.waits o)) (numbers_by s.me.0.next s.me.0.waits)) (map told_of s.me.0.slow) ≡ true) asks is.sound.below in
-      let below : are_below a.number s.me.0.slow ≡ true = sym (ap (λ (n : ℕ). are_below_told n (map told_of s.me.0.slow)) number ∙ below-told a.number s.me.0.slow) ∙ free in (
-        subst (λ (n : ℕ). are_below n s.me.0.slow ≡ true) last (below_more a.number s.me.0.slow below),
-        and_from _ _ (lt-ltb a.number s.me.0.next (omega arith)) (next_apart a.number s.me.0.slow below),
+      let free = subst (λ (o : Option Ask). are_below_told (first_free (is_some (wait_by s.me.0.waits o)) (numbers_by s.me.0.next s.me.0.waits)) (map told_of (tickets_seen s.me.0)) ≡ true) asks is.sound.below in
+      let below : are_below a.number (tickets_seen s.me.0) ≡ true = sym (ap (λ (n : ℕ). are_below_told n (map told_of (tickets_seen s.me.0))) number ∙ below-told a.number (tickets_seen s.me.0)) ∙ free in (
+        subst (λ (n : ℕ). are_below n (tickets_seen s.me.0) ≡ true) last (below_more a.number (tickets_seen s.me.0) below),
+        and_from _ _ (lt-ltb a.number s.me.0.next (omega arith)) (next_apart a.number (tickets_seen s.me.0) below),
       )
 
-  pub below : are_below s.me.0.next s.me.0.slow ≡ true
+  pub below : are_below s.me.0.next (tickets_seen s.me.0) ≡ true
   below = (below-free s.me.0.asks refl).0
 
   -- none of them is waited for
-  pub apart : is_ask_apart s.me.0.next s.me.0.slow s.me.0.asks ≡ true
+  pub apart : is_ask_apart s.me.0.next (tickets_seen s.me.0) s.me.0.asks ≡ true
   apart = (below-free s.me.0.asks refl).1
 
-  pub unwaited : (id : ℕ) → is_some (numbered id s.me.0.slow) ≡ true → NotWaited s.me.0 id
-  unwaited id there = not_waited s.me.0 id there apart
+  pub unwaited : (id : ℕ) → is_some (numbered id (tickets_seen s.me.0)) ≡ true → NotWaited s.me.0 id
+  unwaited id there = not_waited (record s.me.0 { slow = tickets_seen s.me.0 }) id there apart
 
   -- they are at places that it knows
-  pub placed : are_placed s.me.0.known s.me.0.slow ≡ true
-  placed = sym (placed-told s.me.0.known s.me.0.slow) ∙ is.sound.placed
+  pub placed : are_placed s.me.0.known (tickets_seen s.me.0) ≡ true
+  placed = sym (placed-told s.me.0.known (tickets_seen s.me.0)) ∙ is.sound.placed
 
   -- so is the one that it waits for
   pub awaited : (a : Ask) → s.me.0.asks ≡ Some a → is_known_place s.me.0.known a.place ≡ true
@@ -145,8 +153,63 @@ module _ {s : SessionView} (is : IsMember s) where
 
   -- ---- a ticket of its
 
-  pub ticket-there : (id : ℕ) (t : Own) → numbered id s.me.0.slow ≡ Some t → HasTicket t.place id s.me.0.slow
-  ticket-there id t its = has_numbered t.place id s.me.0.slow (ap (option_map (λ (x : Own). x.place)) its)
+  pub ticket-there : (id : ℕ) (t : Own) → numbered id (tickets_seen s.me.0) ≡ Some t → HasTicket t.place id (tickets_seen s.me.0)
+  ticket-there id t its = has_numbered t.place id (tickets_seen s.me.0) (ap (option_map (λ (x : Own). x.place)) its)
 
-  pub ticket-known : (id : ℕ) (t : Own) → numbered id s.me.0.slow ≡ Some t → is_known_place s.me.0.known t.place ≡ true
-  ticket-known id t its = placed_at s.me.0.known s.me.0.slow t.place id placed (ticket-there id t its)
+  pub slow-there : (id : ℕ) (t : Own) → numbered id s.me.0.slow ≡ Some t → HasTicket t.place id s.me.0.slow
+  slow-there id t its = has_numbered t.place id s.me.0.slow (ap (option_map (λ (x : Own). x.place)) its)
+
+  pub ticket-known : (id : ℕ) (t : Own) → numbered id (tickets_seen s.me.0) ≡ Some t → is_known_place s.me.0.known t.place ≡ true
+  ticket-known id t its = placed_at s.me.0.known (tickets_seen s.me.0) t.place id placed (ticket-there id t its)
+
+  -- ---- while none of its tickets is fast
+
+  pub no-fast : s.me.0.fast ≡ []
+  no-fast = nil_from_length s.me.0.fast is.slow
+
+  -- each that it has is slow
+  pub held-slow : (id : ℕ) (t : Own) → numbered id (tickets_seen s.me.0) ≡ Some t → numbered id s.me.0.slow ≡ Some t
+  held-slow id t its = subst (λ (ts : List Own). numbered id (interleaved s.me.0.slow ts) ≡ Some t) no-fast its
+
+  -- no fast one is at a place
+  pub none-there : (place : ℕ) → own_at place s.me.0.fast ≡ []
+  none-there place = ap (own_at place) no-fast
+
+  -- ---- its slow tickets and its fast ones
+
+  -- the numbers of all rise
+  pub rising : Rising (tickets_seen s.me.0)
+  rising = rising-told (tickets_seen s.me.0) is.sound.rising
+
+  -- so none of the fast ones has the number of a slow one
+  pub spared : (id : ℕ) (t : Own) → numbered id s.me.0.slow ≡ Some t → is_no_number id s.me.0.fast ≡ true
+  spared id t its = apart-numbers id t s.me.0.slow s.me.0.fast rising its
+
+  -- no slow one is waited for
+  pub slow-apart : is_ask_apart s.me.0.next s.me.0.slow s.me.0.asks ≡ true
+  slow-apart = by s.me.0.asks apart
+    where
+      by : (o : Option Ask) → is_ask_apart s.me.0.next (tickets_seen s.me.0) o ≡ true → is_ask_apart s.me.0.next s.me.0.slow o ≡ true
+      by None all = refl
+      by (Some a) all =
+          let parts = and_parts (nat_lt a.number s.me.0.next) (is_no_number a.number (tickets_seen s.me.0)) all in
+          and_from _ _ parts.0 (all-parts (λ (t : Own). not (t.number == a.number)) s.me.0.slow s.me.0.fast parts.1).0
+
+  -- what is done to the slow ones is done to all
+  pub does-slow : (place : ℕ) (ds : List Deed) → AllLeaveFast place ds s.me.0.slow s.me.0.fast → DoesSlow place ds s.me.0
+  does-slow place ds leaves = all-owned-slow place ds s.me.0.slow s.me.0.fast rising leaves
+
+  -- by cases: a new one is the next at a place without fast ones, and a slow one changes, or goes
+  pub gains-slow : (place number : ℕ) (mode : Mode) → number ≡ s.me.0.next → own_at place s.me.0.fast ≡ [] → DoesSlow place (Gain number mode ∷ []) s.me.0
+  gains-slow place number mode first none =
+      does-slow place (Gain number mode ∷ []) ((none, ap (λ (n : ℕ). are_below n (tickets_seen s.me.0)) first ∙ below), tt)
+
+  pub alters-slow : (place id : ℕ) (mode : Mode) (t : Own) → numbered id s.me.0.slow ≡ Some t → DoesSlow place (Alter id mode ∷ []) s.me.0
+  alters-slow place id mode t its = does-slow place (Alter id mode ∷ []) (spared id t its, tt)
+
+  pub loses-slow : (place id : ℕ) (t : Own) → numbered id s.me.0.slow ≡ Some t → DoesSlow place (Lose id ∷ []) s.me.0
+  loses-slow place id t its = does-slow place (Lose id ∷ []) (spared id t its, tt)
+
+  pub merges-slow : (place old new : ℕ) (mode : Mode) (kept gone : Own) → numbered old s.me.0.slow ≡ Some kept → numbered new s.me.0.slow ≡ Some gone
+      → DoesSlow place (Alter old mode ∷ Lose new ∷ []) s.me.0
+  merges-slow place old new mode kept gone one other = does-slow place (Alter old mode ∷ Lose new ∷ []) (spared old kept one, (spared new gone other, tt))

@@ -1,5 +1,5 @@
 -- What is always so of a session between two calls is so after each call.
-use Rattle.std.proofs.Common.{◌≡◌, ◌⊎◌, inl, inr, ℕ, ◌+◌, ◌≤◌, ◌<◌, true, List, [], ◌∷◌, Option, Some, None, refl, sym, ap, subst, ◌∙◌, arith}
+use Rattle.std.proofs.Common.{◌≡◌, ◌⊎◌, inl, inr, ℕ, ◌+◌, ◌≤◌, ◌<◌, true, List, [], ◌∷◌, length, Option, Some, None, refl, sym, ap, subst, ◌∙◌, arith}
 use Rattle.atomic_table.specs.Seated.{TableId}
 use Rattle.mdl_calls.specs.declared.space_error.SpaceError.{SpaceError}
 use Rattle.mdl_calls.specs.Words.{Answer, Call}
@@ -7,9 +7,11 @@ use Rattle.mdl_steps.specs.declared.deed.Deed.{Deed}
 use Rattle.mdl_steps.specs.declared.deed.Deed.TheVariants.{Gain, Alter, Lose}
 use Rattle.mdl_steps.specs.declared.view.Ask.{Ask}
 use Rattle.mdl_steps.specs.declared.view.Met.{Met}
+use Rattle.mdl_steps.specs.declared.view.Known.{Known}
 use Rattle.mdl_steps.specs.declared.view.Own.{Own}
 use Rattle.mdl_steps.specs.declared.view.Settlement.{Settlement}
-use Rattle.mdl_steps.specs.Deeds.{all_done, all_next, all_owned}
+use Rattle.mdl_steps.specs.Deeds.{all_next, all_owned}
+use Rattle.mdl_steps.specs.Interleavings.{interleaved}
 use Rattle.mdl_steps.specs.Layout.{word_count}
 use Rattle.mdl_steps.specs.Plays.{Mine}
 use Rattle.mdl_steps.specs.SeatStates.{AtItsTable, SeatState}
@@ -18,17 +20,17 @@ use Rattle.mdl_session_laws.proofs.KeptSound.{keeps-sound}
 use Rattle.mdl_visits.specs.Grantings.{StaysTold, VisitsAndReschedules}
 use Rattle.mdl_visits.specs.Idle.{IsIdle, HasSlowAlone}
 use Rattle.mdl_visits.specs.Visits.{Visits}
-use Rattle.mdl_visits.specs.Numbers.{numbered}
+use Rattle.mdl_visits.specs.Numbers.{is_no_number, numbered}
 use Rattle.mdl_shared.specs.declared.member.Member.{Member}
-use Rattle.mdl_shared.specs.Members.{IsMember, are_within, most_numbers}
-use Rattle.mdl_shared.specs.Passes.{view_of}
+use Rattle.mdl_shared.specs.Members.{IsMember, are_counted, are_within, most_numbers, without_at}
 use Rattle.mdl_shared.specs.Rememberings.{AreAlike}
-use Rattle.mdl_shared.specs.SessionViews.{Lists, SessionView, lists_seen, session_at, space_of}
+use Rattle.mdl_shared.specs.SessionViews.{Lists, SessionView, lists_seen, session_at, space_of, tickets_of, tickets_seen}
 use Rattle.mdl_shared.specs.Showings.{own_fault}
 use Rattle.mdl_shared.specs.TicketLists.{HasRoom, TicketList}
 use Rattle.mdl_shared.specs.Waitings.{is_ask_last, is_ask_told}
 use Rattle.mdl_shared.proofs.Alike.{alike_done}
 use Rattle.mdl_shared.proofs.SameSpace.{KeepsRest, Stays}
+use Rattle.mdl_shared.proofs.TicketOrder.{DoesSlow, none-numbered, none-struck}
 
 -- a call left the session at the same table of the same space, without a latch or a fast ticket, and in order but for what its joining tells
 pub record StaysInOrder (s s′ : SessionView) : Type 0 where
@@ -36,8 +38,10 @@ pub record StaysInOrder (s s′ : SessionView) : Type 0 where
   pub sessions : s′.sessions ≡ s.sessions
   pub idle : IsIdle s′.me
   pub slow : HasSlowAlone s′.me
+  pub unfast : (a : Ask) → s′.me.0.asks ≡ Some a → s′.me.0.fast ≡ []
+  pub plain : are_counted s′.me.0.known s′.me.0.fast ≡ true
   pub within : are_within s.table.slots s′.me.0.known ≡ true
-  pub alike : AreAlike s′.me.0.slow
+  pub alike : AreAlike (tickets_seen s′.me.0)
   pub last : is_ask_last s′.me.0.next s′.me.0.asks ≡ true
   pub told : is_ask_told s′.me.0.asks s′.me.0.told ≡ true
   pub fewer : (s′.me.0.waits < s′.me.0.next) × (s′.me.0.waits < most_numbers)
@@ -47,6 +51,8 @@ kept {s} {s′} {call} {answer} is order joins = record {
   sound = keeps-sound (space_of s) (space_of s′) call answer is.sound joins;
   idle = order.idle;
   slow = order.slow;
+  unfast = order.unfast;
+  plain = order.plain;
   within = ap (λ (t : TableId). are_within t.slots s′.me.0.known) order.table ∙ order.within;
   alike = order.alike;
   last = order.last;
@@ -61,12 +67,39 @@ kept {s} {s′} {call} {answer} is order joins = record {
 
 -- ---- calls that do deeds at a place, or none
 
--- the session did these deeds at a place, and made steps; it may have been told of its wait; nothing else changed
+-- the fast tickets of a session that knows these keys and has this wait, or none, are now others: each is counted as before, and where it waits there is
+-- none as before
+pub record StaysFast (known : List Known) (asks : Option Ask) (fast fast′ : List Own) : Type 0 where
+  pub none : length fast ≡ 0 → length fast′ ≡ 0
+  pub unfast : (a : Ask) → asks ≡ Some a → fast ≡ [] → fast′ ≡ []
+  pub plain : are_counted known fast ≡ true → are_counted known fast′ ≡ true
+
+pub same-fast : (known : List Known) (asks : Option Ask) (fast : List Own) → StaysFast known asks fast fast
+same-fast known asks fast = record { none = λ e. e; unfast = λ a waits e. e; plain = λ e. e }
+
+-- the session did these deeds at a place, to slow tickets or to fast ones, and made steps; it may have been told of its wait; nothing else changed, but
+-- perhaps which tickets are fast
 pub record HasDone (place : ℕ) (ds : List Deed) (s s′ : SessionView) : Type 0 where
+  pub slow : List Own
+  pub fast : List Own
   pub told : Option ℕ
   pub settles : List Settlement
   pub log : List Met
-  pub now : s′ ≡ record s { me = (record (all_done place ds s.me.0) { told = told; settles = settles; log = log }, s.me.1) }
+  pub now : s′ ≡ record s {
+    me = (
+      record s.me.0 {
+        slow = slow;
+        fast = fast;
+        next = all_next ds s.me.0.next;
+        told = told;
+        settles = settles;
+        log = log;
+      },
+      s.me.1,
+    );
+  }
+  pub tickets : interleaved slow fast ≡ all_owned place ds (tickets_seen s.me.0)
+  pub fasts : StaysFast s.me.0.known s.me.0.asks s.me.0.fast fast
   pub stays : StaysTold s.me.0.told told
   pub unasked : s.me.0.asks ≡ None → told ≡ s.me.0.told
 
@@ -74,26 +107,34 @@ pub record HasDone (place : ℕ) (ds : List Deed) (s s′ : SessionView) : Type 
 seat-changed : (seat seat′ : SeatState) (sessions : ℕ) → seat′.table ≡ seat.table → (m : Mine) → seat′.me ≡ m → session_at seat′ sessions ≡ record (session_at seat sessions) { me = m }
 seat-changed seat seat′ sessions table m me = λ i. record { table = table i; sessions = sessions; me = me i }
 
-pub visited : {place : ℕ} {ds : List Deed} (seat seat′ : SeatState) (sessions : ℕ) → AtItsTable seat seat′ (Visits place ds)
+pub visited : {place : ℕ} {ds : List Deed} (seat seat′ : SeatState) (sessions : ℕ) → DoesSlow place ds seat.me.0 → AtItsTable seat seat′ (Visits place ds)
     → HasDone place ds (session_at seat sessions) (session_at seat′ sessions)
-visited seat seat′ sessions visits = record {
+visited {place} {ds} seat seat′ sessions same visits = record {
+  slow = all_owned place ds seat.me.0.slow;
+  fast = seat.me.0.fast;
   told = seat.me.0.told;
   settles = seat.me.0.settles;
   log = _;
   now = seat-changed seat seat′ sessions visits.0 _ visits.1.now;
+  tickets = same;
+  fasts = same-fast seat.me.0.known seat.me.0.asks seat.me.0.fast;
   stays = λ state told. told;
   unasked = λ none. refl;
 }
 
-pub rescheduled : {place : ℕ} {ds : List Deed} (seat seat′ : SeatState) (sessions : ℕ) → AtItsTable seat seat′ (VisitsAndReschedules seat.table place ds)
+pub rescheduled : {place : ℕ} {ds : List Deed} (seat seat′ : SeatState) (sessions : ℕ) → DoesSlow place ds seat.me.0 → AtItsTable seat seat′ (VisitsAndReschedules seat.table place ds)
     → HasDone place ds (session_at seat sessions) (session_at seat′ sessions)
-rescheduled seat seat′ sessions visits =
+rescheduled {place} {ds} seat seat′ sessions same visits =
     let told : seat′.me.0.told ≡ visits.1.told = ap (λ (m : Mine). m.0.told) visits.1.now in
     record {
+      slow = all_owned place ds seat.me.0.slow;
+      fast = seat.me.0.fast;
       told = visits.1.told;
       settles = visits.1.settles;
       log = _;
       now = seat-changed seat seat′ sessions visits.0 _ visits.1.now;
+      tickets = same;
+      fasts = same-fast seat.me.0.known seat.me.0.asks seat.me.0.fast;
       stays = subst (λ (o : Option ℕ). StaysTold seat.me.0.told o) told visits.1.way.stays;
       unasked = λ none. sym told ∙ visits.1.way.unasked none;
     }
@@ -125,9 +166,11 @@ module _ {place : ℕ} {ds : List Deed} {s s′ : SessionView} (done : HasDone p
         table = refl;
         sessions = refl;
         idle = is.idle;
-        slow = is.slow;
+        slow = done.fasts.none is.slow;
+        unfast = λ a asks. done.fasts.unfast a asks (is.unfast a asks);
+        plain = done.fasts.plain is.plain;
         within = is.within;
-        alike = alike_done place ds s.me.0.slow is.alike;
+        alike = subst AreAlike (sym done.tickets) (alike_done place ds (tickets_seen s.me.0) is.alike);
         last = last-none s.me.0.next (all_next ds s.me.0.next) s.me.0.asks which is.last;
         told = told-stays s.me.0.asks s.me.0.told done.told done.unasked is.told;
         fewer = (omega (arith, more, fewer.0), fewer.1);
@@ -140,8 +183,8 @@ module _ {place : ℕ} {ds : List Deed} {s s′ : SessionView} (done : HasDone p
     wait = record { asks = refl; waits = refl; stays = done.stays; unasked = done.unasked };
   })
 
-  pub done-slow : s′.me.0.slow ≡ all_owned place ds s.me.0.slow
-  done-slow = ap (λ (x : SessionView). x.me.0.slow) done.now
+  pub done-tickets : tickets_seen s′.me.0 ≡ all_owned place ds (tickets_seen s.me.0)
+  done-tickets = ap (λ (x : SessionView). tickets_seen x.me.0) done.now ∙ done.tickets
 
   pub done-next : s′.me.0.next ≡ all_next ds s.me.0.next
   done-next = ap (λ (x : SessionView). x.me.0.next) done.now
@@ -149,30 +192,76 @@ module _ {place : ℕ} {ds : List Deed} {s s′ : SessionView} (done : HasDone p
   pub done-reads : s′.me.0.reads ≡ s.me.0.reads
   done-reads = ap (λ (x : SessionView). x.me.0.reads) done.now
 
-  -- of its lists, too
-  pub done-lists : lists_seen s′.me.0 ≡ record (lists_seen s.me.0) { tickets = all_owned place ds s.me.0.slow; next = all_next ds s.me.0.next }
-  done-lists = ap (λ (x : SessionView). lists_seen x.me.0) done.now
-
 -- without a deed all else stays
 pub done-nothing : {place : ℕ} {s s′ : SessionView} → HasDone place [] s s′ → Stays s s′
 done-nothing done =
     let rest = done-rest done in record {
       number = rest.number;
-      tickets = done-slow done;
+      tickets = done-tickets done;
       next = done-next done;
       known = rest.known;
       wait = rest.wait;
       reads = done-reads done;
     }
 
+-- deeds after none are these deeds
+pub done-then : {at place : ℕ} {ds : List Deed} {a b c : SessionView} → HasDone at [] a b → HasDone place ds b c → HasDone place ds a c
+done-then {at} {place} {ds} {a} {b} {c} first later =
+    let b-is = first.now in record {
+      slow = later.slow;
+      fast = later.fast;
+      told = later.told;
+      settles = later.settles;
+      log = later.log;
+      now = later.now ∙ ap (λ (x : SessionView). record x {
+        me = (
+          record x.me.0 { slow = later.slow; fast = later.fast; next = all_next ds x.me.0.next; told = later.told; settles = later.settles; log = later.log },
+          x.me.1,
+        );
+      }) b-is;
+      tickets = later.tickets ∙ ap (all_owned place ds) (done-tickets first);
+      fasts = fast-then (subst (λ (x : SessionView). StaysFast x.me.0.known x.me.0.asks x.me.0.fast later.fast) b-is later.fasts);
+      stays = λ state told. later.stays state (ap (λ (x : SessionView). x.me.0.told) b-is ∙ first.stays state told);
+      unasked = λ none.
+          let told : b.me.0.told ≡ first.told = ap (λ (x : SessionView). x.me.0.told) b-is in
+          later.unasked (ap (λ (x : SessionView). x.me.0.asks) b-is ∙ none) ∙ told ∙ first.unasked none;
+    }
+  where
+    fast-then : StaysFast a.me.0.known a.me.0.asks first.fast later.fast → StaysFast a.me.0.known a.me.0.asks a.me.0.fast later.fast
+    fast-then more = record {
+      none = λ e. more.none (first.fasts.none e);
+      unfast = λ ask asks e. more.unfast ask asks (first.fasts.unfast ask asks e);
+      plain = λ e. more.plain (first.fasts.plain e);
+    }
+
 -- ---- a session's own lists
 
--- they are those of its view still, where the same was done to them
-pub lists-done : (m : Member) {place : ℕ} {ds : List Deed} {s : SessionView} {tickets : List Own} → HasDone place ds (view_of m) s → tickets ≡ all_owned place ds m.tickets.own
-    → record { tickets = tickets; known = m.known.known; next = all_next ds m.next; asks = m.asks; waits = m.waits } ≡ lists_seen s.me.0
-lists-done m {place} {ds} done same =
-    ap (λ (ts : List Own). record { tickets = ts; known = m.known.known; next = all_next ds m.next; asks = m.asks; waits = m.waits }) same
-    ∙ ap (λ (l : Lists). record l { tickets = all_owned place ds l.tickets; next = all_next ds l.next }) m.lists ∙ sym (done-lists done)
+-- after a visit
+abbrev pub deeds_listed : ℕ → List Deed → Lists → Lists
+deeds_listed place ds l = record l { slow = all_owned place ds l.slow; next = all_next ds l.next }
+
+pub lists-visited : {place : ℕ} {ds : List Deed} {seat seat′ : SeatState} → AtItsTable seat seat′ (Visits place ds) → lists_seen seat′.me.0 ≡ deeds_listed place ds (lists_seen seat.me.0)
+lists-visited visits = ap (λ (m : Mine). lists_seen m.0) visits.1.now
+
+pub lists-rescheduled : {place : ℕ} {ds : List Deed} {seat seat′ : SeatState} → AtItsTable seat seat′ (VisitsAndReschedules seat.table place ds)
+    → lists_seen seat′.me.0 ≡ deeds_listed place ds (lists_seen seat.me.0)
+lists-rescheduled visits = ap (λ (m : Mine). lists_seen m.0) visits.1.now
+
+-- they are those of its view still, where the deeds were done to its own list of tickets
+pub lists-done : (m : Member) (place : ℕ) (ds : List Deed) {l : Lists} {slow fast : List Own} → l ≡ deeds_listed place ds (lists_seen m.seat.me.0)
+    → slow ≡ all_owned place ds m.tickets.slow → fast ≡ m.tickets.fast
+    → record { slow = slow; fast = fast; known = m.known.known; next = all_next ds m.next; asks = m.asks; waits = m.waits } ≡ l
+lists-done m place ds done slows fasts =
+    (λ i. record { slow = slows i; fast = fasts i; known = m.known.known; next = all_next ds m.next; asks = m.asks; waits = m.waits })
+    ∙ ap (deeds_listed place ds) m.lists ∙ sym done
+
+-- none of its own list of them has the number of a slow one
+pub unnumbered : (m : Member) (id : ℕ) → is_no_number id m.seat.me.0.fast ≡ true → numbered id m.tickets.fast ≡ None
+unnumbered m id none = ap (λ (l : Lists). numbered id l.fast) m.lists ∙ none-numbered id m.seat.me.0.fast none
+
+-- so that they stay where a slow one is struck
+pub fast-struck : (m : Member) (place id : ℕ) {fast : List Own} → is_no_number id m.seat.me.0.fast ≡ true → fast ≡ without_at place id m.tickets.fast → fast ≡ m.tickets.fast
+fast-struck m place id none same = same ∙ none-struck place id m.tickets.fast (ap (λ (l : Lists). is_no_number id l.fast) m.lists ∙ none)
 
 -- and have the room that they had
 pub room-kept : {place : ℕ} (list list′ : TicketList) → (list.spare ≤ list′.spare) × (list′.reach ≡ list.reach) → HasRoom place list → HasRoom place list′
@@ -182,10 +271,11 @@ room-kept {place} list list′ more room =
     (omega (arith, some, room.0), subst (λ (n : ℕ). place < n) (sym same) room.1)
 
 -- a ticket of its own list is one of its view
-pub held-seen : (m : Member) (id : ℕ) (o : Option Own) → o ≡ numbered id m.tickets.own → numbered id m.seat.me.0.slow ≡ o
-held-seen m id o found = ap (λ (l : Lists). numbered id l.tickets) (sym m.lists) ∙ sym found
+pub held-seen : (m : Member) (id : ℕ) (o : Option Own) → o ≡ numbered id (interleaved m.tickets.slow m.tickets.fast) → numbered id (tickets_seen m.seat.me.0) ≡ o
+held-seen m id o found = ap (λ (l : Lists). numbered id (tickets_of l)) (sym m.lists) ∙ sym found
 
 -- a fault by its own lists is one of its view
 pub fault-seen : (m : Member) (call : Call) (o : Option SpaceError)
-    → own_fault call (record { tickets = m.tickets.own; known = m.known.known; next = m.next; asks = m.asks; waits = m.waits }) ≡ o → own_fault call (lists_seen m.seat.me.0) ≡ o
+    → own_fault call (record { slow = m.tickets.slow; fast = m.tickets.fast; known = m.known.known; next = m.next; asks = m.asks; waits = m.waits }) ≡ o
+    → own_fault call (lists_seen m.seat.me.0) ≡ o
 fault-seen m call o fault = ap (own_fault call) (sym m.lists) ∙ fault

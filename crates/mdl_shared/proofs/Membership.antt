@@ -1,20 +1,24 @@
 -- A session's own lists: its tickets are of places that it knows, and these are places of the table.
-use Rattle.std.proofs.Common.{◌≡◌, ℕ, zero, suc, ◌<◌, ◌==◌, ◌&&◌, true, List, [], ◌∷◌, ◌++◌, Some, length, refl, sym, ap, ◌∙◌, arith, append_assoc, append-nil}
+use Rattle.std.proofs.Common.{◌≡◌, ℕ, zero, suc, ◌<◌, ◌==◌, ◌&&◌, true, List, [], ◌∷◌, ◌++◌, Option, Some, None, is_some, length, refl, sym, ap, ◌∙◌, arith, append_assoc, append-nil}
 use Rattle.std.specs.Prelude.{Bool, nat_lt}
 use Rattle.std.specs.List.{list_all}
-use Rattle.std.specs.Option.{option_map}
+use Rattle.std.specs.Option.{option_and_then, option_map}
 use Rattle.std.proofs.lemmas.List.Elements.{All-head, All-tail}
 use Rattle.std.proofs.lemmas.Bool.{and_parts, and_from, eqb-true, lt-ltb, ltb-true}
 use mathlib.Core.Option.{some, some-injective, some-ne-none}
 use lib.ListN.{get_elem?}
+use Rattle.mdl_key.specs.declared.mode.Mode.{Mode}
 use Rattle.mdl_key.specs.declared.namespace.Kind.{Kind}
 use Rattle.mdl_key.specs.Words.{KeyName, key_eq, kind_of}
+use Rattle.mdl_word.specs.Words.{increment_of}
 use Rattle.mdl_steps.specs.declared.view.Known.{Known}
 use Rattle.mdl_steps.specs.declared.view.Own.{Own}
+use Rattle.mdl_steps.specs.declared.view.View.{View}
+use Rattle.mdl_steps.specs.FastPlays.{IsCounted}
 use Rattle.mdl_steps.specs.Plays.{noting_version}
 use Rattle.mdl_steps.proofs.Views.{by_bool}
 use Rattle.mdl_visits.specs.Leavings.{HasTicket}
-use Rattle.mdl_shared.specs.Members.{is_known_place, are_within, kind_known, place_known}
+use Rattle.mdl_shared.specs.Members.{are_counted, are_within, increment_at, is_known_place, kind_known, place_known}
 use Rattle.mdl_visits.specs.Numbers.{numbered}
 use Rattle.mdl_visits.specs.Tables.{AreWithin}
 
@@ -103,6 +107,39 @@ place_within slots place key (k ∷ ks) all e =
 pub none_noted : (place version : ℕ) (tickets : List Own) → length tickets ≡ 0 → length (noting_version place version tickets) ≡ 0
 none_noted place version [] none = refl
 none_noted place version (t ∷ ts) none = absurd (omega arith)
+
+-- ---- fast tickets
+
+-- a kind that is known is known still
+pub kind_still : (place : ℕ) (kind : Kind) (known more : List Known) → kind_known place known ≡ Some kind → kind_known place (known ++ more) ≡ Some kind
+kind_still place kind [] more e = absurd (cc)
+kind_still place kind (k ∷ ks) more e =
+    by_bool (k.place == place) (λ hit. rw hit (rw hit at e)) (λ miss. rw miss (kind_still place kind ks more (rw miss at e)))
+
+-- so what is counted is counted still
+still_counted : (place : ℕ) (mode : Mode) (known more : List Known) → is_some (increment_at place mode known) ≡ true → is_some (increment_at place mode (known ++ more)) ≡ true
+still_counted place mode known more counted = by (kind_known place known) refl counted
+  where
+    by : (o : Option Kind) → kind_known place known ≡ o → is_some (option_and_then (λ kind. increment_of kind mode) o) ≡ true
+        → is_some (increment_at place mode (known ++ more)) ≡ true
+    by None e counts = absurd (cc)
+    by (Some kind) e counts = ap (λ (o : Option Kind). is_some (option_and_then (λ k. increment_of k mode) o)) (kind_still place kind known more e) ∙ counts
+
+pub counted_and : (known more : List Known) (fast : List Own) → are_counted known fast ≡ true → are_counted (known ++ more) fast ≡ true
+counted_and known more [] all = refl
+counted_and known more (t ∷ ts) all =
+    let parts = and_parts (is_some (increment_at t.place t.mode known)) (are_counted known ts) all in
+    and_from _ _ (still_counted t.place t.mode known more parts.0) (counted_and known more ts parts.1)
+
+-- the word of a place counts a ticket by what is known of its kind
+pub counted_so : (v : View) (place : ℕ) (mode : Mode) (one : ℕ) → increment_at place mode v.known ≡ Some one → IsCounted v place mode one
+counted_so v place mode one is = by (kind_known place v.known) refl is
+  where
+    by : (o : Option Kind) → kind_known place v.known ≡ o → option_and_then (λ kind. increment_of kind mode) o ≡ Some one → IsCounted v place mode one
+    by None e counts = absurd (cc)
+    by (Some kind) e counts =
+        let there = kind_there place kind v.known e in
+        (there.0, there.1, there.2, there.3, ap (λ k. increment_of k mode) there.4 ∙ counts)
 
 -- ---- with several keys more
 

@@ -10,7 +10,7 @@ use Rattle.mdl_steps.specs.Lists.{Each}
 use Rattle.mdl_steps.proofs.Views.{by_bool}
 use Rattle.mdl_shared.specs.Members.{IsMember}
 use Rattle.mdl_shared.specs.Rememberings.{AreAlike}
-use Rattle.mdl_shared.specs.SessionViews.{SessionView, note_of}
+use Rattle.mdl_shared.specs.SessionViews.{SessionView, note_of, tickets_seen}
 use Rattle.mdl_shared.proofs.SpaceNotes.{AllNoted, and_note, note-here, note-there, noted-gained, noted-in, noted-less, noted-moded, noted_under}
 
 -- where no ticket has a note, nothing is noted
@@ -48,11 +48,11 @@ alike-noted place (t ∷ ts) alike =
     ((λ e. absurd (false≢true (sym there ∙ eq-eqb t.place place e))), alike-noted place ts alike.1))
 
 -- each has the one that is noted there
-pub one-note : (m : SessionView) → IsMember m → (place : ℕ) → AllNoted place (noted_under place m.me.0.slow) m.me.0.slow
-one-note m is place = alike-noted place m.me.0.slow is.alike
+pub one-note : (m : SessionView) → IsMember m → (place : ℕ) → AllNoted place (noted_under place (tickets_seen m.me.0)) (tickets_seen m.me.0)
+one-note m is place = alike-noted place (tickets_seen m.me.0) is.alike
 
 -- and still has after a deed
-pub one-note_done : (m : SessionView) → IsMember m → (at place : ℕ) (d : Deed) → AllNoted at (noted_under at m.me.0.slow) (owned place d m.me.0.slow)
-one-note_done m is at place (Gain number mode) = noted-gained at number place mode m.me.0.slow (one-note m is at)
-one-note_done m is at place (Alter number mode) = noted-moded at place number (noted_under at m.me.0.slow) mode m.me.0.slow (one-note m is at)
-one-note_done m is at place (Lose number) = noted-less at (noted_under at m.me.0.slow) (λ t. not (is_own place number t)) m.me.0.slow (one-note m is at)
+pub one-note_done : (m : SessionView) → IsMember m → (at place : ℕ) (d : Deed) → AllNoted at (noted_under at (tickets_seen m.me.0)) (owned place d (tickets_seen m.me.0))
+one-note_done m is at place (Gain number mode) = noted-gained at number place mode (tickets_seen m.me.0) (one-note m is at)
+one-note_done m is at place (Alter number mode) = noted-moded at place number (noted_under at (tickets_seen m.me.0)) mode (tickets_seen m.me.0) (one-note m is at)
+one-note_done m is at place (Lose number) = noted-less at (noted_under at (tickets_seen m.me.0)) (λ t. not (is_own place number t)) (tickets_seen m.me.0) (one-note m is at)

@@ -2,7 +2,7 @@
 use Rattle.std.proofs.Common.{◌≡◌, ℕ, ◌<◌, ◌≤◌, List, [], ◌∷◌, true, Option, Some, None, is_some}
 use Rattle.std.specs.Prelude.{MatchOption}
 use Rattle.std.specs.Option.{IfSome}
-use Rattle.std.specs.Coded.{Coded-set}
+use Rattle.std.specs.Coded.{Coded-set, coded_list}
 use Rattle.std.proofs.Props.{props}
 use mathlib.Core.HLevel.{×_prop, Unit-prop, Π_prop}
 use mathlib.Core.Logic.{∥∥₁_elim}
@@ -15,16 +15,18 @@ use Rattle.mdl_defs.specs.declared.standing.Standing.{Standing}
 use Rattle.mdl_defs.specs.Definitions.{IsWellFormed}
 use Rattle.mdl_defs.specs.Standings.{MayStand, fits}
 use Rattle.mdl_calls.specs.Words.{IsRising, Wait, is_waiting}
+use Rattle.mdl_steps.specs.contracts.view.Own as view
+use Rattle.mdl_steps.specs.declared.view.Ask.{Ask}
 use Rattle.mdl_steps.specs.declared.view.Own.{Own}
 use Rattle.mdl_steps.specs.Layout.{word_count}
 use Rattle.mdl_steps.specs.Lists.{Each}
 use Rattle.mdl_session_laws.specs.SessionSpaces.{FitsKey, IsNoted, IsSound, Space, are_apart, are_below, are_placed, first_free, is_known, is_newest, key_known, last_read, noted_at}
 use Rattle.mdl_visits.specs.Idle.{IsIdle, HasSlowAlone}
 use Rattle.mdl_shared.specs.declared.member.Member.{Member}
-use Rattle.mdl_shared.specs.Members.{IsMember, are_within, most_numbers}
+use Rattle.mdl_shared.specs.Members.{IsMember, are_counted, are_within, most_numbers}
 use Rattle.mdl_shared.specs.Passes.{view_of}
 use Rattle.mdl_shared.specs.Rememberings.{AreAlike}
-use Rattle.mdl_shared.specs.SessionViews.{SessionView}
+use Rattle.mdl_shared.specs.SessionViews.{SessionView, tickets_seen}
 use Rattle.mdl_shared.specs.Waitings.{is_ask_last, is_ask_told}
 
 -- ---- what may stand
@@ -69,6 +71,9 @@ AreAlike-prop : (tickets : List Own) → IsProp (AreAlike tickets)
 AreAlike-prop [] = Unit-prop
 AreAlike-prop (t ∷ ts) = ×_prop (Each-prop (λ (x : Own). x.place ≡ t.place → x.noted ≡ t.noted) (λ x. Π_prop (λ e. note-prop x.noted t.noted)) ts) (AreAlike-prop ts)
 
+tickets-set : IsSet (List Own)
+tickets-set = Coded-set (coded_list view.the_row.coded)
+
 -- ---- what is always so
 
 awaited-prop : (a : Space) → IsProp (IfSome a.own.wait (λ (w : Wait). is_known w.place a.known ≡ true))
@@ -105,6 +110,8 @@ IsMember-prop : (s : SessionView) → IsProp (IsMember s)
 IsMember-prop s x y =
     let idle_prop : IsProp (IsIdle s.me) = hlevel props in
     let slow_prop : IsProp (HasSlowAlone s.me) = hlevel props in
+    let unfast_prop : IsProp ((a : Ask) → s.me.0.asks ≡ Some a → s.me.0.fast ≡ []) = Π_prop (λ a. Π_prop (λ e. tickets-set s.me.0.fast [])) in
+    let plain_prop : IsProp (are_counted s.me.0.known s.me.0.fast ≡ true) = hlevel props in
     let within_prop : IsProp (are_within s.table.slots s.me.0.known ≡ true) = hlevel props in
     let last_prop : IsProp (is_ask_last s.me.0.next s.me.0.asks ≡ true) = hlevel props in
     let told_prop : IsProp (is_ask_told s.me.0.asks s.me.0.told ≡ true) = hlevel props in
@@ -116,8 +123,10 @@ IsMember-prop s x y =
       sound = IsSound-prop _ x.sound y.sound i;
       idle = idle_prop x.idle y.idle i;
       slow = slow_prop x.slow y.slow i;
+      unfast = unfast_prop x.unfast y.unfast i;
+      plain = plain_prop x.plain y.plain i;
       within = within_prop x.within y.within i;
-      alike = AreAlike-prop s.me.0.slow x.alike y.alike i;
+      alike = AreAlike-prop (tickets_seen s.me.0) x.alike y.alike i;
       last = last_prop x.last y.last i;
       told = told_prop x.told y.told i;
       fewer = fewer_prop x.fewer y.fewer i;

@@ -32,7 +32,8 @@ use Rattle.mdl_shared.specs.declared.member.Member.{Member}
 use Rattle.mdl_shared.specs.Members.{IsMember, holding_fault}
 use Rattle.mdl_shared.specs.OwnLists.{told_of}
 use Rattle.mdl_shared.specs.Passes.{view_of}
-use Rattle.mdl_shared.specs.SessionViews.{Lists, SessionView, lists_seen, session_at, space_of}
+use Rattle.mdl_shared.specs.Rememberings.{AreAlike}
+use Rattle.mdl_shared.specs.SessionViews.{Lists, SessionView, lists_seen, session_at, space_of, tickets_seen}
 use Rattle.mdl_shared.specs.Showings.{ShowsStep, Shows}
 use Rattle.mdl_shared.proofs.Alike.{alike_noting}
 use Rattle.mdl_shared.proofs.Faults.{if-clear, test-failed}
@@ -44,6 +45,7 @@ use Rattle.mdl_shared.proofs.SpaceLists.{key-told, ticket-told}
 use Rattle.mdl_shared.proofs.SpaceNotes.{noting-told}
 use Rattle.mdl_shared.proofs.SpaceReads.{known-there, meets-there, notes-there}
 use Rattle.mdl_shared.proofs.SpaceTickets.{holds-told, of-held}
+use Rattle.mdl_shared.proofs.TicketOrder.{counted-noted, noted-both}
 
 -- ---- a session that reads what stands at a place
 
@@ -77,8 +79,10 @@ module _ {place : ℕ} {standing : Standing} {s s′ : SessionView} (noted : Has
     sessions = refl;
     idle = is.idle;
     slow = none_noted place standing.version s.me.0.fast is.slow;
+    unfast = λ a asks. ap (noting_version place standing.version) (is.unfast a asks);
+    plain = counted-noted place standing.version s.me.0.known s.me.0.fast is.plain;
     within = is.within;
-    alike = alike_noting place standing.version s.me.0.slow is.alike;
+    alike = subst AreAlike (noted-both place standing.version s.me.0.slow s.me.0.fast) (alike_noting place standing.version (tickets_seen s.me.0) is.alike);
     last = is.last;
     told = is.told;
     fewer = is.fewer;
@@ -87,59 +91,60 @@ module _ {place : ℕ} {standing : Standing} {s s′ : SessionView} (noted : Has
   noted-rest : KeepsRest s s′
   noted-rest = subst (λ (x : SessionView). KeepsRest s x) (sym noted.now) (record { number = refl; known = refl; wait = sees-same s _ refl refl refl })
 
-  noted-slow : s′.me.0.slow ≡ noting_version place standing.version s.me.0.slow
-  noted-slow = ap (λ (x : SessionView). x.me.0.slow) noted.now
+  noted-tickets : tickets_seen s′.me.0 ≡ noting_version place standing.version (tickets_seen s.me.0)
+  noted-tickets = ap (λ (x : SessionView). tickets_seen x.me.0) noted.now ∙ sym (noted-both place standing.version s.me.0.slow s.me.0.fast)
 
   noted-drawn : (space_of s′).numbers ≡ (space_of s).numbers
   noted-drawn = ap (λ (x : SessionView). (space_of x).numbers) noted.now
 
 -- its own lists are those of its view still
-pub lists-noted : (m : Member) {place version : ℕ} {standing : Standing} {tickets : List Own} {s : SessionView} → HasNoted place standing (view_of m) s → standing.version ≡ version
-    → tickets ≡ noting_version place version m.tickets.own
-    → record { tickets = tickets; known = m.known.known; next = m.next; asks = m.asks; waits = m.waits } ≡ lists_seen s.me.0
-lists-noted m {place} {version} {standing} {tickets} {s} noted is same =
-    ap (λ (ts : List Own). record { tickets = ts; known = m.known.known; next = m.next; asks = m.asks; waits = m.waits })
-    (same ∙ ap (λ (n : ℕ). noting_version place n m.tickets.own) (sym is))
-    ∙ ap (λ (l : Lists). record l { tickets = noting_version place standing.version l.tickets }) m.lists ∙ sym (ap (λ (x : SessionView). lists_seen x.me.0) noted.now)
+pub lists-noted : (m : Member) {place version : ℕ} {standing : Standing} {slow fast : List Own} {s : SessionView} → HasNoted place standing (view_of m) s → standing.version ≡ version
+    → (slow ≡ noting_version place version m.tickets.slow) × (fast ≡ noting_version place version m.tickets.fast)
+    → record { slow = slow; fast = fast; known = m.known.known; next = m.next; asks = m.asks; waits = m.waits } ≡ lists_seen s.me.0
+lists-noted m {place} {version} {standing} {slow} {fast} {s} noted is same =
+    (λ i. record { slow = same.0 i; fast = same.1 i; known = m.known.known; next = m.next; asks = m.asks; waits = m.waits })
+    ∙ ap (λ (l : Lists). record l { slow = noting_version place version l.slow; fast = noting_version place version l.fast }) m.lists
+    ∙ ap (λ (n : ℕ). record (lists_seen m.seat.me.0) { slow = noting_version place n m.seat.me.0.slow; fast = noting_version place n m.seat.me.0.fast }) (sym is)
+    ∙ sym (ap (λ (x : SessionView). lists_seen x.me.0) noted.now)
 
 -- a session without the ticket, or without an exclusive one
-pub unfit-joins : {s : SessionView} → IsMember s → (id : ℕ) (change : Change) (why : SpaceError) → exclusive_fault (numbered id s.me.0.slow) ≡ Some why
+pub unfit-joins : {s : SessionView} → IsMember s → (id : ℕ) (change : Change) (why : SpaceError) → exclusive_fault (numbered id (tickets_seen s.me.0)) ≡ Some why
     → Joins (space_of s) (Change_definition s.me.0.number id change) (Refused why) (space_of s)
 unfit-joins {s} is id change why fault =
-    let told = by (numbered id s.me.0.slow) refl fault in
+    let told = by (numbered id (tickets_seen s.me.0)) refl fault in
     refused s s (Change_definition s.me.0.number id change) why (same-stays s) (speaks is) refl refl told.0 (λ state how met. cc) told.1
   where
-    by : (o : Option Own) → numbered id s.me.0.slow ≡ o → exclusive_fault o ≡ Some why
+    by : (o : Option Own) → numbered id (tickets_seen s.me.0) ≡ o → exclusive_fault o ≡ Some why
         → IsCause (Knows (space_of s) s.me.0.number) (Change_definition s.me.0.number id change) why (space_of s).own
         × TellsTruly (Change_definition s.me.0.number id change) (Refused why) (space_of s) (space_of s)
     by None its e =
         let none : why ≡ NotHeld = cc in (
           subst (λ w. IsCause (Knows (space_of s) s.me.0.number) (Change_definition s.me.0.number id change) w (space_of s).own) (sym none)
-              (holds-told id s.me.0.slow false (ap is_some its)),
-          λ ticket held exclusive. let e = sym held ∙ ticket-told id s.me.0.slow ∙ ap (option_map told_of) its in cc,
+              (holds-told id (tickets_seen s.me.0) false (ap is_some its)),
+          λ ticket held exclusive. let e = sym held ∙ ticket-told id (tickets_seen s.me.0) ∙ ap (option_map told_of) its in cc,
         )
     by (Some t) its e =
         let b = test-failed (same_mode t.mode X) NotExclusive why e in (
           subst (λ w. IsCause (Knows (space_of s) s.me.0.number) (Change_definition s.me.0.number id change) w (space_of s).own) (sym b.1)
-              (of-held id s.me.0.slow t (λ (h : Held). same_mode h.mode X ≡ false) its b.0),
+              (of-held id (tickets_seen s.me.0) t (λ (h : Held). same_mode h.mode X ≡ false) its b.0),
           λ ticket held exclusive.
-              let same : Some ticket ≡ Some (told_of t) = sym held ∙ ticket-told id s.me.0.slow ∙ ap (option_map told_of) its in
+              let same : Some ticket ≡ Some (told_of t) = sym held ∙ ticket-told id (tickets_seen s.me.0) ∙ ap (option_map told_of) its in
               let one : ticket ≡ told_of t = cc in
               absurd (false≢true (sym b.0 ∙ ap (λ (h : Held). same_mode h.mode X) (sym one) ∙ exclusive)),
         )
 
 -- ---- under a ticket that it has
 
-module _ {s : SessionView} (is : IsMember s) (id : ℕ) (t : Own) (its : numbered id s.me.0.slow ≡ Some t) where
+module _ {s : SessionView} (is : IsMember s) (id : ℕ) (t : Own) (its : numbered id (tickets_seen s.me.0) ≡ Some t) where
   -- reads
   pub read-joins : {s′ : SessionView} (standing : Standing) → HasNoted t.place standing s s′ → Follows t.place standing s.me
       → Joins (space_of s) (Read_definition s.me.0.number id) (Reads standing.version standing.definition) (space_of s′)
   read-joins {s′} standing noted follows =
-      joins-held s s′ (Read_definition s.me.0.number id) (Reads standing.version standing.definition) (map told_of s.me.0.slow) (noted-rest noted) (speaks is) refl refl
-      (ap (map told_of) (noted-slow noted) ∙ noting-told t.place standing.version s.me.0.slow) refl (noted-drawn noted) (holds-told id s.me.0.slow true (ap is_some its)) tt refl
+      joins-held s s′ (Read_definition s.me.0.number id) (Reads standing.version standing.definition) (map told_of (tickets_seen s.me.0)) (noted-rest noted) (speaks is) refl refl
+      (ap (map told_of) (noted-tickets noted) ∙ noting-told t.place standing.version (tickets_seen s.me.0)) refl (noted-drawn noted) (holds-told id (tickets_seen s.me.0) true (ap is_some its)) tt refl
       (λ state how met. cc) (λ how told. cc) refl
-      (of-held id s.me.0.slow t (λ (h : Held). Read_so standing (space_of s) (space_of s′) h.place) its
-      (meets-there s t.place standing follows, notes-there s s′ id t.place t standing its refl (noted-slow noted) (ap (λ (x : SessionView). x.me.0.reads) noted.now)))
+      (of-held id (tickets_seen s.me.0) t (λ (h : Held). Read_so standing (space_of s) (space_of s′) h.place) its
+      (meets-there s t.place standing follows, notes-there s s′ id t.place t standing its refl (noted-tickets noted) (ap (λ (x : SessionView). x.me.0.reads) noted.now)))
       tt
 
   pub read-shows : {s′ : SessionView} (standing : Standing) → HasNoted t.place standing s s′ → Follows t.place standing s.me → Does [] s.me s′.me → StaysQuiet s.me s′.me
@@ -147,7 +152,7 @@ module _ {s : SessionView} (is : IsMember s) (id : ℕ) (t : Own) (its : numbere
   read-shows {s′} standing noted follows did quiet met = record {
     table = ap (λ (x : SessionView). x.table) noted.now;
     sessions = ap (λ (x : SessionView). x.sessions) noted.now;
-    refused = if-clear _ (holding_fault id s.me.0.slow) (ap (λ (o : Option Own). if is_some o then None else Some NotHeld) its);
+    refused = if-clear _ (holding_fault id (tickets_seen s.me.0)) (ap (λ (o : Option Own). if is_some o then None else Some NotHeld) its);
     did = did;
     settled = ap (λ (x : SessionView). x.me.0.settles) noted.now;
     told = ap (λ (x : SessionView). x.me.0.told) noted.now;
@@ -166,7 +171,7 @@ module _ {s : SessionView} (is : IsMember s) (id : ℕ) (t : Own) (its : numbere
 
   -- of the ticket that is held
   told-one : (ticket : Held) → ticket_held id (space_of s).own ≡ Some ticket → ticket ≡ told_of t
-  told-one ticket held = let e : Some ticket ≡ Some (told_of t) = sym held ∙ ticket-told id s.me.0.slow ∙ ap (option_map told_of) its in cc
+  told-one ticket held = let e : Some ticket ≡ Some (told_of t) = sym held ∙ ticket-told id (tickets_seen s.me.0) ∙ ap (option_map told_of) its in cc
 
   -- changes
   module _ (s′ : SessionView) (change : Change) (exclusive : same_mode t.mode X ≡ true) where
@@ -175,18 +180,18 @@ module _ {s : SessionView} (is : IsMember s) (id : ℕ) (t : Own) (its : numbere
     change-joins standing version noted same redefines =
         let stood = redefines.meets.latch.book.standing in
         let newer = redefines.meets.newer in
-        joins-held s s′ (Change_definition s.me.0.number id change) (Changed version) (map told_of s.me.0.slow) (noted-rest noted) (speaks is) refl refl
-        (ap (map told_of) (noted-slow noted) ∙ noting-told t.place standing.version s.me.0.slow) refl (noted-drawn noted)
-        (of-held id s.me.0.slow t (λ (h : Held). same_mode h.mode X ≡ true) its exclusive) tt refl
+        joins-held s s′ (Change_definition s.me.0.number id change) (Changed version) (map told_of (tickets_seen s.me.0)) (noted-rest noted) (speaks is) refl refl
+        (ap (map told_of) (noted-tickets noted) ∙ noting-told t.place standing.version (tickets_seen s.me.0)) refl (noted-drawn noted)
+        (of-held id (tickets_seen s.me.0) t (λ (h : Held). same_mode h.mode X ≡ true) its exclusive) tt refl
         (λ state how met. cc) (λ how told. cc) refl
-        (of-held id s.me.0.slow t (λ (h : Held). ChangesThere change version (space_of s) (space_of s′) h.place) its (record {
+        (of-held id (tickets_seen s.me.0) t (λ (h : Held). ChangesThere change version (space_of s) (space_of s′) h.place) its (record {
           stood = stood;
           meets = meets-there s t.place stood redefines.follows;
           allowed = λ key knows. subst (λ (k : KeyName). standing_fault k.namespace change stood ≡ None)
               (named-there redefines.meets.latch.book.key key redefines.named knows) redefines.meets.allowed;
           newer = newer;
           notes = notes-there s s′ id t.place t (standing_after change stood) its refl
-              (noted-slow noted ∙ ap (λ v. noting_version t.place v s.me.0.slow) (same ∙ newer)) redefines.learnt;
+              (noted-tickets noted ∙ ap (λ v. noting_version t.place v (tickets_seen s.me.0)) (same ∙ newer)) redefines.learnt;
         }))
         tt
 
@@ -200,7 +205,7 @@ module _ {s : SessionView} (is : IsMember s) (id : ℕ) (t : Own) (its : numbere
         let fault = met.2.fault in
         let latch = met.2.latch in (
           redefined-cause (Knows (space_of s) s.me.0.number) s.me.0.number id change (space_of s).own latch.book.key latch.book.standing (cause_of w)
-              (of-held id s.me.0.slow t (λ (h : Held). same_mode h.mode X ≡ true) its exclusive)
+              (of-held id (tickets_seen s.me.0) t (λ (h : Held). same_mode h.mode X ≡ true) its exclusive)
               (inr (subst (λ o. MatchOption o (Refused (cause_of w) ≡ Changed (latch.book.standing.version + 1)) (λ why. Refused (cause_of w) ≡ Refused (cause_of why))) (sym fault) refl))
               (memory-cause w latch.book.key latch.book.standing fault),
           λ ticket held so.
@@ -246,7 +251,7 @@ module _ {s : SessionView} (is : IsMember s) (id : ℕ) (t : Own) (its : numbere
     unchanged-shows table sessions visit w why = record {
       table = table;
       sessions = sessions;
-      refused = if-clear _ (exclusive_fault (numbered id s.me.0.slow)) (ap exclusive_fault its ∙ ap (λ (b : Bool). if b then None else Some NotExclusive) exclusive);
+      refused = if-clear _ (exclusive_fault (numbered id (tickets_seen s.me.0))) (ap exclusive_fault its ∙ ap (λ (b : Bool). if b then None else Some NotExclusive) exclusive);
       did = does_visits s.me s′.me t.place [] visit;
       settled = ap (λ (m : Mine). m.0.settles) visit.now;
       told = ap (λ (m : Mine). m.0.told) visit.now;

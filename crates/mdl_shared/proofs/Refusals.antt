@@ -6,7 +6,7 @@ use Rattle.mdl_steps.specs.declared.deed.Deed.{Deed}
 use Rattle.mdl_steps.specs.declared.view.Own.{Own}
 use Rattle.mdl_steps.specs.Plays.{Mine}
 use Rattle.mdl_visits.specs.Visits.{Does, StaysOn}
-use Rattle.mdl_shared.specs.SessionViews.{Lists, SessionView, lists_seen}
+use Rattle.mdl_shared.specs.SessionViews.{Lists, SessionView, lists_seen, tickets_seen}
 use Rattle.mdl_shared.specs.Showings.{KeepsTold, MakesNoStep, MeetsSo, SettlesSo, Shows, StepsSo, done_by, own_fault}
 
 -- without a step nothing is done, and the session stays
@@ -69,7 +69,7 @@ own-shows call why s fault = record {
   table = refl;
   sessions = refl;
   refused = subst (λ (o : Option SpaceError). IfSome o (λ w. (Refused why ≡ Refused w) × MakesNoStep s s)) (sym fault) (refl, refl);
-  did = subst (λ (ds : List Deed). Does ds s.me s.me) (sym (done-refused call why s.me.0.slow)) (does-nothing s.me);
+  did = subst (λ (ds : List Deed). Does ds s.me s.me) (sym (done-refused call why (tickets_seen s.me.0))) (does-nothing s.me);
   settled = settled-refused call why (lists_seen s.me.0) s;
   told = told-same call s;
   steps = steps-none call s;

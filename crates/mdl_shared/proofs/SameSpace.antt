@@ -17,7 +17,7 @@ use Rattle.mdl_visits.specs.Grantings.{StaysTold}
 use Rattle.mdl_visits.specs.Polls.{state_of}
 use Rattle.mdl_visits.specs.Readings.{ReadsNothing as ReadNothing}
 use Rattle.mdl_shared.specs.OwnLists.{told_of}
-use Rattle.mdl_shared.specs.SessionViews.{SessionView, note_of, settled_of, settled_told, space_of}
+use Rattle.mdl_shared.specs.SessionViews.{SessionView, note_of, settled_of, settled_told, space_of, tickets_seen}
 use Rattle.mdl_shared.proofs.SpaceLists.{known_of}
 
 -- ---- what a session has
@@ -97,7 +97,7 @@ pub record KeepsRest (m m′ : SessionView) : Type 0 where
 -- nothing else than that has changed
 pub record Stays (m m′ : SessionView) : Type 0 where
   pub number : m′.me.0.number ≡ m.me.0.number
-  pub tickets : m′.me.0.slow ≡ m.me.0.slow
+  pub tickets : tickets_seen m′.me.0 ≡ tickets_seen m.me.0
   pub next : m′.me.0.next ≡ m.me.0.next
   pub known : m′.me.0.known ≡ m.me.0.known
   pub wait : SeesWait m m′
@@ -135,7 +135,7 @@ keeps-settled m m′ sees = (
 pub keeps-all : (m m′ : SessionView) → Stays m m′ → KeepsAll (space_of m) (space_of m′)
 keeps-all m m′ stays = record {
   number = stays.number;
-  own = own-same m.me.0.slow m′.me.0.slow m.me.0.asks m′.me.0.asks m.me.0.waits m′.me.0.waits stays.tickets stays.wait.asks stays.wait.waits;
+  own = own-same (tickets_seen m.me.0) (tickets_seen m′.me.0) m.me.0.asks m′.me.0.asks m.me.0.waits m′.me.0.waits stays.tickets stays.wait.asks stays.wait.waits;
   numbers = numbers-same m.me.0.next m′.me.0.next m.me.0.waits m′.me.0.waits stays.next stays.wait.waits;
   known = ap (map known_of) stays.known;
   settled = keeps-settled m m′ stays.wait;
@@ -185,7 +185,7 @@ joins-still m m′ call answer stays mine has fits own draws explained gained le
 
 -- and one that leaves it other tickets, and the wait as it is
 pub joins-held : (m m′ : SessionView) (call : Call) (answer : Answer) (held : List Held) → KeepsRest m m′ → IfSome (caller call) (SpeaksFor (space_of m))
-    → has_call call ≡ true → is_answer_of call answer ≡ true → map told_of m′.me.0.slow ≡ held
+    → has_call call ≡ true → is_answer_of call answer ≡ true → map told_of (tickets_seen m′.me.0) ≡ held
     → own_after call answer (space_of m).own ≡ own_of held (wait_by m.me.0.waits m.me.0.asks)
     → Draws call answer (space_of m).numbers (space_of m′).numbers
     → IsExplained (Knows (space_of m) m.me.0.number) call answer (space_of m).own
@@ -200,7 +200,7 @@ joins-held m m′ call answer held rest mine has fits its own draws explained ga
   has = has;
   fits = fits;
   number = rest.number;
-  own = own-with held (map told_of m′.me.0.slow) m.me.0.asks m′.me.0.asks m.me.0.waits m′.me.0.waits its rest.wait.asks rest.wait.waits ∙ sym own;
+  own = own-with held (map told_of (tickets_seen m′.me.0)) m.me.0.asks m′.me.0.asks m.me.0.waits m′.me.0.waits its rest.wait.asks rest.wait.waits ∙ sym own;
   numbers = draws;
   explained = explained;
   gained = gained;

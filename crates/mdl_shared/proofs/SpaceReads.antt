@@ -24,10 +24,11 @@ use Rattle.mdl_session_laws.specs.SessionSpaces.{Note, is_newest, last_read, not
 use Rattle.mdl_visits.specs.Numbers.{numbered}
 use Rattle.mdl_visits.specs.Readings.{Follows, ReadsThere}
 use Rattle.mdl_shared.specs.OwnLists.{key_known, told_of}
-use Rattle.mdl_shared.specs.SessionViews.{SessionView, note_of, space_of}
+use Rattle.mdl_shared.specs.SessionViews.{SessionView, note_of, space_of, tickets_seen}
 use Rattle.mdl_shared.proofs.SameSpace.{reading_of}
 use Rattle.mdl_shared.proofs.SpaceLists.{key-told}
 use Rattle.mdl_shared.proofs.SpaceNotes.{and_note, note-here, note-there, noted_under, noting-elsewhere, noting-placed}
+use Rattle.mdl_shared.proofs.TicketOrder.{each-at}
 
 -- ---- a ticket that is held
 
@@ -115,17 +116,18 @@ meets-there m place standing follows = record {
       subst (λ (k : KeyName). MayStand k.namespace standing) there.4
       (follows.fits there.0 there.1 there.2 there.3);
   noted = λ version is.
-      noted-each (λ v. v ≡ standing.version) place version m.me.0.slow follows.noted is;
+      noted-each (λ v. v ≡ standing.version) place version (tickets_seen m.me.0)
+      (each-at (λ (t : Own). (v : ℕ) → t.noted ≡ Some v → v ≡ standing.version) place m.me.0.slow m.me.0.fast follows.noted follows.fast_noted) is;
   newest = newest-each place standing m.me.0.reads follows.reads;
   same = λ last is same. last-each place standing last m.me.0.reads follows.reads is same;
 }
 
 -- it has been read, and is noted there
-pub notes-there : (m m′ : SessionView) (id place : ℕ) (t : Own) (standing : Standing) → numbered id m.me.0.slow ≡ Some t → t.place ≡ place
-    → m′.me.0.slow ≡ noting_version place standing.version m.me.0.slow → ReadsThere place standing m.me m′.me
+pub notes-there : (m m′ : SessionView) (id place : ℕ) (t : Own) (standing : Standing) → numbered id (tickets_seen m.me.0) ≡ Some t → t.place ≡ place
+    → (tickets_seen m′.me.0) ≡ noting_version place standing.version (tickets_seen m.me.0) → ReadsThere place standing m.me m′.me
     → NotesThere place standing (space_of m) (space_of m′)
 notes-there m m′ id place t standing its here noted reads = record {
   last = inl (ap (map reading_of) reads ∙ map-append reading_of m.me.0.reads (record { place = place; standing = standing } ∷ []));
-  here = ap (noted_under place) noted ∙ noting-placed place standing.version m.me.0.slow (placed-some place id m.me.0.slow t its here);
-  elsewhere = λ other apart. ap (noted_under other) noted ∙ noting-elsewhere place standing.version other m.me.0.slow apart;
+  here = ap (noted_under place) noted ∙ noting-placed place standing.version (tickets_seen m.me.0) (placed-some place id (tickets_seen m.me.0) t its here);
+  elsewhere = λ other apart. ap (noted_under other) noted ∙ noting-elsewhere place standing.version other (tickets_seen m.me.0) apart;
 }

@@ -25,13 +25,13 @@ use Rattle.mdl_shared.specs.Doings.{merge_deeds, rise_deeds, upgrade_deeds}
 use Rattle.mdl_shared.specs.Members.{IsMember}
 use Rattle.mdl_shared.specs.Modes.{downgrade_fault, merge_fault}
 use Rattle.mdl_shared.specs.OwnLists.{told_of}
-use Rattle.mdl_shared.specs.SessionViews.{SessionView, session_at, space_of}
+use Rattle.mdl_shared.specs.SessionViews.{SessionView, session_at, space_of, tickets_seen}
 use Rattle.mdl_shared.specs.Showings.{ShowsStep, Shows}
 use Rattle.mdl_shared.specs.Upgrades.{upgrade_fault}
 use Rattle.mdl_shared.proofs.Faults.{if-clear}
 use Rattle.mdl_shared.proofs.HeldTickets.{HoldsTicket}
-use Rattle.mdl_shared.proofs.MemberFacts.{speaks}
-use Rattle.mdl_shared.proofs.Members.{HasDone, done-next, done-nothing, done-reads, done-rest, done-slow, rescheduled, visited}
+use Rattle.mdl_shared.proofs.MemberFacts.{alters-slow, merges-slow, speaks}
+use Rattle.mdl_shared.proofs.Members.{HasDone, done-next, done-nothing, done-reads, done-rest, done-tickets, rescheduled, visited}
 use Rattle.mdl_shared.proofs.NotedOnce.{one-note, one-note_done}
 use Rattle.mdl_shared.proofs.SameSpace.{joins-held, joins-still, numbers-same, refused, same-rest, same-stays}
 use Rattle.mdl_shared.proofs.SpaceLists.{ticket-told}
@@ -45,12 +45,12 @@ use Rattle.mdl_shared.proofs.WishShows.{did, settles, shows, told}
 -- reads nothing, and notes nothing
 pub deed-reads : {place : ℕ} {d : Deed} {m m′ : SessionView} → IsMember m → HasDone place (d ∷ []) m m′ → ReadsNothing (space_of m) (space_of m′)
 deed-reads {place} {d} {m} {m′} is done =
-    nothing-read m m′ (done-reads done) (λ at. subst (AllNoted at (noted_under at m.me.0.slow)) (sym (done-slow done)) (one-note_done m is at place d))
+    nothing-read m m′ (done-reads done) (λ at. subst (AllNoted at (noted_under at (tickets_seen m.me.0))) (sym (done-tickets done)) (one-note_done m is at place d))
 
-module _ {m : SessionView} (is : IsMember m) (id : ℕ) (t : Own) (its : numbered id m.me.0.slow ≡ Some t) where
+module _ {m : SessionView} (is : IsMember m) (id : ℕ) (t : Own) (its : numbered id (tickets_seen m.me.0) ≡ Some t) where
   -- no other ticket has its number
-  here : all_of id (is_here t.place) m.me.0.slow ≡ true
-  here = only-one id (is_here t.place) m.me.0.slow t is.sound.rising its (eq-eqb t.place t.place refl)
+  here : all_of id (is_here t.place) (tickets_seen m.me.0) ≡ true
+  here = only-one id (is_here t.place) (tickets_seen m.me.0) t is.sound.rising its (eq-eqb t.place t.place refl)
 
   -- no number was given
   drawn : {ds : List Deed} {m′ : SessionView} → HasDone t.place ds m m′ → m′.me.0.next ≡ m.me.0.next → (space_of m′).numbers ≡ (space_of m).numbers
@@ -58,51 +58,51 @@ module _ {m : SessionView} (is : IsMember m) (id : ℕ) (t : Own) (its : numbere
 
   pub release-joins : {m′ : SessionView} → HasDone t.place (Lose id ∷ []) m m′ → Joins (space_of m) (Release m.me.0.number id) Done (space_of m′)
   release-joins {m′} done =
-      joins-held m m′ (Release m.me.0.number id) Done (filter (λ (h : Held). not (is_number id h)) (map told_of m.me.0.slow)) (done-rest done) (speaks is) refl refl
-      (ap (map told_of) (done-slow done) ∙ given-up t.place id m.me.0.slow here) refl (drawn done (done-next done))
-      (holds-told id m.me.0.slow true (ap is_some its)) tt refl (λ state how is. cc) (λ how is. cc) refl (deed-reads is done) tt
+      joins-held m m′ (Release m.me.0.number id) Done (filter (λ (h : Held). not (is_number id h)) (map told_of (tickets_seen m.me.0))) (done-rest done) (speaks is) refl refl
+      (ap (map told_of) (done-tickets done) ∙ given-up t.place id (tickets_seen m.me.0) here) refl (drawn done (done-next done))
+      (holds-told id (tickets_seen m.me.0) true (ap is_some its)) tt refl (λ state how is. cc) (λ how is. cc) refl (deed-reads is done) tt
 
-  downgrade-joins : {m′ : SessionView} (mode : Mode) → downgrade_fault (numbered id m.me.0.slow) mode m.me.0.known ≡ None → HasDone t.place (Alter id mode ∷ []) m m′
+  downgrade-joins : {m′ : SessionView} (mode : Mode) → downgrade_fault (numbered id (tickets_seen m.me.0)) mode m.me.0.known ≡ None → HasDone t.place (Alter id mode ∷ []) m m′
       → Joins (space_of m) (Downgrade m.me.0.number id mode) Done (space_of m′)
   downgrade-joins {m′} mode clear done =
-      joins-held m m′ (Downgrade m.me.0.number id mode) Done (map (in_mode_told id (λ _. mode)) (map told_of m.me.0.slow)) (done-rest done) (speaks is) refl refl
-      (ap (map told_of) (done-slow done) ∙ in-mode t.place id mode (λ _. mode) (is_here t.place) m.me.0.slow (λ u there. (there, refl)) here) refl
+      joins-held m m′ (Downgrade m.me.0.number id mode) Done (map (in_mode_told id (λ _. mode)) (map told_of (tickets_seen m.me.0))) (done-rest done) (speaks is) refl refl
+      (ap (map told_of) (done-tickets done) ∙ in-mode t.place id mode (λ _. mode) (is_here t.place) (tickets_seen m.me.0) (λ u there. (there, refl)) here) refl
       (drawn done (done-next done)) (downgrade-clear m id mode t its clear) tt refl
       (λ state how is. cc) (λ how is. cc) refl (deed-reads is done) tt
 
   -- ---- upgrades
 
-  module _ (mode : Mode) (clear : upgrade_fault mode m.me.0.known m.me.0.asks (numbered id m.me.0.slow) ≡ None) where
+  module _ (mode : Mode) (clear : upgrade_fault mode m.me.0.known m.me.0.asks (numbered id (tickets_seen m.me.0)) ≡ None) where
     may-rise : (is_waiting (space_of m).own ≡ false) × OfHeld id (space_of m).own (MayUpgrade (knows m) mode)
     may-rise = upgrade-clear m id mode t its (sym (ap (upgrade_fault mode m.me.0.known m.me.0.asks) its) ∙ clear)
 
     -- to a mode that its own covers
     pub covered-joins : covers t.mode mode ≡ true → Joins (space_of m) (Upgrade_now m.me.0.number id mode) Upgraded (space_of m)
     covered-joins has =
-        joins-held m m (Upgrade_now m.me.0.number id mode) Upgraded (map (in_mode_told id (upgraded mode)) (map told_of m.me.0.slow)) (same-rest m) (speaks is) refl refl
-        (same-mode id (upgraded mode) (λ u. covers u.mode mode) m.me.0.slow (λ u h. ap (λ b. if b then u.mode else mode) h)
-        (only-one id (λ u. covers u.mode mode) m.me.0.slow t is.sound.rising its has))
+        joins-held m m (Upgrade_now m.me.0.number id mode) Upgraded (map (in_mode_told id (upgraded mode)) (map told_of (tickets_seen m.me.0))) (same-rest m) (speaks is) refl refl
+        (same-mode id (upgraded mode) (λ u. covers u.mode mode) (tickets_seen m.me.0) (λ u h. ap (λ b. if b then u.mode else mode) h)
+        (only-one id (λ u. covers u.mode mode) (tickets_seen m.me.0) t is.sound.rising its has))
         refl refl may-rise tt refl (λ state how is. cc) (λ how is. cc) refl (nothing-read m m refl (one-note m is)) tt
 
     -- to another
     pub upgrade-joins : {m′ : SessionView} → covers t.mode mode ≡ false → HasDone t.place (Alter id mode ∷ []) m m′ → Joins (space_of m) (Upgrade_now m.me.0.number id mode) Upgraded (space_of m′)
     upgrade-joins {m′} short done =
-        joins-held m m′ (Upgrade_now m.me.0.number id mode) Upgraded (map (in_mode_told id (upgraded mode)) (map told_of m.me.0.slow)) (done-rest done) (speaks is) refl refl
-        (ap (map told_of) (done-slow done) ∙ in-mode t.place id mode (upgraded mode) (λ u. is_here t.place u && not (covers u.mode mode)) m.me.0.slow
+        joins-held m m′ (Upgrade_now m.me.0.number id mode) Upgraded (map (in_mode_told id (upgraded mode)) (map told_of (tickets_seen m.me.0))) (done-rest done) (speaks is) refl refl
+        (ap (map told_of) (done-tickets done) ∙ in-mode t.place id mode (upgraded mode) (λ u. is_here t.place u && not (covers u.mode mode)) (tickets_seen m.me.0)
         (λ u h. let parts = and_parts (is_here t.place u) (not (covers u.mode mode)) h in
         (parts.0, ap (λ b. if b then u.mode else mode) (not-true (covers u.mode mode) parts.1)))
-        (only-one id (λ u. is_here t.place u && not (covers u.mode mode)) m.me.0.slow t is.sound.rising its
+        (only-one id (λ u. is_here t.place u && not (covers u.mode mode)) (tickets_seen m.me.0) t is.sound.rising its
         (and_from _ _ (eq-eqb t.place t.place refl) (not_from_false (covers t.mode mode) short))))
         refl (drawn done (done-next done)) may-rise tt refl (λ state how is. cc) (λ how is. cc) refl (deed-reads is done) tt
 
-    deeds : (answer : Upgrade) → covers t.mode mode ≡ false → rise_deeds id mode answer ≡ upgrade_deeds id mode (Ok answer) (numbered id m.me.0.slow)
+    deeds : (answer : Upgrade) → covers t.mode mode ≡ false → rise_deeds id mode answer ≡ upgrade_deeds id mode (Ok answer) (numbered id (tickets_seen m.me.0))
     deeds answer short = sym (ap (upgrade_deeds id mode (Ok answer)) its ∙ ap (λ b. if b then [] else rise_deeds id mode answer) short)
 
     pub upgrade-shows : {m′ : SessionView} → m′.table ≡ m.table → m′.sessions ≡ m.sessions → covers t.mode mode ≡ false → Visits t.place (Alter id mode ∷ []) m.me m′.me
         → ShowsStep m m′ (MeetsGrantable t.place m.me.0.number mode (Alter id mode)) → Shows (Upgrade_now m.me.0.number id mode) Upgraded m m′
     upgrade-shows {m′} table sessions short went met =
         shows table sessions clear (subst (λ (ds : List Deed). Does ds m.me m′.me) (deeds upgrade.Upgraded short) (did went)) (settles went) (told went) tt
-        (λ u same less. subst (λ (x : Own). ShowsStep m m′ (MeetsGrantable x.place m.me.0.number mode (Alter id mode))) (one-ticket (numbered id m.me.0.slow) t u its same) met)
+        (λ u same less. subst (λ (x : Own). ShowsStep m m′ (MeetsGrantable x.place m.me.0.number mode (Alter id mode))) (one-ticket (numbered id (tickets_seen m.me.0)) t u its same) met)
 
     pub blocked-shows : {m′ : SessionView} → m′.table ≡ m.table → m′.sessions ≡ m.sessions → covers t.mode mode ≡ false → Visits t.place [] m.me m′.me
         → ShowsStep m m′ (MeetsBlocked t.place m.me.0.number mode) → Shows (Upgrade_now m.me.0.number id mode) Would_wait m m′
@@ -115,49 +115,49 @@ module _ {m : SessionView} (is : IsMember m) (id : ℕ) (t : Own) (its : numbere
     blocked-joins {m′} short done =
         joins-still m m′ (Upgrade_now m.me.0.number id mode) Would_wait (done-nothing done) (speaks is) refl refl refl refl
         may-rise tt refl (λ state how is. cc) (λ how is. cc) refl (λ r. r)
-        (of-held id m.me.0.slow t (λ (h : Held). covers h.mode mode ≡ false) its short)
+        (of-held id (tickets_seen m.me.0) t (λ (h : Held). covers h.mode mode ≡ false) its short)
 
   -- ---- merges, the ticket being kept
 
-  merge-joins : {m′ : SessionView} (new : ℕ) (gone : Own) → numbered new m.me.0.slow ≡ Some gone → merge_fault (Some t) (Some gone) m.me.0.asks ≡ None
+  merge-joins : {m′ : SessionView} (new : ℕ) (gone : Own) → numbered new (tickets_seen m.me.0) ≡ Some gone → merge_fault (Some t) (Some gone) m.me.0.asks ≡ None
       → HasDone t.place (Alter id gone.mode ∷ Lose new ∷ []) m m′ → Joins (space_of m) (Merge m.me.0.number id new) Done (space_of m′)
   merge-joins {m′} new gone other clear done =
-      joins-held m m′ (Merge m.me.0.number id new) Done (map (in_mode_told id (λ _. gone.mode)) (filter (λ (h : Held). not (is_number new h)) (map told_of m.me.0.slow)))
+      joins-held m m′ (Merge m.me.0.number id new) Done (map (in_mode_told id (λ _. gone.mode)) (filter (λ (h : Held). not (is_number new h)) (map told_of (tickets_seen m.me.0))))
       (done-rest done) (speaks is) refl refl
-      (ap (map told_of) (done-slow done) ∙ merged-told t.place id new gone.mode m.me.0.slow here
-      (only-one new (is_here t.place) m.me.0.slow gone is.sound.rising other (merge-here t gone m.me.0.asks clear)))
-      (ap (λ o. merging id new o (space_of m).own) (ticket-told new m.me.0.slow ∙ ap (option_map told_of) other)) (drawn done (done-next done))
+      (ap (map told_of) (done-tickets done) ∙ merged-told t.place id new gone.mode (tickets_seen m.me.0) here
+      (only-one new (is_here t.place) (tickets_seen m.me.0) gone is.sound.rising other (merge-here t gone m.me.0.asks clear)))
+      (ap (λ o. merging id new o (space_of m).own) (ticket-told new (tickets_seen m.me.0) ∙ ap (option_map told_of) other)) (drawn done (done-next done))
       (merge-clear m id new t gone its other clear) tt refl (λ state how is. cc) (λ how is. cc) refl
       (nothing-read m m′ (done-reads done) (λ at.
-      subst (AllNoted at (noted_under at m.me.0.slow)) (sym (done-slow done))
-      (noted-less at (noted_under at m.me.0.slow) _ _ (noted-moded at t.place id (noted_under at m.me.0.slow) gone.mode m.me.0.slow (one-note m is at)))))
+      subst (AllNoted at (noted_under at (tickets_seen m.me.0))) (sym (done-tickets done))
+      (noted-less at (noted_under at (tickets_seen m.me.0)) _ _ (noted-moded at t.place id (noted_under at (tickets_seen m.me.0)) gone.mode (tickets_seen m.me.0) (one-note m is at)))))
       tt
 
 -- ---- refused for what the session has
 
 module _ {s : SessionView} (is : IsMember s) (why : SpaceError) where
-  pub downgrade-unfit : (id : ℕ) (mode : Mode) → downgrade_fault (numbered id s.me.0.slow) mode s.me.0.known ≡ Some why
+  pub downgrade-unfit : (id : ℕ) (mode : Mode) → downgrade_fault (numbered id (tickets_seen s.me.0)) mode s.me.0.known ≡ Some why
       → Joins (space_of s) (Downgrade s.me.0.number id mode) (Refused why) (space_of s)
   downgrade-unfit id mode fault =
       refused s s (Downgrade s.me.0.number id mode) why (same-stays s) (speaks is) refl refl
-      (downgrade-cause s s.me.0.number id mode why (numbered id s.me.0.slow) refl fault) (λ state how is. cc) tt
+      (downgrade-cause s s.me.0.number id mode why (numbered id (tickets_seen s.me.0)) refl fault) (λ state how is. cc) tt
 
-  pub upgrade-unfit : (id : ℕ) (mode : Mode) → upgrade_fault mode s.me.0.known s.me.0.asks (numbered id s.me.0.slow) ≡ Some why
+  pub upgrade-unfit : (id : ℕ) (mode : Mode) → upgrade_fault mode s.me.0.known s.me.0.asks (numbered id (tickets_seen s.me.0)) ≡ Some why
       → Joins (space_of s) (Upgrade_now s.me.0.number id mode) (Refused why) (space_of s)
   upgrade-unfit id mode fault =
       refused s s (Upgrade_now s.me.0.number id mode) why (same-stays s) (speaks is) refl refl
-      (upgrade-cause s s.me.0.number id mode why (numbered id s.me.0.slow) refl fault) (λ state how is. cc) tt
+      (upgrade-cause s s.me.0.number id mode why (numbered id (tickets_seen s.me.0)) refl fault) (λ state how is. cc) tt
 
-  pub merge-unfit : (old new : ℕ) → merge_fault (numbered old s.me.0.slow) (numbered new s.me.0.slow) s.me.0.asks ≡ Some why
+  pub merge-unfit : (old new : ℕ) → merge_fault (numbered old (tickets_seen s.me.0)) (numbered new (tickets_seen s.me.0)) s.me.0.asks ≡ Some why
       → Joins (space_of s) (Merge s.me.0.number old new) (Refused why) (space_of s)
   merge-unfit old new fault =
       refused s s (Merge s.me.0.number old new) why (same-stays s) (speaks is) refl refl
-      (merge-cause s s.me.0.number old new why (numbered old s.me.0.slow) (numbered new s.me.0.slow) refl refl fault) (λ state how is. cc) tt
+      (merge-cause s s.me.0.number old new why (numbered old (tickets_seen s.me.0)) (numbered new (tickets_seen s.me.0)) refl refl fault) (λ state how is. cc) tt
 
 -- ---- what a downgrade comes to
 
 pub downgraded : (seat seat′ : SeatState) (sessions id : ℕ) (mode : Mode) (t : Own) → IsMember (session_at seat sessions) → HoldsTicket id t (session_at seat sessions)
-    → downgrade_fault (numbered id seat.me.0.slow) mode seat.me.0.known ≡ None
+    → downgrade_fault (numbered id (tickets_seen seat.me.0)) mode seat.me.0.known ≡ None
     → AtItsTable seat seat′ (VisitsAndReschedules seat.table t.place (Alter t.number mode ∷ []))
     → ((e : Met) × IsStepOf seat.me seat′.me e × MeetsOwn t.place seat.me.0.number t.number e × (e.deeds ≡ Alter t.number mode ∷ []))
     → Joins (space_of (session_at seat sessions)) (Downgrade seat.me.0.number id mode) Done (space_of (session_at seat′ sessions))
@@ -166,7 +166,7 @@ downgraded seat seat′ sessions id mode t is held clear visit step =
     let free = ap (λ o. downgrade_fault o mode seat.me.0.known) (held.own ∙ sym held.its) ∙ clear in
     subst (λ (n : ℕ). Joins (space_of (session_at seat sessions)) (Downgrade seat.me.0.number n mode) Done (space_of (session_at seat′ sessions))
     × Shows (Downgrade seat.me.0.number n mode) Done (session_at seat sessions) (session_at seat′ sessions)) held.number (
-      downgrade-joins is t.number t held.own mode free (rescheduled seat seat′ sessions visit),
+      downgrade-joins is t.number t held.own mode free (rescheduled seat seat′ sessions (alters-slow is t.place t.number mode t held.slow) visit),
       record {
         table = visit.0;
         sessions = refl;
@@ -182,22 +182,23 @@ downgraded seat seat′ sessions id mode t is held clear visit step =
 -- ---- what a merge comes to
 
 pub merged : (seat seat′ : SeatState) (sessions old new : ℕ) (kept gone : Own) → IsMember (session_at seat sessions)
-    → HoldsTicket old kept (session_at seat sessions) → HoldsTicket new gone (session_at seat sessions) → merge_fault (numbered old seat.me.0.slow) (numbered new seat.me.0.slow) seat.me.0.asks ≡ None
+    → HoldsTicket old kept (session_at seat sessions) → HoldsTicket new gone (session_at seat sessions) → merge_fault (numbered old (tickets_seen seat.me.0)) (numbered new (tickets_seen seat.me.0)) seat.me.0.asks ≡ None
     → AtItsTable seat seat′ (Visits kept.place (Alter kept.number gone.mode ∷ Lose gone.number ∷ []))
     → ((e : Met) × IsStepOf seat.me seat′.me e × MeetsOwn kept.place seat.me.0.number kept.number e × MeetsOwn kept.place seat.me.0.number gone.number e
     × (e.deeds ≡ Alter kept.number gone.mode ∷ Lose gone.number ∷ []))
     → Joins (space_of (session_at seat sessions)) (Merge seat.me.0.number old new) Done (space_of (session_at seat′ sessions))
     × Shows (Merge seat.me.0.number old new) Done (session_at seat sessions) (session_at seat′ sessions)
 merged seat seat′ sessions old new kept gone is one other clear visit step =
-    let fault : (n p : ℕ) → numbered n seat.me.0.slow ≡ Some kept → numbered p seat.me.0.slow ≡ Some gone
-    → merge_fault (numbered n seat.me.0.slow) (numbered p seat.me.0.slow) seat.me.0.asks ≡ merge_fault (Some kept) (Some gone) seat.me.0.asks =
-    λ n p x y. ap (λ o. merge_fault o (numbered p seat.me.0.slow) seat.me.0.asks) x ∙ ap (λ o. merge_fault (Some kept) o seat.me.0.asks) y in
+    let fault : (n p : ℕ) → numbered n (tickets_seen seat.me.0) ≡ Some kept → numbered p (tickets_seen seat.me.0) ≡ Some gone
+    → merge_fault (numbered n (tickets_seen seat.me.0)) (numbered p (tickets_seen seat.me.0)) seat.me.0.asks ≡ merge_fault (Some kept) (Some gone) seat.me.0.asks =
+    λ n p x y. ap (λ o. merge_fault o (numbered p (tickets_seen seat.me.0)) seat.me.0.asks) x ∙ ap (λ o. merge_fault (Some kept) o seat.me.0.asks) y in
     let free = sym (fault old new one.its other.its) ∙ clear in
     subst (λ (n : ℕ). Joins (space_of (session_at seat sessions)) (Merge seat.me.0.number n new) Done (space_of (session_at seat′ sessions))
     × Shows (Merge seat.me.0.number n new) Done (session_at seat sessions) (session_at seat′ sessions)) one.number
     (subst (λ (n : ℕ). Joins (space_of (session_at seat sessions)) (Merge seat.me.0.number kept.number n) Done (space_of (session_at seat′ sessions))
     × Shows (Merge seat.me.0.number kept.number n) Done (session_at seat sessions) (session_at seat′ sessions)) other.number (
-      merge-joins is kept.number kept one.own gone.number gone other.own free (visited seat seat′ sessions visit),
+      merge-joins is kept.number kept one.own gone.number gone other.own free
+          (visited seat seat′ sessions (merges-slow is kept.place kept.number gone.number gone.mode kept gone one.slow other.slow) visit),
       record {
         table = visit.0;
         sessions = refl;

@@ -16,7 +16,7 @@ use Rattle.mdl_visits.specs.Numbers.{numbered}
 use Rattle.mdl_shared.specs.Members.{kind_known}
 use Rattle.mdl_shared.specs.Modes.{downgrade_fault, is_fit, may_merge, merge_fault}
 use Rattle.mdl_shared.specs.OwnLists.{told_of}
-use Rattle.mdl_shared.specs.SessionViews.{SessionView, space_of}
+use Rattle.mdl_shared.specs.SessionViews.{SessionView, space_of, tickets_seen}
 use Rattle.mdl_shared.specs.Upgrades.{can_have, upgrade_fault}
 use Rattle.mdl_shared.proofs.Faults.{test-failed, test-passed}
 use Rattle.mdl_shared.proofs.SameSpace.{no-asks, waits-asks}
@@ -97,21 +97,21 @@ module _ (m : SessionView) where
   own = (space_of m).own
 
   -- a downgrade
-  pub downgrade-clear : (id : ℕ) (mode : Mode) (t : Own) → numbered id m.me.0.slow ≡ Some t → downgrade_fault (numbered id m.me.0.slow) mode m.me.0.known ≡ None
+  pub downgrade-clear : (id : ℕ) (mode : Mode) (t : Own) → numbered id (tickets_seen m.me.0) ≡ Some t → downgrade_fault (numbered id (tickets_seen m.me.0)) mode m.me.0.known ≡ None
       → OfHeld id own (MayDowngrade knows mode)
   downgrade-clear id mode t its e =
-      let may = downgrade-passed mode m.me.0.known (numbered id m.me.0.slow) t its e in
-      of-held id m.me.0.slow t (MayDowngrade knows mode) its (may.0, fit-known t.place mode m.me.0.known true may.1)
+      let may = downgrade-passed mode m.me.0.known (numbered id (tickets_seen m.me.0)) t its e in
+      of-held id (tickets_seen m.me.0) t (MayDowngrade knows mode) its (may.0, fit-known t.place mode m.me.0.known true may.1)
 
-  pub downgrade-cause : (who id : ℕ) (mode : Mode) (why : SpaceError) (o : Option Own) → numbered id m.me.0.slow ≡ o → downgrade_fault o mode m.me.0.known ≡ Some why
+  pub downgrade-cause : (who id : ℕ) (mode : Mode) (why : SpaceError) (o : Option Own) → numbered id (tickets_seen m.me.0) ≡ o → downgrade_fault o mode m.me.0.known ≡ Some why
       → IsCause knows (Downgrade who id mode) why own
   downgrade-cause who id mode why None its e =
       let is : why ≡ NotHeld = cc in
-      subst (λ w. IsCause knows (Downgrade who id mode) w own) (sym is) (holds-told id m.me.0.slow false (ap is_some its))
+      subst (λ w. IsCause knows (Downgrade who id mode) w own) (sym is) (holds-told id (tickets_seen m.me.0) false (ap is_some its))
   downgrade-cause who id mode why (Some t) its e =
       let b = test-failed (may_downgrade t.mode mode && is_fit t.place mode m.me.0.known) NotUpgradable why e in
       subst (λ w. IsCause knows (Downgrade who id mode) w own) (sym b.1)
-      (of-held id m.me.0.slow t (MayNotDowngrade knows mode) its (λ may.
+      (of-held id (tickets_seen m.me.0) t (MayNotDowngrade knows mode) its (λ may.
       fit-known t.place mode m.me.0.known false (other-false (may_downgrade t.mode mode) (is_fit t.place mode m.me.0.known) b.0 may)))
 
   -- an upgrade
@@ -131,40 +131,40 @@ module _ (m : SessionView) where
       other-false (covers t.mode mode || may_upgrade t.mode mode) (is_mode_of (kind_of key.namespace) mode)
       (subst (λ o. can_have mode t o ≡ false) (kind-of_key t.place m.me.0.known key is) can) may
 
-  pub upgrade-clear : (id : ℕ) (mode : Mode) (t : Own) → numbered id m.me.0.slow ≡ Some t → upgrade_fault mode m.me.0.known m.me.0.asks (Some t) ≡ None
+  pub upgrade-clear : (id : ℕ) (mode : Mode) (t : Own) → numbered id (tickets_seen m.me.0) ≡ Some t → upgrade_fault mode m.me.0.known m.me.0.asks (Some t) ≡ None
       → (is_waiting own ≡ false) × OfHeld id own (MayUpgrade knows mode)
   upgrade-clear id mode t its e =
       let parts = two-clear (can_have mode t (kind_known t.place m.me.0.known)) (is_some m.me.0.asks) NotUpgradable AlreadyWaiting e in (
         waits-asks m.me.0.asks m.me.0.waits ∙ parts.1,
-        of-held id m.me.0.slow t (MayUpgrade knows mode) its (may-have mode t parts.0),
+        of-held id (tickets_seen m.me.0) t (MayUpgrade knows mode) its (may-have mode t parts.0),
       )
 
-  pub upgrade-cause : (who id : ℕ) (mode : Mode) (why : SpaceError) (o : Option Own) → numbered id m.me.0.slow ≡ o
+  pub upgrade-cause : (who id : ℕ) (mode : Mode) (why : SpaceError) (o : Option Own) → numbered id (tickets_seen m.me.0) ≡ o
       → upgrade_fault mode m.me.0.known m.me.0.asks o ≡ Some why → IsCause knows (Upgrade_now who id mode) why own
   upgrade-cause who id mode why None its e =
       let is : why ≡ NotHeld = cc in
-      subst (λ w. IsCause knows (Upgrade_now who id mode) w own) (sym is) (holds-told id m.me.0.slow false (ap is_some its))
+      subst (λ w. IsCause knows (Upgrade_now who id mode) w own) (sym is) (holds-told id (tickets_seen m.me.0) false (ap is_some its))
   upgrade-cause who id mode why (Some t) its e = by (can_have mode t (kind_known t.place m.me.0.known)) refl (is_some m.me.0.asks) refl e
     where
       by : (can : Bool) → can_have mode t (kind_known t.place m.me.0.known) ≡ can → (waits : Bool) → is_some m.me.0.asks ≡ waits
           → (if not can then Some NotUpgradable else (if waits then Some AlreadyWaiting else None)) ≡ Some why → IsCause knows (Upgrade_now who id mode) why own
       by false can waits asks e =
           let is : why ≡ NotUpgradable = cc in
-          subst (λ w. IsCause knows (Upgrade_now who id mode) w own) (sym is) (of-held id m.me.0.slow t (MayNotUpgrade knows mode) its (may-not_have mode t can))
+          subst (λ w. IsCause knows (Upgrade_now who id mode) w own) (sym is) (of-held id (tickets_seen m.me.0) t (MayNotUpgrade knows mode) its (may-not_have mode t can))
       by true can true asks e =
           let is : why ≡ AlreadyWaiting = cc in
           subst (λ w. IsCause knows (Upgrade_now who id mode) w own) (sym is)
-          (waits-asks m.me.0.asks m.me.0.waits ∙ asks, of-held id m.me.0.slow t (MayUpgrade knows mode) its (may-have mode t can))
+          (waits-asks m.me.0.asks m.me.0.waits ∙ asks, of-held id (tickets_seen m.me.0) t (MayUpgrade knows mode) its (may-have mode t can))
       by true can false asks e = cc
 
   -- a merge
-  mergeable : (old new : ℕ) (kept gone : Own) (b : Bool) → numbered old m.me.0.slow ≡ Some kept → numbered new m.me.0.slow ≡ Some gone
+  mergeable : (old new : ℕ) (kept gone : Own) (b : Bool) → numbered old (tickets_seen m.me.0) ≡ Some kept → numbered new (tickets_seen m.me.0) ≡ Some gone
       → may_merge kept gone ≡ b → Mergeable b old new own
   mergeable old new kept gone b one other may =
-      of-held old m.me.0.slow kept (λ k. OfHeld new own (λ g. may_merge_told k g ≡ b)) one
-      (of-held new m.me.0.slow gone (λ g. may_merge_told (told_of kept) g ≡ b) other (merge-told kept gone ∙ may))
+      of-held old (tickets_seen m.me.0) kept (λ k. OfHeld new own (λ g. may_merge_told k g ≡ b)) one
+      (of-held new (tickets_seen m.me.0) gone (λ g. may_merge_told (told_of kept) g ≡ b) other (merge-told kept gone ∙ may))
 
-  pub merge-clear : (old new : ℕ) (kept gone : Own) → numbered old m.me.0.slow ≡ Some kept → numbered new m.me.0.slow ≡ Some gone
+  pub merge-clear : (old new : ℕ) (kept gone : Own) → numbered old (tickets_seen m.me.0) ≡ Some kept → numbered new (tickets_seen m.me.0) ≡ Some gone
       → merge_fault (Some kept) (Some gone) m.me.0.asks ≡ None → (is_waiting own ≡ false) × Mergeable true old new own
   merge-clear old new kept gone one other e = by (is_some m.me.0.asks) refl e
     where
@@ -173,14 +173,14 @@ module _ (m : SessionView) where
       by true asks e = cc
       by false asks e = (waits-asks m.me.0.asks m.me.0.waits ∙ asks, mergeable old new kept gone true one other (test-passed (may_merge kept gone) BadMode e))
 
-  pub merge-cause : (who old new : ℕ) (why : SpaceError) (o p : Option Own) → numbered old m.me.0.slow ≡ o → numbered new m.me.0.slow ≡ p
+  pub merge-cause : (who old new : ℕ) (why : SpaceError) (o p : Option Own) → numbered old (tickets_seen m.me.0) ≡ o → numbered new (tickets_seen m.me.0) ≡ p
       → merge_fault o p m.me.0.asks ≡ Some why → IsCause knows (Merge who old new) why own
   merge-cause who old new why None p one other e =
       let is : why ≡ NotHeld = cc in
-      subst (λ w. IsCause knows (Merge who old new) w own) (sym is) (and_left _ (holds new own) (holds-told old m.me.0.slow false (ap is_some one)))
+      subst (λ w. IsCause knows (Merge who old new) w own) (sym is) (and_left _ (holds new own) (holds-told old (tickets_seen m.me.0) false (ap is_some one)))
   merge-cause who old new why (Some kept) None one other e =
       let is : why ≡ NotHeld = cc in
-      subst (λ w. IsCause knows (Merge who old new) w own) (sym is) (and_right (holds old own) _ (holds-told new m.me.0.slow false (ap is_some other)))
+      subst (λ w. IsCause knows (Merge who old new) w own) (sym is) (and_right (holds old own) _ (holds-told new (tickets_seen m.me.0) false (ap is_some other)))
   merge-cause who old new why (Some kept) (Some gone) one other e = by (is_some m.me.0.asks) refl e
     where
       by : (waits : Bool) → is_some m.me.0.asks ≡ waits → (if waits then Some AlreadyWaiting else (if may_merge kept gone then None else Some BadMode)) ≡ Some why
@@ -188,7 +188,7 @@ module _ (m : SessionView) where
       by true asks e =
           let is : why ≡ AlreadyWaiting = cc in
           subst (λ w. IsCause knows (Merge who old new) w own) (sym is)
-          (and_from _ _ (holds-told old m.me.0.slow true (ap is_some one)) (holds-told new m.me.0.slow true (ap is_some other)), waits-asks m.me.0.asks m.me.0.waits ∙ asks)
+          (and_from _ _ (holds-told old (tickets_seen m.me.0) true (ap is_some one)) (holds-told new (tickets_seen m.me.0) true (ap is_some other)), waits-asks m.me.0.asks m.me.0.waits ∙ asks)
       by false asks e =
           let b = test-failed (may_merge kept gone) BadMode why e in
           subst (λ w. IsCause knows (Merge who old new) w own) (sym b.1)

@@ -19,21 +19,25 @@ use Rattle.mdl_visits.specs.Visits.{Does, IsStepOf, StaysOn, StaysThere, gives_b
 use Rattle.mdl_visits.proofs.Steps.{does_then, each_append}
 use Rattle.mdl_shared.specs.declared.member.Member.{Member}
 use Rattle.mdl_shared.specs.Members.{IsMember}
-use Rattle.mdl_shared.specs.SessionViews.{Lists, SessionView, lists_seen, session_at}
+use Rattle.mdl_shared.specs.SessionViews.{Lists, SessionView, lists_seen, session_at, tickets_seen}
 use Rattle.mdl_shared.specs.Showings.{KeepsTold, MakesNoStep, MeetsSo, SettlesSo, Shows, StepsSo, done_by, own_fault}
 use Rattle.mdl_shared.proofs.MemberFacts.{speaks}
-use Rattle.mdl_shared.proofs.Members.{HasDone, done-nothing, done-order, kept}
+use Rattle.mdl_shared.proofs.Members.{HasDone, done-nothing, done-order, done-then, kept, same-fast}
 use Rattle.mdl_shared.proofs.SameSpace.{joins-still}
 
 -- a visit without a deed
 pub quietly : {seat seat′ : SeatState} {log : List Met} {told : Option ℕ} {settles : List Settlement} (sessions : ℕ) → seat′.table ≡ seat.table
     → seat′.me ≡ (record seat.me.0 { told = told; settles = settles; log = log }, seat.me.1) → StaysTold seat.me.0.told told
     → (seat.me.0.asks ≡ None → told ≡ seat.me.0.told) → HasDone 0 [] (session_at seat sessions) (session_at seat′ sessions)
-quietly {log = log} {told = told} {settles = settles} sessions table me stays unasked = record {
+quietly {seat = seat} {log = log} {told = told} {settles = settles} sessions table me stays unasked = record {
+  slow = seat.me.0.slow;
+  fast = seat.me.0.fast;
   told = told;
   settles = settles;
   log = log;
   now = λ i. record { table = table i; sessions = sessions; me = me i };
+  tickets = refl;
+  fasts = same-fast seat.me.0.known seat.me.0.asks seat.me.0.fast;
   stays = stays;
   unasked = unasked;
 }
@@ -61,12 +65,13 @@ waits-seen m b asks = ap (λ (l : Lists). is_some l.asks) (sym m.lists) ∙ asks
 -- it did no deed, and gave nothing up
 pub record Watches (s s′ : SessionView) : Type 0 where
   pub done : HasDone 0 [] s s′
+  pub lists : lists_seen s′.me.0 ≡ lists_seen s.me.0
   pub did : Does [] s.me s′.me
   pub stayed : StaysOn s.me s′.me
 
 -- a call shows what its steps show
 pub shows : {call : Call} {answer : Answer} {s s′ : SessionView} → Watches s s′ → IfSome (own_fault call (lists_seen s.me.0)) (λ why. (answer ≡ Refused why) × MakesNoStep s s′)
-    → Does (done_by call answer s.me.0.slow) s.me s′.me → SettlesSo call answer (lists_seen s.me.0) s s′ → KeepsTold call s s′ → StepsSo call s s′
+    → Does (done_by call answer (tickets_seen s.me.0)) s.me s′.me → SettlesSo call answer (lists_seen s.me.0) s s′ → KeepsTold call s s′ → StepsSo call s s′
     → MeetsSo call answer (lists_seen s.me.0) s s′ → Shows call answer s s′
 shows watches refused did settled told steps met = record {
   table = ap (λ (x : SessionView). x.table) watches.done.now;
@@ -81,15 +86,8 @@ shows watches refused did settled told steps met = record {
 
 pub watches-then : (a b c : SessionView) → Watches a b → Watches b c → Watches a c
 watches-then a b c first later = record {
-  done = record {
-    told = later.done.told;
-    settles = later.done.settles;
-    log = later.done.log;
-    now = later.done.now ∙ ap (λ (x : SessionView). record x { me = (record x.me.0 { told = later.done.told; settles = later.done.settles; log = later.done.log }, x.me.1) }) first.done.now;
-    stays = λ state is. later.done.stays state (ap (λ (x : SessionView). x.me.0.told) first.done.now ∙ first.done.stays state is);
-    unasked = λ none.
-        later.done.unasked (ap (λ (x : SessionView). x.me.0.asks) first.done.now ∙ none) ∙ ap (λ (x : SessionView). x.me.0.told) first.done.now ∙ first.done.unasked none;
-  };
+  done = done-then first.done later.done;
+  lists = later.lists ∙ first.lists;
   did = does_then [] [] a.me b.me c.me first.did later.did;
   stayed = (
     first.stayed.0 ++ later.stayed.0,
@@ -154,13 +152,18 @@ module _ (kind : StepKind) (session found left : ℕ) (settles : List Settlement
         let log = ap (λ (x : SessionView). x.me.0.log) now in
         record {
           done = record {
+            slow = s.me.0.slow;
+            fast = s.me.0.fast;
             told = (meeting session left s.me.0).told;
             settles = settles;
             log = s.me.0.log ++ e ∷ [];
             now = now;
+            tickets = refl;
+            fasts = same-fast s.me.0.known s.me.0.asks s.me.0.fast;
             stays = keeps-told;
             unasked = keeps-none;
           };
+          lists = ap (λ (x : SessionView). lists_seen x.me.0) now;
           did = (e ∷ [], log, refl);
           stayed = (e ∷ [], log, ((keeps, quiet), tt));
         }

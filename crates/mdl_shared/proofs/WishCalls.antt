@@ -20,9 +20,9 @@ use Rattle.mdl_session_laws.proofs.RefusedCalls.{reads-nothing}
 use Rattle.mdl_visits.specs.WaitOpenings.{Opens, awaiting}
 use Rattle.mdl_shared.specs.Members.{IsMember, kind_known, wish_fault}
 use Rattle.mdl_shared.specs.OwnLists.{told_of}
-use Rattle.mdl_shared.specs.SessionViews.{SessionView, session_at, settled_told, space_of}
+use Rattle.mdl_shared.specs.SessionViews.{SessionView, session_at, settled_told, space_of, tickets_seen}
 use Rattle.mdl_shared.proofs.MemberFacts.{next-some, nothing-told, speaks}
-use Rattle.mdl_shared.proofs.Members.{HasDone, StaysInOrder, done-next, done-rest, done-slow}
+use Rattle.mdl_shared.proofs.Members.{HasDone, StaysInOrder, done-next, done-rest, done-tickets}
 use Rattle.mdl_shared.proofs.SameSpace.{Stays, joins-held, joins-still, no-asks, numbers_by, own_by, refused, same-stays, waits-asks}
 use Rattle.mdl_shared.proofs.SpaceTickets.{told-last}
 use Rattle.mdl_shared.proofs.TicketCalls.{deed-reads}
@@ -59,8 +59,8 @@ pub gain-joins : {s s′ : SessionView} (is : IsMember s) {place id : ℕ} {mode
 gain-joins {s} {s′} is {place} {id} {mode} first done call mine has fits own draws explained at learns agreed tells ends lets truly =
     let some = next-some is in
     let drawn : id ≡ (s.me.0.next - 1) + 1 = omega arith in
-    joins-held s s′ call (Granted id) (map told_of s.me.0.slow ++ record { id = id; place = place; mode = mode } ∷ []) (done-rest done) mine has fits
-    (ap (map told_of) (done-slow done) ∙ told-last s.me.0.slow (record { number = id; place = place; mode = mode; noted = note_at place s.me.0.slow })) own
+    joins-held s s′ call (Granted id) (map told_of (tickets_seen s.me.0) ++ record { id = id; place = place; mode = mode } ∷ []) (done-rest done) mine has fits
+    (ap (map told_of) (done-tickets done) ∙ told-last (tickets_seen s.me.0) (record { number = id; place = place; mode = mode; noted = note_at place (tickets_seen s.me.0) })) own
     (draws (drawn, numbers-drawn s.me.0.next s′.me.0.next s.me.0.waits s′.me.0.waits some (done-next done) (done-rest done).wait.waits))
     explained at learns agreed tells ends (lets (deed-reads is done)) truly
 
@@ -141,8 +141,9 @@ begun seat seat′ sessions opens = λ i. record { table = opens.0 i; sessions =
 
 module _ {s s′ : SessionView} (is : IsMember s) {place : ℕ} {mode : Mode} (clear : wish_fault (kind_known place s.me.0.known) s.me.0.asks mode s.me.0.next ≡ None)
     {log : List Met} (now : s′ ≡ record s { me = (record (awaiting place mode s.me.0) { log = log }, s.me.1) }) where
-  pub begun-order : StaysInOrder s s′
-  begun-order =
+  -- without a fast ticket
+  pub begun-order : s.me.0.fast ≡ [] → StaysInOrder s s′
+  begun-order none =
       let fewer = is.fewer in
       let below = (wish-clear s place mode clear).3 in
       subst (λ (x : SessionView). StaysInOrder s x) (sym now) (record {
@@ -150,6 +151,8 @@ module _ {s s′ : SessionView} (is : IsMember s) {place : ℕ} {mode : Mode} (c
         sessions = refl;
         idle = is.idle;
         slow = is.slow;
+        unfast = λ a asks. none;
+        plain = is.plain;
         within = is.within;
         alike = is.alike;
         last = eq-eqb (s.me.0.next + 1) (s.me.0.next + 1) refl;
@@ -165,7 +168,7 @@ module _ {s s′ : SessionView} (is : IsMember s) {place : ℕ} {mode : Mode} (c
         has = refl;
         fits = refl;
         number = refl;
-        own = ap (λ (n : ℕ). own_by s.me.0.slow (Some (asking place mode s.me.0)) n) (sym drawn);
+        own = ap (λ (n : ℕ). own_by (tickets_seen s.me.0) (Some (asking place mode s.me.0)) n) (sym drawn);
         numbers = (drawn, numbers-waited s.me.0.next (s.me.0.next + 1) s.me.0.waits (s.me.0.waits + 1) (next-some is) refl refl);
         explained = clear-wish is place mode clear;
         gained = (wish-clear s place mode clear).2;

@@ -16,7 +16,7 @@ use Rattle.mdl_session_laws.specs.SessionSpaces.{Knows, is_known}
 use Rattle.mdl_visits.specs.Numbers.{numbered}
 use Rattle.mdl_shared.specs.Members.{kind_known, most_numbers, wish_fault}
 use Rattle.mdl_shared.specs.Modes.{clone_fault, is_fit}
-use Rattle.mdl_shared.specs.SessionViews.{SessionView, space_of}
+use Rattle.mdl_shared.specs.SessionViews.{SessionView, space_of, tickets_seen}
 use Rattle.mdl_shared.proofs.SameSpace.{no-asks, waits-asks}
 use Rattle.mdl_shared.proofs.SpaceLists.{fit-known, kind-is_known, no-kind, of-kind}
 use Rattle.mdl_shared.proofs.SpaceTickets.{holds-told, of-held}
@@ -90,34 +90,34 @@ module _ (m : SessionView) where
 
   -- ---- clones
 
-  may-clone : (id : ℕ) (mode : Mode) (t : Own) → numbered id m.me.0.slow ≡ Some t → (covers t.mode mode && is_fit t.place mode m.me.0.known) ≡ true
+  may-clone : (id : ℕ) (mode : Mode) (t : Own) → numbered id (tickets_seen m.me.0) ≡ Some t → (covers t.mode mode && is_fit t.place mode m.me.0.known) ≡ true
       → OfHeld id own (MayClone knows mode)
   may-clone id mode t its can =
       let parts = and_parts (covers t.mode mode) (is_fit t.place mode m.me.0.known) can in
-      of-held id m.me.0.slow t (MayClone knows mode) its (parts.0, fit-known t.place mode m.me.0.known true parts.1)
+      of-held id (tickets_seen m.me.0) t (MayClone knows mode) its (parts.0, fit-known t.place mode m.me.0.known true parts.1)
 
-  may-not_clone : (id : ℕ) (mode : Mode) (t : Own) → numbered id m.me.0.slow ≡ Some t → (covers t.mode mode && is_fit t.place mode m.me.0.known) ≡ false
+  may-not_clone : (id : ℕ) (mode : Mode) (t : Own) → numbered id (tickets_seen m.me.0) ≡ Some t → (covers t.mode mode && is_fit t.place mode m.me.0.known) ≡ false
       → OfHeld id own (MayNotClone knows mode)
   may-not_clone id mode t its can =
-      of-held id m.me.0.slow t (MayNotClone knows mode) its (λ covered.
+      of-held id (tickets_seen m.me.0) t (MayNotClone knows mode) its (λ covered.
       fit-known t.place mode m.me.0.known false (other-false (covers t.mode mode) (is_fit t.place mode m.me.0.known) can covered))
 
-  pub clone-clear : (id : ℕ) (mode : Mode) (o : Option Own) → numbered id m.me.0.slow ≡ o → clone_fault o m.me.0.asks mode m.me.0.known m.me.0.next ≡ None
+  pub clone-clear : (id : ℕ) (mode : Mode) (o : Option Own) → numbered id (tickets_seen m.me.0) ≡ o → clone_fault o m.me.0.asks mode m.me.0.known m.me.0.next ≡ None
       → (is_some m.me.0.asks ≡ false) × OfHeld id own (MayClone knows mode)
   clone-clear id mode None its e = cc
   clone-clear id mode (Some t) its e =
       let clear = chain-clear (is_some m.me.0.asks) (covers t.mode mode && is_fit t.place mode m.me.0.known) (nat_le most_numbers m.me.0.next) AlreadyWaiting BadMode CounterFull e in
       (clear.0, may-clone id mode t its clear.1)
 
-  pub clone-cause : (P : SpaceError → Type 0) (id : ℕ) (mode : Mode) (why : SpaceError) (o : Option Own) → numbered id m.me.0.slow ≡ o
+  pub clone-cause : (P : SpaceError → Type 0) (id : ℕ) (mode : Mode) (why : SpaceError) (o : Option Own) → numbered id (tickets_seen m.me.0) ≡ o
       → (holds id own ≡ false → P NotHeld) → ((holds id own ≡ true) × (is_waiting own ≡ true) → P AlreadyWaiting)
       → ((is_waiting own ≡ false) × OfHeld id own (MayNotClone knows mode) → P BadMode)
       → ((is_waiting own ≡ false) × OfHeld id own (MayClone knows mode) → P CounterFull)
       → clone_fault o m.me.0.asks mode m.me.0.known m.me.0.next ≡ Some why → P why
   clone-cause P id mode why None its none waits unfit full e =
-      let same : NotHeld ≡ why = cc in subst P same (none (holds-told id m.me.0.slow false (ap is_some its)))
+      let same : NotHeld ≡ why = cc in subst P same (none (holds-told id (tickets_seen m.me.0) false (ap is_some its)))
   clone-cause P id mode why (Some t) its none waits unfit full e =
       chain-fault P (is_some m.me.0.asks) (covers t.mode mode && is_fit t.place mode m.me.0.known) (nat_le most_numbers m.me.0.next) AlreadyWaiting BadMode CounterFull why
-      (λ asks. waits (holds-told id m.me.0.slow true (ap is_some its), waits-asks m.me.0.asks m.me.0.waits ∙ asks))
+      (λ asks. waits (holds-told id (tickets_seen m.me.0) true (ap is_some its), waits-asks m.me.0.asks m.me.0.waits ∙ asks))
       (λ asks can. unfit (waits-not asks, may-not_clone id mode t its can))
       (λ asks can. full (waits-not asks, may-clone id mode t its can)) e

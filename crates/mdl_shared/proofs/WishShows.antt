@@ -10,7 +10,7 @@ use Rattle.mdl_visits.specs.Polls.{SettlesNothing}
 use Rattle.mdl_visits.specs.Visits.{AreStepsOf, Does, MeetsBlocked, MeetsGrantable, Visits}
 use Rattle.mdl_visits.specs.WaitOpenings.{MeetsOpening, Opens}
 use Rattle.mdl_shared.specs.Members.{kind_known, wish_fault}
-use Rattle.mdl_shared.specs.SessionViews.{SessionView, lists_seen}
+use Rattle.mdl_shared.specs.SessionViews.{SessionView, lists_seen, tickets_seen}
 use Rattle.mdl_shared.specs.Showings.{ShowsStep, KeepsTold, MeetsSo, SettlesSo, Shows, StepsSo, done_by, own_fault}
 use Rattle.mdl_shared.proofs.Faults.{if-clear}
 
@@ -25,7 +25,7 @@ pub told : {place : ℕ} {ds : List Deed} {m m′ : Mine} → Visits place ds m 
 told went = ap (λ (m : Mine). m.0.told) went.now
 
 module _ {s s′ : SessionView} (table : s′.table ≡ s.table) (sessions : s′.sessions ≡ s.sessions) where
-  pub shows : {call : Call} {answer : Answer} → own_fault call (lists_seen s.me.0) ≡ None → Does (done_by call answer s.me.0.slow) s.me s′.me
+  pub shows : {call : Call} {answer : Answer} → own_fault call (lists_seen s.me.0) ≡ None → Does (done_by call answer (tickets_seen s.me.0)) s.me s′.me
       → SettlesSo call answer (lists_seen s.me.0) s s′ → KeepsTold call s s′ → StepsSo call s s′ → MeetsSo call answer (lists_seen s.me.0) s s′ → Shows call answer s s′
   shows {call} fault did settled told steps met = record {
     table = table;

@@ -1,22 +1,25 @@
 -- What a session that may wish for a mode at a place gives the visit, by its own lists.
-use Rattle.std.proofs.Common.{◌≡◌, ℕ, ◌+◌, ◌<◌, true, Option, Some, None, List, sym, ap, ◌∙◌}
+use Rattle.std.proofs.Common.{List, None, Option, Some, [], ap, sym, true, ℕ, ◌+◌, ◌<◌, ◌∙◌, ◌∷◌, ◌≡◌}
 use Rattle.mdl_key.specs.declared.mode.Mode.{Mode}
 use Rattle.mdl_key.specs.declared.namespace.Kind.{Kind}
 use Rattle.mdl_calls.specs.Words.{Try_now}
 use Rattle.mdl_steps.specs.declared.deed.Deed.TheVariants.{Gain}
 use Rattle.mdl_steps.specs.declared.view.Ask.{Ask}
 use Rattle.mdl_steps.specs.declared.view.Own.{Own}
+use Rattle.mdl_steps.specs.Cells.{own_at}
 use Rattle.mdl_steps.specs.Deeds.{owned}
-use Rattle.mdl_visits.specs.Visits.{HasWish, MayVisit}
+use Rattle.mdl_steps.specs.Interleavings.{interleaved}
+use Rattle.mdl_steps.specs.SeatStates.{AtItsTable, SeatState}
+use Rattle.mdl_visits.specs.Visits.{HasWish, MayVisit, Visits}
 use Rattle.mdl_visits.specs.WaitOpenings.{awaiting}
 use Rattle.mdl_shared.specs.declared.member.Member.{Member}
 use Rattle.mdl_shared.specs.Members.{kind_known, most_numbers, wish_fault}
 use Rattle.mdl_shared.specs.Passes.{view_of}
-use Rattle.mdl_shared.specs.SessionViews.{Lists, SessionView, lists_seen}
+use Rattle.mdl_shared.specs.SessionViews.{Lists, SessionView, lists_seen, session_at, tickets_of}
 use Rattle.mdl_shared.specs.Waitings.{are_below}
-use Rattle.mdl_shared.proofs.MemberFacts.{below, may-visit}
+use Rattle.mdl_shared.proofs.MemberFacts.{below, gains-slow, may-visit, none-there}
 use Rattle.mdl_shared.proofs.Membership.{kind_place, kind_there}
-use Rattle.mdl_shared.proofs.Members.{fault-seen}
+use Rattle.mdl_shared.proofs.Members.{HasDone, fault-seen, visited}
 use Rattle.mdl_shared.proofs.Props.{member}
 use Rattle.mdl_shared.proofs.SameSpace.{no-asks, waits-asks}
 use Rattle.mdl_shared.proofs.WishFaults.{wish-clear, wish-mode}
@@ -46,22 +49,47 @@ may-wish m place kind mode wished =
     }
 
 -- the numbers of its own list are below the next one
-pub below-seen : (m : Member) (tickets : List Own) → tickets ≡ m.tickets.own → are_below m.next tickets ≡ true
-below-seen m tickets same = ap (are_below m.next) same ∙ ap (λ (l : Lists). are_below l.next l.tickets) m.lists ∙ below (member m)
+pub below-seen : (m : Member) (slow fast : List Own) → (slow ≡ m.tickets.slow) × (fast ≡ m.tickets.fast) → are_below m.next (interleaved slow fast) ≡ true
+below-seen m slow fast same =
+    (λ i. are_below m.next (interleaved (same.0 i) (same.1 i))) ∙ ap (λ (l : Lists). are_below l.next (tickets_of l)) m.lists ∙ below (member m)
+
+-- no fast one of its own list is at a place
+pub none-seen : (m : Member) (place : ℕ) (fast : List Own) → fast ≡ m.tickets.fast → own_at place fast ≡ []
+none-seen m place fast same = ap (own_at place) same ∙ ap (λ (l : Lists). own_at place l.fast) m.lists ∙ none-there (member m) place
 
 -- who waits for nothing needs no room for a ticket
 pub unasked : (m : Member) → m.seat.me.0.asks ≡ None → (P : Ask → Type 0) (ask : Ask) → m.asks ≡ Some ask → P ask
 unasked m idle P ask asks = let no = sym asks ∙ ap (λ (l : Lists). l.asks) m.lists ∙ idle in cc
 
--- the ticket that was gained is the last of its own list
-pub gained-seen : (place number : ℕ) (mode : Mode) (own tickets tickets′ : List Own) → tickets ≡ own → tickets′ ≡ owned place (Gain number mode) tickets
-    → tickets′ ≡ owned place (Gain number mode) own
-gained-seen place number mode own tickets tickets′ same gained = gained ∙ ap (owned place (Gain number mode)) same
+-- a visit that gained the next ticket did that
+pub gained-by : (m : Member) (seat′ : SeatState) (place : ℕ) (mode : Mode) → AtItsTable m.seat seat′ (Visits place (Gain m.next mode ∷ []))
+    → HasDone place (Gain m.next mode ∷ []) (view_of m) (session_at seat′ m.sessions)
+gained-by m seat′ place mode visit =
+    visited m.seat seat′ m.sessions (gains-slow (member m) place m.next mode (ap (λ (l : Lists). l.next) m.lists) (none-there (member m) place)) visit
+
+-- the ticket that was gained is the last slow one of its own list
+pub gained-seen : (place number : ℕ) (mode : Mode) (own slow slow′ : List Own) → slow ≡ own → slow′ ≡ owned place (Gain number mode) slow
+    → slow′ ≡ owned place (Gain number mode) own
+gained-seen place number mode own slow slow′ same gained = gained ∙ ap (owned place (Gain number mode)) same
 
 -- its own lists as it begins to wait
-pub waiting-lists : (m : Member) (place : ℕ) (mode : Mode) (tickets : List Own) → tickets ≡ m.tickets.own
-    → record { tickets = tickets; known = m.known.known; next = m.next + 1; asks = Some (record { number = m.next; place = place; mode = mode }); waits = m.waits + 1 }
+pub waiting-lists : (m : Member) (place : ℕ) (mode : Mode) (slow fast : List Own) → (slow ≡ m.tickets.slow) × (fast ≡ m.tickets.fast)
+    → record {
+      slow = slow;
+      fast = fast;
+      known = m.known.known;
+      next = m.next + 1;
+      asks = Some (record { number = m.next; place = place; mode = mode });
+      waits = m.waits + 1;
+    }
     ≡ lists_seen (awaiting place mode m.seat.me.0)
-waiting-lists m place mode tickets same =
-    ap (λ (ts : List Own). record { tickets = ts; known = m.known.known; next = m.next + 1; asks = Some (record { number = m.next; place = place; mode = mode }); waits = m.waits + 1 }) same
+waiting-lists m place mode slow fast same =
+    (λ i. record {
+      slow = same.0 i;
+      fast = same.1 i;
+      known = m.known.known;
+      next = m.next + 1;
+      asks = Some (record { number = m.next; place = place; mode = mode });
+      waits = m.waits + 1;
+    })
     ∙ ap (λ (l : Lists). record l { next = l.next + 1; asks = Some (record { number = l.next; place = place; mode = mode }); waits = l.waits + 1 }) m.lists

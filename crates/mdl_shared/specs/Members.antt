@@ -1,10 +1,12 @@
 -- What a session keeps of its own between two calls.
 pub use Rattle.mdl_visits.specs.KnownLists.{are_apart, are_two, is_known_place, kind_known, place_known}
-use Rattle.std.specs.Prelude.{◌≡◌, ◌<◌, ◌≤◌, ℕ, ◌^◌, Bool, true, ◌&&◌, not, nat_le, nat_lt, List, All, Option, Some, None, filter, is_some, if◌then◌else◌}
+use Rattle.std.specs.Prelude.{◌≡◌, ◌<◌, ◌≤◌, ℕ, ◌^◌, Bool, true, ◌&&◌, not, nat_le, nat_lt, List, [], All, Option, Some, None, filter, is_some, if◌then◌else◌}
 use Rattle.std.specs.List.{list_all}
+use Rattle.std.specs.Option.{option_and_then}
 use Rattle.mdl_key.specs.declared.mode.Mode.{Mode}
 use Rattle.mdl_key.specs.declared.namespace.Kind.{Kind}
 use Rattle.mdl_key.specs.Words.{is_mode_of}
+use Rattle.mdl_word.specs.Words.{increment_of}
 use Rattle.mdl_calls.specs.declared.space_error.SpaceError.{SpaceError}
 use Rattle.mdl_calls.specs.declared.space_error.SpaceError.TheVariants.{NoPlace, NotHeld, AlreadyWaiting, BadMode, CounterFull}
 use Rattle.mdl_steps.specs.declared.view.Ask.{Ask}
@@ -17,7 +19,7 @@ use Rattle.mdl_visits.specs.Idle.{IsIdle, HasSlowAlone}
 use Rattle.mdl_visits.specs.Numbers.{numbered}
 use Rattle.mdl_shared.specs.OwnLists.{key_known}
 use Rattle.mdl_shared.specs.Rememberings.{AreAlike}
-use Rattle.mdl_shared.specs.SessionViews.{SessionView, space_of}
+use Rattle.mdl_shared.specs.SessionViews.{SessionView, space_of, tickets_seen}
 use Rattle.mdl_shared.specs.Waitings.{is_ask_last, is_ask_told}
 
 -- a session's tickets have numbers below this
@@ -28,15 +30,26 @@ most_numbers = 2 ^ 60
 abbrev pub are_within : ℕ → List Known → Bool
 are_within slots known = list_all (λ k. nat_lt 0 k.place && nat_lt k.place slots) known
 
--- what is always so of a session between two calls: as a lock space it is sound; it holds no latch, and each of its tickets stands in a book; the places
--- that it has looked up are the table's; the tickets of a place have one note; the ticket that it waits for has the last number that it gave, and it was told
--- nothing of a wait that it hasn't; it has had fewer waits than tickets; it is one of the sessions of the space, for whom the table has words
+-- what one fast ticket in a mode adds to the word of a place, if the session has looked up the key there and its word counts the mode
+abbrev pub increment_at : ℕ → Mode → List Known → Option ℕ
+increment_at place mode known = option_and_then (λ kind. increment_of kind mode) (kind_known place known)
+
+-- each of these tickets is one that the word of its place counts
+abbrev pub are_counted : List Known → List Own → Bool
+are_counted known fast = list_all (λ t. is_some (increment_at t.place t.mode known)) fast
+
+-- what is always so of a session between two calls: as a lock space it is sound; it holds no latch, and each of its tickets stands in a book; while it
+-- waits it has no fast ticket, and each fast one is at a place that it has looked up, in a mode that the word counts there; the places that it has looked up
+-- are the table's; the tickets of a place have one note; the ticket that it waits for has the last number that it gave, and it was told nothing of a wait
+-- that it hasn't; it has had fewer waits than tickets; it is one of the sessions of the space, for whom the table has words
 pub record IsMember (s : SessionView) : Type 0 where
   pub sound : IsSound (space_of s)
   pub idle : IsIdle s.me
   pub slow : HasSlowAlone s.me
+  pub unfast : (a : Ask) → s.me.0.asks ≡ Some a → s.me.0.fast ≡ []
+  pub plain : are_counted s.me.0.known s.me.0.fast ≡ true
   pub within : are_within s.table.slots s.me.0.known ≡ true
-  pub alike : AreAlike s.me.0.slow
+  pub alike : AreAlike (tickets_seen s.me.0)
   pub last : is_ask_last s.me.0.next s.me.0.asks ≡ true
   pub told : is_ask_told s.me.0.asks s.me.0.told ≡ true
   pub fewer : (s.me.0.waits < s.me.0.next) × (s.me.0.waits < most_numbers)

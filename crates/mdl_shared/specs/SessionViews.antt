@@ -9,6 +9,7 @@ use Rattle.mdl_steps.specs.declared.view.Known.{Known}
 use Rattle.mdl_steps.specs.declared.view.Own.{Own}
 use Rattle.mdl_steps.specs.declared.view.Read.{Read}
 use Rattle.mdl_steps.specs.declared.view.View.{View}
+use Rattle.mdl_steps.specs.Interleavings.{interleaved}
 use Rattle.mdl_steps.specs.Plays.{Mine}
 use Rattle.mdl_steps.specs.SeatStates.{SeatState}
 use Rattle.mdl_steps.specs.declared.wait_word.Loss.TheVariants as loss
@@ -46,9 +47,11 @@ session_at seat sessions = record { table = seat.table; sessions = sessions; me 
 
 -- ---- its lists
 
--- its tickets, the keys that it has looked up, the number of its next ticket, what it waits for, and the number of its last wait
+-- its slow tickets and its fast ones, each in order of gain, the keys that it has looked up, the number of its next ticket, what it waits for, and the
+-- number of its last wait
 pub record Lists : Type 0 where
-  pub tickets : List Own
+  pub slow : List Own
+  pub fast : List Own
   pub known : List Known
   pub next : ℕ
   pub asks : Option Ask
@@ -56,7 +59,15 @@ pub record Lists : Type 0 where
 
 -- by what it knows and has at the table
 abbrev pub lists_seen : View → Lists
-lists_seen me = record { tickets = me.slow; known = me.known; next = me.next; asks = me.asks; waits = me.waits }
+lists_seen me = record { slow = me.slow; fast = me.fast; known = me.known; next = me.next; asks = me.asks; waits = me.waits }
+
+-- all its tickets, in order of gain
+abbrev pub tickets_of : Lists → List Own
+tickets_of l = interleaved l.slow l.fast
+
+-- by what it has at the table
+abbrev pub tickets_seen : View → List Own
+tickets_seen me = tickets_of (lists_seen me)
 
 -- ---- as a lock space
 
@@ -65,13 +76,13 @@ abbrev pub space_by : ℕ → Lists → Option ℕ → List Read → Space
 space_by number lists told reads = record {
   number = number;
   own = record {
-    held = map told_of lists.tickets;
+    held = map told_of (tickets_of lists);
     wait = option_map (λ (a : Ask). record { number = lists.waits; place = a.place; mode = a.mode }) lists.asks;
   };
   numbers = record { last_ticket = lists.next - 1; last_wait = lists.waits };
   known = map (λ (k : Known). record { key = k.key; place = k.place }) lists.known;
   settled = settled_told told;
-  notes = filter_map note_of lists.tickets;
+  notes = filter_map note_of (tickets_of lists);
   reads = map (λ (r : Read). record { place = r.place; standing = r.standing }) reads;
 }
 

@@ -39,7 +39,7 @@ use Rattle.mdl_calls.specs.Limits.{is_within}
 use Rattle.mdl_shared.specs.Members.{AreLearnt, holding_fault, kind_known, place_known, wish_fault}
 use Rattle.mdl_shared.specs.Modes.{clone_fault, downgrade_fault, merge_fault}
 use Rattle.mdl_shared.specs.OwnLists.{naming_fault}
-use Rattle.mdl_shared.specs.SessionViews.{Lists, SessionView, lists_seen}
+use Rattle.mdl_shared.specs.SessionViews.{Lists, SessionView, lists_seen, tickets_of}
 use Rattle.mdl_shared.specs.Upgrades.{upgrade_fault}
 use Rattle.mdl_shared.specs.Waitings.{wait_fault}
 
@@ -51,7 +51,7 @@ ShowsStep a b fact = (e : Met) × IsStepOf a.me b.me e × fact e
 
 -- the session has the ticket of a number, of which this is so
 abbrev pub OfTicket : ℕ → Lists → (Own → Type 0) → Type 0
-OfTicket id l fact = (t : Own) × (numbered id l.tickets ≡ Some t) × fact t
+OfTicket id l fact = (t : Own) × (numbered id (tickets_of l) ≡ Some t) × fact t
 
 -- no step was made
 abbrev pub MakesNoStep : SessionView → SessionView → Type 0
@@ -96,13 +96,13 @@ own_fault (Begin_wait who place mode) l = wish_fault (kind_known place l.known) 
 own_fault (Poll_wait who) l = wait_fault l.asks
 own_fault (Settle_timeout who) l = wait_fault l.asks
 own_fault (End_wait who) l = wait_fault l.asks
-own_fault (Release who id) l = holding_fault id l.tickets
-own_fault (Clone_ticket who id mode) l = clone_fault (numbered id l.tickets) l.asks mode l.known l.next
-own_fault (Upgrade_now who id mode) l = upgrade_fault mode l.known l.asks (numbered id l.tickets)
-own_fault (Merge who old new) l = merge_fault (numbered old l.tickets) (numbered new l.tickets) l.asks
-own_fault (Downgrade who id mode) l = downgrade_fault (numbered id l.tickets) mode l.known
-own_fault (Read_definition who id) l = holding_fault id l.tickets
-own_fault (Change_definition who id change) l = exclusive_fault (numbered id l.tickets)
+own_fault (Release who id) l = holding_fault id (tickets_of l)
+own_fault (Clone_ticket who id mode) l = clone_fault (numbered id (tickets_of l)) l.asks mode l.known l.next
+own_fault (Upgrade_now who id mode) l = upgrade_fault mode l.known l.asks (numbered id (tickets_of l))
+own_fault (Merge who old new) l = merge_fault (numbered old (tickets_of l)) (numbered new (tickets_of l)) l.asks
+own_fault (Downgrade who id mode) l = downgrade_fault (numbered id (tickets_of l)) mode l.known
+own_fault (Read_definition who id) l = holding_fault id (tickets_of l)
+own_fault (Change_definition who id change) l = exclusive_fault (numbered id (tickets_of l))
 own_fault (Key_of who place) l = naming_fault place l.known
 own_fault _ l = None
 
@@ -199,7 +199,7 @@ MeetsSo (Clone_ticket who id mode) (Refused why) l a b =
     RefusesWish (own_fault (Clone_ticket who id mode) l) why
     (OfTicket id l (λ t. ShowsStep a b (MeetsFull t.place)))
 MeetsSo (Upgrade_now who id mode) Upgraded l a b =
-    (t : Own) → numbered id l.tickets ≡ Some t → covers t.mode mode ≡ false
+    (t : Own) → numbered id (tickets_of l) ≡ Some t → covers t.mode mode ≡ false
     → ShowsStep a b (MeetsGrantable t.place a.me.0.number mode (Alter id mode))
 MeetsSo (Upgrade_now who id mode) Would_wait l a b =
     OfTicket id l (λ t. (covers t.mode mode ≡ false) × ShowsStep a b (MeetsBlocked t.place a.me.0.number mode))
@@ -237,7 +237,7 @@ pub record ShowsBy (call : Call) (answer : Answer) (l : Lists) (a b : SessionVie
   pub table : b.table ≡ a.table
   pub sessions : b.sessions ≡ a.sessions
   pub refused : IfSome (own_fault call l) (λ why. (answer ≡ Refused why) × MakesNoStep a b)
-  pub did : Does (done_by call answer l.tickets) a.me b.me
+  pub did : Does (done_by call answer (tickets_of l)) a.me b.me
   pub settled : SettlesSo call answer l a b
   pub told : KeepsTold call a b
   pub steps : StepsSo call a b

@@ -3,6 +3,7 @@ ghost use Rattle.std.specs.Prelude.{IfOk, Some, ◌≡◌};
 ghost use Rattle.mdl_key.specs.Refusals.{RefusesJust};
 ghost use Rattle.mdl_calls.specs.Words.{Clone_ticket, cloned};
 ghost use Rattle.mdl_session_laws.specs.SessionJoins.{Joins};
+ghost use Rattle.mdl_steps.specs.Interleavings.{interleaved};
 ghost use Rattle.mdl_visits.specs.Numbers.{numbered};
 ghost use Rattle.mdl_shared.specs.Modes.{clone_fault};
 ghost use Rattle.mdl_shared.specs.SessionViews.{space_of};
@@ -43,8 +44,8 @@ impl<R: Wait> Session<R> {
 impl Member {
     // The ticket of a number, where a second one in a mode may be made of it.
     fn clonable(&self, id: TicketId, mode: Mode) -> Result<Own, SpaceError>
-        ensures found { IfOk result (λ held. numbered id self.now.tickets.own ≡ Some held) }
-        ensures just { RefusesJust (clone_fault (numbered id self.now.tickets.own) self.now.asks mode self.now.known.known self.now.next) result }
+        ensures found { IfOk result (λ held. numbered id (interleaved self.now.tickets.slow self.now.tickets.fast) ≡ Some held) }
+        ensures just { RefusesJust (clone_fault (numbered id (interleaved self.now.tickets.slow self.now.tickets.fast)) self.now.asks mode self.now.known.known self.now.next) result }
     {
         let Some(held) = self.tickets.get(id) else {
             return Err(SpaceError::NotHeld);

@@ -3,6 +3,7 @@ ghost use Rattle.std.specs.Prelude.{IfOk, Some, ◌≡◌};
 ghost use Rattle.mdl_key.specs.Refusals.{RefusesJust};
 ghost use Rattle.mdl_calls.specs.Words.{Downgrade, done};
 ghost use Rattle.mdl_session_laws.specs.SessionJoins.{Joins};
+ghost use Rattle.mdl_steps.specs.Interleavings.{interleaved};
 ghost use Rattle.mdl_visits.specs.Numbers.{numbered};
 ghost use Rattle.mdl_shared.specs.Modes.{downgrade_fault};
 ghost use Rattle.mdl_shared.specs.SessionViews.{space_of};
@@ -35,8 +36,8 @@ impl<R: Wait> Session<R> {
 impl Member {
     // The ticket of a number, where it may have a weaker mode.
     fn downgradable(&self, id: TicketId, mode: Mode) -> Result<Own, SpaceError>
-        ensures found { IfOk result (λ held. numbered id self.now.tickets.own ≡ Some held) }
-        ensures just { RefusesJust (downgrade_fault (numbered id self.now.tickets.own) mode self.now.known.known) result }
+        ensures found { IfOk result (λ held. numbered id (interleaved self.now.tickets.slow self.now.tickets.fast) ≡ Some held) }
+        ensures just { RefusesJust (downgrade_fault (numbered id (interleaved self.now.tickets.slow self.now.tickets.fast)) mode self.now.known.known) result }
     {
         let Some(held) = self.tickets.get(id) else {
             return Err(SpaceError::NotHeld);

@@ -29,7 +29,7 @@ pub(crate) struct Member {
     /// How many sessions the space has.
     pub(crate) sessions: usize,
     ghost lawful: { ∥ IsMember (session_at seat sessions) ∥₁ },
-    ghost lists: { record { tickets = tickets.own; known = known.known; next = next; asks = asks; waits = waits } ≡ lists_seen seat.me.0 },
+    ghost lists: { record { slow = tickets.slow; fast = tickets.fast; known = known.known; next = next; asks = asks; waits = waits } ≡ lists_seen seat.me.0 },
     ghost room: { ForSome asks (λ ask. HasRoom ask.place tickets) },
 }
 
@@ -41,7 +41,7 @@ impl Member {
         requires words { seat.table.words ≡ word_count seat.table.slots sessions }
         requires fresh { seat.me ≡ (enrolled_seat seat.table seat.me.0.number).me }
         ensures made { (result.seat ≡ seat) × (result.sessions ≡ sessions) }
-        ensures nothing { (result.tickets.own ≡ []) × (result.asks ≡ None) }
+        ensures nothing { (result.tickets.slow ≡ []) × (result.tickets.fast ≡ []) × (result.asks ≡ None) }
     {
         Member {
             seat,

@@ -3,6 +3,7 @@ ghost use Rattle.std.specs.Prelude.{IfOk, Some, ◌≡◌};
 ghost use Rattle.mdl_key.specs.Refusals.{RefusesJust};
 ghost use Rattle.mdl_calls.specs.Words.{Merge, done};
 ghost use Rattle.mdl_session_laws.specs.SessionJoins.{Joins};
+ghost use Rattle.mdl_steps.specs.Interleavings.{interleaved};
 ghost use Rattle.mdl_visits.specs.Numbers.{numbered};
 ghost use Rattle.mdl_shared.specs.Modes.{may_merge, merge_fault};
 ghost use Rattle.mdl_shared.specs.SessionViews.{space_of};
@@ -35,8 +36,8 @@ impl<R: Wait> Session<R> {
 impl Member {
     // The tickets of two numbers, where the first may take the mode of the second.
     fn mergeable(&self, old: TicketId, new: TicketId) -> Result<(Own, Own), SpaceError>
-        ensures found { IfOk result (λ two. (numbered old self.now.tickets.own ≡ Some two.0) × (numbered new self.now.tickets.own ≡ Some two.1)) }
-        ensures just { RefusesJust (merge_fault (numbered old self.now.tickets.own) (numbered new self.now.tickets.own) self.now.asks) result }
+        ensures found { IfOk result (λ two. (numbered old (interleaved self.now.tickets.slow self.now.tickets.fast) ≡ Some two.0) × (numbered new (interleaved self.now.tickets.slow self.now.tickets.fast) ≡ Some two.1)) }
+        ensures just { RefusesJust (merge_fault (numbered old (interleaved self.now.tickets.slow self.now.tickets.fast)) (numbered new (interleaved self.now.tickets.slow self.now.tickets.fast)) self.now.asks) result }
     {
         let Some(kept) = self.tickets.get(old) else {
             return Err(SpaceError::NotHeld);

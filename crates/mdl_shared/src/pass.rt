@@ -7,7 +7,7 @@ use crate::member::Member;
 #[derive(Drop)]
 pub struct Pass {
     pub(crate) member: Member,
-    ghost empty: { length member.tickets.own ≡ 0 },
+    ghost empty: { (length member.tickets.slow ≡ 0) × (length member.tickets.fast ≡ 0) },
     ghost unwaited: { member.asks ≡ None },
 }
 

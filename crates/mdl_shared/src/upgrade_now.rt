@@ -3,6 +3,7 @@ ghost use Rattle.std.specs.Prelude.{IfOk, Some, ◌≡◌};
 ghost use Rattle.mdl_key.specs.Refusals.{RefusesJust};
 ghost use Rattle.mdl_calls.specs.Words.{Upgrade_now, upgrade_tried};
 ghost use Rattle.mdl_session_laws.specs.SessionJoins.{Joins};
+ghost use Rattle.mdl_steps.specs.Interleavings.{interleaved};
 ghost use Rattle.mdl_visits.specs.Numbers.{numbered};
 ghost use Rattle.mdl_shared.specs.Members.{kind_known};
 ghost use Rattle.mdl_shared.specs.SessionViews.{space_of};
@@ -42,8 +43,8 @@ impl<R: Wait> Session<R> {
 impl Member {
     // The ticket of a number, where it has a mode or may be upgraded to it.
     fn upgradable(&self, id: TicketId, mode: Mode) -> Result<Own, SpaceError>
-        ensures found { IfOk result (λ held. numbered id self.now.tickets.own ≡ Some held) }
-        ensures just { RefusesJust (upgrade_fault mode self.now.known.known self.now.asks (numbered id self.now.tickets.own)) result }
+        ensures found { IfOk result (λ held. numbered id (interleaved self.now.tickets.slow self.now.tickets.fast) ≡ Some held) }
+        ensures just { RefusesJust (upgrade_fault mode self.now.known.known self.now.asks (numbered id (interleaved self.now.tickets.slow self.now.tickets.fast))) result }
     {
         let Some(held) = self.tickets.get(id) else {
             return Err(SpaceError::NotHeld);

@@ -1,7 +1,6 @@
 -- The session may wish so, and what became of the wish is told by the visit.
-use Rattle.std.proofs.Common.{rules, ◌≡◌, ◌+◌, ℕ, Option, Some, Err, Ok, inl, refl, sym, ap, subst, ◌∙◌, arith}
+use Rattle.std.proofs.Common.{Err, Ok, Option, Some, [], ap, arith, inl, refl, rules, subst, sym, ℕ, ◌+◌, ◌∙◌, ◌∷◌, ◌≡◌}
 use Rattle.std.specs.Option.{option_map_or}
-use Rattle.std.proofs.lemmas.List.{nil_from_length}
 use Rattle.mdl_calls.specs.Words.{Begin_wait}
 use Rattle.mdl_steps.specs.declared.view.Ask.{Ask}
 use Rattle.mdl_steps.specs.declared.view.Met.{Met}
@@ -10,14 +9,16 @@ use Rattle.mdl_visits.specs.WaitOpenings.{MeetsOpening}
 use Rattle.mdl_shared.specs.Passes.{view_of}
 use Rattle.mdl_shared.specs.SessionViews.{Lists, SessionView, lists_seen}
 use Rattle.mdl_shared.specs.TicketLists.{HasRoom}
-use Rattle.mdl_shared.proofs.Members.{done-nothing, done-order, fault-seen, kept, lists-done, visited}
+use Rattle.mdl_steps.specs.declared.deed.Deed.TheVariants.{Gain}
+use Rattle.mdl_shared.proofs.MemberFacts.{no-fast}
+use Rattle.mdl_shared.proofs.Members.{done-nothing, done-order, fault-seen, kept, lists-done, lists-visited, visited}
 use Rattle.mdl_shared.proofs.Props.{member}
 use Rattle.mdl_shared.proofs.Refusals.{own-shows}
 use Rattle.mdl_shared.proofs.SameSpace.{same-stays}
 use Rattle.mdl_shared.proofs.WaitSteps.{still-member}
 use Rattle.mdl_shared.proofs.WishCalls.{begun, begun-joins, begun-order, begin-granted, begin-refused, begin-unfit, refusal-causes, untold-wish}
 use Rattle.mdl_shared.proofs.WishShows.{begin-granted-shows, begun-shows}
-use Rattle.mdl_shared.proofs.Wishing.{below-seen, gained-seen, may-wish, unasked, waiting-lists}
+use Rattle.mdl_shared.proofs.Wishing.{below-seen, gained-by, gained-seen, may-wish, none-seen, unasked, waiting-lists}
 use Rattle.mdl_shared.proofs.session.Session.begin_wait.Goals as goal
 
 pub returns-in_err-kind : goal.returns-in_err-kind
@@ -50,7 +51,7 @@ begin_wait-requires g c =
     let waits = ap (λ (l : Lists). l.waits) m.lists in record {
       at = may.at;
       wish = may.wish;
-      unfast = nil_from_length m.seat.me.0.fast (member m).slow;
+      unfast = no-fast (member m);
       number = ap (λ (l : Lists). l.next) m.lists;
       wait = (ap (λ (n : ℕ). n + 1) waits, omega (arith, may.below, (member m).fewer.0, waits));
     }
@@ -58,10 +59,11 @@ begin_wait-requires g c =
 pub invariant_of-member-in-Err-1 : goal.invariant_of-member-in-Err-1
 invariant_of-member-in-Err-1 g c =
     let m = c.self.inside.member in
-    let done = visited m.seat c.begin_wait.new.seat m.sessions c.in-Err.ensures.unchanged in
+    let visit = c.in-Err.ensures.unchanged in
+    let done = visited m.seat c.begin_wait.new.seat m.sessions refl visit in
     record {
       lawful = ∣ still-member done (member m) ∣₁;
-      lists = lists-done m done c.reserve.ensures.same;
+      lists = lists-done m c.args.place [] (lists-visited visit) c.reserve.ensures.same.0 c.reserve.ensures.same.1;
       room = unasked m (may-wish m c.args.place c.in_ok-kind.kind c.args.mode c.in_ok-kind.ensures).wish.idle _;
     }
 
@@ -70,13 +72,16 @@ returns-in-Err-clause-joined g c =
     let m = c.self.inside.member in
     let may = may-wish m c.args.place c.in_ok-kind.kind c.args.mode c.in_ok-kind.ensures in
     rw (← c.self.view_is) (
-    begin-refused (member m) c.args.place c.args.mode may.clear (done-nothing (visited m.seat c.begin_wait.new.seat m.sessions c.in-Err.ensures.unchanged))
+    begin-refused (member m) c.args.place c.args.mode may.clear (done-nothing (visited m.seat c.begin_wait.new.seat m.sessions refl c.in-Err.ensures.unchanged))
     (refusal-causes c.in-Err.cause c.refusal.result c.refusal.ensures.full c.refusal.ensures.memory c.in-Err.ensures.refused))
 
 -- ---- the ticket was granted
 
 pub push_reserved-requires-clause-below : goal.push_reserved-requires-clause-below
-push_reserved-requires-clause-below g c = below-seen c.self.inside.member c.reserve.new.self.own c.reserve.ensures.same
+push_reserved-requires-clause-below g c = below-seen c.self.inside.member c.reserve.new.self.slow c.reserve.new.self.fast c.reserve.ensures.same
+
+pub push_reserved-requires-clause-slow : goal.push_reserved-requires-clause-slow
+push_reserved-requires-clause-slow g c = none-seen c.self.inside.member c.args.place c.reserve.new.self.fast c.reserve.ensures.same.1
 
 pub overflow_add-member : goal.overflow_add-member
 overflow_add-member g c =
@@ -88,10 +93,13 @@ pub invariant_of-member-in-Ok-Granted : goal.invariant_of-member-in-Ok-Granted
 invariant_of-member-in-Ok-Granted g c =
     let m = c.self.inside.member in
     let may = may-wish m c.args.place c.in_ok-kind.kind c.args.mode c.in_ok-kind.ensures in
-    let done = visited m.seat c.begin_wait.new.seat m.sessions (c.begin_wait.ensures.granted (c.in-Ok-Granted.is ∙ ap Ok c.in-Ok-Granted.field-0-is)).0 in
+    let visit = (c.begin_wait.ensures.granted (c.in-Ok-Granted.is ∙ ap Ok c.in-Ok-Granted.field-0-is)).0 in
+    let done = gained-by m c.begin_wait.new.seat c.args.place c.args.mode visit in
     record {
       lawful = ∣ kept (member m) (done-order done (member m) (inl may.wish.idle)) (begin-granted (member m) c.args.place c.args.mode may.clear (ap (λ (l : Lists). l.next) m.lists) done) ∣₁;
-      lists = lists-done m done (gained-seen c.args.place m.next c.args.mode m.tickets.own c.reserve.new.self.own c.push_reserved.new.self.own c.reserve.ensures.same c.push_reserved.ensures.gained);
+      lists = lists-done m c.args.place (Gain m.next c.args.mode ∷ []) (lists-visited visit)
+          (gained-seen c.args.place m.next c.args.mode m.tickets.slow c.reserve.new.self.slow c.push_reserved.new.self.slow c.reserve.ensures.same.0 c.push_reserved.ensures.gained)
+          (c.push_reserved.ensures.same ∙ c.reserve.ensures.same.1);
       room = unasked m may.wish.idle _;
     }
 
@@ -101,7 +109,7 @@ returns-in-Ok-Granted g c =
     let may = may-wish m c.args.place c.in_ok-kind.kind c.args.mode c.in_ok-kind.ensures in
     let went = c.begin_wait.ensures.granted (c.in-Ok-Granted.is ∙ ap Ok c.in-Ok-Granted.field-0-is) in
     rw (← c.self.view_is) (record {
-      joined = begin-granted (member m) c.args.place c.args.mode may.clear (ap (λ (l : Lists). l.next) m.lists) (visited m.seat c.begin_wait.new.seat m.sessions went.0);
+      joined = begin-granted (member m) c.args.place c.args.mode may.clear (ap (λ (l : Lists). l.next) m.lists) (gained-by m c.begin_wait.new.seat c.args.place c.args.mode went.0);
       shown = begin-granted-shows went.0.0 refl may.clear went.0.1 went.1;
     })
 
@@ -113,8 +121,8 @@ invariant_of-member-2 g c =
     let may = may-wish m c.args.place c.in_ok-kind.kind c.args.mode c.in_ok-kind.ensures in
     let now = begun m.seat c.begin_wait.new.seat m.sessions (c.begin_wait.ensures.waiting (c.in-Ok-Waiting.is ∙ ap Ok c.in-Ok-Waiting.field-0-is)).0 in
     record {
-      lawful = ∣ kept (member m) (begun-order (member m) may.clear now) (begun-joins (member m) may.clear now refl) ∣₁;
-      lists = waiting-lists m c.args.place c.args.mode c.reserve.new.self.own c.reserve.ensures.same ∙ sym (ap (λ (x : SessionView). lists_seen x.me.0) now);
+      lawful = ∣ kept (member m) (begun-order (member m) may.clear now (no-fast (member m))) (begun-joins (member m) may.clear now refl) ∣₁;
+      lists = waiting-lists m c.args.place c.args.mode c.reserve.new.self.slow c.reserve.new.self.fast c.reserve.ensures.same ∙ sym (ap (λ (x : SessionView). lists_seen x.me.0) now);
       room = λ ask asks. let place : c.args.place ≡ ask.place = ap (λ (o : Option Ask). option_map_or (λ (a : Ask). a.place) o 0) asks in subst (λ (p : ℕ). HasRoom p c.reserve.new.self) place (search rules);
     }
 

@@ -1,13 +1,13 @@
 -- What stands under an exclusive ticket is changed, or the change is refused.
-use Rattle.std.proofs.Common.{rules, ◌≡◌, Bool, false, Some, None, if◌then◌else◌, inr, refl, ap, ◌∙◌}
+use Rattle.std.proofs.Common.{Bool, None, Some, [], ap, false, if◌then◌else◌, inr, refl, rules, ◌∙◌, ◌≡◌}
 use Rattle.mdl_key.specs.declared.mode.Mode.{Mode}
 use Rattle.mdl_key.specs.declared.mode.Mode.TheVariants.{X}
 use Rattle.mdl_key.specs.Words.{same_mode}
 use Rattle.mdl_calls.specs.declared.space_error.SpaceError.TheVariants.{NotExclusive, NotHeld}
 use Rattle.mdl_visits.specs.Redefinitions.{exclusive_fault}
 use Rattle.mdl_shared.specs.SessionViews.{session_at}
-use Rattle.mdl_shared.proofs.MemberFacts.{apart, may-visit, ticket-known}
-use Rattle.mdl_shared.proofs.Members.{done-nothing, done-order, held-seen, kept, lists-done, room-kept, visited}
+use Rattle.mdl_shared.proofs.MemberFacts.{held-slow, may-visit, slow-apart, ticket-known}
+use Rattle.mdl_shared.proofs.Members.{done-nothing, done-order, held-seen, kept, lists-done, lists-visited, room-kept, visited}
 use Rattle.mdl_shared.proofs.Props.{member}
 use Rattle.mdl_shared.proofs.ReadCalls.{change-joins, lists-noted, noted-by, noted-order, unchanged-joins, unchanged-shows, unfit-joins}
 use Rattle.mdl_shared.proofs.session.Session.change_definition.Goals as goal
@@ -33,7 +33,7 @@ change_definition-requires g c =
     let t = c.in-Some.held in
     let its = held-seen m c.args.id c.get.result c.get.ensures.found ∙ c.in-Some.is in
     let own : t.mode ≡ X = search (rules, c.ne.ensures, c.if-ne.false) in
-    record { at = may-visit is t.place (ticket-known is c.args.id t its); apart = apart is; held = (c.args.id, t, its, refl, own) }
+    record { at = may-visit is t.place (ticket-known is c.args.id t its); apart = slow-apart is; held = (c.args.id, t, held-slow is c.args.id t its, refl, own) }
 
 pub invariant_of-member : goal.invariant_of-member
 invariant_of-member g c =
@@ -43,9 +43,10 @@ invariant_of-member g c =
     let its = held-seen m c.args.id c.get.result c.get.ensures.found ∙ c.in-Some.is in
     let own : t.mode ≡ X = search (rules, c.ne.ensures, c.if-ne.false) in
     let did = c.in-Err.ensures in
-    let done = visited m.seat c.change_definition.new.seat m.sessions did.unchanged in
+    let visit = did.unchanged in
+    let done = visited m.seat c.change_definition.new.seat m.sessions refl visit in
     let joins = unchanged-joins is c.args.id t its (session_at c.change_definition.new.seat m.sessions) c.args.change.now (ap (λ (mode : Mode). same_mode mode X) own) (done-nothing done) c.in-Err.why did.refused in
-    record { lawful = ∣ kept is (done-order done is (inr refl)) joins ∣₁; lists = lists-done m done refl; room = m.room }
+    record { lawful = ∣ kept is (done-order done is (inr refl)) joins ∣₁; lists = lists-done m t.place [] (lists-visited visit) refl refl; room = m.room }
 
 pub returns-in-Err : goal.returns-in-Err
 returns-in-Err g c =
@@ -57,7 +58,7 @@ returns-in-Err g c =
     let exclusive = ap (λ (mode : Mode). same_mode mode X) own in
     let did = c.in-Err.ensures in
     let s′ = session_at c.change_definition.new.seat m.sessions in
-    let done = visited m.seat c.change_definition.new.seat m.sessions did.unchanged in
+    let done = visited m.seat c.change_definition.new.seat m.sessions refl did.unchanged in
     rw (c.from.ensures, ← c.self.view_is) (record {
       joined = unchanged-joins is c.args.id t its s′ c.args.change.now exclusive (done-nothing done) c.in-Err.why did.refused;
       shown = unchanged-shows is c.args.id t its s′ c.args.change.now exclusive did.unchanged.0 refl did.unchanged.1 c.in-Err.why did.refused;

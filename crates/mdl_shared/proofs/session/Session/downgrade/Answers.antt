@@ -1,12 +1,15 @@
 -- The ticket has the weaker mode, or it can't have it.
-use Rattle.std.proofs.Common.{rules, ◌≡◌, None, Err, Some, inr, refl}
+use Rattle.std.proofs.Common.{Err, None, Some, [], inr, refl, rules, ◌∷◌, ◌≡◌}
 use Rattle.mdl_calls.specs.Words.{Downgrade}
 use Rattle.mdl_visits.specs.Numbers.{numbered}
 use Rattle.mdl_shared.specs.Passes.{view_of}
+use Rattle.mdl_shared.specs.SessionViews.{tickets_seen}
+use Rattle.mdl_steps.specs.declared.deed.Deed.TheVariants.{Alter}
+use Rattle.mdl_shared.proofs.MemberFacts.{alters-slow, spared}
 use Rattle.mdl_shared.proofs.Faults.{just-done, just-refused}
 use Rattle.mdl_shared.proofs.Fitting.{fit_there}
 use Rattle.mdl_shared.proofs.HeldTickets.{holds-ticket}
-use Rattle.mdl_shared.proofs.Members.{done-order, fault-seen, kept, lists-done, rescheduled, room-kept}
+use Rattle.mdl_shared.proofs.Members.{done-order, fault-seen, kept, lists-done, lists-rescheduled, rescheduled, room-kept, unnumbered}
 use Rattle.mdl_shared.proofs.Props.{member}
 use Rattle.mdl_shared.proofs.Refusals.{own-shows}
 use Rattle.mdl_shared.proofs.TicketCalls.{downgrade-unfit, downgraded}
@@ -31,14 +34,20 @@ downgrade-requires g c =
     let t = c.in_ok-held.held in
     let held = holds-ticket m c.args.id t c.in_ok-held.ensures.found in
     let clear = fault-seen m (Downgrade m.seat.me.0.number c.args.id c.args.mode) None (just-done _ _ c.in_ok-held.ensures.just) in
-    let may = downgrade-passed c.args.mode m.seat.me.0.known (numbered c.args.id m.seat.me.0.slow) t held.its clear in
+    let may = downgrade-passed c.args.mode m.seat.me.0.known (numbered c.args.id (tickets_seen m.seat.me.0)) t held.its clear in
     record {
       at = held.at;
       unwaited = held.unwaited;
-      held = held.own;
+      held = held.slow;
       fits = fit_there t.place c.args.mode m.seat.me.0.known may.1;
       weaker = may.0;
     }
+
+pub set_mode-requires : goal.set_mode-requires
+set_mode-requires g c =
+    let m = c.self.inside.member in
+    let t = c.in_ok-held.held in
+    record { slow = unnumbered m t.number (spared (member m) t.number t (holds-ticket m c.args.id t c.in_ok-held.ensures.found).slow) }
 
 pub invariant_of-member : goal.invariant_of-member
 invariant_of-member g c =
@@ -48,11 +57,12 @@ invariant_of-member g c =
     let held = holds-ticket m c.args.id t c.in_ok-held.ensures.found in
     let clear = fault-seen m (Downgrade m.seat.me.0.number c.args.id c.args.mode) None (just-done _ _ c.in_ok-held.ensures.just) in
     let did = c.downgrade.ensures in
-    let done = rescheduled m.seat c.downgrade.new.seat m.sessions did.downgraded in
+    let visit = did.downgraded in
+    let done = rescheduled m.seat c.downgrade.new.seat m.sessions (alters-slow is t.place t.number c.args.mode t held.slow) visit in
     record {
       lawful = ∣ kept is (done-order done is (inr refl))
           (downgraded m.seat c.downgrade.new.seat m.sessions c.args.id c.args.mode t is held clear did.downgraded did.step).0 ∣₁;
-      lists = lists-done m done c.set_mode.ensures.changed;
+      lists = lists-done m t.place (Alter t.number c.args.mode ∷ []) (lists-rescheduled visit) c.set_mode.ensures.changed.0 c.set_mode.ensures.changed.1;
       room = λ ask asks. room-kept m.tickets c.set_mode.new.self c.set_mode.ensures.room (m.room ask asks);
     }
 

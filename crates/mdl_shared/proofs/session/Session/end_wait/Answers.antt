@@ -1,20 +1,20 @@
 -- The wait is read, and ends where it is settled.
-use Rattle.std.proofs.Common.{[], ◌∷◌, List, None, Some, is_some, refl, sym, ap, subst, ◌∙◌, arith}
+use Rattle.std.proofs.Common.{[], ◌∷◌, None, Some, is_some, refl, sym, ap, subst, ◌∙◌, arith}
 use Rattle.mdl_calls.specs.declared.answers.Settled.{Settled}
 use Rattle.mdl_steps.specs.declared.deed.Deed.TheVariants.{Gain}
-use Rattle.mdl_steps.specs.declared.view.Own.{Own}
 use Rattle.mdl_steps.specs.Deeds.{owned}
 use Rattle.mdl_steps.specs.Plays.{Mine}
 use Rattle.mdl_steps.specs.Seats.{IsPlace, IsRising}
 use Rattle.mdl_steps.specs.SeatStates.{SeatState}
 use Rattle.mdl_visits.specs.Polls.{state_of}
 use Rattle.mdl_shared.specs.Passes.{view_of}
-use Rattle.mdl_shared.specs.SessionViews.{Lists, SessionView, lists_seen, session_at, settled_of}
+use Rattle.mdl_shared.specs.SessionViews.{Lists, SessionView, lists_seen, session_at, settled_of, tickets_of}
 use Rattle.mdl_shared.specs.Waitings.{are_below}
+use Rattle.mdl_steps.specs.Cells.{own_at}
 use Rattle.mdl_shared.proofs.EndCalls.{asked-below, asks-nothing, granted-so, idle-joins, lost-order, lost-so, won-order}
 use Rattle.mdl_shared.proofs.EndSteps.{ended-lost, ended-won, lost-end, told-end, unsettled-end, won-end}
 use Rattle.mdl_shared.proofs.MemberFacts.{awaited, may-visit}
-use Rattle.mdl_shared.proofs.Members.{done-lists, kept}
+use Rattle.mdl_shared.proofs.Members.{kept}
 use Rattle.mdl_shared.proofs.Props.{member}
 use Rattle.mdl_shared.proofs.PollCalls.{polls}
 use Rattle.mdl_shared.proofs.WaitSteps.{session-there, still-member}
@@ -39,10 +39,10 @@ invariant_of-member g c =
     let did = c.read_wait.ensures in
     let asks = ap (λ (l : Lists). l.asks) (sym m.lists) ∙ c.in-Some.is in
     let now = ap (λ (x : SeatState). session_at x m.sessions) did.made in
-    let done = (polls (member m) (ap is_some asks) c.number-session.result c.read_wait.result.0 c.number-session.ensures did.own now).done in
+    let watched = (polls (member m) (ap is_some asks) c.number-session.result c.read_wait.result.0 c.number-session.ensures did.own now) in
     record {
-      lawful = ∣ still-member done (member m) ∣₁;
-      lists = m.lists ∙ sym (done-lists done);
+      lawful = ∣ still-member watched.done (member m) ∣₁;
+      lists = m.lists ∙ sym watched.lists;
       room = m.room;
     }
 
@@ -133,7 +133,8 @@ push_reserved-requires g c =
     let ask = c.in-Some.ask in
     record {
       room = m.room ask c.in-Some.is;
-      below = ap (λ (l : Lists). are_below ask.number l.tickets) m.lists ∙ asked-below (member m) ask (ap (λ (l : Lists). l.asks) (sym m.lists) ∙ c.in-Some.is);
+      below = ap (λ (l : Lists). are_below ask.number (tickets_of l)) m.lists ∙ asked-below (member m) ask (ap (λ (l : Lists). l.asks) (sym m.lists) ∙ c.in-Some.is);
+      slow = ap (λ (l : Lists). own_at ask.place l.fast) m.lists ∙ ap (own_at ask.place) ((member m).unfast ask (ap (λ (l : Lists). l.asks) (sym m.lists) ∙ c.in-Some.is));
     }
 
 pub invariant_of-member-2 : goal.invariant_of-member-2
@@ -149,8 +150,8 @@ invariant_of-member-2 g c =
     let h = won-end is ask asks c.number-session.result c.read_wait.result.0 c.number-session.ensures c.read_wait.ensures.own now one some (granted-so one (sym c.lost_end.ensures ∙ c.in_default-lost_end.is)) (_ ∷ [], ap (λ (x : SeatState). x.me.0.log) c.end_granted.ensures.made, refl) ended.0 ended.1 in
     record {
       lawful = ∣ kept is (won-order is ask asks ended.0) h.0 ∣₁;
-      lists = ap (λ (ts : List Own). record { tickets = ts; known = m.known.known; next = m.next; asks = None; waits = m.waits }) c.push_reserved.ensures.gained
-          ∙ ap (λ (l : Lists). record l { tickets = owned ask.place (Gain ask.number ask.mode) l.tickets; asks = None }) m.lists
+      lists = (λ i. record { slow = c.push_reserved.ensures.gained i; fast = c.push_reserved.ensures.same i; known = m.known.known; next = m.next; asks = None; waits = m.waits })
+          ∙ ap (λ (l : Lists). record l { slow = owned ask.place (Gain ask.number ask.mode) l.slow; asks = None }) m.lists
           ∙ sym (ap (λ (x : SessionView). lists_seen x.me.0) ended.0.now);
       room = asks-nothing _;
     }

@@ -6,7 +6,6 @@ use Rattle.mdl_steps.specs.WaitSeats.{IsSession}
 use Rattle.mdl_shared.specs.Passes.{view_of}
 use Rattle.mdl_shared.specs.SessionViews.{SessionView, session_at}
 use Rattle.mdl_shared.proofs.KillCalls.{kill-closed, kill-either, kill-ended, nobody-killed, target-there}
-use Rattle.mdl_shared.proofs.Members.{done-lists}
 use Rattle.mdl_shared.proofs.Props.{member}
 use Rattle.mdl_shared.proofs.WaitSteps.{still-member}
 use Rattle.mdl_shared.proofs.session.Session.kill.Goals as goal
@@ -25,11 +24,11 @@ pub invariant_of-member : goal.invariant_of-member
 invariant_of-member g c =
     let m = c.self.inside.member in
     let did = c.read_wait.ensures in
-    let done = (kill-closed c.args.target c.args.number c.read_wait.result.0 (sym c.is_session.ensures ∙ c.if-not-is_session.false) did.own
-    (ap (λ (x : SeatState). session_at x m.sessions) did.made) (c.is_open.ensures.other c.if-not-is_open.true)).0.done in
+    let watched = (kill-closed c.args.target c.args.number c.read_wait.result.0 (sym c.is_session.ensures ∙ c.if-not-is_session.false) did.own
+    (ap (λ (x : SeatState). session_at x m.sessions) did.made) (c.is_open.ensures.other c.if-not-is_open.true)).0 in
     record {
-      lawful = ∣ still-member done (member m) ∣₁;
-      lists = m.lists ∙ sym (done-lists done);
+      lawful = ∣ still-member watched.done (member m) ∣₁;
+      lists = m.lists ∙ sym watched.lists;
       room = m.room;
     }
 
@@ -54,11 +53,11 @@ invariant_of-member-2 g c =
     let m = c.self.inside.member in
     let at : SeatState → SessionView = λ seat. session_at seat m.sessions in
     let did = c.settle_wait.ensures in
-    let done = (kill-either (view_of m) (at c.read_wait.new.self) (at c.settle_wait.new.self) c.args.target c.args.number c.read_wait.result.0 c.settle_wait.result.0
-    (sym c.is_session.ensures ∙ c.if-not-is_session.false) c.read_wait.ensures.own (ap at c.read_wait.ensures.made) did.own (λ hit. ap at (did.settled hit)) (λ miss. ap at (did.missed miss))).done in
+    let watched = (kill-either (view_of m) (at c.read_wait.new.self) (at c.settle_wait.new.self) c.args.target c.args.number c.read_wait.result.0 c.settle_wait.result.0
+    (sym c.is_session.ensures ∙ c.if-not-is_session.false) c.read_wait.ensures.own (ap at c.read_wait.ensures.made) did.own (λ hit. ap at (did.settled hit)) (λ miss. ap at (did.missed miss))) in
     record {
-      lawful = ∣ still-member done (member m) ∣₁;
-      lists = m.lists ∙ sym (done-lists done);
+      lawful = ∣ still-member watched.done (member m) ∣₁;
+      lists = m.lists ∙ sym watched.lists;
       room = m.room;
     }
 

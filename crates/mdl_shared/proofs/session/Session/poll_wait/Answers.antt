@@ -3,7 +3,6 @@ use Rattle.std.proofs.Common.{true, false, not, sym, ap, ◌∙◌}
 use Rattle.mdl_steps.specs.SeatStates.{SeatState}
 use Rattle.mdl_shared.specs.Passes.{view_of}
 use Rattle.mdl_shared.specs.SessionViews.{session_at, settled_of}
-use Rattle.mdl_shared.proofs.Members.{done-lists}
 use Rattle.mdl_shared.proofs.Props.{member}
 use Rattle.mdl_shared.proofs.PollCalls.{poll-pending, poll-refused, poll-settled, polls}
 use Rattle.mdl_shared.proofs.WaitSteps.{session-there, still-member, waits-seen}
@@ -26,10 +25,10 @@ invariant_of-self-inside g c =
     let m = c.self.inside.member in
     let did = c.read_wait-word.ensures in
     let now = ap (λ (x : SeatState). session_at x m.sessions) did.made in
-    let done = (polls (member m) (waits-seen m true (c.is_none.ensures ∙ ap not c.if-is_none.false)) c.number-session.result c.read_wait-word.result.0 c.number-session.ensures did.own now).done in
+    let watched = (polls (member m) (waits-seen m true (c.is_none.ensures ∙ ap not c.if-is_none.false)) c.number-session.result c.read_wait-word.result.0 c.number-session.ensures did.own now) in
     record {
-      lawful = ∣ still-member done (member m) ∣₁;
-      lists = m.lists ∙ sym (done-lists done);
+      lawful = ∣ still-member watched.done (member m) ∣₁;
+      lists = m.lists ∙ sym watched.lists;
       room = m.room;
     }
 

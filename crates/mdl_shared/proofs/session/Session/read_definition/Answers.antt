@@ -1,11 +1,14 @@
 -- What stands under a ticket is read, and noted under each ticket of its place.
-use Rattle.std.proofs.Common.{false, inr, is_some, refl, ap, ◌∙◌}
+use Rattle.std.proofs.Common.{[], ap, false, inr, is_some, refl, ◌∙◌}
 use Rattle.mdl_calls.specs.declared.space_error.SpaceError.TheVariants.{NotHeld}
 use Rattle.mdl_calls.specs.Words.{Read_definition}
 use Rattle.mdl_visits.proofs.Doing.{does_learns}
 use Rattle.mdl_shared.specs.Passes.{view_of}
-use Rattle.mdl_shared.proofs.MemberFacts.{may-visit, speaks, ticket-known, ticket-there, unwaited}
-use Rattle.mdl_shared.proofs.Members.{done-nothing, done-order, held-seen, kept, lists-done, room-kept, visited}
+use Rattle.mdl_shared.specs.SessionViews.{tickets_seen}
+use Rattle.mdl_visits.specs.Visits.{Visits}
+use Rattle.mdl_steps.specs.SeatStates.{AtItsTable}
+use Rattle.mdl_shared.proofs.MemberFacts.{held-slow, may-visit, slow-there, speaks, ticket-known, unwaited}
+use Rattle.mdl_shared.proofs.Members.{done-nothing, done-order, held-seen, kept, lists-done, lists-visited, room-kept, visited}
 use Rattle.mdl_shared.proofs.Props.{member}
 use Rattle.mdl_shared.proofs.ReadCalls.{lists-noted, noted-by, noted-order, read-joins, read-shows, unread-joins}
 use Rattle.mdl_shared.proofs.SameSpace.{refused, same-stays}
@@ -19,7 +22,7 @@ returns-in_default-clause-joined g c =
     let none = held-seen m c.args.id c.get.result c.get.ensures.found ∙ c.in_default.is in
     rw (← c.self.view_is)
     (refused s s (Read_definition s.me.0.number c.args.id) NotHeld (same-stays s) (speaks (member m)) refl refl
-    (holds-told c.args.id s.me.0.slow false (ap is_some none)) (λ state how is. cc) tt)
+    (holds-told c.args.id (tickets_seen s.me.0) false (ap is_some none)) (λ state how is. cc) tt)
 
 pub read_definition-requires : goal.read_definition-requires
 read_definition-requires g c =
@@ -35,10 +38,11 @@ invariant_of-member g c =
     let is = member m in
     let its = held-seen m c.args.id c.get.result c.get.ensures.found ∙ c.in-Some.is in
     let did = c.in_default-read_definition.ensures in
-    let done = visited m.seat c.read_definition.new.seat m.sessions (did.quiet.0, did.unchanged) in
+    let visit : AtItsTable m.seat c.read_definition.new.seat (Visits c.in-Some.held.place []) = (did.quiet.0, did.unchanged) in
+    let done = visited m.seat c.read_definition.new.seat m.sessions refl visit in
     record {
       lawful = ∣ kept is (done-order done is (inr refl)) (unread-joins is c.args.id c.in-Some.held its (done-nothing done)) ∣₁;
-      lists = lists-done m done refl;
+      lists = lists-done m c.in-Some.held.place [] (lists-visited visit) refl refl;
       room = m.room;
     }
 
@@ -47,7 +51,7 @@ returns-in_default-read_definition-clause-joined g c =
     let m = c.self.inside.member in
     let its = held-seen m c.args.id c.get.result c.get.ensures.found ∙ c.in-Some.is in
     let did = c.in_default-read_definition.ensures in
-    rw (← c.self.view_is) (unread-joins (member m) c.args.id c.in-Some.held its (done-nothing (visited m.seat c.read_definition.new.seat m.sessions (did.quiet.0, did.unchanged))))
+    rw (← c.self.view_is) (unread-joins (member m) c.args.id c.in-Some.held its (done-nothing (visited m.seat c.read_definition.new.seat m.sessions refl (did.quiet.0, did.unchanged))))
 
 pub invariant_of-member-2 : goal.invariant_of-member-2
 invariant_of-member-2 g c =
@@ -75,5 +79,5 @@ returns g c =
     rw (← c.self.view_is) (record {
       joined = read-joins is id t its c.in-Ok.standing noted did.follows;
       shown = read-shows is id t its c.in-Ok.standing noted did.follows (does_learns m.seat.me c.read_definition.new.seat.me t.place c.in-Ok.standing did.learnt.0) did.quiet.1
-          (step.0, step.1, (step.2, step.3 id (ticket-there is id t its) (unwaited is id (ap is_some its))));
+          (step.0, step.1, (step.2, step.3 id (slow-there is id t (held-slow is id t its)) (unwaited is id (ap is_some its))));
     })

@@ -7,9 +7,9 @@ use Rattle.mdl_steps.specs.declared.view.Known.{Known}
 use Rattle.mdl_shared.specs.Members.{is_known_place, place_known}
 use Rattle.mdl_shared.specs.Passes.{view_of}
 use Rattle.mdl_shared.specs.SessionViews.{Lists, session_at}
-use Rattle.mdl_shared.proofs.KeyCalls.{known-joins, learnt-order, lists-learnt, no_place-joins, resolve-joins, resolved, stepped}
+use Rattle.mdl_shared.proofs.KeyCalls.{known-joins, learnt-order, lists-learnt, lists-stepped, no_place-joins, resolve-joins, resolved, stepped}
 use Rattle.mdl_shared.proofs.MemberFacts.{speaks}
-use Rattle.mdl_shared.proofs.Members.{done-nothing, done-order, kept, lists-done}
+use Rattle.mdl_shared.proofs.Members.{done-nothing, done-order, kept}
 use Rattle.mdl_shared.proofs.Membership.{place_within}
 use Rattle.mdl_shared.proofs.Props.{member}
 use Rattle.mdl_shared.proofs.Refusals.{does-nothing}
@@ -73,7 +73,7 @@ invariant_of-member-in-Err-resolve g c =
     let is = member m in
     let done = stepped m.seat c.resolve.new.seat m.sessions c.in-Err.ensures.answer.2.0 c.in-Err.ensures.refused in record {
       lawful = ∣ kept is (done-order done is (inr refl)) (refused s (session_at c.resolve.new.seat m.sessions) (Resolve s.me.0.number c.args.key.now) OutOfMemory (done-nothing done) (speaks is) refl refl tt (λ state how met. cc) tt) ∣₁;
-      lists = ap (λ (ks : List Known). record { tickets = m.tickets.own; known = ks; next = m.next; asks = m.asks; waits = m.waits }) c.reserve.ensures.same ∙ lists-done m done refl;
+      lists = ap (λ (ks : List Known). record { slow = m.tickets.slow; fast = m.tickets.fast; known = ks; next = m.next; asks = m.asks; waits = m.waits }) c.reserve.ensures.same ∙ m.lists ∙ sym (lists-stepped m.seat.me c.resolve.new.seat.me c.in-Err.ensures.refused);
       room = m.room;
     }
 

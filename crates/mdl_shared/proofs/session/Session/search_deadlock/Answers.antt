@@ -2,8 +2,10 @@
 use Rattle.std.proofs.Common.{true, not, Ok, Err, refl, sym, ap, ◌∙◌}
 use Rattle.mdl_calls.specs.declared.answers.Search.TheVariants as found
 use Rattle.mdl_calls.specs.declared.space_error.SpaceError.TheVariants.{OutOfMemory}
+use Rattle.mdl_steps.specs.Plays.{Mine}
 use Rattle.mdl_shared.specs.Passes.{view_of}
-use Rattle.mdl_shared.proofs.Members.{done-lists, done-nothing}
+use Rattle.mdl_shared.specs.SessionViews.{lists_seen}
+use Rattle.mdl_shared.proofs.Members.{done-nothing}
 use Rattle.mdl_shared.proofs.Props.{member}
 use Rattle.mdl_shared.proofs.SameSpace.{same-stays}
 use Rattle.mdl_shared.proofs.SearchCalls.{search-joins}
@@ -25,7 +27,7 @@ invariant_of-self-inside g c =
     let waiting = waits-seen m true (c.is_none.ensures ∙ ap not c.if-is_none.false) in
     let did = c.search_deadlock.ensures.reads in
     let done = quietly m.sessions did.0 did.1.now did.1.stays (asked (view_of m) waiting) in
-    (∣ still-member done (member m) ∣₁, (m.lists ∙ sym (done-lists done), (m.room, tt)))
+    (∣ still-member done (member m) ∣₁, (m.lists ∙ sym (ap (λ (x : Mine). lists_seen x.0) did.1.now), (m.room, tt)))
 
 pub returns-clause-joined : goal.returns-clause-joined
 returns-clause-joined g c =

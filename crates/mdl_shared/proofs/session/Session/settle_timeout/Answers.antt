@@ -3,7 +3,6 @@ use Rattle.std.proofs.Common.{true, false, not, sym, ap, ◌∙◌, arith}
 use Rattle.mdl_steps.specs.SeatStates.{SeatState}
 use Rattle.mdl_shared.specs.Passes.{view_of}
 use Rattle.mdl_shared.specs.SessionViews.{Lists, SessionView, session_at, settled_of}
-use Rattle.mdl_shared.proofs.Members.{done-lists}
 use Rattle.mdl_shared.proofs.Props.{member}
 use Rattle.mdl_shared.proofs.PollCalls.{timeout-already, timeout-now, timeout-refused, timeouts}
 use Rattle.mdl_shared.proofs.WaitSteps.{session-there, still-member, waits-seen}
@@ -30,11 +29,11 @@ invariant_of-self-inside g c =
     let m = c.self.inside.member in
     let did = c.settle_wait-word.ensures in
     let at : SeatState → SessionView = λ seat. session_at seat m.sessions in
-    let done = (timeouts (member m) (waits-seen m true (c.is_none.ensures ∙ ap not c.if-is_none.false)) c.number-session.result c.settle_wait-word.result.0 c.number-session.ensures did.own
-    m.waits (ap (λ (l : Lists). l.waits) m.lists) (λ hit. ap at (did.settled hit)) (λ miss. ap at (did.missed miss))).done in
+    let watched = (timeouts (member m) (waits-seen m true (c.is_none.ensures ∙ ap not c.if-is_none.false)) c.number-session.result c.settle_wait-word.result.0 c.number-session.ensures did.own
+    m.waits (ap (λ (l : Lists). l.waits) m.lists) (λ hit. ap at (did.settled hit)) (λ miss. ap at (did.missed miss))) in
     record {
-      lawful = ∣ still-member done (member m) ∣₁;
-      lists = m.lists ∙ sym (done-lists done);
+      lawful = ∣ still-member watched.done (member m) ∣₁;
+      lists = m.lists ∙ sym watched.lists;
       room = m.room;
     }
 

@@ -9,8 +9,8 @@ use Rattle.mdl_visits.specs.Tables.{AreWithin, HasAsked}
 use Rattle.mdl_shared.specs.Members.{are_apart}
 use Rattle.mdl_shared.specs.Passes.{view_of}
 use Rattle.mdl_shared.specs.SessionViews.{Lists}
-use Rattle.mdl_shared.proofs.KeyCalls.{all-apart, learnt-all, learnt-order, lists-learnt, memory-joins, stepped, told-tables}
-use Rattle.mdl_shared.proofs.Members.{done-nothing, done-order, kept, lists-done}
+use Rattle.mdl_shared.proofs.KeyCalls.{all-apart, learnt-all, learnt-order, lists-learnt, lists-stepped, memory-joins, stepped, told-tables}
+use Rattle.mdl_shared.proofs.Members.{done-nothing, done-order, kept}
 use Rattle.mdl_shared.proofs.Props.{member}
 use Rattle.mdl_shared.proofs.session.Session.tables_of.Goals as goal
 
@@ -25,7 +25,7 @@ invariant_of-member g c =
     let did = c.in_default.ensures in
     let done = stepped m.seat c.find_tables.new.seat m.sessions did.found.1.0 did.unchanged in record {
       lawful = ∣ kept is (done-order done is (inr refl)) (memory-joins is c.args.schema.now (done-nothing done)) ∣₁;
-      lists = ap (λ (ks : List Known). record { tickets = m.tickets.own; known = ks; next = m.next; asks = m.asks; waits = m.waits }) did.same ∙ lists-done m done refl;
+      lists = ap (λ (ks : List Known). record { slow = m.tickets.slow; fast = m.tickets.fast; known = ks; next = m.next; asks = m.asks; waits = m.waits }) did.same ∙ m.lists ∙ sym (lists-stepped m.seat.me c.find_tables.new.seat.me did.unchanged);
       room = m.room;
     }
 

@@ -3,7 +3,6 @@ use Rattle.std.proofs.Common.{sym, ap, ◌∙◌}
 use Rattle.mdl_steps.specs.SeatStates.{SeatState}
 use Rattle.mdl_shared.specs.SessionViews.{session_at}
 use Rattle.mdl_shared.proofs.KillCalls.{nobody-waits, number-met, target-there}
-use Rattle.mdl_shared.proofs.Members.{done-lists}
 use Rattle.mdl_shared.proofs.Props.{member}
 use Rattle.mdl_shared.proofs.WaitSteps.{still-member}
 use Rattle.mdl_shared.proofs.session.Session.wait_of.Goals as goal
@@ -22,10 +21,10 @@ pub invariant_of-self-inside : goal.invariant_of-self-inside
 invariant_of-self-inside g c =
     let m = c.self.inside.member in
     let did = c.read_wait.ensures in
-    let done = (number-met c.args.target c.read_wait.result.0 (sym c.is_session.ensures ∙ c.if-not-is_session.false) did.own (ap (λ (x : SeatState). session_at x m.sessions) did.made)).0.done in
+    let watched = (number-met c.args.target c.read_wait.result.0 (sym c.is_session.ensures ∙ c.if-not-is_session.false) did.own (ap (λ (x : SeatState). session_at x m.sessions) did.made)).0 in
     record {
-      lawful = ∣ still-member done (member m) ∣₁;
-      lists = m.lists ∙ sym (done-lists done);
+      lawful = ∣ still-member watched.done (member m) ∣₁;
+      lists = m.lists ∙ sym watched.lists;
       room = m.room;
     }
 
