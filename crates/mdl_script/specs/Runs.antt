@@ -14,13 +14,13 @@ use Rattle.mdl_script.specs.Answers.{IsTranscript, WorksOff}
 use Rattle.mdl_script.specs.Books.{AreOfOneAudit}
 use Rattle.mdl_script.specs.RunTexts.{IsRunText}
 
--- the line by which a session makes the first schema
+-- the line by which a session asks for the first schema
 abbrev pub first_line : ℕ → Line
 first_line who = record { number = 1; session = who; statement = CreateSchema (codes "test") }
 
--- a text tells of a run of a script with this patience, by what the session that asks did between two of its states: it made the first schema (`first`),
--- worked off its own lines (`turn`), and then found the books by one audit (`audited`). Each session that the script names can have answered so to its
--- lines at the same table (`answered`)
+-- a text tells of a run of a script with this patience, by what the session that asks did between two of its states: it worked off the line for the first
+-- schema (`first`) and then its own lines (`turn`), and at last found the books by one audit (`audited`). Each session that the script names can have
+-- answered so to its lines at the same table (`answered`)
 pub record IsRunBetween (patience : ℕ) (lines : List Line) (before after : SessionView) (text : List ℕ) : Type 0 where
   pub transcripts : List (ℕ × List (ℕ × Reply))
   pub books : List Audited

@@ -162,6 +162,19 @@ module _ {s : SessionView} (is : IsMember s) (id : ℕ) (t : Own) (its : numbere
   pub unread-joins : {s′ : SessionView} → Stays s s′ → Joins (space_of s) (Read_definition s.me.0.number id) (Refused OutOfMemory) (space_of s′)
   unread-joins {s′} stays = refused s s′ (Read_definition s.me.0.number id) OutOfMemory stays (speaks is) refl refl tt (λ state how met. cc) tt
 
+  pub unread-shows : {s′ : SessionView} → s′.table ≡ s.table → s′.sessions ≡ s.sessions → Visits t.place [] s.me s′.me → StaysQuiet s.me s′.me
+      → Shows (Read_definition s.me.0.number id) (Refused OutOfMemory) s s′
+  unread-shows table sessions visit quiet = record {
+    table = table;
+    sessions = sessions;
+    refused = if-clear _ (holding_fault id s.me.0.slow) (ap (λ (o : Option Own). if is_some o then None else Some NotHeld) its);
+    did = does_visits s.me _ t.place [] visit;
+    settled = ap (λ (m : Mine). m.0.settles) visit.now;
+    told = ap (λ (m : Mine). m.0.told) visit.now;
+    steps = quiet;
+    met = inr (refl, (t, its, visit));
+  }
+
   -- the key that the session knows at a place is that of the book which it met
   named-there : (met key : KeyName) → IsNamed t.place met s.me → key_known_in t.place (space_of s).known ≡ Some key → met ≡ key
   named-there met key named knows =

@@ -33,11 +33,12 @@ use Rattle.mdl_shared.proofs.HeldTickets.{HoldsTicket}
 use Rattle.mdl_shared.proofs.MemberFacts.{alters-slow, merges-slow, speaks}
 use Rattle.mdl_shared.proofs.Members.{HasDone, done-next, done-nothing, done-reads, done-rest, done-tickets, rescheduled, visited}
 use Rattle.mdl_shared.proofs.NotedOnce.{one-note, one-note_done}
+use Rattle.mdl_shared.proofs.Refusals.{does-nothing}
 use Rattle.mdl_shared.proofs.SameSpace.{joins-held, joins-still, numbers-same, refused, same-rest, same-stays}
 use Rattle.mdl_shared.proofs.SpaceLists.{ticket-told}
 use Rattle.mdl_shared.proofs.SpaceNotes.{AllNoted, noted-less, noted-moded, nothing-read, noted_under}
 use Rattle.mdl_shared.proofs.SpaceTickets.{all_of, given-up, holds-told, in-mode, in_mode_told, is_here, merged-told, of-held, only-one, same-mode}
-use Rattle.mdl_shared.proofs.TicketFaults.{downgrade-cause, downgrade-clear, knows, merge-cause, merge-clear, merge-here, one-ticket, upgrade-cause, upgrade-clear}
+use Rattle.mdl_shared.proofs.TicketFaults.{downgrade-cause, downgrade-clear, knows, merge-cause, merge-clear, merge-here, upgrade-cause, upgrade-clear}
 use Rattle.mdl_shared.proofs.WishShows.{did, settles, shows, told}
 
 -- ---- a call with one deed
@@ -84,6 +85,13 @@ module _ {m : SessionView} (is : IsMember m) (id : ℕ) (t : Own) (its : numbere
         (only-one id (λ u. covers u.mode mode) (tickets_seen m.me.0) t is.sound.rising its has))
         refl refl may-rise tt refl (λ state how is. cc) (λ how is. cc) refl (nothing-read m m refl (one-note m is)) tt
 
+    pub covered-shows : covers t.mode mode ≡ true → Shows (Upgrade_now m.me.0.number id mode) Upgraded m m
+    covered-shows has =
+        let none : upgrade_deeds id mode (Ok upgrade.Upgraded) (numbered id (tickets_seen m.me.0)) ≡ [] =
+        ap (upgrade_deeds id mode (Ok upgrade.Upgraded)) its ∙ ap (λ b. if b then [] else rise_deeds id mode upgrade.Upgraded) has in
+        shows refl refl clear (subst (λ (ds : List Deed). Does ds m.me m.me) (sym none) (does-nothing m.me)) refl refl tt
+        (t, its, (λ covered. refl, λ short. let never = sym has ∙ short in cc))
+
     -- to another
     pub upgrade-joins : {m′ : SessionView} → covers t.mode mode ≡ false → HasDone t.place (Alter id mode ∷ []) m m′ → Joins (space_of m) (Upgrade_now m.me.0.number id mode) Upgraded (space_of m′)
     upgrade-joins {m′} short done =
@@ -102,7 +110,7 @@ module _ {m : SessionView} (is : IsMember m) (id : ℕ) (t : Own) (its : numbere
         → ShowsStep m m′ (MeetsGrantable t.place m.me.0.number mode (Alter id mode)) → Shows (Upgrade_now m.me.0.number id mode) Upgraded m m′
     upgrade-shows {m′} table sessions short went met =
         shows table sessions clear (subst (λ (ds : List Deed). Does ds m.me m′.me) (deeds upgrade.Upgraded short) (did went)) (settles went) (told went) tt
-        (λ u same less. subst (λ (x : Own). ShowsStep m m′ (MeetsGrantable x.place m.me.0.number mode (Alter id mode))) (one-ticket (numbered id (tickets_seen m.me.0)) t u its same) met)
+        (t, its, (λ has. let never = sym has ∙ short in cc, λ less. met))
 
     pub blocked-shows : {m′ : SessionView} → m′.table ≡ m.table → m′.sessions ≡ m.sessions → covers t.mode mode ≡ false → Visits t.place [] m.me m′.me
         → ShowsStep m m′ (MeetsBlocked t.place m.me.0.number mode) → Shows (Upgrade_now m.me.0.number id mode) Would_wait m m′
@@ -198,7 +206,7 @@ merged seat seat′ sessions old new kept gone is one other clear visit step =
     (subst (λ (n : ℕ). Joins (space_of (session_at seat sessions)) (Merge seat.me.0.number kept.number n) Done (space_of (session_at seat′ sessions))
     × Shows (Merge seat.me.0.number kept.number n) Done (session_at seat sessions) (session_at seat′ sessions)) other.number (
       merge-joins is kept.number kept one.own gone.number gone other.own free
-      (visited seat seat′ sessions (merges-slow is kept.place kept.number gone.number gone.mode kept gone one.slow other.slow) visit),
+          (visited seat seat′ sessions (merges-slow is kept.place kept.number gone.number gone.mode kept gone one.slow other.slow) visit),
       record {
         table = visit.0;
         sessions = refl;

@@ -30,10 +30,6 @@ pub other-false : (x y : Bool) → (x && y) ≡ false → x ≡ true → y ≡ f
 other-false true y e is = e
 other-false false y e is = cc
 
--- the same ticket is found
-pub one-ticket : {T : Type 0} (o : Option T) (t u : T) → o ≡ Some t → o ≡ Some u → t ≡ u
-one-ticket o t u one other = let e : Some t ≡ Some u = sym one ∙ other in cc
-
 -- neither fault
 two-clear : (can waits : Bool) (one other : SpaceError) → (if not can then Some one else (if waits then Some other else None)) ≡ None → (can ≡ true) × (waits ≡ false)
 two-clear true false one other e = (refl, refl)

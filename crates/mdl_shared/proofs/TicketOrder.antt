@@ -1,7 +1,7 @@
 -- What a session has in all, as its slow tickets or its fast ones change.
-use Rattle.std.proofs.Common.{◌≡◌, ◌≢◌, ℕ, ◌<◌, ◌==◌, ◌&&◌, true, false, not, nat_lt, Bool, List, [], ◌∷◌, ◌++◌, map, filter, find, length, is_some, if◌then◌else◌, Option, Some, None, refl, sym, ap, subst, ◌∙◌, arith}
+use Rattle.std.proofs.Common.{◌≡◌, ℕ, ◌<◌, ◌==◌, true, false, not, nat_lt, Bool, List, [], ◌∷◌, ◌++◌, map, filter, is_some, if◌then◌else◌, Option, Some, None, refl, sym, ap, subst, ◌∙◌, arith}
 use Rattle.std.specs.Option.{option_and_then}
-use Rattle.std.proofs.lemmas.Bool.{and_from, and_parts, eq-eqb, eqb-true, false≢true, ltb-true, not-true}
+use Rattle.std.proofs.lemmas.Bool.{and_from, and_parts, eqb-true, false≢true, ltb-true, not-true}
 use Rattle.mdl_key.specs.declared.mode.Mode.{Mode}
 use Rattle.mdl_calls.specs.Words.{are_rising}
 use Rattle.mdl_calls.specs.declared.answers.Held.{Held}

@@ -26,7 +26,7 @@ impl<R: Wait> Session<R> {
             × IfOk result (λ audited. Audits k audited.items self.old.me self.new.me) }
         ensures refused { IfErr result (λ why. why ≡ cause.OutOfMemory) }
     {
-        let mut audited = Vec::new(self.member.known.allocator());
+        let mut audited = Vec::new(self.member.alloc);
         match audit(&self.rt, &mut self.member.seat, &mut audited) {
             Ok(()) => Ok(audited),
             Err(AllocError) => Err(SpaceError::OutOfMemory),

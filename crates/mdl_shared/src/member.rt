@@ -15,6 +15,8 @@ use std::alloc::Global;
 /// A session's seat at the table, and its own lists of what the seat's view tells.
 #[derive(Drop)]
 pub(crate) struct Member {
+    /// Where its calls take memory.
+    pub(crate) alloc: Global,
     pub(crate) seat: TableSeat,
     /// The tickets that it has.
     pub(crate) tickets: Tickets,
@@ -44,6 +46,7 @@ impl Member {
         ensures nothing { (result.tickets.slow ≡ []) × (result.tickets.fast ≡ []) × (result.asks ≡ None) }
     {
         Member {
+            alloc,
             seat,
             tickets: Tickets::new(alloc),
             known: KnownKeys::new(alloc),

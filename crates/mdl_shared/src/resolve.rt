@@ -20,7 +20,6 @@ impl<R: Wait> Session<R> {
             return Ok(place as u16);
         }
         let member = &mut self.member;
-        let alloc = member.known.allocator();
         let slots = member.seat.slot_count();
         if member.known.reserve(1, slots).is_err() {
             return Err(SpaceError::OutOfMemory);
@@ -28,7 +27,7 @@ impl<R: Wait> Session<R> {
         let Ok(key_kept) = key.clone() else {
             return Err(SpaceError::OutOfMemory);
         };
-        let place = match resolve(&self.rt, &mut member.seat, alloc, key) {
+        let place = match resolve(&self.rt, &mut member.seat, member.alloc, key) {
             Ok(place) => place,
             Err(why) => {
                 return match why {

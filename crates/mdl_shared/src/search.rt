@@ -22,7 +22,7 @@ impl<R: Wait> Session<R> {
         if self.member.asks.is_none() {
             return Ok(Search::NoCycle);
         }
-        let alloc = self.member.known.allocator();
+        let alloc = self.member.alloc;
         match search_deadlock(&self.rt, &mut self.member.seat, alloc) {
             Ok(found) => Ok(found),
             Err(AllocError) => Err(SpaceError::OutOfMemory),

@@ -17,7 +17,7 @@ impl<R: Wait> Session<R> {
         ensures shown { Shows (Tables_of self.old.me.0.number schema.now) (tables_told result) self.old self.new }
     {
         let member = &mut self.member;
-        let alloc = member.known.allocator();
+        let alloc = member.alloc;
         let Ok((tables, mut places)) = find_tables(
             &self.rt,
             &mut member.seat,

@@ -1,5 +1,5 @@
 //! A session's own list of its tickets.
-ghost use Rattle.std.specs.Prelude.{not, ◌^◌, MatchOption, None, OnErr, OnOk, IfOk, IfSome, Some, [], find, length, map, slice_index_or, true, ◌+◌, ◌++◌, ◌<◌, ◌==◌, ◌∷◌, ◌≡◌, ◌≤◌, ◌&&◌, ℕ, if◌then◌else◌};
+ghost use Rattle.std.specs.Prelude.{not, ◌^◌, MatchOption, None, OnErr, OnOk, IfOk, IfSome, Some, [], find, length, map, remove, slice_index_or, true, ◌+◌, ◌++◌, ◌<◌, ◌==◌, ◌∷◌, ◌≡◌, ◌≤◌, ◌&&◌, ℕ, if◌then◌else◌};
 ghost use Rattle.std.specs.List.{list_all};
 ghost use Rattle.mdl_steps.specs.Deeds.{is_own};
 ghost use Rattle.std.specs.Vec.{vec_capacity, vec_len};
@@ -117,7 +117,7 @@ impl Tickets {
         ensures room { (self.old.spare ≤ self.new.spare) × (self.new.reach ≡ self.old.reach) }
     {
         if let Some(at) = index_at(&self.gained, place, id) {
-            self.gained.remove(at);
+            take_out(&mut self.gained, at);
             uncount_one(&mut self.places, place);
         }
     }
@@ -215,6 +215,15 @@ fn index_of(tickets: &[Held], id: TicketId) -> Option<usize>
             return Some(tickets.len() - 1);
         }
     }
+    search(tickets, id)
+}
+
+// The same by halves, apart so that the look at the last ticket is inlined.
+#[inline(never)]
+fn search(tickets: &[Held], id: TicketId) -> Option<usize>
+    requires { AreRising tickets.now }
+    ensures { MatchOption result (list_all (λ t. not (t.id == id)) tickets.now ≡ true) (λ at. StandsAt id at tickets.now) }
+{
     tickets.binary_search_by_key(&id, |ticket| ticket.id).ok()
 }
 
@@ -245,20 +254,44 @@ fn own_of(places: &[OfPlace], ticket: Held) -> Own
     }
 }
 
-// Adds places without tickets until there is this one.
+// Takes out the ticket at an index. No other one is moved where it is the last.
+fn take_out(tickets: &mut Vec<Held>, at: usize)
+    requires { at < length tickets.old.items }
+    ensures items { tickets.new.items ≡ remove tickets.old.items at }
+    ensures capacity { vec_capacity tickets.new ≡ vec_capacity tickets.old }
+{
+    if at + 1 == tickets.len() {
+        tickets.pop();
+    } else {
+        take_earlier(tickets, at);
+    }
+}
+
+// The same, with a move of those that stand later.
+#[inline(never)]
+fn take_earlier(tickets: &mut Vec<Held>, at: usize)
+    requires { at < length tickets.old.items }
+    ensures items { tickets.new.items ≡ remove tickets.old.items at }
+    ensures capacity { vec_capacity tickets.new ≡ vec_capacity tickets.old }
+{
+    tickets.remove(at);
+}
+
+// Adds places without tickets up to this one, where it isn't there.
 fn reach(places: &mut Vec<OfPlace>, place: usize) -> Result<(), AllocError>
     requires narrow { (place < 65536) × (length places.old.items ≤ 65536) }
     ensures narrow { length places.new.items ≤ 65536 }
     ensures reach { OnOk result (place < length places.new.items) }
     ensures same { (q : ℕ) → (counted_at q places.new.items ≡ counted_at q places.old.items) × (noted_in q places.new.items ≡ noted_in q places.old.items) }
 {
-    while places.len() <= place {
-        places.push(OfPlace {
-            tickets: 0,
-            noted: None,
-        })?;
+    if place < places.len() {
+        return Ok(());
     }
-    Ok(())
+    let none = OfPlace {
+        tickets: 0,
+        noted: None,
+    };
+    places.resize(place + 1, none)
 }
 
 // Counts one more ticket at a place. The first one there has no note.

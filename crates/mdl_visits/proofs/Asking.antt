@@ -2,7 +2,7 @@
 use Rattle.std.proofs.Common.{◌≡◌, ℕ, Bool, true, false, cond, List, [], ◌∷◌, ◌++◌, map, refl, sym, ap, ◌∙◌, append_assoc, append-nil}
 use Rattle.std.specs.Prelude.{filter}
 use Rattle.std.proofs.lemmas.List.{map-append}
-use Rattle.std.proofs.lemmas.List.Elements.{All-nil, All-push, All-weaker, filter-append}
+use Rattle.std.proofs.lemmas.List.Elements.{All-push, All-weaker, filter-append}
 use Rattle.mdl_steps.specs.declared.view.Known.{Known}
 use Rattle.mdl_steps.specs.declared.view.Met.{Met}
 use Rattle.mdl_steps.specs.Plays.{Mine}
@@ -42,9 +42,6 @@ told_more asked t defined =
     ap (map (λ (a : Asked). a.table.place)) (filter-append (λ (a : Asked). a.defined) asked (one ∷ []))
     ∙ map-append (λ (a : Asked). a.table.place) (filter (λ (a : Asked). a.defined) asked) (filter (λ (a : Asked). a.defined) (one ∷ []))
     ∙ ap (λ (rest : List ℕ). told asked ++ rest) (told_one t defined)
-
-pub asked_none : (who : ℕ) (m m′ : Mine) (places : List ℕ) → places ≡ [] → HasAsked who [] places m m′
-asked_none who m m′ places none = record { asked = []; each = All-nil (WasAsked who m m′); same = refl; those = none }
 
 pub asked_more : (who : ℕ) (tables : List Known) (t : Known) (places more : List ℕ) (defined : Bool) (old mid new : Mine) → HasAsked who tables places old mid → MakesSteps old mid → MakesSteps mid new
     → WasAsked who mid new (record { table = t; defined = defined }) → more ≡ places ++ cond defined (t.place ∷ []) []

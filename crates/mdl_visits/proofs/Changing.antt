@@ -1,9 +1,7 @@
 -- What stands under a key is changed in hand, and then its version is written.
 use Rattle.std.proofs.Common.{◌≡◌, ℕ, ◌+◌, ◌-◌, ◌==◌, map, true, false, List, [], ◌∷◌, ◌++◌, Option, Some, None, Result, Ok, Err, refl, sym, ap, ◌∙◌, subst, inl, inr, ⊎_elim, append_assoc, arith}
 use Rattle.std.specs.Prelude.{◌⊎◌, is_some}
-use Rattle.std.specs.Option.{option_map}
 use Rattle.std.proofs.lemmas.Bool.{and_from, eq-eqb}
-use Rattle.mdl_key.specs.declared.mode.Mode.{Mode}
 use Rattle.mdl_key.specs.Refusals.{Refuses, RefusesJust}
 use Rattle.mdl_defs.specs.declared.change.Change.{Change}
 use Rattle.mdl_defs.specs.declared.change.Change.TheVariants.{Drop}
@@ -57,12 +55,6 @@ own_is who place number t (x ∷ xs) e here =
     let later = own_is who place number t xs (rw miss at e) here in
     let test : is_ticket who number (ticket_by who x) ≡ false = rw miss (and_false (who == who)) in
     by_bool (x.place == place) (λ at. rw (at, test) later) (λ elsewhere. rw elsewhere later))
-
--- of a ticket that is there the place and the mode are known
-pub held_so : (found : Option Own) (place : ℕ) (mode : Mode) → option_map {U = ℕ × Mode} (λ (t : Own). (t.place, t.mode)) found ≡ Some (place, mode)
-    → (t : Own) × (found ≡ Some t) × (t.place ≡ place) × (t.mode ≡ mode)
-held_so None place mode e = absurd (cc)
-held_so (Some t) place mode e = let both : ◌≡◌ {A = ℕ × Mode} (t.place, t.mode) (place, mode) = cc in (t, refl, ap (λ (p : ℕ × Mode). p.0) both, ap (λ (p : ℕ × Mode). p.1) both)
 
 -- a session that has an exclusive ticket at a place has it in the book there
 pub exclusive_there : (place : ℕ) (h : LatchRecord) (m : Mine) → IsFresh place h m → is_ask_apart m.0.next m.0.slow m.0.asks ≡ true → HasExclusiveAt place m.0.slow → HasExclusive h m

@@ -1,20 +1,12 @@
 -- Which deeds a session did, by what became of it.
-use Rattle.std.proofs.Common.{◌≡◌, ℕ, List, [], refl, sym, ap, ◌∙◌, append-nil}
+use Rattle.std.proofs.Common.{ℕ, List, [], ap}
 use Rattle.atomic_table.specs.Seated.{TableId}
-use Rattle.mdl_key.specs.declared.mode.Mode.{Mode}
 use Rattle.mdl_defs.specs.declared.standing.Standing.{Standing}
 use Rattle.mdl_steps.specs.declared.deed.Deed.{Deed}
 use Rattle.mdl_steps.specs.Plays.{Mine}
 use Rattle.mdl_visits.specs.Grantings.{VisitsAndReschedules}
 use Rattle.mdl_visits.specs.Leavings.{Learns}
-use Rattle.mdl_visits.specs.Searches.{ReadsWaits}
 use Rattle.mdl_visits.specs.Visits.{Does, MakesSteps, Visits}
-use Rattle.mdl_visits.specs.WaitEndings.{EndsLost}
-use Rattle.mdl_visits.specs.WaitOpenings.{Opens}
-
--- who made no step did nothing
-pub does_none : (m m′ : Mine) → m′.0.log ≡ m.0.log → Does [] m m′
-does_none m m′ same = ([], same ∙ sym (append-nil m.0.log), refl)
 
 module _ (m m′ : Mine) where
   pub does_steps : MakesSteps m m′ → Does [] m m′
@@ -26,14 +18,5 @@ module _ (m m′ : Mine) where
   pub does_learns : (place : ℕ) (standing : Standing) → Learns place standing m m′ → Does [] m m′
   does_learns place standing learns = (learns.0, ap (λ (x : Mine). x.0.log) learns.1, learns.2)
 
-  pub does_opens : (place : ℕ) (mode : Mode) → Opens place mode m m′ → Does [] m m′
-  does_opens place mode opens = (opens.made, ap (λ (x : Mine). x.0.log) opens.now, opens.did)
-
   pub does_reschedule : (id : TableId) (place : ℕ) (ds : List Deed) → VisitsAndReschedules id place ds m m′ → Does ds m m′
   does_reschedule id place ds visit = (visit.made, ap (λ (x : Mine). x.0.log) visit.now, visit.did)
-
-  pub does_ends : (id : TableId) (place : ℕ) → EndsLost id place m m′ → Does [] m m′
-  does_ends id place ended = (ended.made, ap (λ (x : Mine). x.0.log) ended.now, ended.did)
-
-  pub does_reads : ReadsWaits m m′ → Does [] m m′
-  does_reads reads = (reads.made, ap (λ (x : Mine). x.0.log) reads.now, reads.did)

@@ -1,13 +1,16 @@
 -- The keys that a session looked up: found by the key, and by the place through an index.
-use Rattle.std.proofs.Common.{◌≡◌, ◌≢◌, ℕ, zero, suc, ◌<◌, ◌≤◌, true, false, List, [], ◌∷◌, ◌++◌, length, set, map, Option, Some, None, refl, sym, ap, subst, ltb, ◌∙◌, arith}
-use Rattle.std.specs.Prelude.{◌==◌, is_some, slice_get, if◌then◌else◌}
+use Rattle.std.proofs.Common.{◌≡◌, ◌≢◌, ℕ, zero, suc, ◌<◌, ◌≤◌, true, false, List, [], ◌∷◌, ◌++◌, get_or, length, set, map, Some, None, refl, sym, ap, subst, ltb, ◌∙◌, arith}
+use Rattle.std.specs.Prelude.{◌==◌, is_some, slice_get}
 use Rattle.std.specs.Map.{lookup}
 use Rattle.std.specs.List.{list_all}
+use Rattle.std.proofs.lemmas.List.{length-append, length-set}
 use Rattle.std.proofs.lemmas.List.Folds.{list_all-append}
 use Rattle.std.proofs.lemmas.Bool.{and_parts, eq-eqb, eqb-true}
 use Rattle.std.proofs.lemmas.Bool.Decides.{nat_tests}
+use Rattle.std.proofs.lemmas.Option.{slice_get-get_or, slice_get_within}
 use Rattle.indexmap.specs.IndexMap.{IndexMap, insert_entry}
 use Rattle.indexmap.proofs.CallerLemmas.{insert_entry-new}
+use Rattle.indexmap.proofs.IndexTableLemmas.Probe.{pigeonhole}
 use Rattle.mdl_key.specs.Words.{KeyName, key_eq}
 use Rattle.mdl_steps.specs.declared.view.Known.{Known}
 use Rattle.mdl_steps.specs.Schemas.{is_known}
@@ -127,6 +130,20 @@ indexed_more entries indexes key place indexed new inside at e stands =
           let there : place ≡ e.1 = (let is = last.1 in let both : (key, place) ≡ e = cc in ap (λ (x : KeyName × ℕ). x.1) both) in
           rw (← there) (get_set indexes place (length entries) inside ∙ ap (λ (i : ℕ). Some i) (sym last.0))
     ] refl
+
+-- there are fewer keys than places: each place has one index, and none the new key's
+pub fewer_keys : (entries : List (KeyName × ℕ)) (indexes : List ℕ) (key : KeyName) (place : ℕ) → AreIndexed entries indexes
+    → is_known_place (map known_of entries) place ≡ false → place < length indexes → length entries < length indexes
+fewer_keys entries indexes key place indexed new inside =
+    let more : List (KeyName × ℕ) = entries ++ (key, place) ∷ [] in
+    let all : AreIndexed more (set indexes place (length entries)) = indexed_more entries indexes key place indexed new inside in
+    let at : ℕ → KeyName × ℕ = λ i. get_or more i (key, place) in
+    let stands : (i : ℕ) → i < length more → slice_get (set indexes place (length entries)) (at i).1 ≡ Some i =
+    λ i below. all i (at i) (slice_get-get_or more i (key, place) below) in
+    let fits : length more ≤ length indexes = pigeonhole (length more) (length indexes) (λ i. (at i).1)
+    (λ i below. subst (λ (n : ℕ). (at i).1 < n) (length-set indexes place (length entries)) (slice_get_within (set indexes place (length entries)) (at i).1 i (stands i below)))
+    (λ i j below within same. let one = sym (stands i below) ∙ ap (slice_get (set indexes place (length entries))) same ∙ stands j within in cc) in
+    omega (arith, fits, length-append entries ((key, place) ∷ []))
 
 -- a new key goes last
 pub inserted : {S : Type 0} (places : IndexMap KeyName ℕ S) (key : KeyName) (place : ℕ) → place_known key (map known_of places.entries) ≡ None

@@ -4,6 +4,7 @@ ghost use Rattle.std.specs.Option.{is_some, option_copied};
 ghost use Rattle.mdl_steps.specs.Schemas.{is_known, unknown};
 ghost use Rattle.mdl_visits.specs.Tables.{AreWithin};
 ghost use Rattle.mdl_visits.specs.KnownLists.{are_apart, is_known_place, key_known, kind_known, place_known};
+ghost use Rattle.mdl_visits.specs.OwnKeys.{IsNarrow};
 
 use indexmap::IndexMap;
 use mdl_key::{Key, Kind};
@@ -18,21 +19,21 @@ use std::marker::Model;
 #[derive(Drop)]
 pub struct KnownKeys {
     places: IndexMap<Key, usize>,
-    // By places: where the key of a place stands among the keys. A place that isn't known has any number.
-    indexes: Vec<usize>,
+    // By places: where the key of a place stands among the keys. A place that isn't known has any number. Places are numbers of 16 bits.
+    indexes: Vec<u16>,
 }
 
 impl Model for KnownKeys {
     ghost use Rattle.std.specs.Prelude.{length, map};
     ghost use Rattle.indexmap.specs.IndexMap.{spare};
     ghost use Rattle.mdl_visits.specs.KnownLists.{KnownList};
-    ghost use Rattle.mdl_visits.specs.OwnKeys.{AreIndexed, known_of};
+    ghost use Rattle.mdl_visits.specs.OwnKeys.{AreIndexed, IsNarrow, known_of};
 
     ghost Value = { KnownList };
 
     ghost view = { λ s. record { known = map known_of s.places.entries; room = spare s.places; reach = length s.indexes.items } };
 
-    ghost invariant = { λ s. AreIndexed s.places.entries s.indexes.items };
+    ghost invariant = { λ s. AreIndexed s.places.entries s.indexes.items × IsNarrow s.indexes.items };
 }
 
 impl KnownKeys {
@@ -44,11 +45,6 @@ impl KnownKeys {
             places: IndexMap::new(alloc),
             indexes: Vec::new(alloc),
         }
-    }
-
-    /// The allocator of the list.
-    pub fn allocator(&self) -> Global {
-        *self.indexes.allocator()
     }
 
     /// The place of a key.
@@ -71,7 +67,7 @@ impl KnownKeys {
         ensures { option_copied result ≡ key_known place self.now.known }
     {
         let at = index_under(&self.indexes, place)?;
-        let (key, other) = self.places.get_index(at)?;
+        let (key, other) = self.places.get_index(usize::from(at))?;
         if *other == place { Some(key) } else { None }
     }
 
@@ -84,6 +80,7 @@ impl KnownKeys {
 
     /// Makes room for so many more keys at places below this one.
     pub fn reserve(&mut self, n: usize, slots: usize) -> Result<(), AllocError>
+        requires narrow { slots ≤ 65536 }
         ensures same { self.new.known ≡ self.old.known }
         ensures room { OnOk result ((n ≤ self.new.room) × (slots ≤ self.new.reach)) }
     {
@@ -99,7 +96,7 @@ impl KnownKeys {
         ensures known { self.new.known ≡ self.old.known ++ record { key = key; place = place } ∷ [] }
         ensures room { (self.old.room ≤ self.new.room + 1) × (self.new.reach ≡ self.old.reach) }
     {
-        self.indexes[place] = self.places.len();
+        self.indexes[place] = self.places.len() as u16;
         self.places.insert(key, place).unwrap();
     }
 
@@ -133,19 +130,21 @@ fn keep_unknown(known: &KnownKeys, tables: &mut Vec<Known>)
 }
 
 // The index under a place, if there is the place.
-fn index_under(indexes: &[usize], place: usize) -> Option<usize>
+fn index_under(indexes: &[u16], place: usize) -> Option<u16>
     ensures { result ≡ slice_get indexes.now place }
 {
     indexes.get(place).copied()
 }
 
-// Adds places until there are so many. What stands under the others stays.
-fn reach(indexes: &mut Vec<usize>, slots: usize) -> Result<(), AllocError>
+// Adds places until there are so many, all at once. What stands under the others stays.
+fn reach(indexes: &mut Vec<u16>, slots: usize) -> Result<(), AllocError>
+    requires narrow { (slots ≤ 65536) × IsNarrow indexes.old.items }
+    ensures narrow { IsNarrow indexes.new.items }
     ensures reach { OnOk result (slots ≤ length indexes.new.items) }
     ensures same { (place at : ℕ) → slice_get indexes.old.items place ≡ Some at → slice_get indexes.new.items place ≡ Some at }
 {
-    while indexes.len() < slots {
-        indexes.push(0)?;
+    if indexes.len() < slots {
+        indexes.resize(slots, 0)?;
     }
     Ok(())
 }

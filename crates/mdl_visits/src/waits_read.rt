@@ -6,8 +6,8 @@ ghost use Rattle.mdl_visits.specs.Searches.{AddsRead, AreRead, OnlyReadsWaits};
 use mdl_steps::{TableSeat, WaitWord};
 use std::alloc::AllocError;
 
-// The most sessions that a graph of waits has room for.
-const MOST_SESSIONS: u16 = 1024;
+// The greatest number that a session of a graph of waits can have.
+const GREATEST_SESSION: u16 = 1024;
 
 /// The word of a session's wait, as a step met it.
 #[derive(Clone, Copy, Debug, PartialEq, Eq)]
@@ -25,8 +25,8 @@ pub(crate) fn read_waits(seat: &mut TableSeat, words: &mut Vec<WaitRead>) -> Res
     ensures all { OnOk result (AreRead words.new.items seat.old seat.new) }
 {
     let sessions = seat.session_count();
-    words.reserve(usize::from(MOST_SESSIONS).min(sessions))?;
-    for before in 0..MOST_SESSIONS {
+    words.reserve(usize::from(GREATEST_SESSION).min(sessions))?;
+    for before in 0..GREATEST_SESSION {
         let session = before + 1;
         if !seat.has_session(session) {
             return Ok(());

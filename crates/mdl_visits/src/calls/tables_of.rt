@@ -27,6 +27,7 @@ pub fn find_tables<R: Wait>(
     schema: &str,
 ) -> Result<(Vec<Known>, Vec<Place>), AllocError>
     requires idle { IsIdle seat.old.me }
+    requires narrow { seat.old.table.slots ≤ 65536 }
     ensures same { known.new.known ≡ known.old.known }
     ensures found { (k : Keys) × AtItsTable seat.old seat.new (TookDirectory seat.old.table.slots k k)
         × IfOk result (λ found. AreTables schema.now k found.0.items × MakesSteps (knowing_all found.0.items seat.old.me) seat.new.me) }
@@ -56,6 +57,7 @@ fn list_tables(
     schema: &str,
 ) -> Result<(Vec<Known>, Vec<Place>), AllocError>
     requires held { (k : Keys) × HasDirectory k seat.old.me }
+    requires narrow { seat.old.table.slots ≤ 65536 }
     ensures same { (seat.new ≡ seat.old) × (known.new.known ≡ known.old.known) }
     ensures listed { (k : Keys) → HasDirectory k seat.old.me → IfOk result (λ found. AreListed schema.now k found.0.items) }
     ensures room { IfOk result (λ found. HaveRoom known.new seat.old.table.slots found.0.items found.1) }

@@ -1,7 +1,8 @@
 -- What stands under a ticket is read, and noted under each ticket of its place.
-use Rattle.std.proofs.Common.{[], ap, false, inr, is_some, refl, ◌∙◌}
+use Rattle.std.proofs.Common.{[], false, if◌then◌else◌, inr, is_some, None, Option, Some, refl, ap, ◌∙◌}
 use Rattle.mdl_calls.specs.declared.space_error.SpaceError.TheVariants.{NotHeld}
 use Rattle.mdl_calls.specs.Words.{Read_definition}
+use Rattle.mdl_steps.specs.declared.view.Own.{Own}
 use Rattle.mdl_visits.proofs.Doing.{does_learns}
 use Rattle.mdl_shared.specs.Passes.{view_of}
 use Rattle.mdl_shared.specs.SessionViews.{tickets_seen}
@@ -10,19 +11,22 @@ use Rattle.mdl_steps.specs.SeatStates.{AtItsTable}
 use Rattle.mdl_shared.proofs.MemberFacts.{may-visit, slow-there, speaks, ticket-known, unwaited}
 use Rattle.mdl_shared.proofs.Members.{done-nothing, done-order, held-seen, kept, lists-done, lists-visited, room-kept, visited}
 use Rattle.mdl_shared.proofs.Props.{member}
-use Rattle.mdl_shared.proofs.ReadCalls.{lists-noted, noted-by, noted-order, read-joins, read-shows, unread-joins}
+use Rattle.mdl_shared.proofs.ReadCalls.{lists-noted, noted-by, noted-order, read-joins, read-shows, unread-joins, unread-shows}
+use Rattle.mdl_shared.proofs.Refusals.{own-shows}
 use Rattle.mdl_shared.proofs.SameSpace.{refused, same-stays}
 use Rattle.mdl_shared.proofs.SpaceTickets.{holds-told}
 use Rattle.mdl_shared.proofs.session.Session.read_definition.Goals as goal
 
-pub returns-in_default-clause-joined : goal.returns-in_default-clause-joined
-returns-in_default-clause-joined g c =
+pub returns-in_default : goal.returns-in_default
+returns-in_default g c =
     let m = c.self.inside.member in
     let s = view_of m in
+    let call = Read_definition s.me.0.number c.args.id in
     let none = held-seen m c.args.id c.get.result c.get.ensures.found ∙ c.in_default.is in
-    rw (← c.self.view_is)
-    (refused s s (Read_definition s.me.0.number c.args.id) NotHeld (same-stays s) (speaks (member m)) refl refl
-    (holds-told c.args.id (tickets_seen s.me.0) false (ap is_some none)) (λ state how is. cc) tt)
+    rw (← c.self.view_is) (record {
+      joined = refused s s call NotHeld (same-stays s) (speaks (member m)) refl refl (holds-told c.args.id (tickets_seen s.me.0) false (ap is_some none)) (λ state how is. cc) tt;
+      shown = own-shows call NotHeld s (ap (λ (o : Option Own). if is_some o then None else Some NotHeld) none);
+    })
 
 pub read_definition-requires : goal.read_definition-requires
 read_definition-requires g c =
@@ -46,12 +50,16 @@ invariant_of-member g c =
       room = m.room;
     }
 
-pub returns-in_default-read_definition-clause-joined : goal.returns-in_default-read_definition-clause-joined
-returns-in_default-read_definition-clause-joined g c =
+pub returns-in_default-read_definition : goal.returns-in_default-read_definition
+returns-in_default-read_definition g c =
     let m = c.self.inside.member in
+    let is = member m in
     let its = held-seen m c.args.id c.get.result c.get.ensures.found ∙ c.in-Some.is in
     let did = c.in_default-read_definition.ensures in
-    rw (← c.self.view_is) (unread-joins (member m) c.args.id c.in-Some.held its (done-nothing (visited m.seat c.read_definition.new.seat m.sessions refl (did.quiet.0, did.unchanged))))
+    rw (← c.self.view_is) (record {
+      joined = unread-joins is c.args.id c.in-Some.held its (done-nothing (visited m.seat c.read_definition.new.seat m.sessions refl (did.quiet.0, did.unchanged)));
+      shown = unread-shows is c.args.id c.in-Some.held its did.quiet.0 refl did.unchanged did.quiet.1;
+    })
 
 pub invariant_of-member-2 : goal.invariant_of-member-2
 invariant_of-member-2 g c =

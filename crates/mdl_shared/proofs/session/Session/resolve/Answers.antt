@@ -1,5 +1,5 @@
 -- The place of a key, by the session's own list or by the directory.
-use Rattle.std.proofs.Common.{◌≡◌, List, [], ◌∷◌, ◌++◌, None, Some, inr, refl, sym, ap, ◌∙◌, arith}
+use Rattle.std.proofs.Common.{◌≡◌, ◌≤◌, ℕ, List, [], ◌∷◌, ◌++◌, None, Some, inr, refl, sym, ap, subst, ◌∙◌, arith}
 use Rattle.mdl_key.specs.Words.{KeyName}
 use Rattle.mdl_calls.specs.declared.space_error.SpaceError.TheVariants.{OutOfMemory}
 use Rattle.mdl_calls.specs.Words.{Resolve}
@@ -62,6 +62,9 @@ returns-in_default-clone-clause-joined g c =
     let m = c.self.inside.member in
     let s = view_of m in
     rw (← c.self.view_is) (refused s s (Resolve s.me.0.number c.args.key.now) OutOfMemory (same-stays s) (speaks (member m)) refl refl tt (λ state how met. cc) tt)
+
+pub reserve-requires : goal.reserve-requires
+reserve-requires g c = record { narrow = subst (λ (n : ℕ). n ≤ 65536) (sym c.slot_count-slots.ensures) (member c.self.inside.member).narrow.1 }
 
 pub resolve-requires : goal.resolve-requires
 resolve-requires g c = record { idle = (member c.self.inside.member).idle }

@@ -12,7 +12,7 @@ use Rattle.mdl_shared.proofs.Members.{done-order, fault-seen, kept, lists-done, 
 use Rattle.mdl_shared.proofs.Membership.{kind_there}
 use Rattle.mdl_shared.proofs.Props.{member}
 use Rattle.mdl_shared.proofs.Refusals.{own-shows}
-use Rattle.mdl_shared.proofs.TicketCalls.{blocked-joins, blocked-shows, covered-joins, upgrade-joins, upgrade-shows, upgrade-unfit}
+use Rattle.mdl_shared.proofs.TicketCalls.{blocked-joins, blocked-shows, covered-joins, covered-shows, upgrade-joins, upgrade-shows, upgrade-unfit}
 use Rattle.mdl_shared.proofs.TicketFaults.{upgrade-kind}
 use Rattle.mdl_shared.proofs.WaitSteps.{still-member}
 use Rattle.mdl_shared.proofs.session.Session.upgrade_now.Goals as goal
@@ -29,12 +29,17 @@ returns-in_err-held g c =
       shown = own-shows call why (view_of m) fault;
     }))
 
-pub returns-then-covers-clause-joined : goal.returns-then-covers-clause-joined
-returns-then-covers-clause-joined g c =
+pub returns-then-covers : goal.returns-then-covers
+returns-then-covers g c =
     let m = c.self.inside.member in
-    let its = (holds-ticket m c.args.id c.in_ok-held.held c.in_ok-held.ensures.found).its in
+    let t = c.in_ok-held.held in
+    let its = (holds-ticket m c.args.id t c.in_ok-held.ensures.found).its in
     let clear = fault-seen m (Upgrade_now m.seat.me.0.number c.args.id c.args.mode) None (just-done _ _ c.in_ok-held.ensures.just) in
-    rw (← c.self.view_is) (covered-joins (member m) c.args.id c.in_ok-held.held its c.args.mode clear (sym c.covers.ensures ∙ c.if-covers.true))
+    let has = sym c.covers.ensures ∙ c.if-covers.true in
+    rw (← c.self.view_is) (record {
+      joined = covered-joins (member m) c.args.id t its c.args.mode clear has;
+      shown = covered-shows (member m) c.args.id t its c.args.mode clear has;
+    })
 
 pub upgrade_now-requires-clause-at : goal.upgrade_now-requires-clause-at
 upgrade_now-requires-clause-at g c = (holds-ticket c.self.inside.member c.args.id c.in_ok-held.held c.in_ok-held.ensures.found).at
