@@ -60,18 +60,22 @@ rescheduled-since id place a b c stays number asks told settles way =
       grants = way.grants;
       settles = way.settles ∙ ap (λ all. all ++ way.grants) settles;
       granted = granted_within id place a b a b c c more more (goes_none c) way.grants way.granted;
-      served = (last.0, leaves_after a b c stays last.0 last.1, record {
-        kind = met.kind;
-        did = met.did;
-        word = met.word;
-        freed = met.freed ∙ number;
-        latch = met.latch;
-        held = met.held;
-        served = elim met.served [
-          | inl none ↦ inl none
-          | inr looked ↦ inr (looked_within b c a c (step_after a b c more) id place met.latch met.latch.book.waiting looked)
-        ];
-      });
+      served = (
+        last.0,
+        leaves_after a b c stays last.0 last.1,
+        record {
+          kind = met.kind;
+          did = met.did;
+          word = met.word;
+          freed = met.freed ∙ number;
+          latch = met.latch;
+          held = met.held;
+          served = elim met.served [
+            | inl none ↦ inl none
+            | inr looked ↦ inr (looked_within b c a c (step_after a b c more) id place met.latch met.latch.book.waiting looked)
+          ];
+        },
+      );
       stays = λ state is. way.stays state (told ∙ is);
       unasked = λ none. way.unasked (asks ∙ none) ∙ told;
     }
@@ -100,8 +104,11 @@ module _ (a b : SessionView) (t : Own) (owes : Bool) (released : ReleasesFast t.
   gives-up_after {seat} lost stays due visit = (
     released.step,
     step_before a.me b.me seat.me (visit.1.made, ap (λ (m : Mine). m.0.log) visit.1.now) released.step release_then,
-    (release_met, (λ up. subst (λ (id : TableId). HasRescheduled id t.place a.me seat.me) (ap (λ (s : SessionView). s.table) lost.done.now)
-        (rescheduled-since b.table t.place a.me b.me seat.me stays (ap (λ (s : SessionView). s.me.0.number) lost.done.now)
-        (ap (λ (s : SessionView). s.me.0.asks) lost.done.now) lost.told lost.settled visit.1.way)),
-    (λ down. absurd (false≢true (sym down ∙ sym released.owes_is ∙ due)))),
+    (
+      release_met,
+      (λ up. subst (λ (id : TableId). HasRescheduled id t.place a.me seat.me) (ap (λ (s : SessionView). s.table) lost.done.now)
+          (rescheduled-since b.table t.place a.me b.me seat.me stays (ap (λ (s : SessionView). s.me.0.number) lost.done.now)
+          (ap (λ (s : SessionView). s.me.0.asks) lost.done.now) lost.told lost.settled visit.1.way)),
+      (λ down. absurd (false≢true (sym down ∙ sym released.owes_is ∙ due))),
+    ),
   )
