@@ -88,14 +88,14 @@ module _ {s : SessionView} (is : IsMember s) (id : ℕ) (mode : Mode) where
       )
 
       -- there was no room for the fast tickets
-      lacks-one : {b : SessionView} {why : SpaceError} → LacksRoomForFast why s b
+      lacks-one : (b : SessionView) {why : SpaceError} → LacksRoomForFast why s b
           → (why ≡ OutOfMemory) ⊎ ((why ≡ Full) × OfTicket id (lists_seen s.me.0) (λ u. FullForOne u.place s b))
-      lacks-one (inl memory) = inl memory
-      lacks-one (inr full) = inr (full.0, (t, its, inr full.1))
+      lacks-one b (inl memory) = inl memory
+      lacks-one b (inr full) = inr (full.0, (t, its, inr full.1))
 
       pub clone-full : {b : SessionView} {why : SpaceError} → DoesQuietly 0 [] s b → LacksRoomForFast why s b
           → Joins (space_of s) (Clone_ticket s.me.0.number id mode) (Refused why) (space_of b) × Shows (Clone_ticket s.me.0.number id mode) (Refused why) s b
-      clone-full quiet lacks = (clone-refused (done-nothing quiet.done) (lack-cause lacks), refused-shows quiet (lacks-one lacks))
+      clone-full {b} quiet lacks = (clone-refused (done-nothing quiet.done) (lack-cause s b lacks), refused-shows quiet (lacks-one b lacks))
 
       -- by the latch of the place, once they are slow ones
       module _ {b c : SessionView} (slow : BecomesSlow s b) where

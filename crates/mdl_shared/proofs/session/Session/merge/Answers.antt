@@ -14,7 +14,7 @@ pub returns-in_err-kept : goal.returns-in_err-kept
 returns-in_err-kept g c =
     let m = c.self.inside.member in
     let why = c.in_err-kept.field-0.0 in
-    let refused : c.from_residual-in_err-kept.result ≡ Err why = search rules in
+    let refused : c.from_residual.result ≡ Err why = search rules in
     let call = Merge m.seat.me.0.number c.args.old c.args.new in
     let fault = fault-seen m call (Some why) (just-refused _ _ why c.in_err-kept.ensures.just) in
     rw refused (rw (← c.self.view_is) (record {
