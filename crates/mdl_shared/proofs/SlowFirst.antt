@@ -1,14 +1,12 @@
 -- Upgrades and merges, before which the fast tickets of their session become slow ones.
-use Rattle.std.proofs.Common.{◌≡◌, ◌⊎◌, inl, inr, ℕ, true, false, List, [], ◌∷◌, Option, Some, None, Ok, if◌then◌else◌, refl, sym, ap, subst, subst₂, ◌∙◌}
+use Rattle.std.proofs.Common.{◌≡◌, inr, ℕ, false, List, [], ◌∷◌, Some, None, Ok, if◌then◌else◌, refl, sym, ap, subst, subst₂, ◌∙◌}
 use mathlib.Core.Path.{subst₃}
 use Rattle.mdl_key.specs.declared.mode.Mode.{Mode}
 use Rattle.mdl_system.specs.Strength.{covers}
 use Rattle.mdl_calls.specs.declared.answers.Upgrade.{Upgrade}
 use Rattle.mdl_calls.specs.declared.answers.Upgrade.TheVariants as upgrade
 use Rattle.mdl_calls.specs.declared.space_error.SpaceError.{SpaceError}
-use Rattle.mdl_calls.specs.declared.space_error.SpaceError.TheVariants.{Full, OutOfMemory}
 use Rattle.mdl_calls.specs.Words.{Done, IsCause, Merge, Refused, Upgrade_now, Upgraded, Would_wait, upgrade_tried}
-use Rattle.mdl_steps.specs.declared.deed.Deed.{Deed}
 use Rattle.mdl_steps.specs.declared.deed.Deed.TheVariants.{Alter, Lose}
 use Rattle.mdl_steps.specs.declared.view.Met.{Met}
 use Rattle.mdl_steps.specs.declared.view.Own.{Own}

@@ -1,5 +1,5 @@
 -- The mode is one of the lock's kind that the ticket's own covers, and the second ticket is the last of the session's.
-use Rattle.std.proofs.Common.{Err, None, Ok, Option, Some, ap, refl, rules, subst, sym, ℕ, ◌∙◌, ◌≡◌}
+use Rattle.std.proofs.Common.{Err, None, Ok, Option, Some, ap, rules, subst, sym, ℕ, ◌∙◌, ◌≡◌}
 use Rattle.std.specs.Option.{IfSome}
 use Rattle.mdl_calls.specs.Words.{Clone_ticket}
 use Rattle.mdl_shared.specs.FastWishes.{GainsFast}

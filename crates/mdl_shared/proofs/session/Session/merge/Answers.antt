@@ -1,5 +1,5 @@
 -- The ticket has the other one's mode, and that one goes; or they can't be merged.
-use Rattle.std.proofs.Common.{Err, None, Some, refl, rules, sym, ◌∙◌, ◌≡◌}
+use Rattle.std.proofs.Common.{Err, None, Some, rules, sym, ◌≡◌}
 use Rattle.mdl_calls.specs.Words.{Merge}
 use Rattle.mdl_shared.specs.Passes.{view_of}
 use Rattle.mdl_shared.proofs.Faults.{just-done, just-refused}

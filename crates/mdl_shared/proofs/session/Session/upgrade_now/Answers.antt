@@ -1,5 +1,5 @@
 -- The ticket has the stronger mode, or would have to wait for it, or can't have it.
-use Rattle.std.proofs.Common.{Err, None, Some, refl, rules, sym, ◌∙◌, ◌≡◌}
+use Rattle.std.proofs.Common.{Err, None, Some, rules, sym, ◌∙◌, ◌≡◌}
 use Rattle.mdl_calls.specs.Words.{Upgrade_now}
 use Rattle.mdl_shared.specs.Passes.{view_of}
 use Rattle.mdl_shared.proofs.Faults.{just-done, just-refused}
