@@ -20,6 +20,7 @@ pub mod SearchCalls
 pub mod PollCalls
 pub mod NotedOnce
 pub mod TicketEdits
+pub mod TicketParts
 pub mod TicketFaults
 pub mod TicketSearch
 pub mod TicketCalls

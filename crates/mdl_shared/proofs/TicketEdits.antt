@@ -1,166 +1,298 @@
 -- What a session's list of tickets is after an edit, and the places' counts.
-use Rattle.std.proofs.Common.{◌≡◌, ℕ, zero, suc, ◌+◌, ◌<◌, ◌≤◌, true, false, cond, List, [], ◌∷◌, ◌++◌, length, get_or, set, map, Some, None, refl, ap, subst, ltb, ◌∙◌, arith}
+use Rattle.std.proofs.Common.{◌≡◌, ℕ, zero, suc, ◌+◌, ◌-◌, ◌<◌, ◌≤◌, Bool, true, false, cond, List, [], ◌∷◌, ◌++◌, length, get_or, set, map, Option, Some, None, refl, sym, ap, subst, ltb, ◌∙◌, append-nil, arith}
 use Rattle.std.specs.Prelude.{not, ◌==◌, ◌&&◌, count_by, remove, if◌then◌else◌}
-use Rattle.std.specs.List.{list_all}
+use Rattle.std.specs.List.{filter, list_all}
 use Rattle.std.proofs.lemmas.Bool.Decides.{nat_tests}
 use Rattle.std.proofs.lemmas.List.Sums.{sum_by-append, sum_by-remove, sum_by-set}
-use Rattle.std.proofs.lemmas.List.{length-set, length_push, get_or_append_left, get_or_push, map_push}
+use Rattle.std.proofs.lemmas.List.{length-map, length-set, length_push, get_or_append_left, get_or_push, map_push}
 use Rattle.std.proofs.lemmas.List.Edits.{get_or-remove_above, get_or-remove_below, length-remove}
+use Rattle.std.proofs.lemmas.List.Elements.{filter-append}
 use Rattle.mdl_key.specs.declared.mode.Mode.{Mode}
-use Rattle.mdl_calls.specs.declared.answers.Held.{Held}
-use Rattle.mdl_steps.specs.Cells.{note_at}
+use Rattle.mdl_steps.specs.declared.view.Own.{Own}
 use Rattle.mdl_steps.specs.Deeds.{is_own}
+use Rattle.mdl_steps.specs.Interleavings.{interleaved}
 use Rattle.mdl_steps.specs.Plays.{noting_version}
+use Rattle.mdl_steps.proofs.Views.{by_bool}
 use Rattle.mdl_visits.specs.Numbers.{numbered}
 use Rattle.mdl_shared.specs.Members.{without_at}
 use Rattle.mdl_shared.specs.Modes.{in_mode_at}
 use Rattle.mdl_shared.specs.OwnLists.{told_of}
 use Rattle.mdl_shared.specs.Waitings.{are_below}
+use Rattle.mdl_shared.specs.declared.tickets.Gained.{Gained}
 use Rattle.mdl_shared.specs.declared.tickets.OfPlace.{OfPlace}
-use Rattle.mdl_shared.specs.OwnTickets.{AreKept, AreRising, StandsAt, counted_at, is_there, noted_in, own_of}
+use Rattle.mdl_shared.specs.OwnTickets.{AreKept, AreRising, StandsAt, counted_at, fast_counted_at, fast_of, is_fast_there, is_there, noted_in, own_of, slow_of, slowed}
+use Rattle.mdl_shared.proofs.TicketParts.{counted, later_rise, parted, some_of}
 use Rattle.mdl_shared.proofs.TicketSearch.{each_at, nowhere}
 
-later_rise : (x : Held) (xs : List Held) → AreRising (x ∷ xs) → AreRising xs
-later_rise x xs rising i j d before inside = rising (suc i) (suc j) d (omega (arith, before)) (omega (arith, inside))
-
 -- the first number is below one that stands later
-lower : (id : ℕ) (x : Held) (xs : List Held) (at : ℕ) → AreRising (x ∷ xs) → StandsAt id (suc at) (x ∷ xs) → x.id < id
+lower : (id : ℕ) (x : Gained) (xs : List Gained) (at : ℕ) → AreRising (x ∷ xs) → StandsAt id (suc at) (x ∷ xs) → x.id < id
 lower id x xs at rising stands = subst (λ n. x.id < n) (stands.1 x) (rising 0 (suc at) x (omega arith) stands.0)
 
-later_stands : (id : ℕ) (x : Held) (xs : List Held) (at : ℕ) → StandsAt id (suc at) (x ∷ xs) → StandsAt id at xs
+later_stands : (id : ℕ) (x : Gained) (xs : List Gained) (at : ℕ) → StandsAt id (suc at) (x ∷ xs) → StandsAt id at xs
 later_stands id x xs at stands = (omega (arith, stands.0), stands.1)
 
--- ---- a ticket is found
+-- no later ticket has the number
+apart : (id : ℕ) (x : Gained) (xs : List Gained) (d : Gained) → AreRising (x ∷ xs) → x.id ≡ id → (k : ℕ) → k < length xs → id < (get_or xs k d).id
+apart id x xs d rising is k inside = subst (λ n. n < (get_or xs k d).id) is (rising 0 (suc k) d (omega arith) (omega (arith, inside)))
 
-pub find_none : (id : ℕ) (ps : List OfPlace) (xs : List Held) → list_all (λ t. not (t.id == id)) xs ≡ true → numbered id (map (own_of ps) xs) ≡ None
-find_none id ps [] none = refl
-find_none id ps (x ∷ xs) none = grind (arith, nat_tests, find_none id ps xs)
+alone : (id : ℕ) (x : Gained) (xs : List Gained) → AreRising (x ∷ xs) → x.id ≡ id → list_all (λ t. not (t.id == id)) xs ≡ true
+alone id x xs rising is = each_at _ x xs (λ k inside. grind (arith, nat_tests, apart id x xs x rising is k inside))
 
-pub find_at : (id : ℕ) (ps : List OfPlace) (xs : List Held) (at : ℕ) (d : Held) → AreRising xs → StandsAt id at xs → numbered id (map (own_of ps) xs) ≡ Some (own_of ps (get_or xs at d))
-find_at id ps [] at d rising stands = absurd (omega (arith, stands.0))
-find_at id ps (x ∷ xs) zero d rising stands = rw (stands.1 d) (grind (arith, nat_tests))
-find_at id ps (x ∷ xs) (suc at) d rising stands =
-    let later = find_at id ps xs at d (later_rise x xs rising) (later_stands id x xs at stands) in
+-- what holds of an index holds of each
+rest : (p : Gained → Bool) (x : Gained) (xs : List Gained) → list_all p (x ∷ xs) ≡ true → list_all p xs ≡ true
+rest p x xs all = grind (arith, nat_tests)
+
+-- ---- a ticket is found, among those that pass a test
+
+pub find_none : (id : ℕ) (ps : List OfPlace) (p : Gained → Bool) (xs : List Gained) → list_all (λ t. not (t.id == id)) xs ≡ true → numbered id (some_of ps p xs) ≡ None
+find_none id ps p [] none = refl
+find_none id ps p (x ∷ xs) none =
+    let later = find_none id ps p xs (rest (λ t. not (t.id == id)) x xs none) in
+    by_bool (p x)
+    (λ kept. rw kept (grind (arith, nat_tests, later)))
+    (λ left. rw left later)
+
+pub find_at : (id : ℕ) (ps : List OfPlace) (p : Gained → Bool) (xs : List Gained) (at : ℕ) (d : Gained) → AreRising xs → StandsAt id at xs
+    → numbered id (some_of ps p xs) ≡ (if p (get_or xs at d) then Some (own_of ps (get_or xs at d)) else None)
+find_at id ps p [] at d rising stands = absurd (omega (arith, stands.0))
+find_at id ps p (x ∷ xs) zero d rising stands = by_bool (p x)
+    (λ kept. rw kept (rw (stands.1 d) (grind (arith, nat_tests))))
+    (λ left. rw left (find_none id ps p xs (alone id x xs rising (stands.1 d))))
+find_at id ps p (x ∷ xs) (suc at) d rising stands =
+    let later = find_at id ps p xs at d (later_rise x xs rising) (later_stands id x xs at stands) in
     let before = lower id x xs at rising stands in
-    grind (arith, nat_tests, later)
+    by_bool (p x)
+    (λ kept. rw kept (grind (arith, nat_tests, later)))
+    (λ left. rw left later)
+
+-- in the whole list
+all_kept : (ps : List OfPlace) (xs : List Gained) → some_of ps (λ t. true) xs ≡ map (own_of ps) xs
+all_kept ps [] = refl
+all_kept ps (x ∷ xs) = ap (λ ts. own_of ps x ∷ ts) (all_kept ps xs)
+
+whole : (ps : List OfPlace) (xs : List Gained) → AreRising xs → interleaved (slow_of ps xs) (fast_of ps xs) ≡ some_of ps (λ t. true) xs
+whole ps xs rising = parted ps xs rising ∙ sym (all_kept ps xs)
+
+pub find_nowhere : (id : ℕ) (ps : List OfPlace) (xs : List Gained) → AreRising xs → list_all (λ t. not (t.id == id)) xs ≡ true → numbered id (interleaved (slow_of ps xs) (fast_of ps xs)) ≡ None
+find_nowhere id ps xs rising none = ap (numbered id) (whole ps xs rising) ∙ find_none id ps (λ t. true) xs none
+
+pub find_there : (id : ℕ) (ps : List OfPlace) (xs : List Gained) (at : ℕ) (d : Gained) → AreRising xs → StandsAt id at xs
+    → numbered id (interleaved (slow_of ps xs) (fast_of ps xs)) ≡ Some (own_of ps (get_or xs at d))
+find_there id ps xs at d rising stands = ap (numbered id) (whole ps xs rising) ∙ find_at id ps (λ t. true) xs at d rising stands
 
 -- ---- a ticket is struck
 
-pub strike_none : (place id : ℕ) (ps : List OfPlace) (xs : List Held) → list_all (λ t. not (is_own place id (own_of [] t))) xs ≡ true → map (own_of ps) xs ≡ without_at place id (map (own_of ps) xs)
-strike_none place id ps [] none = refl
-strike_none place id ps (x ∷ xs) none = grind (arith, nat_tests, strike_none place id ps xs)
+pub strike_none : (place id : ℕ) (ps : List OfPlace) (p : Gained → Bool) (xs : List Gained) → list_all (λ t. not (is_own place id (own_of [] t))) xs ≡ true
+    → some_of ps p xs ≡ without_at place id (some_of ps p xs)
+strike_none place id ps p [] none = refl
+strike_none place id ps p (x ∷ xs) none =
+    let later = strike_none place id ps p xs (rest (λ t. not (is_own place id (own_of [] t))) x xs none) in
+    by_bool (p x)
+    (λ kept. rw kept (grind (arith, nat_tests, later)))
+    (λ left. rw left later)
 
--- no later ticket has the number
-apart : (id : ℕ) (x : Held) (xs : List Held) (d : Held) → AreRising (x ∷ xs) → x.id ≡ id → (k : ℕ) → k < length xs → id < (get_or xs k d).id
-apart id x xs d rising is k inside = subst (λ n. n < (get_or xs k d).id) is (rising 0 (suc k) d (omega arith) (omega (arith, inside)))
-
-pub strike_at : (place id : ℕ) (ps : List OfPlace) (xs : List Held) (at : ℕ) → AreRising xs → StandsAt id at xs → ((d : Held) → (get_or xs at d).place ≡ place)
-    → map (own_of ps) (remove xs at) ≡ without_at place id (map (own_of ps) xs)
-strike_at place id ps [] at rising stands there = absurd (omega (arith, stands.0))
-strike_at place id ps (x ∷ xs) zero rising stands there =
-    let rest = strike_none place id ps xs (nowhere place id xs (each_at _ x xs (λ k inside. grind (arith, nat_tests, apart id x xs x rising (stands.1 x) k inside)))) in
-    grind (arith, nat_tests, rest, stands.1 x, there x)
-strike_at place id ps (x ∷ xs) (suc at) rising stands there =
-    let later = strike_at place id ps xs at (later_rise x xs rising) (later_stands id x xs at stands) there in
+pub strike_at : (place id : ℕ) (ps : List OfPlace) (p : Gained → Bool) (xs : List Gained) (at : ℕ) → AreRising xs → StandsAt id at xs → ((d : Gained) → (get_or xs at d).place ≡ place)
+    → some_of ps p (remove xs at) ≡ without_at place id (some_of ps p xs)
+strike_at place id ps p [] at rising stands there = absurd (omega (arith, stands.0))
+strike_at place id ps p (x ∷ xs) zero rising stands there =
+    let later = strike_none place id ps p xs (nowhere place id xs (alone id x xs rising (stands.1 x))) in
+    by_bool (p x)
+    (λ kept. rw kept (grind (arith, nat_tests, later, stands.1 x, there x)))
+    (λ left. rw left later)
+strike_at place id ps p (x ∷ xs) (suc at) rising stands there =
+    let later = strike_at place id ps p xs at (later_rise x xs rising) (later_stands id x xs at stands) there in
     let before = lower id x xs at rising stands in
-    grind (arith, nat_tests, later)
+    by_bool (p x)
+    (λ kept. rw kept (grind (arith, nat_tests, later)))
+    (λ left. rw left later)
 
 -- ---- a ticket gets another mode
 
-pub mode_none : (place id : ℕ) (mode : Mode) (ps : List OfPlace) (xs : List Held) → list_all (λ t. not (is_own place id (own_of [] t))) xs ≡ true → map (own_of ps) xs ≡ in_mode_at place id mode (map (own_of ps) xs)
-mode_none place id mode ps [] none = refl
-mode_none place id mode ps (x ∷ xs) none = grind (arith, nat_tests, mode_none place id mode ps xs)
+pub mode_none : (place id : ℕ) (mode : Mode) (ps : List OfPlace) (p : Gained → Bool) (xs : List Gained) → list_all (λ t. not (is_own place id (own_of [] t))) xs ≡ true
+    → some_of ps p xs ≡ in_mode_at place id mode (some_of ps p xs)
+mode_none place id mode ps p [] none = refl
+mode_none place id mode ps p (x ∷ xs) none =
+    let later = mode_none place id mode ps p xs (rest (λ t. not (is_own place id (own_of [] t))) x xs none) in
+    by_bool (p x)
+    (λ kept. rw kept (grind (arith, nat_tests, later)))
+    (λ left. rw left later)
 
-pub mode_at : (place id : ℕ) (mode : Mode) (ps : List OfPlace) (xs : List Held) (at : ℕ) (t : Held) → AreRising xs → StandsAt id at xs → t ≡ get_or xs at t → t.place ≡ place
-    → map (own_of ps) (set xs at (record t { mode = mode })) ≡ in_mode_at place id mode (map (own_of ps) xs)
-mode_at place id mode ps [] at t rising stands is there = absurd (omega (arith, stands.0))
-mode_at place id mode ps (x ∷ xs) zero t rising stands is there =
-    let rest = mode_none place id mode ps xs (nowhere place id xs (each_at _ x xs (λ k inside. grind (arith, nat_tests, apart id x xs x rising (stands.1 x) k inside)))) in
-    grind (arith, nat_tests, rest, stands.1 x)
-mode_at place id mode ps (x ∷ xs) (suc at) t rising stands is there =
-    let later = mode_at place id mode ps xs at t (later_rise x xs rising) (later_stands id x xs at stands) is there in
+pub mode_at : (place id : ℕ) (mode : Mode) (ps : List OfPlace) (p : Gained → Bool) (xs : List Gained) (at : ℕ) (t : Gained) → AreRising xs → StandsAt id at xs → t ≡ get_or xs at t → t.place ≡ place
+    → p (record t { mode = mode }) ≡ p t
+    → some_of ps p (set xs at (record t { mode = mode })) ≡ in_mode_at place id mode (some_of ps p xs)
+mode_at place id mode ps p [] at t rising stands is there apart = absurd (omega (arith, stands.0))
+mode_at place id mode ps p (x ∷ xs) zero t rising stands is there same =
+    let later = mode_none place id mode ps p xs (nowhere place id xs (alone id x xs rising (stands.1 x))) in
+    let first = ap p is in
+    by_bool (p x)
+    (λ kept. rw (same ∙ first ∙ kept, kept) (grind (arith, nat_tests, later, stands.1 x)))
+    (λ left. rw (same ∙ first ∙ left, left) later)
+mode_at place id mode ps p (x ∷ xs) (suc at) t rising stands is there same =
+    let later = mode_at place id mode ps p xs at t (later_rise x xs rising) (later_stands id x xs at stands) is there same in
     let before = lower id x xs at rising stands in
-    grind (arith, nat_tests, later)
+    by_bool (p x)
+    (λ kept. rw kept (grind (arith, nat_tests, later)))
+    (λ left. rw left later)
+
+-- where no ticket has the number, none gets it
+pub mode_nowhere : (place id : ℕ) (mode : Mode) (ts : List Own) → numbered id ts ≡ None → in_mode_at place id mode ts ≡ ts
+mode_nowhere place id mode [] none = refl
+mode_nowhere place id mode (t ∷ ts) none = grind (arith, nat_tests, mode_nowhere place id mode ts)
 
 -- ---- notes
 
--- how many tickets are at a place, with one more
-counted : (q : ℕ) (x : Held) (xs : List Held) → count_by (is_there q) (x ∷ xs) ≡ (if x.place == q then 1 else 0) + count_by (is_there q) xs
-counted q x xs =
-    let both : count_by (is_there q) (x ∷ xs) ≡ (0 + cond (x.place == q) 1 0) + count_by (is_there q) xs = sum_by-append (λ (t : Held). cond (t.place == q) 1 0) (x ∷ []) xs in
-    omega (arith, both)
+-- the place of a ticket has one
+first_counts : (p : Gained → Bool) (x : Gained) (xs : List Gained) → p x ≡ true → 0 < count_by p (x ∷ xs)
+first_counts p x xs is = let more = counted p x xs in rw more (rw is (omega arith))
 
-first_counts : (x : Held) (xs : List Held) → 0 < count_by (is_there x.place) (x ∷ xs)
-first_counts x xs = rw (counted x.place x xs) (grind (arith, nat_tests))
+more_count : (p : Gained → Bool) (x : Gained) (xs : List Gained) → 0 < count_by p xs → 0 < count_by p (x ∷ xs)
+more_count p x xs some = let more = counted p x xs in omega (arith, more, some)
 
-more_count : (q : ℕ) (x : Held) (xs : List Held) → 0 < count_by (is_there q) xs → 0 < count_by (is_there q) (x ∷ xs)
-more_count q x xs some = rw (counted q x xs) (omega (arith, some))
-
--- ---- a version is noted
-
-pub note_places : (place version : ℕ) (ps qs : List OfPlace) (xs : List Held)
+-- the notes of tickets are changed as those of their places are
+pub notes : (place version : ℕ) (ps qs : List OfPlace) (p : Gained → Bool) (xs : List Gained)
     → ((q : ℕ) → 0 < count_by (is_there q) xs → noted_in q qs ≡ (if q == place then Some version else noted_in q ps))
-    → map (own_of qs) xs ≡ noting_version place version (map (own_of ps) xs)
-note_places place version ps qs [] noted = refl
-note_places place version ps qs (x ∷ xs) noted =
-    let here : noted_in x.place qs ≡ (if x.place == place then Some version else noted_in x.place ps) = noted x.place (first_counts x xs) in
-    let later = note_places place version ps qs xs (λ q some. noted q (more_count q x xs some)) in
-    grind (arith, nat_tests, here, later)
+    → some_of qs p xs ≡ noting_version place version (some_of ps p xs)
+notes place version ps qs p [] noted = refl
+notes place version ps qs p (x ∷ xs) noted =
+    let here : noted_in x.place qs ≡ (if x.place == place then Some version else noted_in x.place ps) = noted x.place (first_counts (is_there x.place) x xs (grind (arith, nat_tests))) in
+    let later = notes place version ps qs p xs (λ q some. noted q (more_count (is_there q) x xs some)) in
+    by_bool (p x)
+    (λ kept. rw kept (grind (arith, nat_tests, here, later)))
+    (λ left. rw left later)
+
+-- they are the same where those of places with tickets are
+pub same_notes : (ps qs : List OfPlace) (p : Gained → Bool) (xs : List Gained) → ((q : ℕ) → 0 < count_by (is_there q) xs → noted_in q qs ≡ noted_in q ps) → some_of qs p xs ≡ some_of ps p xs
+same_notes ps qs p [] noted = refl
+same_notes ps qs p (x ∷ xs) noted =
+    let here : noted_in x.place qs ≡ noted_in x.place ps = noted x.place (first_counts (is_there x.place) x xs (grind (arith, nat_tests))) in
+    let later = same_notes ps qs p xs (λ q some. noted q (more_count (is_there q) x xs some)) in
+    by_bool (p x)
+    (λ kept. rw kept (λ k. record { number = x.id; place = x.place; mode = x.mode; noted = here k } ∷ later k))
+    (λ left. rw left later)
+
+-- or those of all places
+pub still : (ps qs : List OfPlace) (p : Gained → Bool) (xs : List Gained) → ((q : ℕ) → noted_in q qs ≡ noted_in q ps) → some_of qs p xs ≡ some_of ps p xs
+still ps qs p xs noted = same_notes ps qs p xs (λ q some. noted q)
+
+-- a ticket is struck, and the notes stay
+pub struck : (place id : ℕ) (ps qs : List OfPlace) (p : Gained → Bool) (xs ys : List Gained) (at : ℕ) → AreRising xs → StandsAt id at xs → ((d : Gained) → (get_or xs at d).place ≡ place)
+    → ys ≡ remove xs at → ((q : ℕ) → noted_in q qs ≡ noted_in q ps) → some_of qs p ys ≡ without_at place id (some_of ps p xs)
+struck place id ps qs p xs ys at rising stands there is noted = still ps qs p ys noted ∙ ap (some_of ps p) is ∙ strike_at place id ps p xs at rising stands there
 
 -- ---- a ticket is gained
 
--- the notes of places with tickets are the same
-pub same_notes : (ps qs : List OfPlace) (xs : List Held) → ((q : ℕ) → 0 < count_by (is_there q) xs → noted_in q qs ≡ noted_in q ps) → map (own_of qs) xs ≡ map (own_of ps) xs
-same_notes ps qs [] noted = refl
-same_notes ps qs (x ∷ xs) noted =
-    let here : noted_in x.place qs ≡ noted_in x.place ps = noted x.place (first_counts x xs) in
-    let later = same_notes ps qs xs (λ q some. noted q (more_count q x xs some)) in
-    grind (arith, nat_tests, here, later)
+-- the note of its place is forgotten where it is the first there
+abbrev pub IsNotedAnew : ℕ → List OfPlace → List OfPlace → Type 0
+IsNotedAnew place ps qs = (q : ℕ) → noted_in q qs ≡ (if q == place && counted_at q ps == 0 then None else noted_in q ps)
 
--- the note of a place is that of its tickets, if there are any
-pub note_there : (place : ℕ) (ps : List OfPlace) (xs : List Held) → note_at place (map (own_of ps) xs) ≡ (if count_by (is_there place) xs == 0 then None else noted_in place ps)
-note_there place ps [] = refl
-note_there place ps (x ∷ xs) = grind (arith, nat_tests, counted place x xs, note_there place ps xs)
+-- the other tickets keep their notes
+still_noted : (place : ℕ) (ps qs : List OfPlace) (p : Gained → Bool) (xs : List Gained) (fast : ℕ) → AreKept xs ps fast → IsNotedAnew place ps qs → some_of qs p xs ≡ some_of ps p xs
+still_noted place ps qs p xs fast kept noted = same_notes ps qs p xs (λ q some. noted q ∙ grind (arith, nat_tests, some, kept.counted q))
 
--- the note of a new ticket is that of those at its place
-pub gained : (number place : ℕ) (mode : Mode) (ps qs : List OfPlace) (xs : List Held) → AreKept xs ps
-    → ((q : ℕ) → noted_in q qs ≡ (if q == place && counted_at q ps == 0 then None else noted_in q ps))
-    → map (own_of qs) (xs ++ record { id = number; place = place; mode = mode } ∷ [])
-    ≡ map (own_of ps) xs ++ record { number = number; place = place; mode = mode; noted = note_at place (map (own_of ps) xs) } ∷ []
-gained number place mode ps qs xs kept noted =
-    let others = same_notes ps qs xs (λ q some. noted q ∙ grind (arith, nat_tests, some, kept.counted q)) in
-    let there : noted_in place qs ≡ note_at place (map (own_of ps) xs) = noted place ∙ grind (arith, nat_tests, kept.counted place, note_there place ps xs) in
-    map_push (own_of qs) xs _ ∙ (λ k. others k ++ record { number = number; place = place; mode = mode; noted = there k } ∷ [])
+-- it isn't among those that a test leaves out
+pub ungained : (t : Gained) (ps qs : List OfPlace) (p : Gained → Bool) (xs : List Gained) (fast : ℕ) → AreKept xs ps fast → IsNotedAnew t.place ps qs → p t ≡ false
+    → some_of qs p (xs ++ t ∷ []) ≡ some_of ps p xs
+ungained t ps qs p xs fast kept noted left =
+    ap (map (own_of qs)) (filter-append p xs (t ∷ []) ∙ rw left (append-nil (filter p xs))) ∙ still_noted t.place ps qs p xs fast kept noted
+
+-- and is the last of those that it keeps
+pub gained : (t : Gained) (ps qs : List OfPlace) (p : Gained → Bool) (xs : List Gained) (fast : ℕ) (noted : Option ℕ) → AreKept xs ps fast → IsNotedAnew t.place ps qs → p t ≡ true
+    → noted ≡ (if count_by (is_there t.place) xs == 0 then None else noted_in t.place ps)
+    → some_of qs p (xs ++ t ∷ []) ≡ some_of ps p xs ++ record { number = t.id; place = t.place; mode = t.mode; noted = noted } ∷ []
+gained t ps qs p xs fast note kept noted keeps is =
+    let there : noted_in t.place qs ≡ note = noted t.place ∙ grind (arith, nat_tests, kept.counted t.place, is) in
+    ap (map (own_of qs)) (filter-append p xs (t ∷ []) ∙ rw keeps refl) ∙ map_push (own_of qs) (filter p xs) t
+    ∙ (λ k. still_noted t.place ps qs p xs fast kept noted k ++ record { number = t.id; place = t.place; mode = t.mode; noted = there k } ∷ [])
 
 -- ---- the list and the places fit together
 
-same_id : (xs : List Held) (at k : ℕ) (t d : Held) (mode : Mode) → t ≡ get_or xs at t → (get_or (set xs at (record t { mode = mode })) k d).id ≡ (get_or xs k d).id
+-- how many pass a test, with one more at the end
+count_pushed : (p : Gained → Bool) (t : Gained) (xs : List Gained) → count_by p (xs ++ t ∷ []) ≡ count_by p xs + cond (p t) 1 0
+count_pushed p t xs =
+    let more : count_by p (xs ++ t ∷ []) ≡ count_by p xs + (0 + cond (p t) 1 0) = sum_by-append (λ (t : Gained). cond (p t) 1 0) xs (t ∷ []) in
+    omega (arith, more)
+
+under : (number : ℕ) (ps : List OfPlace) (xs : List Gained) (i : ℕ) (d : Gained) → are_below number (map (own_of ps) xs) ≡ true → i < length xs → (get_or xs i d).id < number
+under number ps [] i d below inside = absurd (omega arith)
+under number ps (x ∷ xs) zero d below inside = grind (arith, nat_tests)
+under number ps (x ∷ xs) (suc i) d below inside = grind (arith, nat_tests, under number ps xs i d)
+
+-- a number above those of both lists is above all
+pub below_all : (number : ℕ) (ps : List OfPlace) (xs : List Gained) → AreRising xs → are_below number (interleaved (slow_of ps xs) (fast_of ps xs)) ≡ true
+    → are_below number (map (own_of ps) xs) ≡ true
+below_all number ps xs rising below = rw (parted ps xs rising) at below
+
+rise_gained : (t : Gained) (ps : List OfPlace) (xs : List Gained) → are_below t.id (map (own_of ps) xs) ≡ true → AreRising xs → AreRising (xs ++ t ∷ [])
+rise_gained t ps xs below rising i j d before within =
+    let longer = length_push xs t in
+    elim (ltb j (length xs)) as (λ b. ltb j (length xs) ≡ b → (get_or (xs ++ t ∷ []) i d).id < (get_or (xs ++ t ∷ []) j d).id) [
+      | true ↦ λ e. let old : j < length xs = grind (arith, nat_tests) in
+          rw (get_or_append_left xs (t ∷ []) d j old) (rw (get_or_append_left xs (t ∷ []) d i (omega (arith, before, old))) (rising i j d before old))
+      | false ↦ λ e. let last : length xs ≡ j = grind (arith, nat_tests, longer) in
+          rw (get_or_push xs t d j last) (rw (get_or_append_left xs (t ∷ []) d i (omega (arith, before, last))) (under t.id ps xs i d below (omega (arith, before, last))))
+    ] refl
+
+-- a slow ticket is gained
+pub kept_gain : (t : Gained) (ps qs : List OfPlace) (xs : List Gained) (fast : ℕ) → are_below t.id (map (own_of ps) xs) ≡ true → t.fast ≡ false
+    → length qs ≡ length ps → ((q : ℕ) → counted_at q qs ≡ counted_at q ps + (if q == t.place then 1 else 0)) → ((q : ℕ) → fast_counted_at q qs ≡ fast_counted_at q ps)
+    → AreKept xs ps fast → AreKept (xs ++ t ∷ []) qs fast
+kept_gain t ps qs xs fast below slow long counts fasts kept = record {
+  rising = rise_gained t ps xs below kept.rising;
+  counted = λ q. grind (arith, nat_tests, count_pushed (is_there q) t xs, counts q, kept.counted q);
+  fast_counted = λ q. grind (arith, nat_tests, count_pushed (is_fast_there q) t xs, slow, fasts q, kept.fast_counted q);
+  all_fast = grind (arith, nat_tests, count_pushed (λ u. u.fast) t xs, slow, kept.all_fast);
+  narrow = rw long kept.narrow;
+}
+
+-- a fast one
+pub kept_gain_fast : (t : Gained) (ps qs : List OfPlace) (xs : List Gained) (fast : ℕ) → are_below t.id (map (own_of ps) xs) ≡ true → t.fast ≡ true
+    → length qs ≡ length ps → ((q : ℕ) → counted_at q qs ≡ counted_at q ps + (if q == t.place then 1 else 0))
+    → ((q : ℕ) → fast_counted_at q qs ≡ fast_counted_at q ps + (if q == t.place then 1 else 0))
+    → AreKept xs ps fast → AreKept (xs ++ t ∷ []) qs (fast + 1)
+kept_gain_fast t ps qs xs fast below is long counts fasts kept = record {
+  rising = rise_gained t ps xs below kept.rising;
+  counted = λ q. grind (arith, nat_tests, count_pushed (is_there q) t xs, counts q, kept.counted q);
+  fast_counted = λ q. grind (arith, nat_tests, count_pushed (is_fast_there q) t xs, is, fasts q, kept.fast_counted q);
+  all_fast = grind (arith, nat_tests, count_pushed (λ u. u.fast) t xs, is, kept.all_fast);
+  narrow = rw long kept.narrow;
+}
+
+same_id : (xs : List Gained) (at k : ℕ) (t d : Gained) (mode : Mode) → t ≡ get_or xs at t → (get_or (set xs at (record t { mode = mode })) k d).id ≡ (get_or xs k d).id
 same_id [] at k t d mode is = refl
-same_id (x ∷ xs) zero zero t d mode is = ap (λ (u : Held). u.id) is
+same_id (x ∷ xs) zero zero t d mode is = ap (λ (u : Gained). u.id) is
 same_id (x ∷ xs) zero (suc k) t d mode is = refl
 same_id (x ∷ xs) (suc at) zero t d mode is = refl
 same_id (x ∷ xs) (suc at) (suc k) t d mode is = same_id xs at k t d mode is
 
-pub kept_mode : (ps : List OfPlace) (xs : List Held) (at : ℕ) (t : Held) (mode : Mode) → at < length xs → t ≡ get_or xs at t → AreKept xs ps → AreKept (set xs at (record t { mode = mode })) ps
-kept_mode ps xs at t mode inside is kept = record {
+-- how many pass a test that knows no mode, after a change of one
+count_mode : (p : Gained → Bool) (xs : List Gained) (at : ℕ) (t : Gained) (mode : Mode) → at < length xs → t ≡ get_or xs at t → p (record t { mode = mode }) ≡ p t
+    → count_by p (set xs at (record t { mode = mode })) ≡ count_by p xs
+count_mode p xs at t mode inside is same =
+    let more : count_by p (set xs at (record t { mode = mode })) + cond (p (get_or xs at t)) 1 0 ≡ count_by p xs + cond (p (record t { mode = mode })) 1 0 =
+    sum_by-set (λ (t : Gained). cond (p t) 1 0) xs at (record t { mode = mode }) t inside in
+    let equal = rw (← is, same) at more in
+    omega (arith, equal)
+
+pub kept_mode : (ps : List OfPlace) (xs : List Gained) (fast : ℕ) (at : ℕ) (t : Gained) (mode : Mode) → at < length xs → t ≡ get_or xs at t → AreKept xs ps fast
+    → AreKept (set xs at (record t { mode = mode })) ps fast
+kept_mode ps xs fast at t mode inside is kept = record {
   rising = λ i j d before within.
       rw (same_id xs at i t d mode is) (rw (same_id xs at j t d mode is) (kept.rising i j d before (rw (length-set xs at (record t { mode = mode })) at within)));
-  counted = λ q.
-      let more : count_by (is_there q) (set xs at (record t { mode = mode })) + cond ((get_or xs at t).place == q) 1 0 ≡ count_by (is_there q) xs + cond (t.place == q) 1 0 =
-      sum_by-set (λ (t : Held). cond (t.place == q) 1 0) xs at (record t { mode = mode }) t inside in
-      let same = rw (← is) at more in
-      kept.counted q ∙ omega (arith, same);
+  counted = λ q. kept.counted q ∙ sym (count_mode (is_there q) xs at t mode inside is refl);
+  fast_counted = λ q. kept.fast_counted q ∙ sym (count_mode (is_fast_there q) xs at t mode inside is refl);
+  all_fast = kept.all_fast ∙ sym (count_mode (λ u. u.fast) xs at t mode inside is refl);
   narrow = kept.narrow;
 }
 
-struck : (q : ℕ) (xs : List Held) (at : ℕ) (d : Held) → at < length xs → count_by (is_there q) (remove xs at) + cond ((get_or xs at d).place == q) 1 0 ≡ count_by (is_there q) xs
-struck q xs at d inside = sum_by-remove (λ (t : Held). cond (t.place == q) 1 0) xs at d inside
+-- a ticket is struck
+pub count_struck : (p : Gained → Bool) (xs : List Gained) (at : ℕ) (d : Gained) → at < length xs → count_by p (remove xs at) + cond (p (get_or xs at d)) 1 0 ≡ count_by p xs
+count_struck p xs at d inside = sum_by-remove (λ (t : Gained). cond (p t) 1 0) xs at d inside
 
--- the place of a ticket has one
-pub has_one : (place : ℕ) (xs : List Held) (at : ℕ) (d : Held) → at < length xs → (get_or xs at d).place ≡ place → 0 < count_by (is_there place) xs
-has_one place xs at d inside there = rw (← struck place xs at d inside) (rw there (grind (arith, nat_tests)))
+-- a ticket that passes a test is counted
+pub has_one : (p : Gained → Bool) (xs : List Gained) (at : ℕ) (d : Gained) → at < length xs → p (get_or xs at d) ≡ true → 0 < count_by p xs
+has_one p xs at d inside is = rw (← count_struck p xs at d inside) (rw is (omega arith))
 
-rise_struck : (xs : List Held) (at : ℕ) → at < length xs → AreRising xs → AreRising (remove xs at)
+rise_struck : (xs : List Gained) (at : ℕ) → at < length xs → AreRising xs → AreRising (remove xs at)
 rise_struck xs at inside rising i j d before within =
     let shorter = length-remove xs at inside in
     elim (ltb j at) as (λ b. ltb j at ≡ b → (get_or (remove xs at) i d).id < (get_or (remove xs at) j d).id) [
@@ -175,41 +307,72 @@ rise_struck xs at inside rising i j d before within =
           ] refl)
     ] refl
 
-pub kept_strike : (place : ℕ) (ps qs : List OfPlace) (xs : List Held) (at : ℕ) (d : Held) → at < length xs → (get_or xs at d).place ≡ place
-    → length qs ≡ length ps → ((q : ℕ) → counted_at q ps ≡ counted_at q qs + (if q == place then 1 else 0)) → AreKept xs ps → AreKept (remove xs at) qs
-kept_strike place ps qs xs at d inside there long counts kept = record {
+pub kept_strike : (place : ℕ) (ps qs : List OfPlace) (xs : List Gained) (fast : ℕ) (at : ℕ) (d : Gained) → at < length xs → (get_or xs at d).place ≡ place → (get_or xs at d).fast ≡ false
+    → length qs ≡ length ps → ((q : ℕ) → counted_at q ps ≡ counted_at q qs + (if q == place then 1 else 0)) → ((q : ℕ) → fast_counted_at q qs ≡ fast_counted_at q ps)
+    → AreKept xs ps fast → AreKept (remove xs at) qs fast
+kept_strike place ps qs xs fast at d inside there slow long counts fasts kept = record {
   rising = rise_struck xs at inside kept.rising;
-  counted = λ q. grind (arith, nat_tests, struck q xs at d inside, there, counts q, kept.counted q);
+  counted = λ q. grind (arith, nat_tests, count_struck (is_there q) xs at d inside, there, counts q, kept.counted q);
+  fast_counted = λ q. grind (arith, nat_tests, count_struck (is_fast_there q) xs at d inside, slow, fasts q, kept.fast_counted q);
+  all_fast = grind (arith, nat_tests, count_struck (λ u. u.fast) xs at d inside, slow, kept.all_fast);
   narrow = rw long kept.narrow;
 }
 
-under : (number : ℕ) (ps : List OfPlace) (xs : List Held) (i : ℕ) (d : Held) → are_below number (map (own_of ps) xs) ≡ true → i < length xs → (get_or xs i d).id < number
-under number ps [] i d below inside = absurd (omega arith)
-under number ps (x ∷ xs) zero d below inside = grind (arith, nat_tests)
-under number ps (x ∷ xs) (suc i) d below inside = grind (arith, nat_tests, under number ps xs i d)
-
-rise_gained : (t : Held) (ps : List OfPlace) (xs : List Held) → are_below t.id (map (own_of ps) xs) ≡ true → AreRising xs → AreRising (xs ++ t ∷ [])
-rise_gained t ps xs below rising i j d before within =
-    let longer = length_push xs t in
-    elim (ltb j (length xs)) as (λ b. ltb j (length xs) ≡ b → (get_or (xs ++ t ∷ []) i d).id < (get_or (xs ++ t ∷ []) j d).id) [
-      | true ↦ λ e. let old : j < length xs = grind (arith, nat_tests) in
-          rw (get_or_append_left xs (t ∷ []) d j old) (rw (get_or_append_left xs (t ∷ []) d i (omega (arith, before, old))) (rising i j d before old))
-      | false ↦ λ e. let last : length xs ≡ j = grind (arith, nat_tests, longer) in
-          rw (get_or_push xs t d j last) (rw (get_or_append_left xs (t ∷ []) d i (omega (arith, before, last))) (under t.id ps xs i d below (omega (arith, before, last))))
-    ] refl
-
-pub kept_gain : (t : Held) (ps qs : List OfPlace) (xs : List Held) → are_below t.id (map (own_of ps) xs) ≡ true
-    → length qs ≡ length ps → ((q : ℕ) → counted_at q qs ≡ counted_at q ps + (if q == t.place then 1 else 0)) → AreKept xs ps → AreKept (xs ++ t ∷ []) qs
-kept_gain t ps qs xs below long counts kept = record {
-  rising = rise_gained t ps xs below kept.rising;
-  counted = λ q.
-      let more : count_by (is_there q) (xs ++ t ∷ []) ≡ count_by (is_there q) xs + (0 + cond (t.place == q) 1 0) = sum_by-append (λ (t : Held). cond (t.place == q) 1 0) xs (t ∷ []) in
-      grind (arith, nat_tests, more, counts q, kept.counted q);
+pub kept_strike_fast : (place : ℕ) (ps qs : List OfPlace) (xs : List Gained) (fast : ℕ) (at : ℕ) (d : Gained) → at < length xs → (get_or xs at d).place ≡ place → (get_or xs at d).fast ≡ true
+    → length qs ≡ length ps → ((q : ℕ) → counted_at q ps ≡ counted_at q qs + (if q == place then 1 else 0))
+    → ((q : ℕ) → fast_counted_at q ps ≡ fast_counted_at q qs + (if q == place then 1 else 0))
+    → AreKept xs ps fast → AreKept (remove xs at) qs (fast - 1)
+kept_strike_fast place ps qs xs fast at d inside there is long counts fasts kept = record {
+  rising = rise_struck xs at inside kept.rising;
+  counted = λ q. grind (arith, nat_tests, count_struck (is_there q) xs at d inside, there, counts q, kept.counted q);
+  fast_counted = λ q. grind (arith, nat_tests, count_struck (is_fast_there q) xs at d inside, there, is, fasts q, kept.fast_counted q);
+  all_fast = grind (arith, nat_tests, count_struck (λ u. u.fast) xs at d inside, is, kept.all_fast);
   narrow = rw long kept.narrow;
 }
 
 -- ---- the tickets are told
 
-pub told : (ps : List OfPlace) (xs : List Held) → map told_of (map (own_of ps) xs) ≡ xs
+pub told : (ps : List OfPlace) (xs : List Gained) → map told_of (map (own_of ps) xs) ≡ map (λ t. told_of (own_of [] t)) xs
 told ps [] = refl
-told ps (x ∷ xs) = ap (λ ts. x ∷ ts) (told ps xs)
+told ps (x ∷ xs) = ap (λ ts. told_of (own_of [] x) ∷ ts) (told ps xs)
+
+-- ---- tickets are made slow
+
+same_numbers : (place : ℕ) (xs : List Gained) (i : ℕ) (d : Gained) → i < length xs → (get_or (map (slowed place) xs) i d).id ≡ (get_or xs i d).id
+same_numbers place [] i d inside = refl
+same_numbers place (x ∷ xs) zero d inside = refl
+same_numbers place (x ∷ xs) (suc i) d inside = same_numbers place xs i d (omega (arith, inside))
+
+-- as many are at each place as before
+count_slowed : (place q : ℕ) (xs : List Gained) → count_by (is_there q) (map (slowed place) xs) ≡ count_by (is_there q) xs
+count_slowed place q [] = refl
+count_slowed place q (x ∷ xs) = counted (is_there q) (slowed place x) (map (slowed place) xs) ∙ ap (λ n. cond (x.place == q) 1 0 + n) (count_slowed place q xs) ∙ sym (counted (is_there q) x xs)
+
+-- no fast one at this
+fast_slowed : (place q : ℕ) (xs : List Gained) → count_by (is_fast_there q) xs ≡ count_by (is_fast_there q) (map (slowed place) xs) + (if q == place then count_by (is_fast_there place) xs else 0)
+fast_slowed place q [] = grind (arith, nat_tests)
+fast_slowed place q (x ∷ xs) =
+    grind (arith, nat_tests, counted (is_fast_there q) x xs, counted (is_fast_there place) x xs, counted (is_fast_there q) (slowed place x) (map (slowed place) xs), fast_slowed place q xs)
+
+-- and so many less in all
+all_slowed : (place : ℕ) (xs : List Gained) → count_by (λ t. t.fast) xs ≡ count_by (λ t. t.fast) (map (slowed place) xs) + count_by (is_fast_there place) xs
+all_slowed place [] = refl
+all_slowed place (x ∷ xs) =
+    grind (arith, nat_tests, counted (λ t. t.fast) x xs, counted (is_fast_there place) x xs, counted (λ t. t.fast) (slowed place x) (map (slowed place) xs), all_slowed place xs)
+
+-- no more are fast at a place than in all
+pub fewer_there : (place : ℕ) (ps : List OfPlace) (xs : List Gained) (fast : ℕ) → AreKept xs ps fast → fast_counted_at place ps ≤ fast
+fewer_there place ps xs fast kept = let all = all_slowed place xs in let in_all = kept.all_fast in let here = kept.fast_counted place in omega (arith, all, in_all, here)
+
+pub kept_slowed : (place : ℕ) (ps qs : List OfPlace) (xs : List Gained) (fast less : ℕ) → less ≡ fast_counted_at place ps
+    → length qs ≡ length ps → ((q : ℕ) → counted_at q qs ≡ counted_at q ps) → ((q : ℕ) → fast_counted_at q qs ≡ (if q == place then 0 else fast_counted_at q ps))
+    → AreKept xs ps fast → AreKept (map (slowed place) xs) qs (fast - less)
+kept_slowed place ps qs xs fast less is long counts fasts kept = record {
+  rising = λ i j d before inside.
+      let within : j < length xs = rw (length-map xs (slowed place)) at inside in
+      rw (same_numbers place xs i d (omega (arith, before, within)), same_numbers place xs j d within) (kept.rising i j d before within);
+  counted = λ q. counts q ∙ kept.counted q ∙ sym (count_slowed place q xs);
+  fast_counted = λ q. grind (arith, nat_tests, fast_slowed place q xs, fasts q, kept.fast_counted q);
+  all_fast = let all = all_slowed place xs in let kept_all = kept.all_fast in let here = kept.fast_counted place in omega (arith, all, kept_all, here, is);
+  narrow = rw long kept.narrow;
+}

@@ -1,37 +1,68 @@
 -- How a session keeps its own list of tickets: the tickets without their notes, and what it has of each place.
-use Rattle.std.specs.Prelude.{◌≡◌, ℕ, ◌≤◌, Bool, ◌==◌, List, count_by, length, slice_get, slice_index_or, ◌<◌, Option}
+use Rattle.std.specs.Prelude.{◌≡◌, ℕ, ◌≤◌, Bool, ◌==◌, ◌&&◌, not, List, count_by, filter, length, map, nat_lt, slice_get, slice_index_or, ◌<◌, Option}
 use Rattle.std.specs.Option.{option_map_or, option_and_then}
-use Rattle.mdl_calls.specs.declared.answers.Held.{Held}
 use Rattle.mdl_steps.specs.declared.view.Own.{Own}
+use Rattle.mdl_shared.specs.declared.tickets.Gained.{Gained}
 use Rattle.mdl_shared.specs.declared.tickets.OfPlace.{OfPlace}
 
 -- how many tickets are counted at a place
 abbrev pub counted_at : ℕ → List OfPlace → ℕ
 counted_at place places = option_map_or (λ (p : OfPlace). p.tickets) (slice_get places place) 0
 
+-- how many of them are fast
+abbrev pub fast_counted_at : ℕ → List OfPlace → ℕ
+fast_counted_at place places = option_map_or (λ (p : OfPlace). p.fast) (slice_get places place) 0
+
+-- whether there is a fast one
+abbrev pub has_fast : OfPlace → Bool
+has_fast p = nat_lt 0 p.fast
+
 -- the version that is noted at a place
 abbrev pub noted_in : ℕ → List OfPlace → Option ℕ
 noted_in place places = option_and_then (λ (p : OfPlace). p.noted) (slice_get places place)
 
 -- a ticket with the note of its place
-abbrev pub own_of : List OfPlace → Held → Own
+abbrev pub own_of : List OfPlace → Gained → Own
 own_of places t = record { number = t.id; place = t.place; mode = t.mode; noted = noted_in t.place places }
 
+-- the slow tickets, with their notes
+abbrev pub slow_of : List OfPlace → List Gained → List Own
+slow_of places tickets = map (own_of places) (filter (λ t. not t.fast) tickets)
+
+-- the fast tickets, with their notes
+abbrev pub fast_of : List OfPlace → List Gained → List Own
+fast_of places tickets = map (own_of places) (filter (λ t. t.fast) tickets)
+
 -- whether a ticket is at a place
-abbrev pub is_there : ℕ → Held → Bool
+abbrev pub is_there : ℕ → Gained → Bool
 is_there place t = t.place == place
 
+-- whether it is a fast one at a place
+abbrev pub is_fast_there : ℕ → Gained → Bool
+is_fast_there place t = t.fast && t.place == place
+
+-- a ticket, which is slow where it is at a place
+abbrev pub slowed : ℕ → Gained → Gained
+slowed place t = record t { fast = t.fast && not (t.place == place) }
+
+-- the same is kept of a place
+abbrev pub AreAt : ℕ → List OfPlace → List OfPlace → Type 0
+AreAt place old new =
+    (counted_at place new ≡ counted_at place old) × (fast_counted_at place new ≡ fast_counted_at place old) × (noted_in place new ≡ noted_in place old)
+
 -- the ticket at an index has this number
-abbrev pub StandsAt : ℕ → ℕ → List Held → Type 0
-StandsAt id at tickets = (at < length tickets) × ((d : Held) → (slice_index_or tickets at d).id ≡ id)
+abbrev pub StandsAt : ℕ → ℕ → List Gained → Type 0
+StandsAt id at tickets = (at < length tickets) × ((d : Gained) → (slice_index_or tickets at d).id ≡ id)
 
 -- each ticket has a number below those of all later ones
-abbrev pub AreRising : List Held → Type 0
+abbrev pub AreRising : List Gained → Type 0
 AreRising tickets =
-    (i j : ℕ) (d : Held) → i < j → j < length tickets → (slice_index_or tickets i d).id < (slice_index_or tickets j d).id
+    (i j : ℕ) (d : Gained) → i < j → j < length tickets → (slice_index_or tickets i d).id < (slice_index_or tickets j d).id
 
--- the numbers rise, the tickets at each place are counted there, and each place is one of a table's
-pub record AreKept (tickets : List Held) (places : List OfPlace) : Type 0 where
+-- the numbers rise, the tickets at each place are counted there, and the fast ones too, as they are in all, and each place is one of a table's
+pub record AreKept (tickets : List Gained) (places : List OfPlace) (fast : ℕ) : Type 0 where
   pub rising : AreRising tickets
   pub counted : (place : ℕ) → counted_at place places ≡ count_by (is_there place) tickets
+  pub fast_counted : (place : ℕ) → fast_counted_at place places ≡ count_by (is_fast_there place) tickets
+  pub all_fast : fast ≡ count_by (λ t. t.fast) tickets
   pub narrow : length places ≤ 65536

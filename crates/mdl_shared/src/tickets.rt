@@ -1,10 +1,10 @@
 //! A session's own list of its tickets.
-ghost use Rattle.std.specs.Prelude.{not, ◌^◌, MatchOption, None, OnErr, OnOk, IfOk, IfSome, Some, [], find, length, map, remove, slice_index_or, true, ◌+◌, ◌++◌, ◌<◌, ◌==◌, ◌∷◌, ◌≡◌, ◌≤◌, ◌&&◌, ℕ, if◌then◌else◌};
+ghost use Rattle.std.specs.Prelude.{not, ◌^◌, MatchOption, None, OnErr, OnOk, IfOk, IfSome, Some, [], false, find, length, map, position, remove, slice_get, slice_index_or, true, ◌+◌, ◌++◌, ◌<◌, ◌==◌, ◌∷◌, ◌≡◌, ◌≤◌, ◌&&◌, ℕ, if◌then◌else◌};
 ghost use Rattle.std.specs.List.{list_all};
-ghost use Rattle.mdl_steps.specs.Deeds.{is_own};
 ghost use Rattle.std.specs.Vec.{vec_capacity, vec_len};
 ghost use Rattle.mdl_calls.specs.declared.answers.Held.{Held};
 ghost use Rattle.mdl_steps.specs.Cells.{note_at, own_at};
+ghost use Rattle.mdl_steps.specs.Deeds.{is_own};
 ghost use Rattle.mdl_steps.specs.FastPlays.{but_at, fast_own, first_note};
 ghost use Rattle.mdl_steps.specs.Interleavings.{interleaved};
 ghost use Rattle.mdl_steps.specs.Plays.{noting_version};
@@ -13,8 +13,8 @@ ghost use Rattle.mdl_shared.specs.Members.{without_at};
 ghost use Rattle.mdl_shared.specs.Modes.{in_mode_at};
 ghost use Rattle.mdl_shared.specs.OwnLists.{told_of};
 ghost use Rattle.mdl_shared.specs.Waitings.{are_below};
-ghost use Rattle.mdl_shared.specs.TicketLists.{HasRoom};
-ghost use Rattle.mdl_shared.specs.OwnTickets.{StandsAt, counted_at, noted_in, own_of, AreRising};
+ghost use Rattle.mdl_shared.specs.TicketLists.{HasRoom, HasRoomFor};
+ghost use Rattle.mdl_shared.specs.OwnTickets.{StandsAt, counted_at, fast_counted_at, noted_in, own_of, AreRising, AreAt, has_fast, slowed};
 
 use mdl_calls::{Held, Place, TicketId};
 use mdl_key::Mode;
@@ -22,39 +22,49 @@ use mdl_steps::Own;
 use std::alloc::{AllocError, Global};
 use std::marker::Model;
 
-/// What is kept of a place: how many tickets the session has there, and the version that is noted under all of them.
+/// What is kept of a place: how many tickets the session has there, how many of them are fast, and the version that is noted under all of
+/// them.
 #[derive(Clone, Copy)]
 pub(crate) struct OfPlace {
     pub(crate) tickets: usize,
+    pub(crate) fast: usize,
     pub(crate) noted: Option<u64>,
 }
 
+/// A ticket. A fast one is counted by its lock's word, and is in no book.
+#[derive(Clone, Copy)]
+pub(crate) struct Gained {
+    pub(crate) id: TicketId,
+    pub(crate) place: Place,
+    pub(crate) mode: Mode,
+    pub(crate) fast: bool,
+}
+
 /// A session's tickets, in order of gain. A ticket is found by its number: the last one is looked at first, and the others are searched by
-/// halves. The note of a place is found in an array, so no call walks the tickets.
+/// halves. What there is at a place is found in an array, so most calls walk no tickets.
 #[derive(Drop)]
 pub(crate) struct Tickets {
-    gained: Vec<Held>,
+    gained: Vec<Gained>,
     places: Vec<OfPlace>,
+    fast: usize,
 }
 
 impl Model for Tickets {
-    ghost use Rattle.std.specs.Prelude.{map, length, ◌-◌, []};
-    ghost use Rattle.std.specs.List.{list_all};
-    ghost use Rattle.mdl_steps.specs.Deeds.{is_own};
+    ghost use Rattle.std.specs.Prelude.{length, ◌-◌};
     ghost use Rattle.std.specs.Vec.{vec_capacity};
     ghost use Rattle.mdl_shared.specs.TicketLists.{TicketList};
-    ghost use Rattle.mdl_shared.specs.OwnTickets.{AreKept, own_of};
+    ghost use Rattle.mdl_shared.specs.OwnTickets.{AreKept, slow_of, fast_of};
 
     ghost Value = { TicketList };
 
     ghost view = { λ s. record {
-      slow = map (own_of s.places.items) s.gained.items;
-      fast = [];
+      slow = slow_of s.places.items s.gained.items;
+      fast = fast_of s.places.items s.gained.items;
       spare = vec_capacity s.gained - length s.gained.items;
       reach = length s.places.items;
     } };
 
-    ghost invariant = { λ s. AreKept s.gained.items s.places.items };
+    ghost invariant = { λ s. AreKept s.gained.items s.places.items s.fast };
 }
 
 impl Tickets {
@@ -65,6 +75,7 @@ impl Tickets {
         Tickets {
             gained: Vec::new(alloc),
             places: Vec::new(alloc),
+            fast: 0,
         }
     }
 
@@ -76,7 +87,6 @@ impl Tickets {
     }
 
     /// The ticket of a number.
-    #[tactic(auto, using(crate::proofs::TicketEdits::find_at))]
     pub(crate) fn get(&self, id: TicketId) -> Option<Own>
         ensures found { result ≡ numbered id (interleaved self.now.slow self.now.fast) }
     {
@@ -84,31 +94,106 @@ impl Tickets {
         Some(own_of(&self.places, self.gained[at]))
     }
 
+    /// The fast ticket of a number.
+    pub(crate) fn get_fast(&self, id: TicketId) -> Option<Own>
+        ensures found { result ≡ numbered id self.now.fast }
+    {
+        let at = index_of(&self.gained, id)?;
+        let ticket = self.gained[at];
+        if ticket.fast {
+            Some(own_of(&self.places, ticket))
+        } else {
+            None
+        }
+    }
+
+    /// How many fast tickets there are at a place.
+    pub(crate) fn fast_at(&self, place: usize) -> usize
+        ensures { result ≡ length (own_at place self.now.fast) }
+    {
+        fast_counted(&self.places, place)
+    }
+
+    /// The version that is noted at a place, under a fast ticket or a slow one.
+    pub(crate) fn note_of(&self, place: usize) -> Option<u64>
+        ensures { result ≡ first_note (own_at place self.now.fast ++ own_at place self.now.slow) }
+    {
+        note_counted(&self.places, place)
+    }
+
+    /// A place with a fast ticket.
+    pub(crate) fn some_fast(&self) -> Option<usize>
+        ensures { MatchOption result (self.now.fast ≡ []) (λ place. 0 < length (own_at place self.now.fast)) }
+    {
+        if self.fast == 0 {
+            return None;
+        }
+        first_fast(&self.places)
+    }
+
+    /// The fast tickets at a place.
+    pub(crate) fn list_fast(&self, place: usize) -> Result<Vec<Own>, AllocError>
+        ensures { IfOk result (λ listed. listed.items ≡ own_at place self.now.fast) }
+    {
+        let mut listed = Vec::with_capacity(*self.gained.allocator(), self.fast_at(place))?;
+        for ticket in self.gained.iter() {
+            if ticket.fast && usize::from(ticket.place) == place {
+                listed.push(own_of(&self.places, *ticket))?;
+            }
+        }
+        Ok(listed)
+    }
+
     /// Makes room for one more ticket at a place.
     pub(crate) fn reserve(&mut self, place: usize) -> Result<(), AllocError>
         requires { place < 65536 }
         ensures same { (self.new.slow ≡ self.old.slow) × (self.new.fast ≡ self.old.fast) }
+        ensures kept { (self.old.spare ≤ self.new.spare) × (self.old.reach ≤ self.new.reach) }
         ensures room { OnOk result (HasRoom place self.new) }
     {
-        reach(&mut self.places, place)?;
-        self.gained.reserve(1)
+        self.reserve_many(1, place + 1)
     }
 
-    /// Puts a new ticket last, with the note of those at its place. It takes no memory.
+    /// Makes room for so many more tickets, at places below this one.
+    pub(crate) fn reserve_many(&mut self, count: usize, places: usize) -> Result<(), AllocError>
+        requires { places ≤ 65536 }
+        ensures same { (self.new.slow ≡ self.old.slow) × (self.new.fast ≡ self.old.fast) }
+        ensures kept { (self.old.spare ≤ self.new.spare) × (self.old.reach ≤ self.new.reach) }
+        ensures room { OnOk result (HasRoomFor count places self.new) }
+    {
+        reach(&mut self.places, places)?;
+        self.gained.reserve(count)
+    }
+
+    /// Puts a new slow ticket last, with the note of those at its place. It takes no memory.
     pub(crate) fn push_reserved(&mut self, number: TicketId, place: usize, mode: Mode)
         requires room { HasRoom place self.old }
         requires below { are_below number (interleaved self.old.slow self.old.fast) ≡ true }
         requires slow { own_at place self.old.fast ≡ [] }
         ensures gained { self.new.slow ≡ self.old.slow ++ record { number = number; place = place; mode = mode; noted = note_at place self.old.slow } ∷ [] }
         ensures same { self.new.fast ≡ self.old.fast }
+        ensures spare { self.new.spare + 1 ≡ self.old.spare }
         ensures reach { self.new.reach ≡ self.old.reach }
     {
         count_one(&mut self.places, place);
-        self.gained.push_reserved(Held {
-            id: number,
-            place: place as Place,
-            mode,
-        });
+        self.gained
+            .push_reserved(new_ticket(number, place, mode, false));
+    }
+
+    /// Puts a new fast ticket last, with the note of those at its place. It takes no memory.
+    pub(crate) fn push_fast(&mut self, number: TicketId, place: usize, mode: Mode)
+        requires room { HasRoom place self.old }
+        requires below { are_below number (interleaved self.old.slow self.old.fast) ≡ true }
+        ensures gained { self.new.fast ≡ self.old.fast ++ fast_own number place mode (first_note (own_at place self.old.fast ++ own_at place self.old.slow)) ∷ [] }
+        ensures same { self.new.slow ≡ self.old.slow }
+        ensures spare { self.new.spare + 1 ≡ self.old.spare }
+        ensures reach { self.new.reach ≡ self.old.reach }
+    {
+        count_one(&mut self.places, place);
+        count_fast(&mut self.places, place);
+        self.fast += 1;
+        self.gained
+            .push_reserved(new_ticket(number, place, mode, true));
     }
 
     /// Strikes the ticket of a number at a place, if there is one.
@@ -117,13 +202,17 @@ impl Tickets {
         ensures room { (self.old.spare ≤ self.new.spare) × (self.new.reach ≡ self.old.reach) }
     {
         if let Some(at) = index_at(&self.gained, place, id) {
+            let fast = self.gained[at].fast;
             take_out(&mut self.gained, at);
             uncount_one(&mut self.places, place);
+            if fast {
+                uncount_fast(&mut self.places, place);
+                self.fast -= 1;
+            }
         }
     }
 
-    /// Writes another mode of the ticket of a number at a place, if there is one.
-    #[tactic(auto, using(crate::proofs::TicketEdits::mode_at))]
+    /// Writes another mode of the ticket of a number at a place, if there is one. It is a slow one.
     pub(crate) fn set_mode(&mut self, place: usize, id: TicketId, mode: Mode)
         requires slow { numbered id self.old.fast ≡ None }
         ensures changed { (self.new.slow ≡ in_mode_at place id mode self.old.slow) × (self.new.fast ≡ self.old.fast) }
@@ -134,8 +223,17 @@ impl Tickets {
         }
     }
 
+    /// Makes slow tickets of the fast ones at a place. It takes no memory.
+    pub(crate) fn make_slow(&mut self, place: usize)
+        ensures slow { self.new.slow ≡ interleaved self.old.slow (own_at place self.old.fast) }
+        ensures fast { self.new.fast ≡ but_at place self.old.fast }
+        ensures room { (self.old.spare ≤ self.new.spare) × (self.new.reach ≡ self.old.reach) }
+    {
+        self.fast -= clear_fast(&mut self.places, place);
+        slow_down(&mut self.gained, place);
+    }
+
     /// Notes a version under each ticket at a place.
-    #[tactic(auto, using(crate::proofs::TicketEdits::note_places))]
     pub(crate) fn note_all(&mut self, place: usize, version: u64)
         ensures noted { (self.new.slow ≡ noting_version place version self.old.slow) × (self.new.fast ≡ noting_version place version self.old.fast) }
         ensures room { (self.old.spare ≤ self.new.spare) × (self.new.reach ≡ self.old.reach) }
@@ -143,70 +241,35 @@ impl Tickets {
         note(&mut self.places, place, version);
     }
 
-    /// The fast ticket of a number.
-    pub(crate) fn get_fast(&self, id: TicketId) -> Option<Own>
-        ensures found { result ≡ numbered id self.now.fast }
-    {
-        None
-    }
-
-    /// Puts a new fast ticket last, with the note of those at its place. It takes no memory.
-    pub(crate) fn push_fast(&mut self, number: TicketId, place: usize, mode: Mode)
-        requires room { HasRoom place self.old }
-        requires below { are_below number (interleaved self.old.slow self.old.fast) ≡ true }
-        ensures gained { self.new.fast ≡ self.old.fast ++ fast_own number place mode (first_note (own_at place self.old.fast ++ own_at place self.old.slow)) ∷ [] }
-        ensures same { self.new.slow ≡ self.old.slow }
-        ensures reach { self.new.reach ≡ self.old.reach }
-    {
-    }
-
-    /// How many fast tickets there are at a place.
-    pub(crate) fn fast_at(&self, place: usize) -> usize
-        ensures { result ≡ length (own_at place self.now.fast) }
-    {
-        0
-    }
-
-    /// The version that is noted under the tickets at a place.
-    pub(crate) fn note_of(&self, place: usize) -> Option<u64>
-        ensures { result ≡ first_note (own_at place self.now.fast ++ own_at place self.now.slow) }
-    {
-        None
-    }
-
-    /// The fast tickets at a place.
-    pub(crate) fn list_fast(&self, place: usize) -> Result<Vec<Own>, AllocError>
-        ensures { IfOk result (λ fast. fast.items ≡ own_at place self.now.fast) }
-    {
-        Err(AllocError)
-    }
-
-    /// A place at which there is a fast ticket, if there is one.
-    pub(crate) fn some_fast(&self) -> Option<usize>
-        ensures { MatchOption result (self.now.fast ≡ []) (λ place. 0 < length (own_at place self.now.fast)) }
-    {
-        None
-    }
-
-    /// Makes the fast tickets at a place slow. It takes no memory.
-    pub(crate) fn make_slow(&mut self, place: usize)
-        ensures slow { self.new.slow ≡ interleaved self.old.slow (own_at place self.old.fast) }
-        ensures fast { self.new.fast ≡ but_at place self.old.fast }
-        ensures room { (self.old.spare ≤ self.new.spare) × (self.new.reach ≡ self.old.reach) }
-    {
-    }
-
     /// The tickets, as they are told.
     pub(crate) fn held(&self) -> Result<Vec<Held>, AllocError>
         ensures { IfOk result (λ held. held.items ≡ map told_of (interleaved self.now.slow self.now.fast)) }
     {
-        let held = self.gained.clone()?;
+        let mut held = Vec::with_capacity(*self.gained.allocator(), self.gained.len())?;
+        for ticket in self.gained.iter() {
+            held.push(told(*ticket))?;
+        }
         Ok(held)
     }
 }
 
+// ---- tickets
+
+// A ticket without its note.
+fn new_ticket(number: TicketId, place: usize, mode: Mode, fast: bool) -> Gained
+    requires { place < 65536 }
+    ensures { result ≡ record { id = number; place = place; mode = mode; fast = fast } }
+{
+    Gained {
+        id: number,
+        place: place as Place,
+        mode,
+        fast,
+    }
+}
+
 // Where the ticket of a number stands, among tickets whose numbers rise.
-fn index_of(tickets: &[Held], id: TicketId) -> Option<usize>
+fn index_of(tickets: &[Gained], id: TicketId) -> Option<usize>
     requires { AreRising tickets.now }
     ensures { MatchOption result (list_all (λ t. not (t.id == id)) tickets.now ≡ true) (λ at. StandsAt id at tickets.now) }
 {
@@ -220,7 +283,7 @@ fn index_of(tickets: &[Held], id: TicketId) -> Option<usize>
 
 // The same by halves, apart so that the look at the last ticket is inlined.
 #[inline(never)]
-fn search(tickets: &[Held], id: TicketId) -> Option<usize>
+fn search(tickets: &[Gained], id: TicketId) -> Option<usize>
     requires { AreRising tickets.now }
     ensures { MatchOption result (list_all (λ t. not (t.id == id)) tickets.now ≡ true) (λ at. StandsAt id at tickets.now) }
 {
@@ -228,10 +291,10 @@ fn search(tickets: &[Held], id: TicketId) -> Option<usize>
 }
 
 // The same, where the ticket is at a place.
-fn index_at(tickets: &[Held], place: usize, id: TicketId) -> Option<usize>
+fn index_at(tickets: &[Gained], place: usize, id: TicketId) -> Option<usize>
     requires { AreRising tickets.now }
     ensures { MatchOption result (list_all (λ t. not (is_own place id (own_of [] t))) tickets.now ≡ true)
-        (λ at. StandsAt id at tickets.now × ((d : Held) → (slice_index_or tickets.now at d).place ≡ place)) }
+        (λ at. StandsAt id at tickets.now × ((d : Gained) → (slice_index_or tickets.now at d).place ≡ place)) }
 {
     let at = index_of(tickets, id)?;
     if usize::from(tickets[at].place) == place {
@@ -242,7 +305,7 @@ fn index_at(tickets: &[Held], place: usize, id: TicketId) -> Option<usize>
 }
 
 // A ticket with the note of its place.
-fn own_of(places: &[OfPlace], ticket: Held) -> Own
+fn own_of(places: &[OfPlace], ticket: Gained) -> Own
     ensures { result ≡ own_of places.now ticket }
 {
     let place = usize::from(ticket.place);
@@ -254,8 +317,19 @@ fn own_of(places: &[OfPlace], ticket: Held) -> Own
     }
 }
 
+// A ticket as it is told.
+fn told(ticket: Gained) -> Held
+    ensures { result ≡ told_of (own_of [] ticket) }
+{
+    Held {
+        id: ticket.id,
+        place: ticket.place,
+        mode: ticket.mode,
+    }
+}
+
 // Takes out the ticket at an index. No other one is moved where it is the last.
-fn take_out(tickets: &mut Vec<Held>, at: usize)
+fn take_out(tickets: &mut Vec<Gained>, at: usize)
     requires { at < length tickets.old.items }
     ensures items { tickets.new.items ≡ remove tickets.old.items at }
     ensures capacity { vec_capacity tickets.new ≡ vec_capacity tickets.old }
@@ -269,7 +343,7 @@ fn take_out(tickets: &mut Vec<Held>, at: usize)
 
 // The same, with a move of those that stand later.
 #[inline(never)]
-fn take_earlier(tickets: &mut Vec<Held>, at: usize)
+fn take_earlier(tickets: &mut Vec<Gained>, at: usize)
     requires { at < length tickets.old.items }
     ensures items { tickets.new.items ≡ remove tickets.old.items at }
     ensures capacity { vec_capacity tickets.new ≡ vec_capacity tickets.old }
@@ -277,21 +351,63 @@ fn take_earlier(tickets: &mut Vec<Held>, at: usize)
     tickets.remove(at);
 }
 
-// Adds places without tickets up to this one, where it isn't there.
-fn reach(places: &mut Vec<OfPlace>, place: usize) -> Result<(), AllocError>
-    requires narrow { (place < 65536) × (length places.old.items ≤ 65536) }
-    ensures narrow { length places.new.items ≤ 65536 }
-    ensures reach { OnOk result (place < length places.new.items) }
-    ensures same { (q : ℕ) → (counted_at q places.new.items ≡ counted_at q places.old.items) × (noted_in q places.new.items ≡ noted_in q places.old.items) }
+// Makes slow tickets of those at a place.
+fn slow_down(tickets: &mut Vec<Gained>, place: usize)
+    ensures items { tickets.new.items ≡ map (slowed place) tickets.old.items }
+    ensures capacity { vec_capacity tickets.new ≡ vec_capacity tickets.old }
 {
-    if place < places.len() {
+    for ticket in tickets.iter_mut() {
+        ticket.fast = stays_fast(*ticket, place);
+    }
+}
+
+// Whether a ticket is still a fast one, where those at a place are made slow.
+fn stays_fast(ticket: Gained, place: usize) -> bool
+    ensures { result ≡ (ticket.fast && not (ticket.place == place)) }
+{
+    ticket.fast && usize::from(ticket.place) != place
+}
+
+// ---- places
+
+// How many fast tickets are counted at a place.
+fn fast_counted(places: &[OfPlace], place: usize) -> usize
+    ensures { result ≡ fast_counted_at place places.now }
+{
+    places.get(place).map_or(0, |here| here.fast)
+}
+
+// The first place with a fast ticket.
+fn first_fast(places: &[OfPlace]) -> Option<usize>
+    ensures { result ≡ position has_fast places.now }
+{
+    places.iter().position(|here| here.fast > 0)
+}
+
+// The version that is noted at a place, where tickets are counted there.
+fn note_counted(places: &[OfPlace], place: usize) -> Option<u64>
+    ensures { result ≡ (if counted_at place places.now == 0 then None else noted_in place places.now) }
+{
+    let here = places.get(place)?;
+    if here.tickets > 0 { here.noted } else { None }
+}
+
+// Adds places without tickets until there are so many.
+fn reach(places: &mut Vec<OfPlace>, count: usize) -> Result<(), AllocError>
+    ensures length { length places.old.items ≤ length places.new.items }
+    ensures narrow { count ≤ 65536 → length places.old.items ≤ 65536 → length places.new.items ≤ 65536 }
+    ensures reach { OnOk result (count ≤ length places.new.items) }
+    ensures same { (q : ℕ) → AreAt q places.old.items places.new.items }
+{
+    if count <= places.len() {
         return Ok(());
     }
     let none = OfPlace {
         tickets: 0,
+        fast: 0,
         noted: None,
     };
-    places.resize(place + 1, none)
+    places.resize(count, none)
 }
 
 // Counts one more ticket at a place. The first one there has no note.
@@ -300,6 +416,7 @@ fn count_one(places: &mut Vec<OfPlace>, place: usize)
     requires few { counted_at place places.old.items < 2 ^ 63 }
     ensures length { length places.new.items ≡ length places.old.items }
     ensures counted { (q : ℕ) → counted_at q places.new.items ≡ counted_at q places.old.items + (if q == place then 1 else 0) }
+    ensures fast { (q : ℕ) → fast_counted_at q places.new.items ≡ fast_counted_at q places.old.items }
     ensures noted { (q : ℕ) → noted_in q places.new.items ≡ (if q == place && counted_at q places.old.items == 0 then None else noted_in q places.old.items) }
 {
     let here = &mut places[place];
@@ -314,15 +431,57 @@ fn uncount_one(places: &mut Vec<OfPlace>, place: usize)
     requires some { 0 < counted_at place places.old.items }
     ensures length { length places.new.items ≡ length places.old.items }
     ensures counted { (q : ℕ) → counted_at q places.old.items ≡ counted_at q places.new.items + (if q == place then 1 else 0) }
+    ensures fast { (q : ℕ) → fast_counted_at q places.new.items ≡ fast_counted_at q places.old.items }
     ensures noted { (q : ℕ) → noted_in q places.new.items ≡ noted_in q places.old.items }
 {
     places[place].tickets -= 1;
+}
+
+// Counts one more of the tickets at a place as a fast one.
+fn count_fast(places: &mut Vec<OfPlace>, place: usize)
+    requires inside { place < length places.old.items }
+    requires few { fast_counted_at place places.old.items < 2 ^ 63 }
+    ensures length { length places.new.items ≡ length places.old.items }
+    ensures counted { (q : ℕ) → counted_at q places.new.items ≡ counted_at q places.old.items }
+    ensures fast { (q : ℕ) → fast_counted_at q places.new.items ≡ fast_counted_at q places.old.items + (if q == place then 1 else 0) }
+    ensures noted { (q : ℕ) → noted_in q places.new.items ≡ noted_in q places.old.items }
+{
+    places[place].fast += 1;
+}
+
+// Counts one fast ticket less at a place.
+fn uncount_fast(places: &mut Vec<OfPlace>, place: usize)
+    requires some { 0 < fast_counted_at place places.old.items }
+    ensures length { length places.new.items ≡ length places.old.items }
+    ensures counted { (q : ℕ) → counted_at q places.new.items ≡ counted_at q places.old.items }
+    ensures fast { (q : ℕ) → fast_counted_at q places.old.items ≡ fast_counted_at q places.new.items + (if q == place then 1 else 0) }
+    ensures noted { (q : ℕ) → noted_in q places.new.items ≡ noted_in q places.old.items }
+{
+    places[place].fast -= 1;
+}
+
+// Counts no ticket at a place as a fast one any more, and tells how many were.
+fn clear_fast(places: &mut Vec<OfPlace>, place: usize) -> usize
+    ensures fast { result ≡ fast_counted_at place places.old.items }
+    ensures length { length places.new.items ≡ length places.old.items }
+    ensures counted { (q : ℕ) → counted_at q places.new.items ≡ counted_at q places.old.items }
+    ensures cleared { (q : ℕ) → fast_counted_at q places.new.items ≡ (if q == place then 0 else fast_counted_at q places.old.items) }
+    ensures noted { (q : ℕ) → noted_in q places.new.items ≡ noted_in q places.old.items }
+{
+    if place < places.len() {
+        let fast = places[place].fast;
+        places[place].fast = 0;
+        fast
+    } else {
+        0
+    }
 }
 
 // Notes a version at a place, if there is this place.
 fn note(places: &mut Vec<OfPlace>, place: usize, version: u64)
     ensures length { length places.new.items ≡ length places.old.items }
     ensures counted { (q : ℕ) → counted_at q places.new.items ≡ counted_at q places.old.items }
+    ensures fast { (q : ℕ) → fast_counted_at q places.new.items ≡ fast_counted_at q places.old.items }
     ensures noted { (q : ℕ) → 0 < counted_at q places.old.items → noted_in q places.new.items ≡ (if q == place then Some version else noted_in q places.old.items) }
 {
     if place < places.len() {

@@ -1,10 +1,15 @@
--- A copy has what the list has.
-use Rattle.std.proofs.Common.{sym, ◌∙◌}
-use Rattle.std.proofs.lemmas.List.Elements.{same_from_all_zip}
+-- Both together are the list.
+use Rattle.std.proofs.Common.{◌∙◌, sym, ap, arith}
+use Rattle.std.specs.Prelude.{map}
+use Rattle.std.proofs.lemmas.List.{take_all}
+use Rattle.mdl_shared.specs.OwnLists.{told_of}
 use Rattle.mdl_shared.proofs.TicketEdits.{told}
+use Rattle.mdl_shared.proofs.TicketParts.{parted}
 use Rattle.mdl_shared.proofs.tickets.Tickets.held.Goals as goal
 
 pub returns : goal.returns
 returns c =
-    let same = same_from_all_zip _ c.self.inside.gained.items c.in_ok-held.held.items c.in_ok-held.ensures.cases.0 (λ x y is. is) in
-    rw (← c.self.view_is) (same ∙ sym (told c.self.inside.places.items c.self.inside.gained.items))
+    let ps = c.self.inside.places.items in
+    let xs = c.self.inside.gained.items in
+    let told_all = rw (take_all c.loop-ticket.ticket-index c.deref-ticket-items.result.now (omega arith), c.deref-ticket-items.ensures.value) at c.loop-ticket.invariant in
+    rw (← c.self.view_is) (told_all ∙ sym (told ps xs) ∙ ap (map told_of) (sym (parted ps xs c.self.invariant.rising)))

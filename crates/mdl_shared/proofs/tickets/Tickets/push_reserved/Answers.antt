@@ -1,16 +1,26 @@
--- The new ticket is the last, and its place has one more.
-use Rattle.std.proofs.Common.{ap, ◌∙◌}
-use Rattle.std.specs.Prelude.{map}
-use Rattle.mdl_shared.specs.OwnTickets.{own_of}
-use Rattle.mdl_shared.proofs.TicketEdits.{gained, kept_gain}
+-- The new ticket is the last of the slow ones, and its place has one more.
+use Rattle.std.proofs.Common.{refl}
+use Rattle.std.specs.Prelude.{not}
+use Rattle.mdl_shared.proofs.TicketEdits.{below_all, gained, kept_gain, ungained}
+use Rattle.mdl_shared.proofs.TicketParts.{note_slow}
 use Rattle.mdl_shared.proofs.tickets.Tickets.push_reserved.Goals as goal
 
 pub invariant_of-self : goal.invariant_of-self
 invariant_of-self c =
-    rw c.push_reserved.ensures.items (kept_gain _ c.self.inside.places.items c.count_one.new.places.items c.self.inside.gained.items
-    (rw (← c.self.view_is) at c.requires.below) c.count_one.ensures.length c.count_one.ensures.counted c.self.invariant)
+    let ps = c.self.inside.places.items in
+    let xs = c.self.inside.gained.items in
+    rw (c.push_reserved.ensures.items, c.new_ticket.ensures) (kept_gain _ ps c.count_one.new.places.items xs c.self.inside.fast (below_all c.args.number ps xs c.self.invariant.rising (rw (← c.self.view_is) at c.requires.below)) refl
+    c.count_one.ensures.length c.count_one.ensures.counted c.count_one.ensures.fast c.self.invariant)
 
 pub returns-clause-gained : goal.returns-clause-gained
 returns-clause-gained c =
-    rw (← c.self.view_is) (ap (map (own_of c.count_one.new.places.items)) c.push_reserved.ensures.items
-    ∙ gained c.args.number c.args.place c.args.mode c.self.inside.places.items c.count_one.new.places.items c.self.inside.gained.items c.self.invariant c.count_one.ensures.noted)
+    let ps = c.self.inside.places.items in
+    let xs = c.self.inside.gained.items in
+    rw (← c.self.view_is, c.push_reserved.ensures.items, c.new_ticket.ensures)
+    (gained _ ps c.count_one.new.places.items (λ t. not t.fast) xs c.self.inside.fast _ c.self.invariant c.count_one.ensures.noted refl
+    (note_slow c.args.place ps xs (rw (← c.self.view_is) at c.requires.slow)))
+
+pub returns-clause-same : goal.returns-clause-same
+returns-clause-same c =
+    rw (← c.self.view_is, c.push_reserved.ensures.items, c.new_ticket.ensures)
+    (ungained _ c.self.inside.places.items c.count_one.new.places.items (λ t. t.fast) c.self.inside.gained.items c.self.inside.fast c.self.invariant c.count_one.ensures.noted refl)

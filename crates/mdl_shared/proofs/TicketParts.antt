@@ -1,0 +1,237 @@
+-- The slow tickets and the fast ones of a session's own list. Both together are the list, since its numbers rise.
+use Rattle.std.proofs.Common.{◌≡◌, inl, inr, ℕ, suc, ◌+◌, ◌<◌, ◌≤◌, Bool, false, cond, List, [], ◌∷◌, ◌++◌, length, get_or, map, Some, None, refl, sym, ap, ◌∙◌, arith, MatchOption}
+use Rattle.std.specs.Prelude.{not, ◌==◌, ◌&&◌, count_by, Option, if◌then◌else◌}
+use Rattle.std.specs.List.{filter, position, position_or_len}
+use Rattle.std.proofs.lemmas.Bool.{eqb-true}
+use Rattle.std.proofs.lemmas.Bool.Decides.{nat_tests}
+use Rattle.std.proofs.lemmas.List.{length-append, length-map}
+use Rattle.std.proofs.lemmas.List.Quantifiers.{position-Some}
+use Rattle.std.proofs.lemmas.List.Sums.{fails_before_first, length-filter, sum_by-append}
+use Rattle.std.proofs.lemmas.Option.{slice_get_cases}
+use Rattle.mdl_steps.specs.declared.view.Own.{Own}
+use Rattle.mdl_steps.specs.Cells.{note_at, own_at}
+use Rattle.mdl_steps.specs.FastPlays.{but_at, first_note}
+use Rattle.mdl_steps.specs.Interleavings.{interleaved}
+use Rattle.mdl_steps.specs.Lists.{Each}
+use Rattle.mdl_steps.proofs.Interleaving.{inserted-first, interleaved-cons}
+use Rattle.mdl_steps.proofs.Views.{by_bool, other}
+use Rattle.mdl_shared.specs.declared.tickets.Gained.{Gained}
+use Rattle.mdl_shared.specs.declared.tickets.OfPlace.{OfPlace}
+use Rattle.mdl_shared.specs.OwnTickets.{AreKept, AreRising, fast_counted_at, fast_of, has_fast, is_fast_there, is_there, noted_in, own_of, slow_of, slowed}
+use Rattle.mdl_shared.proofs.TicketSearch.{no_ticket}
+
+no_place : OfPlace
+no_place = record { tickets = 0; fast = 0; noted = None }
+
+-- those of the tickets that pass a test, with their notes
+abbrev pub some_of : List OfPlace → (Gained → Bool) → List Gained → List Own
+some_of ps p xs = map (own_of ps) (filter p xs)
+
+pub later_rise : (x : Gained) (xs : List Gained) → AreRising (x ∷ xs) → AreRising xs
+later_rise x xs rising i j d before inside = rising (suc i) (suc j) d (omega (arith, before)) (omega (arith, inside))
+
+-- what each number is above is below the numbers of those that a test keeps
+above_number : (ps : List OfPlace) (p : Gained → Bool) (n : ℕ) (xs : List Gained) → ((k : ℕ) → k < length xs → n < (get_or xs k no_ticket).id) → Each (λ (u : Own). n < u.number) (some_of ps p xs)
+above_number ps p n [] each = tt
+above_number ps p n (x ∷ xs) each =
+    let later = above_number ps p n xs (λ k inside. each (suc k) (omega (arith, inside))) in
+    by_bool (p x)
+    (λ kept. rw kept (each 0 (omega arith), later))
+    (λ left. rw left later)
+
+-- the later ones have greater numbers than the first
+above : (ps : List OfPlace) (p : Gained → Bool) (x : Gained) (xs : List Gained) → AreRising (x ∷ xs) → Each (λ (u : Own). x.id < u.number) (some_of ps p xs)
+above ps p x xs rising = above_number ps p x.id xs (λ k inside. rising 0 (suc k) no_ticket (omega arith) (omega (arith, inside)))
+
+-- a ticket comes before later ones of both lists, whichever it is in
+before_slow : (ps : List OfPlace) (p q : Gained → Bool) (x : Gained) (xs : List Gained) → AreRising (x ∷ xs)
+    → interleaved (own_of ps x ∷ some_of ps p xs) (some_of ps q xs) ≡ own_of ps x ∷ interleaved (some_of ps p xs) (some_of ps q xs)
+before_slow ps p q x xs rising = interleaved-cons (own_of ps x) (some_of ps p xs) (some_of ps q xs) (above ps q x xs rising)
+
+before_fast : (ps : List OfPlace) (p q : Gained → Bool) (x : Gained) (xs : List Gained) → AreRising (x ∷ xs)
+    → interleaved (some_of ps p xs) (own_of ps x ∷ some_of ps q xs) ≡ own_of ps x ∷ interleaved (some_of ps p xs) (some_of ps q xs)
+before_fast ps p q x xs rising =
+    ap (λ us. interleaved us (some_of ps q xs)) (inserted-first (own_of ps x) (some_of ps p xs) (above ps p x xs rising)) ∙ before_slow ps p q x xs rising
+
+-- both together are the list
+pub parted : (ps : List OfPlace) (xs : List Gained) → AreRising xs → interleaved (slow_of ps xs) (fast_of ps xs) ≡ map (own_of ps) xs
+parted ps [] rising = refl
+parted ps (x ∷ xs) rising =
+    let later = ap (λ us. own_of ps x ∷ us) (parted ps xs (later_rise x xs rising)) in
+    by_bool x.fast
+    (λ fast. rw fast (before_fast ps (λ t. not t.fast) (λ t. t.fast) x xs rising ∙ later))
+    (λ slow. rw slow (before_slow ps (λ t. not t.fast) (λ t. t.fast) x xs rising ∙ later))
+
+-- ---- at a place
+
+-- how many pass a test, with one more
+pub counted : (p : Gained → Bool) (x : Gained) (xs : List Gained) → count_by p (x ∷ xs) ≡ cond (p x) 1 0 + count_by p xs
+counted p x xs =
+    let both : count_by p (x ∷ xs) ≡ (0 + cond (p x) 1 0) + count_by p xs = sum_by-append (λ (t : Gained). cond (p t) 1 0) (x ∷ []) xs in
+    omega (arith, both)
+
+-- those at a place are picked by a further test
+pub there : (place : ℕ) (ps : List OfPlace) (p : Gained → Bool) (xs : List Gained) → own_at place (some_of ps p xs) ≡ some_of ps (λ t. p t && is_there place t) xs
+there place ps p [] = refl
+there place ps p (x ∷ xs) = by_bool (p x)
+    (λ kept. by_bool (x.place == place)
+    (λ here. rw (kept, here) (ap (λ us. own_of ps x ∷ us) (there place ps p xs)))
+    (λ away. rw (kept, away) (there place ps p xs)))
+    (λ left. rw left (there place ps p xs))
+
+count_there : (place : ℕ) (ps : List OfPlace) (p : Gained → Bool) (xs : List Gained) → length (own_at place (some_of ps p xs)) ≡ count_by (λ t. p t && is_there place t) xs
+count_there place ps p xs =
+    ap length (there place ps p xs) ∙ length-map (filter (λ t. p t && is_there place t) xs) (own_of ps) ∙ length-filter (λ t. p t && is_there place t) xs
+
+-- how many fast tickets there are
+pub fast_there : (place : ℕ) (ps : List OfPlace) (xs : List Gained) → length (own_at place (fast_of ps xs)) ≡ count_by (is_fast_there place) xs
+fast_there place ps xs = count_there place ps (λ t. t.fast) xs
+
+-- with the slow ones they are all
+both_there : (place : ℕ) (xs : List Gained) → count_by (is_fast_there place) xs + count_by (λ t. not t.fast && is_there place t) xs ≡ count_by (is_there place) xs
+both_there place [] = refl
+both_there place (x ∷ xs) =
+    let more = counted (is_there place) x xs in
+    let fast = counted (is_fast_there place) x xs in
+    let slow = counted (λ t. not t.fast && is_there place t) x xs in
+    grind (arith, nat_tests, more, fast, slow, both_there place xs)
+
+-- ---- notes
+
+-- the tickets at a place have its note
+noted_there : (place : ℕ) (ps : List OfPlace) (p : Gained → Bool) (xs : List Gained) → Each (λ (t : Own). t.noted ≡ noted_in place ps) (own_at place (some_of ps p xs))
+noted_there place ps p [] = tt
+noted_there place ps p (x ∷ xs) = by_bool (p x)
+    (λ kept. by_bool (x.place == place)
+    (λ here. rw (kept, here) (ap (λ q. noted_in q ps) (eqb-true x.place place here), noted_there place ps p xs))
+    (λ away. rw (kept, away) (noted_there place ps p xs)))
+    (λ left. rw left (noted_there place ps p xs))
+
+each_joined : (P : Own → Type 0) (ts us : List Own) → Each P ts → Each P us → Each P (ts ++ us)
+each_joined P [] us first second = second
+each_joined P (t ∷ ts) us first second = (first.0, each_joined P ts us first.1 second)
+
+not_none : (n : ℕ) → (suc n == 0) ≡ false
+not_none n = other (suc n) 0 (λ e. omega arith)
+
+-- the first note of tickets that have the same one
+first_alike : (version : Option ℕ) (ts : List Own) → Each (λ (t : Own). t.noted ≡ version) ts → first_note ts ≡ (if length ts == 0 then None else version)
+first_alike _ [] alike = refl
+first_alike None (t ∷ ts) alike = rw (alike.0, not_none (length ts)) (none ts alike.1)
+  where
+    none : (us : List Own) → Each (λ (u : Own). u.noted ≡ None) us → first_note us ≡ None
+    none [] alike = refl
+    none (u ∷ us) alike = rw alike.0 (none us alike.1)
+first_alike (Some version) (t ∷ ts) alike = rw (alike.0, not_none (length ts)) refl
+
+-- the note of a place, where tickets are
+pub first_there : (place : ℕ) (ps : List OfPlace) (xs : List Gained)
+    → first_note (own_at place (fast_of ps xs) ++ own_at place (slow_of ps xs)) ≡ (if count_by (is_there place) xs == 0 then None else noted_in place ps)
+first_there place ps xs =
+    let fast : List Own = own_at place (fast_of ps xs) in
+    let slow : List Own = own_at place (slow_of ps xs) in
+    let alike = each_joined (λ (t : Own). t.noted ≡ noted_in place ps) fast slow (noted_there place ps (λ t. t.fast) xs) (noted_there place ps (λ t. not t.fast) xs) in
+    let fasts = fast_there place ps xs in
+    let slows = count_there place ps (λ t. not t.fast) xs in
+    let all = both_there place xs in
+    let long = length-append fast slow in
+    let same : length (fast ++ slow) ≡ count_by (is_there place) xs = omega (arith, long, fasts, slows, all) in
+    first_alike (noted_in place ps) (fast ++ slow) alike ∙ ap (λ n. if n == 0 then None else noted_in place ps) same
+
+-- the note of the first ticket at a place, where all there have the same one
+note_alike : (place : ℕ) (version : Option ℕ) (ts : List Own) → Each (λ (t : Own). t.noted ≡ version) (own_at place ts)
+    → note_at place ts ≡ (if length (own_at place ts) == 0 then None else version)
+note_alike place version [] alike = refl
+note_alike place version (t ∷ ts) alike = by_bool (t.place == place)
+    (λ here. let first = rw here at alike in rw (here, not_none (length (own_at place ts))) first.0)
+    (λ away. rw away (note_alike place version ts (rw away at alike)))
+
+-- where no fast ticket is at a place, it is the note under the slow ones
+pub note_slow : (place : ℕ) (ps : List OfPlace) (xs : List Gained) → own_at place (fast_of ps xs) ≡ []
+    → note_at place (slow_of ps xs) ≡ (if count_by (is_there place) xs == 0 then None else noted_in place ps)
+note_slow place ps xs none =
+    let slow : List Own = own_at place (slow_of ps xs) in
+    let fasts = sym (fast_there place ps xs) ∙ ap length none in
+    let slows = count_there place ps (λ t. not t.fast) xs in
+    let all = both_there place xs in
+    let same : length slow ≡ count_by (is_there place) xs = omega (arith, fasts, slows, all) in
+    note_alike place (noted_in place ps) (slow_of ps xs) (noted_there place ps (λ t. not t.fast) xs) ∙ ap (λ n. if n == 0 then None else noted_in place ps) same
+
+-- ---- made slow
+
+-- the fast tickets at a place are put among the slow ones
+pub made_slow : (place : ℕ) (ps : List OfPlace) (xs : List Gained) → AreRising xs
+    → slow_of ps (map (slowed place) xs) ≡ interleaved (slow_of ps xs) (own_at place (fast_of ps xs))
+made_slow place ps xs rising = slow xs rising ∙ ap (interleaved (slow_of ps xs)) (sym (there place ps (λ t. t.fast) xs))
+  where
+    slow : (ts : List Gained) → AreRising ts → slow_of ps (map (slowed place) ts) ≡ interleaved (slow_of ps ts) (some_of ps (is_fast_there place) ts)
+    slow [] rising = refl
+    slow (t ∷ ts) rising =
+        let later = ap (λ us. own_of ps t ∷ us) (slow ts (later_rise t ts rising)) in
+        by_bool (t.place == place)
+        (λ here. by_bool t.fast
+        (λ fast. rw (fast, here) (later ∙ sym (before_fast ps (λ u. not u.fast) (is_fast_there place) t ts rising)))
+        (λ slows. rw (slows) (later ∙ sym (before_slow ps (λ u. not u.fast) (is_fast_there place) t ts rising))))
+        (λ away. by_bool t.fast
+        (λ fast. rw (fast, away) (slow ts (later_rise t ts rising)))
+        (λ slows. rw (slows) (later ∙ sym (before_slow ps (λ u. not u.fast) (is_fast_there place) t ts rising))))
+
+-- and the others stay fast
+pub stay_fast : (place : ℕ) (ps : List OfPlace) (xs : List Gained) → fast_of ps (map (slowed place) xs) ≡ but_at place (fast_of ps xs)
+stay_fast place ps [] = refl
+stay_fast place ps (x ∷ xs) =
+    let later = stay_fast place ps xs in
+    by_bool x.fast
+    (λ fast. by_bool (x.place == place)
+    (λ here. rw (fast, here) later)
+    (λ away. rw (fast, away) (ap (λ us. own_of ps x ∷ us) later)))
+    (λ slow. rw slow later)
+
+-- ---- none is fast
+
+-- where none is counted
+pub none_fast : (ps : List OfPlace) (xs : List Gained) → count_by (λ t. t.fast) xs ≡ 0 → fast_of ps xs ≡ []
+none_fast ps [] none = refl
+none_fast ps (x ∷ xs) none =
+    let more = counted (λ t. t.fast) x xs in
+    by_bool x.fast
+    (λ fast. absurd (grind (arith, nat_tests, more, none, fast)))
+    (λ slow. rw slow (none_fast ps xs (grind (arith, nat_tests, more, none, slow))))
+
+-- or none at any place
+pub none_anywhere : (ps : List OfPlace) (xs : List Gained) → ((q : ℕ) → count_by (is_fast_there q) xs ≡ 0) → fast_of ps xs ≡ []
+none_anywhere ps [] none = refl
+none_anywhere ps (x ∷ xs) none =
+    let later = none_anywhere ps xs (λ q. let more = counted (is_fast_there q) x xs in let here = none q in omega (arith, more, here)) in
+    let more = counted (is_fast_there x.place) x xs in
+    let here = none x.place in
+    by_bool x.fast
+    (λ fast. absurd (grind (arith, nat_tests, more, here, fast)))
+    (λ slow. rw slow later)
+
+-- where no place has one, none is counted at any
+pub none_counted : (ps : List OfPlace) → position has_fast ps ≡ None → (q : ℕ) → fast_counted_at q ps ≡ 0
+none_counted ps none q = elim (slice_get_cases ps q).1 [
+  | inl within ↦
+      let past : length ps ≤ position_or_len has_fast ps = grind (arith, nat_tests) in
+      let fails = fails_before_first has_fast ps q within.0 (let inside = within.1 in omega arith) in
+      let none_here = rw within.3 at fails in
+      rw within.2 (grind (arith, nat_tests))
+  | inr beyond ↦ rw beyond.1 refl
+]
+
+-- and where one has, it is counted there
+pub first_counted : (ps : List OfPlace) (place : ℕ) → position has_fast ps ≡ Some place → 0 < fast_counted_at place ps
+first_counted ps place first = elim (slice_get_cases ps place).1 [
+  | inl within ↦
+      let passes = (position-Some has_fast ps place within.0 first).1 in
+      let one = rw within.3 at passes in
+      rw within.2 (grind (arith, nat_tests))
+  | inr beyond ↦ absurd (let inside = (position-Some has_fast ps place no_place first).0 in let past = beyond.0 in omega arith)
+]
+
+-- so a place is told, where there is a fast ticket
+pub first_fast : (ps : List OfPlace) (xs : List Gained) (fast : ℕ) (found : Option ℕ) → AreKept xs ps fast → found ≡ position has_fast ps
+    → MatchOption found (fast_of ps xs ≡ []) (λ place. 0 < length (own_at place (fast_of ps xs)))
+first_fast ps xs fast None kept is = none_anywhere ps xs (λ q. sym (kept.fast_counted q) ∙ none_counted ps (sym is) q)
+first_fast ps xs fast (Some place) kept is = rw (fast_there place ps xs, ← kept.fast_counted place) (first_counted ps place (sym is))

@@ -1,0 +1,9 @@
+-- The fast tickets of each place are counted.
+use Rattle.std.proofs.Common.{◌∙◌, sym}
+use Rattle.mdl_shared.proofs.TicketParts.{fast_there}
+use Rattle.mdl_shared.proofs.tickets.Tickets.fast_at.Goals as goal
+
+pub returns : goal.returns
+returns c =
+    rw (← c.self.view_is) (rw c.deref.ensures.value at c.fast_counted.ensures ∙ c.self.invariant.fast_counted c.args.place
+    ∙ sym (fast_there c.args.place c.self.inside.places.items c.self.inside.gained.items))

@@ -1,0 +1,28 @@
+-- The new ticket is the last of the fast ones, and its place has one more.
+use Rattle.std.proofs.Common.{ℕ, refl, ◌∙◌}
+use Rattle.std.specs.Prelude.{not}
+use Rattle.mdl_shared.proofs.TicketEdits.{below_all, gained, kept_gain_fast, ungained}
+use Rattle.mdl_shared.proofs.TicketParts.{first_there}
+use Rattle.mdl_shared.proofs.tickets.Tickets.push_fast.Goals as goal
+
+pub invariant_of-self : goal.invariant_of-self
+invariant_of-self c =
+    let ps = c.self.inside.places.items in
+    let xs = c.self.inside.gained.items in
+    rw (c.push_reserved.ensures.items, c.new_ticket.ensures) (kept_gain_fast _ ps c.count_fast.new.places.items xs c.self.inside.fast (below_all c.args.number ps xs c.self.invariant.rising (rw (← c.self.view_is) at c.requires.below)) refl
+    (c.count_fast.ensures.length ∙ c.count_one.ensures.length) (λ q. c.count_fast.ensures.counted q ∙ c.count_one.ensures.counted q)
+    (λ q. rw (c.count_one.ensures.fast q) at (c.count_fast.ensures.fast q)) c.self.invariant)
+
+pub returns-clause-gained : goal.returns-clause-gained
+returns-clause-gained c =
+    let ps = c.self.inside.places.items in
+    let xs = c.self.inside.gained.items in
+    rw (← c.self.view_is, c.push_reserved.ensures.items, c.new_ticket.ensures)
+    (gained _ ps c.count_fast.new.places.items (λ t. t.fast) xs c.self.inside.fast _ c.self.invariant (λ (q : ℕ). c.count_fast.ensures.noted q ∙ c.count_one.ensures.noted q) refl
+    (first_there c.args.place ps xs))
+
+pub returns-clause-same : goal.returns-clause-same
+returns-clause-same c =
+    rw (← c.self.view_is, c.push_reserved.ensures.items, c.new_ticket.ensures)
+    (ungained _ c.self.inside.places.items c.count_fast.new.places.items (λ t. not t.fast) c.self.inside.gained.items c.self.inside.fast c.self.invariant
+    (λ (q : ℕ). c.count_fast.ensures.noted q ∙ c.count_one.ensures.noted q) refl)
