@@ -44,17 +44,21 @@ module _ {a b : SessionView} {place : ℕ} {mode : Mode} (clear : wish_fault (ki
   begin-fast-shows gains = quiet-shows gains.quiet refl clear (λ s. s) (λ t. t) tt (gains.met.0, gains.met.1, inr gains.met.2)
 
   -- there was no room
-  pub try-full-shows : {why : SpaceError} → DoesQuietly 0 [] a b → LacksRoomForFast why a b → Shows (Try_now a.me.0.number place mode) (Refused why) a b
+  pub try-full-shows : {why : SpaceError} → DoesQuietly 0 [] a b → LacksRoomForFast why a b
+      → Shows (Try_now a.me.0.number place mode) (Refused why) a b
   try-full-shows quiet lacks = quiet-shows quiet refl clear (λ s. s) (λ t. t) tt (inr (lacks-room place a b lacks))
 
-  pub begin-full-shows : {why : SpaceError} → DoesQuietly 0 [] a b → LacksRoomForFast why a b → Shows (Begin_wait a.me.0.number place mode) (Refused why) a b
+  pub begin-full-shows : {why : SpaceError} → DoesQuietly 0 [] a b → LacksRoomForFast why a b
+      → Shows (Begin_wait a.me.0.number place mode) (Refused why) a b
   begin-full-shows quiet lacks = quiet-shows quiet refl clear (λ s. s) (λ t. t) tt (inr (lacks-room place a b lacks))
 
 -- ---- by the latch of the place, once all fast tickets are slow ones
 
 -- the space is the same then
-joins-since : {a b : SessionView} {call : Call} {answer : Answer} {space : Space} → BecomesSlow a b → Joins (space_of b) call answer space → Joins (space_of a) call answer space
-joins-since {call = call} {answer = answer} {space = space} slow joins = subst (λ (s : Space). Joins s call answer space) (same-space slow.quiet) joins
+joins-since : {a b : SessionView} {call : Call} {answer : Answer} {space : Space} → BecomesSlow a b → Joins (space_of b) call answer space
+    → Joins (space_of a) call answer space
+joins-since {call = call} {answer = answer} {space = space} slow joins =
+    subst (λ (s : Space). Joins s call answer space) (same-space slow.quiet) joins
 
 module _ {a b : SessionView} (slow : BecomesSlow a b) (c : SessionView) (place : ℕ) (mode : Mode) where
   -- refused there for what the session has, or for want of room
@@ -66,8 +70,10 @@ module _ {a b : SessionView} (slow : BecomesSlow a b) (c : SessionView) (place :
   refuses-since (inr (inr full)) = inr (inr (full.0, full-one_slow slow place c full.1))
 
   -- granted there
-  grants-since : {id : ℕ} → ShowsStep b c (MeetsGrant place b.me.0.number mode (Gain id mode)) → ShowsStep a c (MeetsGrant place a.me.0.number mode (Gain id mode))
-  grants-since {id} met = shows-slow slow c (subst (λ (n : ℕ). ShowsStep b c (MeetsGrant place n mode (Gain id mode))) (number-slow slow) met)
+  grants-since : {id : ℕ} → ShowsStep b c (MeetsGrant place b.me.0.number mode (Gain id mode))
+      → ShowsStep a c (MeetsGrant place a.me.0.number mode (Gain id mode))
+  grants-since {id} met =
+      shows-slow slow c (subst (λ (n : ℕ). ShowsStep b c (MeetsGrant place n mode (Gain id mode))) (number-slow slow) met)
 
   try-met : (who : ℕ) (result : Result Attempt SpaceError) → MeetsSo (Try_now who place mode) (attempted result) (lists_seen b.me.0) b c
       → MeetsSo (Try_now who place mode) (attempted result) (lists_seen a.me.0) a c

@@ -1,7 +1,6 @@
 -- Calls that go by the latch of a place once all fast tickets of their session have become slow ones: what they tell and show as a whole.
-use Rattle.std.proofs.Common.{◌≡◌, ◌⊎◌, inl, inr, ℕ, ◌+◌, List, [], map, Option, Some, None, length, refl, sym, ap, subst, ◌∙◌, arith}
-use Rattle.std.specs.Option.{option_map}
-use Rattle.std.specs.Prelude.{◌-◌, filter_map}
+use Rattle.std.proofs.Common.{◌≡◌, inl, inr, ℕ, List, [], map, Option, None, length, sym, ap, subst, ◌∙◌, arith}
+use Rattle.std.specs.Prelude.{filter_map}
 use Rattle.mdl_calls.specs.declared.space_error.SpaceError.{SpaceError}
 use Rattle.mdl_calls.specs.Words.{Answer, Call}
 use Rattle.mdl_steps.specs.declared.deed.Deed.{Deed}
@@ -47,12 +46,14 @@ same-space {a = a} quiet =
 
 -- from the start, where it had none
 pub from-here : (a b : SessionView) {fact : SessionView → Type 0} → a.me.0.fast ≡ [] → fact a → FromUnfast a b fact
-from-here a b none is = (a, goes_none a.me, subst (λ (fast : List Own). Each (λ (t : Own). ShowsStep a a (MakesSlow t.place)) fast) (sym none) tt, is)
+from-here a b none is =
+    (a, goes_none a.me, subst (λ (fast : List Own). Each (λ (t : Own). ShowsStep a a (MakesSlow t.place)) fast) (sym none) tt, is)
 
 -- by the tickets that became slow at a part of the call they did at the whole
 pub made-first : (a b c : SessionView) → MakesMoreSteps b.me c.me → AllMadeSlow a b → AllMadeSlow a c
 made-first a b c more made =
-    each_map (λ (t : Own). ShowsStep a b (MakesSlow t.place)) (λ (t : Own). ShowsStep a c (MakesSlow t.place)) (λ t shown. shows-first a b c more shown) a.me.0.fast made
+    each_map (λ (t : Own). ShowsStep a b (MakesSlow t.place)) (λ (t : Own). ShowsStep a c (MakesSlow t.place))
+    (λ t shown. shows-first a b c more shown) a.me.0.fast made
 
 module _ {a b : SessionView} (slow : BecomesSlow a b) where
   pub number-slow : b.me.0.number ≡ a.me.0.number
@@ -76,7 +77,8 @@ module _ {a b : SessionView} (slow : BecomesSlow a b) where
   full-slow c full =
       let none : length (own_at full.0 b.me.0.fast) ≡ 0 = ap (λ (fast : List Own). length (own_at full.0 fast)) slow.unfast in
       let shown = shows-slow c full.1 in
-      (full.0, (shown.0, shown.1, fuller (length (own_at full.0 a.me.0.fast)) full.0 shown.0 (subst (λ (n : ℕ). MeetsFullFor n full.0 shown.0) none shown.2)))
+      let met = subst (λ (n : ℕ). MeetsFullFor n full.0 shown.0) none shown.2 in
+      (full.0, (shown.0, shown.1, fuller (length (own_at full.0 a.me.0.fast)) full.0 shown.0 met))
 
   pub full-one_slow : (place : ℕ) (c : SessionView) → FullForOne place b c → FullForOne place a c
   full-one_slow place c (inl full) = inl (shows-slow c full)
@@ -92,7 +94,8 @@ module _ {a b : SessionView} (slow : BecomesSlow a b) where
     table = shown.table ∙ ap (λ (x : SessionView). x.table) slow.quiet.done.now;
     sessions = shown.sessions ∙ ap (λ (x : SessionView). x.sessions) slow.quiet.done.now;
     refused = if-clear _ (own_fault call (lists_seen a.me.0)) clear;
-    did = subst (λ (ds : List Deed). Does ds a.me c.me) same (does_then [] (done_by call answer (tickets_seen b.me.0)) a.me b.me c.me slow.quiet.did shown.did);
+    did = subst (λ (ds : List Deed). Does ds a.me c.me) same
+        (does_then [] (done_by call answer (tickets_seen b.me.0)) a.me b.me c.me slow.quiet.did shown.did);
     settled = settled shown.settled;
     told = told shown.told;
     steps = steps shown.steps;
@@ -103,15 +106,16 @@ module _ {a b : SessionView} (slow : BecomesSlow a b) where
 
 pub made-later : (a b c : SessionView) → MakesMoreSteps a.me b.me → b.me.0.fast ≡ a.me.0.fast → AllMadeSlow b c → AllMadeSlow a c
 made-later a b c more same made =
-    each_map (λ (t : Own). ShowsStep b c (MakesSlow t.place)) (λ (t : Own). ShowsStep a c (MakesSlow t.place)) (λ t shown. shows-later a b c more shown) a.me.0.fast
-    (subst (λ (fast : List Own). Each (λ (t : Own). ShowsStep b c (MakesSlow t.place)) fast) same made)
+    each_map (λ (t : Own). ShowsStep b c (MakesSlow t.place)) (λ (t : Own). ShowsStep a c (MakesSlow t.place))
+    (λ t shown. shows-later a b c more shown) a.me.0.fast (subst (λ (fast : List Own). Each (λ (t : Own). ShowsStep b c (MakesSlow t.place)) fast) same made)
 
 pub full-later : (a b c : SessionView) → MakesMoreSteps a.me b.me → b.me.0.fast ≡ a.me.0.fast → FullForFast b c → FullForFast a c
 full-later a b c more same full =
     let shown = shows-later a b c more full.1 in
     (full.0, (shown.0, shown.1, subst (λ (fast : List Own). MeetsFullFor (length (own_at full.0 fast)) full.0 shown.0) same shown.2))
 
-pub lacks-later : (a b c : SessionView) {why : SpaceError} → MakesMoreSteps a.me b.me → b.me.0.fast ≡ a.me.0.fast → LacksRoomForFast why b c → LacksRoomForFast why a c
+pub lacks-later : (a b c : SessionView) {why : SpaceError} → MakesMoreSteps a.me b.me → b.me.0.fast ≡ a.me.0.fast → LacksRoomForFast why b c
+    → LacksRoomForFast why a c
 lacks-later a b c more same (inl memory) = inl memory
 lacks-later a b c more same (inr full) = inr (full.0, full-later a b c more same full.1)
 

@@ -77,23 +77,15 @@ pub gained-seen : (place number : ℕ) (mode : Mode) (own slow slow′ : List Ow
 gained-seen place number mode own slow slow′ same gained = gained ∙ ap (owned place (Gain number mode)) same
 
 -- its own lists as it begins to wait
-pub waiting-lists : (m : Member) (place : ℕ) (mode : Mode) (slow fast : List Own) → (slow ≡ m.tickets.slow) × (fast ≡ m.tickets.fast)
+pub waiting-lists : (m : Member) (place : ℕ) (mode : Mode)
     → record {
-      slow = slow;
-      fast = fast;
+      slow = m.tickets.slow;
+      fast = m.tickets.fast;
       known = m.known.known;
       next = m.next + 1;
       asks = Some (record { number = m.next; place = place; mode = mode });
       waits = m.waits + 1;
     }
     ≡ lists_seen (awaiting place mode m.seat.me.0)
-waiting-lists m place mode slow fast same =
-    (λ i. record {
-      slow = same.0 i;
-      fast = same.1 i;
-      known = m.known.known;
-      next = m.next + 1;
-      asks = Some (record { number = m.next; place = place; mode = mode });
-      waits = m.waits + 1;
-    })
-    ∙ ap (λ (l : Lists). record l { next = l.next + 1; asks = Some (record { number = l.next; place = place; mode = mode }); waits = l.waits + 1 }) m.lists
+waiting-lists m place mode =
+    ap (λ (l : Lists). record l { next = l.next + 1; asks = Some (record { number = l.next; place = place; mode = mode }); waits = l.waits + 1 }) m.lists

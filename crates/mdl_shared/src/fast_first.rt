@@ -29,7 +29,8 @@ impl Member {
         requires known { kind_known place self.old.known.known ≡ Some kind }
         requires number { self.old.next < most_numbers }
         ensures granted { IfOk result (λ ticket. IfSome ticket (λ id. GainsFast place mode id (view_of self.old) (view_of self.new))) }
-        ensures slow { result ≡ Ok None → BecomesSlow (view_of self.old) (view_of self.new) × (self.new.tickets.fast ≡ []) × HasRoom place self.new.tickets }
+        ensures slow { result ≡ Ok None → BecomesSlow (view_of self.old) (view_of self.new) × (self.new.tickets.fast ≡ [])
+            × HasRoom place self.new.tickets }
         ensures unchanged { OnErr result (DoesQuietly 0 [] (view_of self.old) (view_of self.new)) }
         ensures refused { IfErr result (λ why. LacksRoomForFast why (view_of self.old) (view_of self.new)) }
     {

@@ -41,10 +41,12 @@ impl Member {
         kind: Kind,
         mode: Mode,
     ) -> Result<Attempt, SpaceError>
-        requires wished { (kind_known place self.old.known.known ≡ Some kind) × (wish_fault (Some kind) self.old.asks mode self.old.next ≡ None) }
+        requires known { kind_known place self.old.known.known ≡ Some kind }
+        requires clear { wish_fault (Some kind) self.old.asks mode self.old.next ≡ None }
         requires unfast { self.old.tickets.fast ≡ [] }
         requires room { HasRoom place self.old.tickets }
-        ensures joined { Joins (space_of (view_of self.old)) (Try_now self.old.seat.me.0.number place mode) (attempted result) (space_of (view_of self.new)) }
+        ensures joined { Joins (space_of (view_of self.old)) (Try_now self.old.seat.me.0.number place mode) (attempted result)
+            (space_of (view_of self.new)) }
         ensures shown { Shows (Try_now self.old.seat.me.0.number place mode) (attempted result) (view_of self.old) (view_of self.new) }
     {
         let number = self.next;

@@ -19,13 +19,13 @@ use Rattle.mdl_shared.proofs.member.Member.begin_by_latch.Goals as goal
 pub overflow_add-wait : goal.overflow_add-wait
 overflow_add-wait g c =
     let m = c.args.self.now in
-    let may = may-wish m c.args.place c.args.kind c.args.mode c.requires.wished in
+    let may = may-wish m c.args.place c.args.kind c.args.mode (c.requires.known, c.requires.clear) in
     omega (arith, may.below, (member m).fewer.0, ap (λ (l : Lists). l.waits) m.lists)
 
 pub begin_wait-requires : goal.begin_wait-requires
 begin_wait-requires g c =
     let m = c.args.self.now in
-    let may = may-wish m c.args.place c.args.kind c.args.mode c.requires.wished in
+    let may = may-wish m c.args.place c.args.kind c.args.mode (c.requires.known, c.requires.clear) in
     let waits = ap (λ (l : Lists). l.waits) m.lists in record {
       at = may.at;
       wish = may.wish;
@@ -48,7 +48,7 @@ invariant_of-self-in-Err-1 g c =
 pub returns-in-Err-clause-joined : goal.returns-in-Err-clause-joined
 returns-in-Err-clause-joined g c =
     let m = c.args.self.now in
-    let may = may-wish m c.args.place c.args.kind c.args.mode c.requires.wished in
+    let may = may-wish m c.args.place c.args.kind c.args.mode (c.requires.known, c.requires.clear) in
     begin-refused (member m) c.args.place c.args.mode may.clear (done-nothing (visited m.seat c.begin_wait.new.seat m.sessions refl c.in-Err.ensures.unchanged))
     (refusal-causes c.in-Err.cause c.refusal.result c.refusal.ensures.full c.refusal.ensures.memory c.in-Err.ensures.refused)
 
@@ -63,13 +63,13 @@ push_reserved-requires-clause-slow g c = none-seen c.args.self.now c.args.place 
 pub overflow_add-self : goal.overflow_add-self
 overflow_add-self g c =
     let m = c.args.self.now in
-    let may = may-wish m c.args.place c.args.kind c.args.mode c.requires.wished in
+    let may = may-wish m c.args.place c.args.kind c.args.mode (c.requires.known, c.requires.clear) in
     omega (arith, may.below, ap (λ (l : Lists). l.next) m.lists)
 
 pub invariant_of-self : goal.invariant_of-self
 invariant_of-self g c =
     let m = c.args.self.now in
-    let may = may-wish m c.args.place c.args.kind c.args.mode c.requires.wished in
+    let may = may-wish m c.args.place c.args.kind c.args.mode (c.requires.known, c.requires.clear) in
     let visit = (c.begin_wait.ensures.granted (c.in-Ok-Granted.is ∙ ap Ok c.in-Ok-Granted.field-0-is)).0 in
     let done = gained-by m c.begin_wait.new.seat c.args.place c.args.mode c.requires.unfast visit in
     record {
@@ -81,7 +81,7 @@ invariant_of-self g c =
 pub returns-in-Ok-Granted : goal.returns-in-Ok-Granted
 returns-in-Ok-Granted g c =
     let m = c.args.self.now in
-    let may = may-wish m c.args.place c.args.kind c.args.mode c.requires.wished in
+    let may = may-wish m c.args.place c.args.kind c.args.mode (c.requires.known, c.requires.clear) in
     let went = c.begin_wait.ensures.granted (c.in-Ok-Granted.is ∙ ap Ok c.in-Ok-Granted.field-0-is) in record {
       joined = begin-granted (member m) c.args.place c.args.mode may.clear (ap (λ (l : Lists). l.next) m.lists) (gained-by m c.begin_wait.new.seat c.args.place c.args.mode c.requires.unfast went.0);
       shown = begin-granted-shows went.0.0 refl may.clear went.0.1 went.1;
@@ -92,18 +92,18 @@ returns-in-Ok-Granted g c =
 pub invariant_of-self-2 : goal.invariant_of-self-2
 invariant_of-self-2 g c =
     let m = c.args.self.now in
-    let may = may-wish m c.args.place c.args.kind c.args.mode c.requires.wished in
+    let may = may-wish m c.args.place c.args.kind c.args.mode (c.requires.known, c.requires.clear) in
     let now = begun m.seat c.begin_wait.new.seat m.sessions (c.begin_wait.ensures.waiting (c.in-Ok-Waiting.is ∙ ap Ok c.in-Ok-Waiting.field-0-is)).0 in
     record {
       lawful = ∣ kept (member m) (begun-order (member m) may.clear now (unfast-seen m c.requires.unfast)) (begun-joins (member m) may.clear now refl) ∣₁;
-      lists = waiting-lists m c.args.place c.args.mode m.tickets.slow m.tickets.fast (refl, refl) ∙ sym (ap (λ (x : SessionView). lists_seen x.me.0) now);
+      lists = waiting-lists m c.args.place c.args.mode ∙ sym (ap (λ (x : SessionView). lists_seen x.me.0) now);
       room = λ ask asks. let place : c.args.place ≡ ask.place = ap (λ (o : Option Ask). option_map_or (λ (a : Ask). a.place) o 0) asks in subst (λ (p : ℕ). HasRoom p m.tickets) place c.requires.room;
     }
 
 pub returns : goal.returns
 returns g c =
     let m = c.args.self.now in
-    let may = may-wish m c.args.place c.args.kind c.args.mode c.requires.wished in
+    let may = may-wish m c.args.place c.args.kind c.args.mode (c.requires.known, c.requires.clear) in
     let went = c.begin_wait.ensures.waiting (c.in-Ok-Waiting.is ∙ ap Ok c.in-Ok-Waiting.field-0-is) in
     let number = ap (λ (l : Lists). l.next) m.lists in record {
       joined = begun-joins (member m) may.clear (begun m.seat c.begin_wait.new.seat m.sessions went.0) (ap (λ (l : Lists). l.waits + 1) m.lists);

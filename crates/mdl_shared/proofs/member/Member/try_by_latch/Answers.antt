@@ -13,7 +13,7 @@ use Rattle.mdl_shared.proofs.member.Member.try_by_latch.Goals as goal
 pub try_now-requires : goal.try_now-requires
 try_now-requires g c =
     let m = c.args.self.now in
-    let may = may-wish m c.args.place c.args.kind c.args.mode c.requires.wished in record {
+    let may = may-wish m c.args.place c.args.kind c.args.mode (c.requires.known, c.requires.clear) in record {
       at = may.at;
       wish = may.wish;
       number = ap (λ (l : Lists). l.next) m.lists;
@@ -28,7 +28,7 @@ push_reserved-requires-clause-slow g c = none-seen c.args.self.now c.args.place 
 pub overflow_add-self : goal.overflow_add-self
 overflow_add-self g c =
     let m = c.args.self.now in
-    let may = may-wish m c.args.place c.args.kind c.args.mode c.requires.wished in
+    let may = may-wish m c.args.place c.args.kind c.args.mode (c.requires.known, c.requires.clear) in
     omega (arith, may.below, ap (λ (l : Lists). l.next) m.lists)
 
 pub invariant_of-self : goal.invariant_of-self
@@ -45,7 +45,7 @@ invariant_of-self g c =
 pub returns-in-Ok-Blocked : goal.returns-in-Ok-Blocked
 returns-in-Ok-Blocked g c =
     let m = c.args.self.now in
-    let may = may-wish m c.args.place c.args.kind c.args.mode c.requires.wished in
+    let may = may-wish m c.args.place c.args.kind c.args.mode (c.requires.known, c.requires.clear) in
     let went = c.try_now.ensures.blocked (c.in-Ok-Blocked.is ∙ ap Ok c.in-Ok-Blocked.field-0-is) in record {
       joined = try-blocked (member m) c.args.place c.args.mode may.clear (done-nothing (visited m.seat c.try_now.new.seat m.sessions refl went.0));
       shown = try-blocked-shows went.0.0 refl may.clear (unfast-seen m c.requires.unfast) went.0.1 went.1;
@@ -65,14 +65,14 @@ invariant_of-self-in-Err-1 g c =
 pub returns-in-Err-clause-joined : goal.returns-in-Err-clause-joined
 returns-in-Err-clause-joined g c =
     let m = c.args.self.now in
-    let may = may-wish m c.args.place c.args.kind c.args.mode c.requires.wished in
+    let may = may-wish m c.args.place c.args.kind c.args.mode (c.requires.known, c.requires.clear) in
     try-refused (member m) c.args.place c.args.mode may.clear (done-nothing (visited m.seat c.try_now.new.seat m.sessions refl c.in-Err.ensures.unchanged))
     (refusal-causes c.in-Err.cause c.refusal.result c.refusal.ensures.full c.refusal.ensures.memory c.in-Err.ensures.refused)
 
 pub invariant_of-self-2 : goal.invariant_of-self-2
 invariant_of-self-2 g c =
     let m = c.args.self.now in
-    let may = may-wish m c.args.place c.args.kind c.args.mode c.requires.wished in
+    let may = may-wish m c.args.place c.args.kind c.args.mode (c.requires.known, c.requires.clear) in
     let visit = (c.try_now.ensures.granted (c.in-Ok-Granted.is ∙ ap Ok c.in-Ok-Granted.field-0-is)).0 in
     let done = gained-by m c.try_now.new.seat c.args.place c.args.mode c.requires.unfast visit in
     record {
@@ -84,7 +84,7 @@ invariant_of-self-2 g c =
 pub returns : goal.returns
 returns g c =
     let m = c.args.self.now in
-    let may = may-wish m c.args.place c.args.kind c.args.mode c.requires.wished in
+    let may = may-wish m c.args.place c.args.kind c.args.mode (c.requires.known, c.requires.clear) in
     let went = c.try_now.ensures.granted (c.in-Ok-Granted.is ∙ ap Ok c.in-Ok-Granted.field-0-is) in record {
       joined = try-granted (member m) c.args.place c.args.mode may.clear (ap (λ (l : Lists). l.next) m.lists) (gained-by m c.try_now.new.seat c.args.place c.args.mode c.requires.unfast went.0);
       shown = try-granted-shows went.0.0 refl may.clear went.0.1 went.1;

@@ -47,6 +47,7 @@ returns-clause-slow g c =
     let missed = c.in_default.ensures.unchanged in
     let same = fast-still m tried (ap (λ (l : TicketList). l.fast) missed.1 ∙ c.reserve.ensures.same.1) in
     let slow = c.in_ok-materialise.ensures.slow in
+    let room = subst (λ (l : TicketList). (l.spare ≤ now.tickets.spare) × (now.tickets.reach ≡ l.reach)) missed.1 c.materialise.ensures.room in
     λ is. (
       record {
         quiet = quiet-then missed.0 c.materialise.ensures.done;
@@ -54,5 +55,5 @@ returns-clause-slow g c =
         made = made-later (view_of m) (view_of tried) (view_of now) (quiet-steps missed.0) same slow.1;
       },
       slow.0,
-      room-kept c.reserve.new.self now.tickets (subst (λ (l : TicketList). (l.spare ≤ now.tickets.spare) × (now.tickets.reach ≡ l.reach)) missed.1 c.materialise.ensures.room) (search rules),
+      room-kept c.reserve.new.self now.tickets room (search rules),
     )
