@@ -3,8 +3,6 @@ use Rattle.std.proofs.Common.{◌≡◌, ◌⊎◌, inl, inr, ℕ, false, Some, 
 use Rattle.std.specs.Prelude.{IfErr, IfOk, OnErr}
 use Rattle.std.specs.Option.{option_map}
 use Rattle.mdl_key.specs.declared.mode.Mode.{Mode}
-use Rattle.mdl_book.specs.declared.book_error.BookError.{BookError}
-use Rattle.mdl_book.specs.declared.book_error.BookError.TheVariants as fault
 use Rattle.mdl_calls.specs.declared.space_error.SpaceError.{SpaceError}
 use Rattle.mdl_calls.specs.declared.space_error.SpaceError.TheVariants.{Full, OutOfMemory}
 use Rattle.mdl_calls.specs.Own.{cloning}
@@ -34,12 +32,6 @@ use Rattle.mdl_shared.proofs.SameSpace.{Stays, refused, same-stays, waits-asks}
 use Rattle.mdl_shared.proofs.SpaceLists.{ticket-told}
 use Rattle.mdl_shared.proofs.WishCalls.{by-cause, gain-joins}
 use Rattle.mdl_shared.proofs.WishFaults.{clone-cause, clone-clear}
-
--- why the session is refused, by what the visit met
-pub refusal-met : {X Y : Type 0} → (X → Y) → (cause : BookError) (why : SpaceError) → (cause ≡ fault.Full → why ≡ Full) → (cause ≡ fault.OutOfMemory → why ≡ OutOfMemory)
-    → (cause ≡ fault.OutOfMemory) ⊎ ((cause ≡ fault.Full) × X) → (why ≡ OutOfMemory) ⊎ ((why ≡ Full) × Y)
-refusal-met more cause why full memory (inl is) = inl (memory is)
-refusal-met more cause why full memory (inr is) = inr (full is.0, more is.1)
 
 module _ {s : SessionView} (is : IsMember s) (id : ℕ) (mode : Mode) where
   -- refused for what the session has
@@ -88,14 +80,14 @@ module _ {s : SessionView} (is : IsMember s) (id : ℕ) (mode : Mode) where
       )
 
       -- there was no room for the fast tickets
-      lacks-one : {b : SessionView} {why : SpaceError} → LacksRoomForFast why s b
+      lacks-one : (b : SessionView) {why : SpaceError} → LacksRoomForFast why s b
           → (why ≡ OutOfMemory) ⊎ ((why ≡ Full) × OfTicket id (lists_seen s.me.0) (λ u. FullForOne u.place s b))
-      lacks-one (inl memory) = inl memory
-      lacks-one (inr full) = inr (full.0, (t, its, inr full.1))
+      lacks-one b (inl memory) = inl memory
+      lacks-one b (inr full) = inr (full.0, (t, its, inr full.1))
 
       pub clone-full : {b : SessionView} {why : SpaceError} → DoesQuietly 0 [] s b → LacksRoomForFast why s b
           → Joins (space_of s) (Clone_ticket s.me.0.number id mode) (Refused why) (space_of b) × Shows (Clone_ticket s.me.0.number id mode) (Refused why) s b
-      clone-full quiet lacks = (clone-refused (done-nothing quiet.done) (lack-cause lacks), refused-shows quiet (lacks-one lacks))
+      clone-full {b} quiet lacks = (clone-refused (done-nothing quiet.done) (lack-cause s b lacks), refused-shows quiet (lacks-one b lacks))
 
       -- by the latch of the place, once they are slow ones
       module _ {b c : SessionView} (slow : BecomesSlow s b) where

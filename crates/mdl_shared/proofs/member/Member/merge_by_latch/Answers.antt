@@ -1,7 +1,6 @@
 -- The ticket has the other one's mode, and that one goes.
 use Rattle.std.proofs.Common.{Some, [], ◌∷◌, inr, refl, sym, ap, ◌∙◌}
 use Rattle.mdl_steps.specs.declared.deed.Deed.TheVariants.{Alter, Lose}
-use Rattle.mdl_visits.specs.Numbers.{numbered}
 use Rattle.mdl_shared.specs.Members.{without_at}
 use Rattle.mdl_shared.specs.Modes.{merge_fault}
 use Rattle.mdl_shared.specs.SessionViews.{Lists}

@@ -1,5 +1,5 @@
 -- The ticket has the other one's mode, and that one goes; or they can't be merged.
-use Rattle.std.proofs.Common.{Err, None, Some, refl, rules, sym, ◌∙◌, ◌≡◌}
+use Rattle.std.proofs.Common.{Err, None, Some, rules, sym, ◌≡◌}
 use Rattle.mdl_calls.specs.Words.{Merge}
 use Rattle.mdl_shared.specs.Passes.{view_of}
 use Rattle.mdl_shared.proofs.Faults.{just-done, just-refused}
@@ -14,7 +14,7 @@ pub returns-in_err-kept : goal.returns-in_err-kept
 returns-in_err-kept g c =
     let m = c.self.inside.member in
     let why = c.in_err-kept.field-0.0 in
-    let refused : c.from_residual-in_err-kept.result ≡ Err why = search rules in
+    let refused : c.from_residual.result ≡ Err why = search rules in
     let call = Merge m.seat.me.0.number c.args.old c.args.new in
     let fault = fault-seen m call (Some why) (just-refused _ _ why c.in_err-kept.ensures.just) in
     rw refused (rw (← c.self.view_is) (record {
