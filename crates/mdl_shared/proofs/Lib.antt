@@ -43,4 +43,5 @@ pub mod SlowHeld
 pub mod FastWishing
 pub mod SlowFirst
 pub mod FastWishShows
+pub mod FastCalls
 pub mod SlowPlaces
