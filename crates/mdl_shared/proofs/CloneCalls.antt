@@ -1,37 +1,37 @@
 -- Second tickets that are made of held ones.
-use Rattle.std.proofs.Common.{◌≡◌, ◌⊎◌, inl, inr, ℕ, false, Some, None, [], ◌∷◌, refl, ap, ◌∙◌}
+use Rattle.std.proofs.Common.{◌≡◌, ◌⊎◌, inl, inr, ℕ, false, Some, None, [], ◌∷◌, Result, Ok, Err, refl, ap, subst₂, ◌∙◌}
+use Rattle.std.specs.Prelude.{IfErr, IfOk, OnErr}
 use Rattle.std.specs.Option.{option_map}
 use Rattle.mdl_key.specs.declared.mode.Mode.{Mode}
-use Rattle.mdl_book.specs.declared.book_error.BookError.{BookError}
-use Rattle.mdl_book.specs.declared.book_error.BookError.TheVariants as fault
 use Rattle.mdl_calls.specs.declared.space_error.SpaceError.{SpaceError}
 use Rattle.mdl_calls.specs.declared.space_error.SpaceError.TheVariants.{Full, OutOfMemory}
 use Rattle.mdl_calls.specs.Own.{cloning}
-use Rattle.mdl_calls.specs.Words.{Clone_ticket, Granted, IsCause, MayClone, OfHeld, Refused, is_waiting}
+use Rattle.mdl_calls.specs.Words.{Clone_ticket, cloned, Granted, IsCause, MayClone, OfHeld, Refused, is_waiting}
 use Rattle.mdl_steps.specs.declared.deed.Deed.TheVariants.{Gain}
 use Rattle.mdl_steps.specs.declared.view.Own.{Own}
 use Rattle.mdl_session_laws.specs.SessionJoins.{Joins}
 use Rattle.mdl_session_laws.specs.SessionSpaces.{Knows}
+use Rattle.mdl_visits.specs.Leavings.{MeetsOwn}
 use Rattle.mdl_visits.specs.Numbers.{numbered}
-use Rattle.mdl_visits.specs.Visits.{MeetsFull, Visits}
+use Rattle.mdl_visits.specs.Visits.{MeetsFull}
+use Rattle.mdl_visits.proofs.Numbers.{has_number}
+use Rattle.mdl_shared.specs.DeedsDone.{DoesQuietly}
+use Rattle.mdl_shared.specs.FastDeeds.{LacksRoomForFast}
+use Rattle.mdl_shared.specs.FastWishes.{BecomesSlow, GainsFast}
 use Rattle.mdl_shared.specs.Members.{IsMember}
 use Rattle.mdl_shared.specs.Modes.{clone_fault}
 use Rattle.mdl_shared.specs.OwnLists.{told_of}
 use Rattle.mdl_shared.specs.SessionViews.{SessionView, lists_seen, space_of, tickets_seen}
-use Rattle.mdl_shared.specs.Showings.{ShowsStep, MeetsTicket, OfTicket, Shows}
+use Rattle.mdl_shared.specs.Showings.{FullForOne, MeetsClone, MeetsTicket, OfTicket, Shows, ShowsStep}
+use Rattle.mdl_shared.proofs.FastWishing.{number-slow, shows-slow}
+use Rattle.mdl_shared.proofs.FastWishShows.{lack-cause}
 use Rattle.mdl_shared.proofs.MemberFacts.{speaks}
-use Rattle.mdl_shared.proofs.Members.{HasDone}
+use Rattle.mdl_shared.proofs.Members.{HasDone, done-nothing}
+use Rattle.mdl_shared.proofs.QuietDeeds.{quiet-shows, quiet-then}
 use Rattle.mdl_shared.proofs.SameSpace.{Stays, refused, same-stays, waits-asks}
 use Rattle.mdl_shared.proofs.SpaceLists.{ticket-told}
 use Rattle.mdl_shared.proofs.WishCalls.{by-cause, gain-joins}
 use Rattle.mdl_shared.proofs.WishFaults.{clone-cause, clone-clear}
-use Rattle.mdl_shared.proofs.WishShows.{did, settles, shows, told}
-
--- why the session is refused, by what the visit met
-pub refusal-met : {X Y : Type 0} → (X → Y) → (cause : BookError) (why : SpaceError) → (cause ≡ fault.Full → why ≡ Full) → (cause ≡ fault.OutOfMemory → why ≡ OutOfMemory)
-    → (cause ≡ fault.OutOfMemory) ⊎ ((cause ≡ fault.Full) × X) → (why ≡ OutOfMemory) ⊎ ((why ≡ Full) × Y)
-refusal-met more cause why full memory (inl is) = inl (memory is)
-refusal-met more cause why full memory (inr is) = inr (full is.0, more is.1)
 
 module _ {s : SessionView} (is : IsMember s) (id : ℕ) (mode : Mode) where
   -- refused for what the session has
@@ -54,10 +54,9 @@ module _ {s : SessionView} (is : IsMember s) (id : ℕ) (mode : Mode) where
         (by-cause (λ w. IsCause (Knows (space_of s) s.me.0.number) (Clone_ticket s.me.0.number id mode) w (space_of s).own) why tt may-clone causes)
         (λ state how is. cc) tt
 
-    pub refused-shows : {s′ : SessionView} {place : ℕ} {why : SpaceError} → s′.table ≡ s.table → s′.sessions ≡ s.sessions → Visits place [] s.me s′.me
-        → (why ≡ OutOfMemory) ⊎ ((why ≡ Full) × OfTicket id (lists_seen s.me.0) (λ t. ShowsStep s s′ (MeetsFull t.place)))
-        → Shows (Clone_ticket s.me.0.number id mode) (Refused why) s s′
-    refused-shows table sessions went met = shows table sessions clear (did went) (settles went) (told went) tt (inr met)
+    pub refused-shows : {s′ : SessionView} {place : ℕ} {why : SpaceError} → DoesQuietly place [] s s′
+        → (why ≡ OutOfMemory) ⊎ ((why ≡ Full) × OfTicket id (lists_seen s.me.0) (λ t. FullForOne t.place s s′)) → Shows (Clone_ticket s.me.0.number id mode) (Refused why) s s′
+    refused-shows quiet met = quiet-shows quiet refl clear (λ e. e) (λ e. e) tt (inr met)
 
     -- made
     module _ (t : Own) (its : numbered id (tickets_seen s.me.0) ≡ Some t) where
@@ -68,6 +67,47 @@ module _ {s : SessionView} (is : IsMember s) (id : ℕ) (mode : Mode) where
           (ap (λ o. cloning new mode o (space_of s).own) (ticket-told id (tickets_seen s.me.0) ∙ ap (option_map told_of) its)) (λ d. d)
           may-clone tt refl (λ state how is. cc) (λ how is. cc) refl (λ r. r) tt
 
-      pub clone-shows : {s′ : SessionView} {new : ℕ} → s′.table ≡ s.table → s′.sessions ≡ s.sessions → Visits t.place (Gain new mode ∷ []) s.me s′.me
-          → MeetsTicket id (Gain new mode ∷ []) s s′ t → Shows (Clone_ticket s.me.0.number id mode) (Granted new) s s′
-      clone-shows table sessions went met = shows table sessions clear (did went) (settles went) (told went) tt (t, its, met)
+      pub clone-shows : {s′ : SessionView} {new : ℕ} → DoesQuietly t.place (Gain new mode ∷ []) s s′ → ShowsStep s s′ (MeetsClone t.place s.me.0.number id (Gain new mode))
+          → Shows (Clone_ticket s.me.0.number id mode) (Granted new) s s′
+      clone-shows quiet met = quiet-shows quiet refl clear (λ e. e) (λ e. e) tt (t, its, met)
+
+      -- by the fast path
+      pub fast-cloned : {b : SessionView} {new : ℕ} → GainsFast t.place mode new s b
+          → Joins (space_of s) (Clone_ticket s.me.0.number id mode) (Granted new) (space_of b) × Shows (Clone_ticket s.me.0.number id mode) (Granted new) s b
+      fast-cloned gains = (
+        clone-joins gains.first gains.quiet.done,
+        clone-shows gains.quiet (gains.met.0, gains.met.1, inr gains.met.2),
+      )
+
+      -- there was no room for the fast tickets
+      lacks-one : (b : SessionView) {why : SpaceError} → LacksRoomForFast why s b
+          → (why ≡ OutOfMemory) ⊎ ((why ≡ Full) × OfTicket id (lists_seen s.me.0) (λ u. FullForOne u.place s b))
+      lacks-one b (inl memory) = inl memory
+      lacks-one b (inr full) = inr (full.0, (t, its, inr full.1))
+
+      pub clone-full : {b : SessionView} {why : SpaceError} → DoesQuietly 0 [] s b → LacksRoomForFast why s b
+          → Joins (space_of s) (Clone_ticket s.me.0.number id mode) (Refused why) (space_of b) × Shows (Clone_ticket s.me.0.number id mode) (Refused why) s b
+      clone-full {b} quiet lacks = (clone-refused (done-nothing quiet.done) (lack-cause s b lacks), refused-shows quiet (lacks-one b lacks))
+
+      -- by the latch of the place, once they are slow ones
+      module _ {b c : SessionView} (slow : BecomesSlow s b) where
+        pub cloned-slow : (next : ℕ) → next ≡ s.me.0.next → (result : Result ℕ SpaceError)
+            → IfOk result (λ new. (new ≡ next) × DoesQuietly t.place (Gain new mode ∷ []) b c × MeetsTicket t.number (Gain new mode ∷ []) b c t)
+            → OnErr result (DoesQuietly t.place [] b c) → IfErr result (λ why. (why ≡ OutOfMemory) ⊎ ((why ≡ Full) × ShowsStep b c (MeetsFull t.place)))
+            → Joins (space_of s) (Clone_ticket s.me.0.number id mode) (cloned result) (space_of c) × Shows (Clone_ticket s.me.0.number id mode) (cloned result) s c
+        cloned-slow next first (Ok new) made unchanged why =
+            let quiet = quiet-then slow.quiet made.1 in
+            let met = made.2 in
+            let own = subst₂ (λ (who n : ℕ). MeetsOwn t.place who n met.0) (number-slow slow) (has_number id t (tickets_seen s.me.0) its) met.2.0 in
+            (clone-joins (made.0 ∙ first) quiet.done, clone-shows quiet (shows-slow slow c (met.0, met.1, inl (own, met.2.1))))
+        cloned-slow next first (Err why) made unchanged causes =
+            let quiet = quiet-then slow.quiet unchanged in
+            (clone-refused (done-nothing quiet.done) (either-cause causes), refused-shows quiet (full-one causes))
+          where
+            either-cause : (why ≡ OutOfMemory) ⊎ ((why ≡ Full) × ShowsStep b c (MeetsFull t.place)) → (why ≡ OutOfMemory) ⊎ (why ≡ Full)
+            either-cause (inl memory) = inl memory
+            either-cause (inr full) = inr full.0
+
+            full-one : (why ≡ OutOfMemory) ⊎ ((why ≡ Full) × ShowsStep b c (MeetsFull t.place)) → (why ≡ OutOfMemory) ⊎ ((why ≡ Full) × OfTicket id (lists_seen s.me.0) (λ u. FullForOne u.place s c))
+            full-one (inl memory) = inl memory
+            full-one (inr full) = inr (full.0, (t, its, inl (shows-slow slow c full.1)))

@@ -39,6 +39,8 @@ pub mod CloneCalls
 pub mod QuietDeeds
 pub mod FastDone
 pub mod FastFacts
+pub mod SlowHeld
 pub mod FastWishing
+pub mod SlowFirst
 pub mod FastWishShows
 pub mod SlowPlaces
