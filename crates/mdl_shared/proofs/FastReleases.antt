@@ -1,27 +1,22 @@
 -- A fast ticket is given up, and the place is rescheduled where that is owed.
-use Rattle.std.proofs.Common.{◌≡◌, ℕ, true, false, Bool, List, [], ◌∷◌, ◌++◌, Option, Some, None, inl, inr, refl, sym, ap, subst, ◌∙◌, append-nil}
+use Rattle.std.proofs.Common.{◌≡◌, ℕ, true, false, Bool, List, [], ◌∷◌, ◌++◌, inl, inr, sym, ap, subst, ◌∙◌, append-nil}
 use Rattle.std.proofs.lemmas.Bool.{false≢true}
 use Rattle.atomic_table.specs.Seated.{TableId}
-use Rattle.mdl_word.specs.Words.{slow_flag}
-use Rattle.mdl_calls.specs.Words.{Done, Release}
 use Rattle.mdl_steps.specs.declared.deed.Deed.{Deed}
 use Rattle.mdl_steps.specs.declared.deed.Deed.TheVariants.{Lose}
 use Rattle.mdl_steps.specs.declared.view.Met.{Met}
 use Rattle.mdl_steps.specs.declared.view.Own.{Own}
-use Rattle.mdl_steps.specs.Deeds.{all_next, all_owned}
 use Rattle.mdl_steps.specs.Plays.{Mine}
 use Rattle.mdl_steps.specs.SeatStates.{AtItsTable, SeatState}
 use Rattle.mdl_visits.specs.FastTries.{ReleasesFast}
 use Rattle.mdl_visits.specs.Grantings.{HasRescheduled, VisitsAndReschedules}
-use Rattle.mdl_visits.specs.Numbers.{numbered}
 use Rattle.mdl_visits.specs.Polls.{SettlesNothing}
-use Rattle.mdl_visits.specs.Visits.{Does, IsStepOf, LeavesBy, MakesMoreSteps, StaysOn}
+use Rattle.mdl_visits.specs.Visits.{IsStepOf, StaysOn}
 use Rattle.mdl_visits.proofs.Steps.{goes_none, goes_staying, leaves_after, step_after, step_before}
 use Rattle.mdl_visits.proofs.Way.{granted_within, looked_within}
 use Rattle.mdl_shared.specs.DeedsDone.{DoesQuietly, HasDone, StaysFast}
-use Rattle.mdl_shared.specs.Members.{IsMember, holding_fault}
 use Rattle.mdl_shared.specs.SessionViews.{SessionView, session_at, tickets_seen}
-use Rattle.mdl_shared.specs.Showings.{GivesUpFast, GivesUpSlow, LeavesWaits, MeetsFastRelease, Reschedules, Shows}
+use Rattle.mdl_shared.specs.Showings.{GivesUpFast, LeavesWaits, MeetsFastRelease}
 
 -- ---- two parts of a call
 
