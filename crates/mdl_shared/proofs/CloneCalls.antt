@@ -55,7 +55,8 @@ module _ {s : SessionView} (is : IsMember s) (id : ℕ) (mode : Mode) where
         (λ state how is. cc) tt
 
     pub refused-shows : {s′ : SessionView} {place : ℕ} {why : SpaceError} → DoesQuietly place [] s s′
-        → (why ≡ OutOfMemory) ⊎ ((why ≡ Full) × OfTicket id (lists_seen s.me.0) (λ t. FullForOne t.place s s′)) → Shows (Clone_ticket s.me.0.number id mode) (Refused why) s s′
+        → (why ≡ OutOfMemory) ⊎ ((why ≡ Full) × OfTicket id (lists_seen s.me.0) (λ t. FullForOne t.place s s′))
+        → Shows (Clone_ticket s.me.0.number id mode) (Refused why) s s′
     refused-shows quiet met = quiet-shows quiet refl clear (λ e. e) (λ e. e) tt (inr met)
 
     -- made
@@ -67,8 +68,8 @@ module _ {s : SessionView} (is : IsMember s) (id : ℕ) (mode : Mode) where
           (ap (λ o. cloning new mode o (space_of s).own) (ticket-told id (tickets_seen s.me.0) ∙ ap (option_map told_of) its)) (λ d. d)
           may-clone tt refl (λ state how is. cc) (λ how is. cc) refl (λ r. r) tt
 
-      pub clone-shows : {s′ : SessionView} {new : ℕ} → DoesQuietly t.place (Gain new mode ∷ []) s s′ → ShowsStep s s′ (MeetsClone t.place s.me.0.number id (Gain new mode))
-          → Shows (Clone_ticket s.me.0.number id mode) (Granted new) s s′
+      pub clone-shows : {s′ : SessionView} {new : ℕ} → DoesQuietly t.place (Gain new mode ∷ []) s s′
+          → ShowsStep s s′ (MeetsClone t.place s.me.0.number id (Gain new mode)) → Shows (Clone_ticket s.me.0.number id mode) (Granted new) s s′
       clone-shows quiet met = quiet-shows quiet refl clear (λ e. e) (λ e. e) tt (t, its, met)
 
       -- by the fast path
@@ -94,7 +95,8 @@ module _ {s : SessionView} (is : IsMember s) (id : ℕ) (mode : Mode) where
         pub cloned-slow : (next : ℕ) → next ≡ s.me.0.next → (result : Result ℕ SpaceError)
             → IfOk result (λ new. (new ≡ next) × DoesQuietly t.place (Gain new mode ∷ []) b c × MeetsTicket t.number (Gain new mode ∷ []) b c t)
             → OnErr result (DoesQuietly t.place [] b c) → IfErr result (λ why. (why ≡ OutOfMemory) ⊎ ((why ≡ Full) × ShowsStep b c (MeetsFull t.place)))
-            → Joins (space_of s) (Clone_ticket s.me.0.number id mode) (cloned result) (space_of c) × Shows (Clone_ticket s.me.0.number id mode) (cloned result) s c
+            → Joins (space_of s) (Clone_ticket s.me.0.number id mode) (cloned result) (space_of c)
+            × Shows (Clone_ticket s.me.0.number id mode) (cloned result) s c
         cloned-slow next first (Ok new) made unchanged why =
             let quiet = quiet-then slow.quiet made.1 in
             let met = made.2 in
@@ -108,6 +110,7 @@ module _ {s : SessionView} (is : IsMember s) (id : ℕ) (mode : Mode) where
             either-cause (inl memory) = inl memory
             either-cause (inr full) = inr full.0
 
-            full-one : (why ≡ OutOfMemory) ⊎ ((why ≡ Full) × ShowsStep b c (MeetsFull t.place)) → (why ≡ OutOfMemory) ⊎ ((why ≡ Full) × OfTicket id (lists_seen s.me.0) (λ u. FullForOne u.place s c))
+            full-one : (why ≡ OutOfMemory) ⊎ ((why ≡ Full) × ShowsStep b c (MeetsFull t.place))
+                → (why ≡ OutOfMemory) ⊎ ((why ≡ Full) × OfTicket id (lists_seen s.me.0) (λ u. FullForOne u.place s c))
             full-one (inl memory) = inl memory
             full-one (inr full) = inr (full.0, (t, its, inl (shows-slow slow c full.1)))

@@ -42,7 +42,8 @@ use Rattle.mdl_shared.proofs.Wishing.{unfast-seen}
 -- ---- the fast tickets
 
 -- they became slow ones
-pub becomes-slow : (m m′ : Member) → DoesQuietly 0 [] (view_of m) (view_of m′) → (m′.tickets.fast ≡ []) × AllMadeSlow (view_of m) (view_of m′) → BecomesSlow (view_of m) (view_of m′)
+pub becomes-slow : (m m′ : Member) → DoesQuietly 0 [] (view_of m) (view_of m′) → (m′.tickets.fast ≡ []) × AllMadeSlow (view_of m) (view_of m′)
+    → BecomesSlow (view_of m) (view_of m′)
 becomes-slow m m′ quiet made = record { quiet = quiet; unfast = unfast-seen m′ made.0; made = made.1 }
 
 -- so each ticket that the session had is a slow one
@@ -62,7 +63,8 @@ module _ {a : SessionView} (is : IsMember a) (id : ℕ) (t : Own) (its : numbere
       → Joins (space_of a) (Upgrade_now a.me.0.number id mode) (Refused why) (space_of b) × Shows (Upgrade_now a.me.0.number id mode) (Refused why) a b
   upgrade-refused {b} {why} quiet lacks = (
     refused a b (Upgrade_now a.me.0.number id mode) why (done-nothing quiet.done) (speaks is) refl refl
-        (by-cause (λ w. IsCause (Knows (space_of a) a.me.0.number) (Upgrade_now a.me.0.number id mode) w (space_of a).own) why tt (may-rise is id t its mode clear) (lack-cause a b lacks))
+        (by-cause (λ w. IsCause (Knows (space_of a) a.me.0.number) (Upgrade_now a.me.0.number id mode) w (space_of a).own) why tt
+        (may-rise is id t its mode clear) (lack-cause a b lacks))
         (λ state how is. cc) tt,
     quiet-shows quiet refl clear (λ e. e) (λ e. e) tt (inr lacks),
   )
@@ -80,7 +82,8 @@ module _ {a : SessionView} (is : IsMember a) (id : ℕ) (t : Own) (its : numbere
         let met = subst (λ (n : ℕ). ShowsStep b c (MeetsGrantable t.place b.me.0.number mode (Alter n mode))) number went.1 in
         let by = subst (λ (who : ℕ). ShowsStep b c (MeetsGrantable t.place who mode (Alter id mode))) (number-slow slow) met in (
           upgrade-joins is id t its mode clear short quiet.done,
-          quiet-shows quiet (deeds upgrade.Upgraded short) clear (λ e. e) (λ e. e) tt (t, its, ((λ has. let no = sym has ∙ short in cc), (λ less. shows-slow slow c by))),
+          quiet-shows quiet (deeds upgrade.Upgraded short) clear (λ e. e) (λ e. e) tt
+              (t, its, ((λ has. let no = sym has ∙ short in cc), (λ less. shows-slow slow c by))),
         )
 
     -- it would have to wait
@@ -95,7 +98,8 @@ module _ {a : SessionView} (is : IsMember a) (id : ℕ) (t : Own) (its : numbere
 
     -- either
     pub tried-slow : (answer : Upgrade)
-        → (answer ≡ upgrade.Upgraded → DoesQuietly t.place (Alter t.number mode ∷ []) b c × ShowsStep b c (MeetsGrantable t.place b.me.0.number mode (Alter t.number mode)))
+        → (answer ≡ upgrade.Upgraded → DoesQuietly t.place (Alter t.number mode ∷ []) b c
+        × ShowsStep b c (MeetsGrantable t.place b.me.0.number mode (Alter t.number mode)))
         → (answer ≡ upgrade.WouldWait → DoesQuietly t.place [] b c × ShowsStep b c (MeetsBlocked t.place b.me.0.number mode))
         → Joins (space_of a) (Upgrade_now a.me.0.number id mode) (upgrade_tried (Ok answer)) (space_of c)
         × Shows (Upgrade_now a.me.0.number id mode) (upgrade_tried (Ok answer)) a c
@@ -105,7 +109,8 @@ module _ {a : SessionView} (is : IsMember a) (id : ℕ) (t : Own) (its : numbere
 -- ---- merges
 
 module _ {a : SessionView} (is : IsMember a) (old new : ℕ) (kept gone : Own) (its : numbered old (tickets_seen a.me.0) ≡ Some kept)
-    (other : numbered new (tickets_seen a.me.0) ≡ Some gone) (clear : merge_fault (numbered old (tickets_seen a.me.0)) (numbered new (tickets_seen a.me.0)) a.me.0.asks ≡ None) where
+    (other : numbered new (tickets_seen a.me.0) ≡ Some gone)
+    (clear : merge_fault (numbered old (tickets_seen a.me.0)) (numbered new (tickets_seen a.me.0)) a.me.0.asks ≡ None) where
   free : merge_fault (Some kept) (Some gone) a.me.0.asks ≡ None
   free = sym (λ i. merge_fault (its i) (other i) a.me.0.asks) ∙ clear
 
@@ -114,7 +119,8 @@ module _ {a : SessionView} (is : IsMember a) (old new : ℕ) (kept gone : Own) (
       → Joins (space_of a) (Merge a.me.0.number old new) (Refused why) (space_of b) × Shows (Merge a.me.0.number old new) (Refused why) a b
   merge-refused {b} {why} quiet lacks = (
     refused a b (Merge a.me.0.number old new) why (done-nothing quiet.done) (speaks is) refl refl
-        (by-cause (λ w. IsCause (Knows (space_of a) a.me.0.number) (Merge a.me.0.number old new) w (space_of a).own) why tt (merge-clear a old new kept gone its other free) (lack-cause a b lacks))
+        (by-cause (λ w. IsCause (Knows (space_of a) a.me.0.number) (Merge a.me.0.number old new) w (space_of a).own) why tt
+        (merge-clear a old new kept gone its other free) (lack-cause a b lacks))
         (λ state how is. cc) tt,
     quiet-shows quiet refl clear (λ e. e) (λ e. e) tt (inr lacks),
   )
@@ -131,5 +137,6 @@ module _ {a : SessionView} (is : IsMember a) (old new : ℕ) (kept gone : Own) (
       let met = subst₃ (λ (who n p : ℕ). MeetsOwn kept.place who n step.0 × MeetsOwn kept.place who p step.0 × (step.0.deeds ≡ Alter n gone.mode ∷ Lose p ∷ []))
       (number-slow slow) one two (step.2, step.3, step.4) in (
         merge-joins is old kept its new gone other free quiet.done,
-        quiet-shows quiet (sym (ap (merge_deeds old new (Ok tt)) other)) clear (λ e. e) (λ e. e) tt (kept, its, (gone, other, shows-slow slow c (step.0, step.1, met))),
+        quiet-shows quiet (sym (ap (merge_deeds old new (Ok tt)) other)) clear (λ e. e) (λ e. e) tt
+            (kept, its, (gone, other, shows-slow slow c (step.0, step.1, met))),
       )

@@ -44,7 +44,8 @@ returns-in-Some g c =
     let t = c.in_ok-held.held in
     let its = held-seen m c.args.id (Some t) (sym c.in_ok-held.ensures.found.0) in
     let clear = fault-seen m (Clone_ticket m.seat.me.0.number c.args.id c.args.mode) None (just-done _ _ c.in_ok-held.ensures.just) in
-    let gains = subst (λ (o : Option ℕ). IfSome o (λ id. GainsFast t.place c.args.mode id (view_of m) (view_of c.try_fast_first.new.self))) c.in-Some.is c.in_ok-number.ensures.granted in
+    let gains = subst (λ (o : Option ℕ). IfSome o (λ id. GainsFast t.place c.args.mode id (view_of m) (view_of c.try_fast_first.new.self)))
+    c.in-Some.is c.in_ok-number.ensures.granted in
     let both = fast-cloned (member m) c.args.id c.args.mode clear t its gains in
     rw (← c.self.view_is) (record { joined = both.0; shown = both.1 })
 

@@ -48,7 +48,8 @@ returns-in_err-materialise g c =
 
 pub upgrade_by_latch-requires-clause-held : goal.upgrade_by_latch-requires-clause-held
 upgrade_by_latch-requires-clause-held g c =
-    slow-then c.self.inside.member c.materialise.new.self c.materialise.ensures.done.done c.in_ok-materialise.ensures.slow.0 c.args.id c.in_ok-held.held c.in_ok-held.ensures.found
+    slow-then c.self.inside.member c.materialise.new.self c.materialise.ensures.done.done c.in_ok-materialise.ensures.slow.0
+    c.args.id c.in_ok-held.held c.in_ok-held.ensures.found
 
 pub returns : goal.returns
 returns g c =
