@@ -1,8 +1,10 @@
 -- Calls that try for a fast ticket and give one up: what they tell and do.
-use Rattle.std.proofs.Common.{◌≡◌, ℕ, Bool, [], ◌∷◌, None, Some, sym, ap, subst, ◌∙◌}
+use Rattle.std.proofs.Common.{◌≡◌, ℕ, Bool, true, List, [], ◌∷◌, is_some, Option, Some, None, refl, sym, ap, subst, ◌∙◌}
 use Rattle.mdl_key.specs.declared.mode.Mode.{Mode}
 use Rattle.mdl_steps.specs.declared.deed.Deed.TheVariants.{Gain, Lose}
+use Rattle.mdl_steps.specs.declared.view.Ask.{Ask}
 use Rattle.mdl_steps.specs.declared.view.Own.{Own}
+use Rattle.mdl_steps.specs.Lists.{Each}
 use Rattle.mdl_visits.specs.FastTries.{MeetsClear, ReleasesFast}
 use Rattle.mdl_visits.specs.Numbers.{numbered}
 use Rattle.mdl_visits.proofs.Numbers.{has_number}
@@ -13,7 +15,7 @@ use Rattle.mdl_shared.specs.FastCalls.{GaveUpFast, GetsNothing, HasTriedFast}
 use Rattle.mdl_shared.specs.Members.{kind_known, wish_fault}
 use Rattle.mdl_shared.specs.Passes.{view_of}
 use Rattle.mdl_shared.specs.SessionViews.{Lists, SessionView, lists_seen}
-use Rattle.mdl_shared.specs.Showings.{ShowsStep}
+use Rattle.mdl_shared.specs.Showings.{AllMadeSlow, MakesSlow, ShowsStep}
 use Rattle.mdl_shared.specs.TicketLists.{TicketList}
 use Rattle.mdl_shared.proofs.MemberFacts.{fast-held}
 use Rattle.mdl_shared.proofs.Props.{member}
@@ -68,3 +70,19 @@ gave-up-fast m b id t {owes} held quiet released =
     let gone : DoesQuietly t.place (Lose id ∷ []) (view_of m) b = subst (λ (n : ℕ). DoesQuietly t.place (Lose n ∷ []) (view_of m) b) is quiet in
     let by : ReleasesFast t.place id owes m.seat.me b.me = subst (λ (n : ℕ). ReleasesFast t.place n owes m.seat.me b.me) is released in
     (release-joins (member m) id t (fast-held (member m) id t its) gone.done, (t, its, gone, by))
+
+-- ---- fast tickets become slow
+
+-- a session that waits has none
+some-ask : (asks : Option Ask) → is_some asks ≡ true → (a : Ask) × (asks ≡ Some a)
+some-ask None some = absurd (cc)
+some-ask (Some a) some = (a, refl)
+
+pub waits-unfast : (m : Member) → is_some m.asks ≡ true → m.seat.me.0.fast ≡ []
+waits-unfast m waits =
+    let ask = some-ask m.asks waits in
+    (member m).unfast ask.0 (sym (ap (λ (l : Lists). l.asks) m.lists) ∙ ask.1)
+
+-- where there is none, no step is needed
+pub made-none : (s : SessionView) → s.me.0.fast ≡ [] → AllMadeSlow s s
+made-none s none = subst (λ (fast : List Own). Each (λ (t : Own). ShowsStep s s (MakesSlow t.place)) fast) (sym none) tt

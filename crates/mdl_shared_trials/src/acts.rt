@@ -6,7 +6,7 @@ use mdl_calls::{
 };
 use mdl_defs::{Change, Column, Columns, Definition, Standing};
 use mdl_key::{Key, KeyError, Mode};
-use mdl_shared::Session;
+use mdl_shared::{Fast, Session};
 use std::alloc::Global;
 use std::sync::Wait;
 
@@ -98,6 +98,16 @@ pub(crate) enum Act {
     WaitOf(u16),
     // It makes way at a place whose key it knows.
     Reschedule(Place),
+    // It makes room for so many tickets.
+    Reserve(usize),
+    // It tries for a fast ticket at a place whose key it knows.
+    TryFast(Place, Mode),
+    // It does so as often, until something else comes of it, and tells what comes of the last time.
+    TryFastOften(Place, Mode, u32),
+    ReleaseFast(TicketId),
+    // It releases the fast tickets from 1 on up to a number, and tells whether it owes a place something.
+    ReleaseFastTo(TicketId),
+    Materialise,
     // It looks for a deadlock.
     Search,
 }
@@ -108,6 +118,12 @@ pub(crate) enum Reply {
     Place(Place),
     Granted(TicketId),
     WouldWait,
+    // A fast ticket isn't granted, by a word that is this number.
+    Obtruded(u64),
+    Contended,
+    Limit,
+    // Whether a fast release owes its place something.
+    Owes(bool),
     Upgraded,
     Done,
     Version(u64),
@@ -154,6 +170,12 @@ pub(crate) fn make<R: Wait>(alloc: Global, session: &mut Session<R>, act: Act) -
         Act::Kill(target, wait) => Reply::Is(session.kill(target, wait)),
         Act::WaitOf(target) => Reply::Wait(session.wait_of(target)),
         Act::Reschedule(place) => reschedule(session, place),
+        Act::Reserve(count) => done(session.reserve_tickets(count)),
+        Act::TryFast(place, mode) => try_fast(session, place, mode),
+        Act::TryFastOften(place, mode, times) => try_fast_often(session, place, mode, times),
+        Act::ReleaseFast(id) => release_fast(session, id),
+        Act::ReleaseFastTo(last) => release_fast_to(session, last),
+        Act::Materialise => done(session.materialise()),
         Act::Search => searched(session.search_deadlock()),
     }
 }
@@ -186,6 +208,10 @@ fn may_take_memory(act: Act) -> bool {
         | Act::Audit(_)
         | Act::Begin(_, _)
         | Act::Reschedule(_)
+        | Act::Reserve(_)
+        | Act::TryFast(_, _)
+        | Act::TryFastOften(_, _, _)
+        | Act::Materialise
         | Act::Search => true,
         _ => false,
     }
@@ -277,6 +303,54 @@ fn reschedule<R: Wait>(session: &mut Session<R>, place: Place) -> Reply {
         }
         Err(why) => Reply::Refused(why),
     }
+}
+
+// Nor is a fast ticket tried for elsewhere.
+fn try_fast<R>(session: &mut Session<R>, place: Place, mode: Mode) -> Reply {
+    match session.key_of(place) {
+        Ok(_key) => tried_fast(session.try_fast(place, mode)),
+        Err(why) => Reply::Refused(why),
+    }
+}
+
+fn tried_fast(outcome: Result<Fast, SpaceError>) -> Reply {
+    match outcome {
+        Ok(Fast::Granted(id)) => Reply::Granted(id),
+        Ok(Fast::Obtruded(word)) => Reply::Obtruded(word.0),
+        Ok(Fast::Contended(_word)) => Reply::Contended,
+        Ok(Fast::Limit) => Reply::Limit,
+        Err(why) => Reply::Refused(why),
+    }
+}
+
+fn try_fast_often<R>(session: &mut Session<R>, place: Place, mode: Mode, times: u32) -> Reply {
+    let mut last = Reply::Done;
+    for _ in 0..times {
+        last = try_fast(session, place, mode);
+        match last {
+            Reply::Granted(_) => {}
+            _ => return last,
+        }
+    }
+    last
+}
+
+fn release_fast<R>(session: &mut Session<R>, id: TicketId) -> Reply {
+    match session.release_fast(id) {
+        Ok(released) => Reply::Owes(released.owes),
+        Err(why) => Reply::Refused(why),
+    }
+}
+
+fn release_fast_to<R>(session: &mut Session<R>, last: TicketId) -> Reply {
+    let mut owes = false;
+    for id in 1..=last {
+        match session.release_fast(id) {
+            Ok(released) => owes = owes || released.owes,
+            Err(why) => return Reply::Refused(why),
+        }
+    }
+    Reply::Owes(owes)
 }
 
 fn resolve<R: Wait>(alloc: Global, session: &mut Session<R>, lock: Lock) -> Reply {

@@ -22,6 +22,8 @@ mod ending;
 #[cfg(test)]
 mod examples;
 #[cfg(test)]
+mod fast_calls;
+#[cfg(test)]
 mod locks;
 #[cfg(test)]
 mod many;

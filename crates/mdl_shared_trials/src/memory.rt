@@ -63,18 +63,18 @@ fn outlives_want_of_memory(rt: HostRuntime) -> Result<(), Fail> {
 const TICKET: Held = Held {
     id: 1,
     place: 1,
-    mode: Mode::S,
+    mode: Mode::SNW,
 };
 
 const BOOK: Shown = Shown {
     place: 1,
     lock: Lock::Sales,
-    granted: &[(1, 1, Mode::S)],
+    granted: &[(1, 1, Mode::SNW)],
 };
 
 const TOLD: &[Row] = &[
     (Act::Resolve(Lock::Sales), Reply::Place(1)),
-    (Act::Try(1, Mode::S), Reply::Granted(1)),
+    (Act::Try(1, Mode::SNW), Reply::Granted(1)),
     (Act::Holds(&[TICKET]), Reply::Is(true)),
     (Act::Names(1, Lock::Sales), Reply::Is(true)),
     (Act::Audit(&[BOOK]), Reply::Is(true)),

@@ -14,6 +14,9 @@ pub(crate) type Row = (Act, Reply);
 /// The same with the session's number, 1 or 2.
 pub(crate) type RowOfTwo = (u16, Act, Reply);
 
+/// The same with the session's number, 1, 2 or 3.
+pub(crate) type RowOfThree = (u16, Act, Reply);
+
 /// Two sessions of one space.
 struct Two<R> {
     one: Session<R>,
@@ -55,6 +58,32 @@ impl<R: Drop> Two<R> {
         let Two { one, two } = self;
         closed(rt, one);
         closed(rt, two);
+    }
+}
+
+/// Three sessions of one space.
+struct Three<R> {
+    two: Two<R>,
+    third: Session<R>,
+}
+
+impl<R: Wait> Three<R> {
+    // The session of a number.
+    fn session(&mut self, number: u16) -> &mut Session<R> {
+        match number {
+            3 => &mut self.third,
+            _ => self.two.session(number),
+        }
+    }
+
+    // Which row comes to something else, if there is one.
+    fn first_wrong(&mut self, alloc: Global, rows: &[RowOfThree]) -> Option<usize> {
+        for (at, (number, act, wanted)) in rows.iter().enumerate() {
+            if make(alloc, self.session(*number), *act) != *wanted {
+                return Some(at);
+            }
+        }
+        None
     }
 }
 
@@ -111,6 +140,27 @@ pub(crate) fn are_right_of_two<R: Wait + Abort + AllocGlobal>(
     let mut sessions = Two { one, two };
     assert_eq!(rt; sessions.first_wrong(rt.alloc(), rows), None);
     sessions.close(rt);
+    Ok(())
+}
+
+/// The rows are right of the three sessions of a space of so many places.
+pub(crate) fn are_right_of_three<R: Wait + Abort + AllocGlobal>(
+    rt: &R,
+    places: u16,
+    rows: &[RowOfThree],
+) -> Result<(), Fail> {
+    let (manager, mut passes) = Manager::new(rt.alloc(), places, 3)?;
+    let third = Session::open(rt, &manager, passes.remove(2));
+    let two = Session::open(rt, &manager, passes.remove(1));
+    let one = Session::open(rt, &manager, passes.remove(0));
+    let mut sessions = Three {
+        two: Two { one, two },
+        third,
+    };
+    assert_eq!(rt; sessions.first_wrong(rt.alloc(), rows), None);
+    let Three { two, third } = sessions;
+    two.close(rt);
+    closed(rt, third);
     Ok(())
 }
 

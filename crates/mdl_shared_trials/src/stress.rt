@@ -220,8 +220,9 @@ fn put<R: Wait>(
     }
 }
 
-// Looks at all books, which are lawful, and of which the session has just the tickets that it holds.
+// Looks at all books, which are lawful, and of which the session has just the tickets that it holds, once those that were fast are slow.
 fn audit<R: Wait>(session: &mut Session<R>) -> Result<(), Wrong> {
+    session.materialise()?;
     let books = session.audit()?;
     let held = session.held()?;
     if are_lawful(&books) && are_of(&books, session.number(), &held) {
