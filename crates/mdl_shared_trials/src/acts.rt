@@ -1,4 +1,8 @@
 //! Calls of a session and what comes of them, as the rows of tests have them.
+ghost use Rattle.std.specs.Prelude.{◌≡◌, true};
+ghost use Rattle.mdl_session_laws.specs.SessionSpaces.{is_known};
+ghost use Rattle.mdl_shared.specs.SessionViews.{space_of};
+
 use crate::audits::{Shown, are_shown};
 use mdl_calls::{
     Attempt, Begun, Ended, Held, Place, Poll, Search, Settled, SpaceError, TicketId, TimedOut,
@@ -6,7 +10,8 @@ use mdl_calls::{
 };
 use mdl_defs::{Change, Column, Columns, Definition, Standing};
 use mdl_key::{Key, KeyError, Mode};
-use mdl_shared::{Fast, Session};
+use mdl_shared::{Fast, Released, Session};
+use mdl_word::Word;
 use std::alloc::Global;
 use std::sync::Wait;
 
@@ -70,11 +75,18 @@ fn table(alloc: Global) -> Option<Definition> {
 pub(crate) enum Act {
     Resolve(Lock),
     Try(Place, Mode),
+    // It tries without the latch, at a place that it knows.
+    TryFast(Place, Mode),
     Upgrade(TicketId, Mode),
     Downgrade(TicketId, Mode),
     Clone(TicketId, Mode),
     Merge(TicketId, TicketId),
     Release(TicketId),
+    ReleaseFast(TicketId),
+    // Its fast tickets become slow ones.
+    Materialise,
+    // It makes room for so many tickets.
+    Reserve(usize),
     Read(TicketId),
     Change(TicketId, Edit),
     // It puts a schema as often, and tells what comes of the last time.
@@ -96,18 +108,8 @@ pub(crate) enum Act {
     // It kills the wait of a session that has this number.
     Kill(u16, u64),
     WaitOf(u16),
-    // It makes way at a place whose key it knows.
+    // It makes way at a place that it knows.
     Reschedule(Place),
-    // It makes room for so many tickets.
-    Reserve(usize),
-    // It tries for a fast ticket at a place whose key it knows.
-    TryFast(Place, Mode),
-    // It does so as often, until something else comes of it, and tells what comes of the last time.
-    TryFastOften(Place, Mode, u32),
-    ReleaseFast(TicketId),
-    // It releases the fast tickets from 1 on up to a number, and tells whether it owes a place something.
-    ReleaseFastTo(TicketId),
-    Materialise,
     // It looks for a deadlock.
     Search,
 }
@@ -117,15 +119,14 @@ pub(crate) enum Act {
 pub(crate) enum Reply {
     Place(Place),
     Granted(TicketId),
-    WouldWait,
-    // A fast ticket isn't granted, by a word that is this number.
-    Obtruded(u64),
-    Contended,
+    Obtruded(Word),
+    Contended(Word),
     Limit,
-    // Whether a fast release owes its place something.
-    Owes(bool),
+    WouldWait,
     Upgraded,
     Done,
+    // Its ticket is given up. Whether it owes the place a reschedule.
+    Owes(bool),
     Version(u64),
     // What stands is nothing, and never was anything else.
     New,
@@ -150,11 +151,15 @@ pub(crate) fn make<R: Wait>(alloc: Global, session: &mut Session<R>, act: Act) -
     match act {
         Act::Resolve(lock) => resolve(alloc, session, lock),
         Act::Try(place, mode) => attempted(session.try_now(place, mode)),
+        Act::TryFast(place, mode) => try_fast(session, place, mode),
         Act::Upgrade(id, mode) => upgraded(session.upgrade_now(id, mode)),
         Act::Downgrade(id, mode) => done(session.downgrade(id, mode)),
         Act::Clone(id, mode) => cloned(session.clone_ticket(id, mode)),
         Act::Merge(old, new) => done(session.merge(old, new)),
         Act::Release(id) => done(session.release(id)),
+        Act::ReleaseFast(id) => released(session.release_fast(id)),
+        Act::Materialise => done(session.materialise()),
+        Act::Reserve(count) => done(session.reserve_tickets(count)),
         Act::Read(id) => read(session, id),
         Act::Change(id, edit) => change(alloc, session, id, edit),
         Act::PutOften(id, times) => put_often(session, id, times),
@@ -170,12 +175,6 @@ pub(crate) fn make<R: Wait>(alloc: Global, session: &mut Session<R>, act: Act) -
         Act::Kill(target, wait) => Reply::Is(session.kill(target, wait)),
         Act::WaitOf(target) => Reply::Wait(session.wait_of(target)),
         Act::Reschedule(place) => reschedule(session, place),
-        Act::Reserve(count) => done(session.reserve_tickets(count)),
-        Act::TryFast(place, mode) => try_fast(session, place, mode),
-        Act::TryFastOften(place, mode, times) => try_fast_often(session, place, mode, times),
-        Act::ReleaseFast(id) => release_fast(session, id),
-        Act::ReleaseFastTo(last) => release_fast_to(session, last),
-        Act::Materialise => done(session.materialise()),
         Act::Search => searched(session.search_deadlock()),
     }
 }
@@ -190,10 +189,11 @@ pub(crate) fn make_at_last<R: Wait>(alloc: Global, session: &mut Session<R>, act
     }
 }
 
-const NO_MEMORY: Reply = Reply::Refused(SpaceError::OutOfMemory);
+/// The reply to an act that found no memory.
+pub(crate) const NO_MEMORY: Reply = Reply::Refused(SpaceError::OutOfMemory);
 
-// A release, a merge, an upgrade and a downgrade take none, nor what is done with a wait once it has begun, nor does it to put a schema or to
-// drop what stands. Before it makes way, a session asks for the place's key, which takes some.
+// A release and a downgrade take none, nor what is done with a wait once it has begun, nor does it to put a schema or to drop what stands. Where no
+// ticket is fast, a merge and an upgrade take none, and where room was made before, a fast ticket takes none.
 fn may_take_memory(act: Act) -> bool {
     match act {
         Act::Resolve(_)
@@ -207,11 +207,8 @@ fn may_take_memory(act: Act) -> bool {
         | Act::Names(_, _)
         | Act::Audit(_)
         | Act::Begin(_, _)
-        | Act::Reschedule(_)
-        | Act::Reserve(_)
-        | Act::TryFast(_, _)
-        | Act::TryFastOften(_, _, _)
         | Act::Materialise
+        | Act::Reserve(_)
         | Act::Search => true,
         _ => false,
     }
@@ -294,63 +291,44 @@ fn searched(outcome: Result<Search, SpaceError>) -> Reply {
     }
 }
 
-// A place whose key is told is one that the session knows.
-fn reschedule<R: Wait>(session: &mut Session<R>, place: Place) -> Reply {
-    match session.key_of(place) {
-        Ok(_key) => {
-            session.reschedule(place);
-            Reply::Done
-        }
-        Err(why) => Reply::Refused(why),
-    }
-}
-
-// Nor is a fast ticket tried for elsewhere.
-fn try_fast<R>(session: &mut Session<R>, place: Place, mode: Mode) -> Reply {
-    match session.key_of(place) {
-        Ok(_key) => tried_fast(session.try_fast(place, mode)),
-        Err(why) => Reply::Refused(why),
-    }
-}
-
-fn tried_fast(outcome: Result<Fast, SpaceError>) -> Reply {
+fn released(outcome: Result<Released, SpaceError>) -> Reply {
     match outcome {
+        Ok(Released { owes }) => Reply::Owes(owes),
+        Err(why) => Reply::Refused(why),
+    }
+}
+
+const NO_PLACE: Reply = Reply::Refused(SpaceError::NoPlace);
+
+// Whether the session knows a place: it does unless it is refused the key for that.
+fn knows<R>(session: &mut Session<R>, place: Place) -> bool
+    ensures { result ≡ true → is_known place (space_of session.new).known ≡ true }
+{
+    match session.key_of(place) {
+        Err(SpaceError::NoPlace) => false,
+        _ => true,
+    }
+}
+
+fn reschedule<R: Wait>(session: &mut Session<R>, place: Place) -> Reply {
+    if !knows(session, place) {
+        return NO_PLACE;
+    }
+    session.reschedule(place);
+    Reply::Done
+}
+
+fn try_fast<R>(session: &mut Session<R>, place: Place, mode: Mode) -> Reply {
+    if !knows(session, place) {
+        return NO_PLACE;
+    }
+    match session.try_fast(place, mode) {
         Ok(Fast::Granted(id)) => Reply::Granted(id),
-        Ok(Fast::Obtruded(word)) => Reply::Obtruded(word.0),
-        Ok(Fast::Contended(_word)) => Reply::Contended,
+        Ok(Fast::Obtruded(word)) => Reply::Obtruded(word),
+        Ok(Fast::Contended(word)) => Reply::Contended(word),
         Ok(Fast::Limit) => Reply::Limit,
         Err(why) => Reply::Refused(why),
     }
-}
-
-fn try_fast_often<R>(session: &mut Session<R>, place: Place, mode: Mode, times: u32) -> Reply {
-    let mut last = Reply::Done;
-    for _ in 0..times {
-        last = try_fast(session, place, mode);
-        match last {
-            Reply::Granted(_) => {}
-            _ => return last,
-        }
-    }
-    last
-}
-
-fn release_fast<R>(session: &mut Session<R>, id: TicketId) -> Reply {
-    match session.release_fast(id) {
-        Ok(released) => Reply::Owes(released.owes),
-        Err(why) => Reply::Refused(why),
-    }
-}
-
-fn release_fast_to<R>(session: &mut Session<R>, last: TicketId) -> Reply {
-    let mut owes = false;
-    for id in 1..=last {
-        match session.release_fast(id) {
-            Ok(released) => owes = owes || released.owes,
-            Err(why) => return Reply::Refused(why),
-        }
-    }
-    Reply::Owes(owes)
 }
 
 fn resolve<R: Wait>(alloc: Global, session: &mut Session<R>, lock: Lock) -> Reply {

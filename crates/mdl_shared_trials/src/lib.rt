@@ -1,8 +1,9 @@
 //! Tests of the lock space that threads share.
 //!
-//! Everything here is for tests: spaces are made, and sessions open, look keys up, try for locks, change, clone and merge tickets, change what
-//! stands under keys, give locks up and close, on one thread and on several. `steps` has tests of the steps below them, and `examples` are those of three crates. The tests stand over what
-//! `mdl_shared` and `mdl_steps` show to all, so that these have none themselves and are proved once.
+//! Everything here is for tests: spaces are made, and sessions open, look keys up, try for locks, with the latch and without, change, clone and
+//! merge tickets, change what stands under keys, give locks up and close, on one thread and on several. `steps` has tests of the steps below them,
+//! and `examples` are those of three crates. The tests stand over what `mdl_shared` and `mdl_steps` show to all, so that these have none themselves
+//! and are proved once.
 #![tactic(auto)]
 
 #[cfg(test)]
@@ -22,7 +23,7 @@ mod ending;
 #[cfg(test)]
 mod examples;
 #[cfg(test)]
-mod fast_calls;
+mod fast;
 #[cfg(test)]
 mod locks;
 #[cfg(test)]

@@ -4,12 +4,15 @@
 ghost use Rattle.std.specs.Prelude.{◌≡◌, ◌+◌, length, IfOk};
 ghost use Rattle.mdl_shared.specs.Passes.{ArePasses, table_of};
 
-use crate::acts::{Act, Edit, Lock, Reply};
+use crate::acts::{Act, Edit, Lock, NO_MEMORY, Reply, make};
 use crate::audits::Shown;
-use crate::rows::{Row, RowOfTwo, are_right_at_last, are_right_of_two_at_last};
+use crate::rows::{
+    Row, RowOfTwo, are_right_at_last, are_right_of_two_at_last, first_wrong_at_last,
+};
+use crate::sessions::closed;
 use mdl_calls::{Ended, Held, Settled};
 use mdl_key::Mode;
-use mdl_shared::{Manager, NewError, Pass};
+use mdl_shared::{Manager, NewError, Pass, Session};
 use std::alloc::Global;
 use std::test::Fail;
 
@@ -99,4 +102,68 @@ const CHANGES: &[Row] = &[
 #[test]
 fn changes_outlive_want_of_memory(rt: HostRuntime) -> Result<(), Fail> {
     are_right_at_last(&rt, CHANGES)
+}
+
+const AHEAD: &[Row] = &[
+    (Act::Resolve(Lock::Sales), Reply::Place(1)),
+    (Act::Resolve(Lock::Orders), Reply::Place(2)),
+    (Act::Reserve(3), Reply::Done),
+    (Act::TryFast(1, Mode::S), Reply::Granted(1)),
+    (Act::TryFast(2, Mode::SR), Reply::Granted(2)),
+    (Act::TryFast(1, Mode::SW), Reply::Granted(3)),
+];
+
+const FAST: &[Held] = &[
+    Held {
+        id: 1,
+        place: 1,
+        mode: Mode::S,
+    },
+    Held {
+        id: 2,
+        place: 2,
+        mode: Mode::SR,
+    },
+    Held {
+        id: 3,
+        place: 1,
+        mode: Mode::SW,
+    },
+];
+
+const BOOKS: &[Shown] = &[
+    Shown {
+        place: 1,
+        lock: Lock::Sales,
+        granted: &[(1, 1, Mode::S), (1, 3, Mode::SW)],
+    },
+    Shown {
+        place: 2,
+        lock: Lock::Orders,
+        granted: &[(1, 2, Mode::SR)],
+    },
+];
+
+const KEPT: &[Row] = &[
+    (Act::Holds(FAST), Reply::Is(true)),
+    (Act::Materialise, Reply::Done),
+    (Act::Holds(FAST), Reply::Is(true)),
+    (Act::Audit(BOOKS), Reply::Is(true)),
+    (Act::Release(1), Reply::Done),
+    (Act::Release(2), Reply::Done),
+    (Act::Release(3), Reply::Done),
+];
+
+// Where room was made ahead, fast tickets take no memory. They are the same where there is none to make slow ones of them, as the first row of KEPT
+// sees.
+#[test]
+fn fast_tickets_outlive_want_of_memory(rt: HostRuntime) -> Result<(), Fail> {
+    let (manager, mut passes) = space(rt.alloc(), 2)?;
+    let mut session = Session::open(&rt, &manager, passes.remove(0));
+    assert_eq!(rt; first_wrong_at_last(rt.alloc(), &mut session, AHEAD), None);
+    let made = make(rt.alloc(), &mut session, Act::Materialise);
+    assert!(rt; made == Reply::Done || made == NO_MEMORY);
+    assert_eq!(rt; first_wrong_at_last(rt.alloc(), &mut session, KEPT), None);
+    closed(&rt, session);
+    Ok(())
 }

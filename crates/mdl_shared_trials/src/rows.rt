@@ -14,7 +14,7 @@ pub(crate) type Row = (Act, Reply);
 /// The same with the session's number, 1 or 2.
 pub(crate) type RowOfTwo = (u16, Act, Reply);
 
-/// The same with the session's number, 1, 2 or 3.
+/// The same with a number up to 3.
 pub(crate) type RowOfThree = (u16, Act, Reply);
 
 /// Two sessions of one space.
@@ -63,16 +63,16 @@ impl<R: Drop> Two<R> {
 
 /// Three sessions of one space.
 struct Three<R> {
-    two: Two<R>,
-    third: Session<R>,
+    pair: Two<R>,
+    three: Session<R>,
 }
 
 impl<R: Wait> Three<R> {
     // The session of a number.
     fn session(&mut self, number: u16) -> &mut Session<R> {
         match number {
-            3 => &mut self.third,
-            _ => self.two.session(number),
+            3 => &mut self.three,
+            _ => self.pair.session(number),
         }
     }
 
@@ -84,6 +84,14 @@ impl<R: Wait> Three<R> {
             }
         }
         None
+    }
+}
+
+impl<R: Drop> Three<R> {
+    fn close(self, rt: &impl Abort) {
+        let Three { pair, three } = self;
+        pair.close(rt);
+        closed(rt, three);
     }
 }
 
@@ -101,8 +109,8 @@ pub(crate) fn first_wrong<R: Wait>(
     None
 }
 
-// The same, where memory may be refused once.
-fn first_wrong_at_last<R: Wait>(
+/// The same, where memory may be refused once.
+pub(crate) fn first_wrong_at_last<R: Wait>(
     alloc: Global,
     session: &mut Session<R>,
     rows: &[Row],
@@ -150,17 +158,13 @@ pub(crate) fn are_right_of_three<R: Wait + Abort + AllocGlobal>(
     rows: &[RowOfThree],
 ) -> Result<(), Fail> {
     let (manager, mut passes) = Manager::new(rt.alloc(), places, 3)?;
-    let third = Session::open(rt, &manager, passes.remove(2));
+    let three = Session::open(rt, &manager, passes.remove(2));
     let two = Session::open(rt, &manager, passes.remove(1));
     let one = Session::open(rt, &manager, passes.remove(0));
-    let mut sessions = Three {
-        two: Two { one, two },
-        third,
-    };
+    let pair = Two { one, two };
+    let mut sessions = Three { pair, three };
     assert_eq!(rt; sessions.first_wrong(rt.alloc(), rows), None);
-    let Three { two, third } = sessions;
-    two.close(rt);
-    closed(rt, third);
+    sessions.close(rt);
     Ok(())
 }
 

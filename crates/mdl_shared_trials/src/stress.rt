@@ -117,6 +117,7 @@ fn ask<R: Wait>(session: &mut Session<R>, player: &mut Player<'_>) -> Result<(),
         1 => Act::Tables,
         2 => return kill(session, player),
         3..=9 => return wait_for(session, player, place),
+        10..=19 => Act::TryFast(place, player.chance.mode()),
         _ => Act::Try(place, player.chance.mode()),
     };
     was_answered(make(player.alloc, session, act))
@@ -173,16 +174,31 @@ fn use_ticket<R: Wait>(
 ) -> Result<(), Wrong> {
     let Held { id, place, .. } = ticket;
     let mode = player.chance.mode();
-    let act = match player.chance.below(8) {
+    let act = match player.chance.below(11) {
         0 => Act::Clone(id, mode),
         1 => Act::Upgrade(id, mode),
         2 => Act::Downgrade(id, mode),
         3 => merge_with(id, player.chance.ticket(held))?,
         4 => return look(session, player, id, place),
         5 => return put(session, player, id, place),
+        6..=8 => return release_fast(session, player, id, place),
         _ => Act::Release(id),
     };
     was_answered(make(player.alloc, session, act))
+}
+
+// A ticket is given up without the latch, unless it is a slow one, and the reschedule that is owed then is made.
+fn release_fast<R: Wait>(
+    session: &mut Session<R>,
+    player: &mut Player<'_>,
+    id: TicketId,
+    place: Place,
+) -> Result<(), Wrong> {
+    match make(player.alloc, session, Act::ReleaseFast(id)) {
+        Reply::Owes(true) => was_answered(make(player.alloc, session, Act::Reschedule(place))),
+        Reply::Owes(false) | Reply::Refused(SpaceError::NotHeld) => Ok(()),
+        _ => Err(Wrong),
+    }
 }
 
 // What stands at the place of a ticket is read, which is never refused.
@@ -220,7 +236,7 @@ fn put<R: Wait>(
     }
 }
 
-// Looks at all books, which are lawful, and of which the session has just the tickets that it holds, once those that were fast are slow.
+// Looks at all books, which are lawful, and of which the session has just the tickets that it holds, once none of them is fast.
 fn audit<R: Wait>(session: &mut Session<R>) -> Result<(), Wrong> {
     session.materialise()?;
     let books = session.audit()?;

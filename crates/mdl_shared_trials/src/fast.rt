@@ -1,0 +1,215 @@
+//! Sessions try for fast tickets, give them up and make slow ones of them, on one thread.
+use crate::acts::{Act, Lock, Reply, make};
+use crate::audits::Shown;
+use crate::rows::{
+    Row, RowOfThree, RowOfTwo, are_right, are_right_of_three, are_right_of_two, first_wrong,
+};
+use crate::sessions::closed;
+use mdl_calls::{Ended, Held, Settled, SpaceError};
+use mdl_key::Mode;
+use mdl_shared::{Manager, Session};
+use mdl_word::Word;
+use std::alloc::Global;
+use std::sync::Wait;
+use std::test::Fail;
+
+// How many fast tickets a session may have at a place.
+const MOST_FAST: u64 = 1023;
+
+const ROOM: &[Row] = &[
+    (Act::Resolve(Lock::Sales), Reply::Place(1)),
+    (Act::Reserve(1024), Reply::Done),
+];
+
+const ONE_MORE: &[Row] = &[(Act::TryFast(1, Mode::S), Reply::Limit)];
+
+// Tries for as many fast tickets as there may be: how many are granted, with the numbers from 1 on.
+fn gained<R: Wait>(alloc: Global, session: &mut Session<R>) -> u64 {
+    let mut right = 0u64;
+    for id in 1..MOST_FAST + 1 {
+        let granted = make(alloc, session, Act::TryFast(1, Mode::S)) == Reply::Granted(id);
+        right = right.wrapping_add(u64::from(granted));
+    }
+    right
+}
+
+// Gives them up: how many owe nothing.
+fn given_up<R: Wait>(alloc: Global, session: &mut Session<R>) -> u64 {
+    let mut right = 0u64;
+    for id in 1..MOST_FAST + 1 {
+        let free = make(alloc, session, Act::ReleaseFast(id)) == Reply::Owes(false);
+        right = right.wrapping_add(u64::from(free));
+    }
+    right
+}
+
+#[test]
+fn a_session_gains_1023_fast_tickets_at_a_place(rt: HostRuntime) -> Result<(), Fail> {
+    let (manager, mut passes) = Manager::new(rt.alloc(), 1, 1)?;
+    let mut session = Session::open(&rt, &manager, passes.remove(0));
+    assert_eq!(rt; first_wrong(rt.alloc(), &mut session, ROOM), None);
+    assert_eq!(rt; gained(rt.alloc(), &mut session), MOST_FAST);
+    assert_eq!(rt; first_wrong(rt.alloc(), &mut session, ONE_MORE), None);
+    assert_eq!(rt; given_up(rt.alloc(), &mut session), MOST_FAST);
+    closed(&rt, session);
+    Ok(())
+}
+
+const OWED: &[RowOfThree] = &[
+    (1, Act::Resolve(Lock::Sales), Reply::Place(1)),
+    (2, Act::Resolve(Lock::Sales), Reply::Place(1)),
+    (3, Act::Resolve(Lock::Sales), Reply::Place(1)),
+    (1, Act::TryFast(1, Mode::SR), Reply::Granted(1)),
+    (2, Act::Begin(1, Mode::X), Reply::Waiting(1)),
+    (
+        3,
+        Act::TryFast(1, Mode::S),
+        Reply::Obtruded(Word(0x3000_0000_0010_0000)),
+    ),
+    (1, Act::ReleaseFast(1), Reply::Owes(true)),
+    (2, Act::Poll, Reply::Pending),
+    (1, Act::Reschedule(1), Reply::Done),
+    (2, Act::Poll, Reply::Settled(Settled::Granted)),
+    (2, Act::End, Reply::Ended(Ended::Granted(1))),
+    (2, Act::Release(1), Reply::Done),
+];
+
+// A wait keeps new fast tickets away. It is granted once whoever gave the last one up reschedules the place.
+#[test]
+fn a_fast_release_owes_a_reschedule(rt: HostRuntime) -> Result<(), Fail> {
+    are_right_of_three(&rt, 1, OWED)
+}
+
+const KILLED: &[RowOfThree] = &[
+    (1, Act::Resolve(Lock::Sales), Reply::Place(1)),
+    (2, Act::Resolve(Lock::Sales), Reply::Place(1)),
+    (3, Act::Resolve(Lock::Sales), Reply::Place(1)),
+    (1, Act::TryFast(1, Mode::SR), Reply::Granted(1)),
+    (2, Act::Begin(1, Mode::X), Reply::Waiting(1)),
+    (3, Act::Kill(2, 1), Reply::Is(true)),
+    (1, Act::ReleaseFast(1), Reply::Owes(true)),
+    (1, Act::Reschedule(1), Reply::Done),
+    (2, Act::Poll, Reply::Settled(Settled::Killed)),
+    (2, Act::End, Reply::Ended(Ended::Killed)),
+    (3, Act::TryFast(1, Mode::S), Reply::Granted(1)),
+    (3, Act::ReleaseFast(1), Reply::Owes(false)),
+];
+
+// A wait that was killed isn't granted, and keeps nobody away once it has ended.
+#[test]
+fn a_killed_wait_opens_the_fast_path(rt: HostRuntime) -> Result<(), Fail> {
+    are_right_of_three(&rt, 1, KILLED)
+}
+
+const TICKETS: &[Held] = &[
+    Held {
+        id: 1,
+        place: 1,
+        mode: Mode::S,
+    },
+    Held {
+        id: 2,
+        place: 1,
+        mode: Mode::S,
+    },
+    Held {
+        id: 3,
+        place: 1,
+        mode: Mode::SR,
+    },
+];
+
+const NOBODY: Shown = Shown {
+    place: 1,
+    lock: Lock::Sales,
+    granted: &[],
+};
+
+const THREE: Shown = Shown {
+    place: 1,
+    lock: Lock::Sales,
+    granted: &[(1, 1, Mode::S), (1, 2, Mode::S), (1, 3, Mode::SR)],
+};
+
+const MADE_SLOW: &[Row] = &[
+    (Act::Resolve(Lock::Sales), Reply::Place(1)),
+    (Act::TryFast(1, Mode::S), Reply::Granted(1)),
+    (Act::TryFast(1, Mode::S), Reply::Granted(2)),
+    (Act::TryFast(1, Mode::SR), Reply::Granted(3)),
+    (Act::Holds(TICKETS), Reply::Is(true)),
+    (Act::Audit(&[NOBODY]), Reply::Is(true)),
+    (Act::Materialise, Reply::Done),
+    (Act::Holds(TICKETS), Reply::Is(true)),
+    (Act::Audit(&[THREE]), Reply::Is(true)),
+    (Act::ReleaseFast(1), NOT_HELD),
+    (Act::Release(1), Reply::Done),
+    (Act::Release(2), Reply::Done),
+    (Act::Release(3), Reply::Done),
+    (Act::Materialise, Reply::Done),
+];
+
+// Tickets that become slow ones stand in the books, and stay what they were.
+#[test]
+fn fast_tickets_become_slow_ones(rt: HostRuntime) -> Result<(), Fail> {
+    are_right(&rt, 1, MADE_SLOW)
+}
+
+const BESIDE_READ_ONLY: &[RowOfTwo] = &[
+    (1, Act::Resolve(Lock::Sales), Reply::Place(1)),
+    (2, Act::Resolve(Lock::Sales), Reply::Place(1)),
+    (1, Act::TryFast(1, Mode::SW), Reply::Granted(1)),
+    (1, Act::Try(1, Mode::SRO), Reply::Granted(2)),
+    (
+        2,
+        Act::TryFast(1, Mode::S),
+        Reply::Obtruded(Word(0x3000_0000_0000_0000)),
+    ),
+    (2, Act::Try(1, Mode::S), Reply::Granted(1)),
+    (1, Act::Release(2), Reply::Done),
+    (2, Act::TryFast(1, Mode::S), Reply::Granted(2)),
+    (2, Act::ReleaseFast(2), Reply::Owes(true)),
+    (2, Act::Release(1), Reply::Done),
+    (1, Act::Release(1), Reply::Done),
+];
+
+// An obtrusive ticket makes the fast tickets of its session slow, and closes the fast path to all until it is given up.
+#[test]
+fn an_obtrusive_ticket_closes_the_fast_path(rt: HostRuntime) -> Result<(), Fail> {
+    are_right_of_two(&rt, 1, BESIDE_READ_ONLY)
+}
+
+const NOT_HELD: Reply = Reply::Refused(SpaceError::NotHeld);
+
+const BAD_MODE: Reply = Reply::Refused(SpaceError::BadMode);
+
+const REFUSED: &[RowOfTwo] = &[
+    (
+        1,
+        Act::TryFast(1, Mode::S),
+        Reply::Refused(SpaceError::NoPlace),
+    ),
+    (1, Act::Resolve(Lock::Sales), Reply::Place(1)),
+    (2, Act::Resolve(Lock::Sales), Reply::Place(1)),
+    (1, Act::TryFast(1, Mode::X), BAD_MODE),
+    (1, Act::TryFast(1, Mode::IX), BAD_MODE),
+    (1, Act::ReleaseFast(1), NOT_HELD),
+    (1, Act::Try(1, Mode::X), Reply::Granted(1)),
+    (1, Act::ReleaseFast(1), NOT_HELD),
+    (2, Act::Begin(1, Mode::S), Reply::Waiting(1)),
+    (
+        2,
+        Act::TryFast(1, Mode::S),
+        Reply::Refused(SpaceError::AlreadyWaiting),
+    ),
+    (2, Act::Materialise, Reply::Done),
+    (1, Act::Release(1), Reply::Done),
+    (2, Act::End, Reply::Ended(Ended::Granted(1))),
+    (2, Act::ReleaseFast(1), NOT_HELD),
+    (2, Act::Release(1), Reply::Done),
+];
+
+// Only modes that aren't obtrusive are tried for so, and only what was gained so is given up so.
+#[test]
+fn what_is_not_fast_is_refused(rt: HostRuntime) -> Result<(), Fail> {
+    are_right_of_two(&rt, 1, REFUSED)
+}
