@@ -2,11 +2,12 @@
 //! grants the waits there that can be granted, and goes.
 //!
 //! Each call here is made on a session's seat, a [`TableSeat`], and says what the seat's view is afterwards and which steps were made
-//! ([`mdl_steps`]). A wish for a lock is granted at once or not at all ([`try_now`]), or is waited for ([`begin_wait`]). A ticket gets another
-//! mode ([`upgrade_now`], [`downgrade`]), gets a second one beside it ([`clone_ticket`]), or goes ([`release`], [`merge`]). Fast tickets become
-//! slow ones ([`materialise`]). A lost wait ends ([`end_lost_wait`]). A definition is read ([`read_definition`]) and changed
-//! ([`change_definition`]). The directory is asked for the place of a key ([`resolve`]) and for the tables of a schema ([`find_tables`]), and
-//! the places of tables for their definitions ([`tables_defined`]). Under the latches of all places the books are copied ([`audit`]), or a deadlock is looked for ([`search_deadlock`]).
+//! ([`mdl_steps`]). A wish for a lock is granted at once or not at all ([`try_now`]), or is waited for ([`begin_wait`]). A ticket gets
+//! another mode ([`upgrade_now`], [`downgrade`]), gets a second one beside it ([`clone_ticket`]), or goes ([`release`], [`merge`]). Fast
+//! tickets become slow ones ([`materialise`]). A lost wait ends ([`end_lost_wait`]). A definition is read ([`read_definition`]) and changed
+//! ([`change_definition`]). The directory is asked for the place of a key ([`resolve`]) and for the tables of a schema ([`find_tables`]),
+//! and the places of tables for their definitions ([`tables_defined`]). Under the latches of all places the books are copied ([`audit`]),
+//! or a deadlock is looked for ([`search_deadlock`]).
 //!
 //! Two calls take no latch: while a lock has no ticket in an obtrusive mode, a fast ticket is granted ([`try_fast`]), and it is given up by one
 //! step ([`release_fast`]). It is in no list: the lock's word counts it.
