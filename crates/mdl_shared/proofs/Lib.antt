@@ -10,7 +10,9 @@ pub mod Faults
 pub mod TicketOrder
 pub mod Props
 pub mod MemberFacts
+pub mod SlowOrFast
 pub mod Members
+pub mod FastReleases
 pub mod HeldTickets
 pub mod Refusals
 pub mod WaitSteps
@@ -21,6 +23,7 @@ pub mod TicketEdits
 pub mod TicketFaults
 pub mod TicketSearch
 pub mod TicketCalls
+pub mod ReleaseCalls
 pub mod WishFaults
 pub mod WishCalls
 pub mod EndCalls

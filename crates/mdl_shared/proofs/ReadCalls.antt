@@ -22,9 +22,9 @@ use Rattle.mdl_steps.specs.Plays.{Mine, noting_version}
 use Rattle.mdl_steps.specs.SeatStates.{SeatState}
 use Rattle.mdl_session_laws.specs.SessionJoins.{ChangesThere, Joins, MeetsFault as Faulty, ReadsThere as Read_so, TellsTruly}
 use Rattle.mdl_session_laws.specs.SessionSpaces.{Knows, key_known as key_known_in}
-use Rattle.mdl_visits.specs.Leavings.{Learns}
+use Rattle.mdl_visits.specs.Leavings.{Learns, MeetsStanding}
 use Rattle.mdl_visits.specs.Numbers.{numbered}
-use Rattle.mdl_visits.specs.Readings.{Follows, MeetsRead}
+use Rattle.mdl_visits.specs.Readings.{Follows, WasHeld}
 use Rattle.mdl_visits.specs.Redefinitions.{IsNamed, IsRefusedFor, Redefines, exclusive_fault}
 use Rattle.mdl_visits.specs.Visits.{Does, StaysQuiet, Visits}
 use Rattle.mdl_visits.proofs.Doing.{does_visits}
@@ -146,7 +146,8 @@ module _ {s : SessionView} (is : IsMember s) (id : ℕ) (t : Own) (its : numbere
       tt
 
   pub read-shows : {s′ : SessionView} (standing : Standing) → HasNoted t.place standing s s′ → Follows t.place standing s.me → Does [] s.me s′.me → StaysQuiet s.me s′.me
-      → ShowsStep s s′ (MeetsRead t.place s.me.0.number id standing) → Shows (Read_definition s.me.0.number id) (Reads standing.version standing.definition) s s′
+      → ShowsStep s s′ (λ e. MeetsStanding t.place s.me.0.number standing e × (numbered id s.me.0.slow ≡ Some t → WasHeld t.place s.me.0.number id e))
+      → Shows (Read_definition s.me.0.number id) (Reads standing.version standing.definition) s s′
   read-shows {s′} standing noted follows did quiet met = record {
     table = ap (λ (x : SessionView). x.table) noted.now;
     sessions = ap (λ (x : SessionView). x.sessions) noted.now;

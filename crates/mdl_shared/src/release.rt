@@ -1,12 +1,20 @@
 //! Tickets are given up.
+ghost use Rattle.std.specs.Prelude.{◌≡◌, ◌∷◌, [], Some};
 ghost use Rattle.mdl_calls.specs.Words.{Release, done};
+ghost use Rattle.mdl_steps.specs.declared.deed.Deed.TheVariants.{Lose};
 ghost use Rattle.mdl_session_laws.specs.SessionJoins.{Joins};
+ghost use Rattle.mdl_visits.specs.Numbers.{numbered};
+ghost use Rattle.mdl_visits.specs.Visits.{Does};
+ghost use Rattle.mdl_shared.specs.DeedsDone.{HasDone};
+ghost use Rattle.mdl_shared.specs.Passes.{view_of};
 ghost use Rattle.mdl_shared.specs.SessionViews.{space_of};
-ghost use Rattle.mdl_shared.specs.Showings.{Shows};
+ghost use Rattle.mdl_shared.specs.Showings.{GivesUpFast, Shows};
 
 use crate::Session;
+use crate::member::Member;
 use mdl_calls::{SpaceError, TicketId};
-use mdl_visits::release;
+use mdl_steps::Own;
+use mdl_visits::{release, reschedule};
 use std::sync::Wait;
 
 impl<R: Wait> Session<R> {
@@ -15,6 +23,10 @@ impl<R: Wait> Session<R> {
         ensures joined { Joins (space_of self.old) (Release self.old.me.0.number id) (done result) (space_of self.new) }
         ensures shown { Shows (Release self.old.me.0.number id) (done result) self.old self.new }
     {
+        if let Some(held) = self.member.tickets.get_fast(id) {
+            self.member.give_up_fast(&self.rt, held);
+            return Ok(());
+        }
         let Some(held) = self.member.tickets.get(id) else {
             return Err(SpaceError::NotHeld);
         };
@@ -22,5 +34,19 @@ impl<R: Wait> Session<R> {
         release(&self.rt, &mut member.seat, held.place, id);
         member.tickets.strike(held.place, id);
         Ok(())
+    }
+}
+
+impl Member {
+    // Gives up a fast ticket, and grants the waits at its place where they may have become grantable.
+    fn give_up_fast<R: Wait>(&mut self, rt: &R, held: Own)
+        requires held { numbered held.number self.old.tickets.fast ≡ Some held }
+        ensures lost { HasDone held.place (Lose held.number ∷ []) (view_of self.old) (view_of self.new) }
+        ensures did { Does (Lose held.number ∷ []) self.old.seat.me self.new.seat.me }
+        ensures given_up { GivesUpFast held.number (view_of self.old) (view_of self.new) held }
+    {
+        if self.lose_fast(held) {
+            reschedule(rt, &mut self.seat, held.place);
+        }
     }
 }

@@ -6,10 +6,11 @@ use Rattle.mdl_key.specs.Words.{same_mode}
 use Rattle.mdl_calls.specs.declared.space_error.SpaceError.TheVariants.{NotExclusive, NotHeld}
 use Rattle.mdl_visits.specs.Redefinitions.{exclusive_fault}
 use Rattle.mdl_shared.specs.SessionViews.{session_at}
-use Rattle.mdl_shared.proofs.MemberFacts.{held-slow, may-visit, slow-apart, ticket-known}
+use Rattle.mdl_shared.proofs.MemberFacts.{may-visit, slow-apart, ticket-known}
 use Rattle.mdl_shared.proofs.Members.{done-nothing, done-order, held-seen, kept, lists-done, lists-visited, room-kept, visited}
 use Rattle.mdl_shared.proofs.Props.{member}
 use Rattle.mdl_shared.proofs.ReadCalls.{change-joins, lists-noted, noted-by, noted-order, unchanged-joins, unchanged-shows, unfit-joins}
+use Rattle.mdl_shared.proofs.SlowOrFast.{exclusive-slow}
 use Rattle.mdl_shared.proofs.session.Session.change_definition.Goals as goal
 
 pub returns-in_default-clause-joined : goal.returns-in_default-clause-joined
@@ -33,7 +34,7 @@ change_definition-requires g c =
     let t = c.in-Some.held in
     let its = held-seen m c.args.id c.get.result c.get.ensures.found ∙ c.in-Some.is in
     let own : t.mode ≡ X = search (rules, c.ne.ensures, c.if-ne.false) in
-    record { at = may-visit is t.place (ticket-known is c.args.id t its); apart = slow-apart is; held = (c.args.id, t, held-slow is c.args.id t its, refl, own) }
+    record { at = may-visit is t.place (ticket-known is c.args.id t its); apart = slow-apart is; held = (c.args.id, t, exclusive-slow is c.args.id t its own, refl, own) }
 
 pub invariant_of-member : goal.invariant_of-member
 invariant_of-member g c =

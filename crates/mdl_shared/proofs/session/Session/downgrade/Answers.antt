@@ -1,17 +1,22 @@
 -- The ticket has the weaker mode, or it can't have it.
-use Rattle.std.proofs.Common.{Err, None, Some, [], inr, refl, rules, ◌∷◌, ◌≡◌}
+use Rattle.std.proofs.Common.{Err, None, Some, [], inr, refl, rules, ◌∷◌, ◌≡◌, ℕ}
+use Rattle.mdl_key.specs.declared.mode.Mode.{Mode}
 use Rattle.mdl_calls.specs.Words.{Downgrade}
+use Rattle.mdl_steps.specs.declared.deed.Deed.TheVariants.{Alter}
+use Rattle.mdl_steps.specs.declared.view.Own.{Own}
 use Rattle.mdl_visits.specs.Numbers.{numbered}
+use Rattle.mdl_shared.specs.declared.member.Member.{Member}
+use Rattle.mdl_shared.specs.Modes.{downgrade_fault}
 use Rattle.mdl_shared.specs.Passes.{view_of}
 use Rattle.mdl_shared.specs.SessionViews.{tickets_seen}
-use Rattle.mdl_steps.specs.declared.deed.Deed.TheVariants.{Alter}
 use Rattle.mdl_shared.proofs.MemberFacts.{alters-slow, spared}
 use Rattle.mdl_shared.proofs.Faults.{just-done, just-refused}
 use Rattle.mdl_shared.proofs.Fitting.{fit_there}
-use Rattle.mdl_shared.proofs.HeldTickets.{holds-ticket}
+use Rattle.mdl_shared.proofs.HeldTickets.{HoldsTicket, holds-ticket}
 use Rattle.mdl_shared.proofs.Members.{done-order, fault-seen, kept, lists-done, lists-rescheduled, rescheduled, room-kept, unnumbered}
 use Rattle.mdl_shared.proofs.Props.{member}
 use Rattle.mdl_shared.proofs.Refusals.{own-shows}
+use Rattle.mdl_shared.proofs.SlowOrFast.{uncounted-slow, weakened-uncounted}
 use Rattle.mdl_shared.proofs.TicketCalls.{downgrade-unfit, downgraded}
 use Rattle.mdl_shared.proofs.TicketFaults.{downgrade-passed}
 use Rattle.mdl_shared.proofs.session.Session.downgrade.Goals as goal
@@ -28,6 +33,13 @@ returns-in_err-held g c =
       shown = own-shows call why (view_of m) fault;
     }))
 
+-- a ticket that may be brought down is slow
+slow-held : (m : Member) (id : ℕ) (mode : Mode) (t : Own) → HoldsTicket id t (view_of m) → downgrade_fault (numbered id (tickets_seen m.seat.me.0)) mode m.seat.me.0.known ≡ None
+    → numbered t.number m.seat.me.0.slow ≡ Some t
+slow-held m id mode t held clear =
+    let may = downgrade-passed mode m.seat.me.0.known (numbered id (tickets_seen m.seat.me.0)) t held.its clear in
+    uncounted-slow (member m) t.number t held.own (weakened-uncounted t.mode mode may.0)
+
 pub downgrade-requires : goal.downgrade-requires
 downgrade-requires g c =
     let m = c.self.inside.member in
@@ -38,7 +50,7 @@ downgrade-requires g c =
     record {
       at = held.at;
       unwaited = held.unwaited;
-      held = held.slow;
+      held = slow-held m c.args.id c.args.mode t held clear;
       fits = fit_there t.place c.args.mode m.seat.me.0.known may.1;
       weaker = may.0;
     }
@@ -47,7 +59,9 @@ pub set_mode-requires : goal.set_mode-requires
 set_mode-requires g c =
     let m = c.self.inside.member in
     let t = c.in_ok-held.held in
-    record { slow = unnumbered m t.number (spared (member m) t.number t (holds-ticket m c.args.id t c.in_ok-held.ensures.found).slow) }
+    let held = holds-ticket m c.args.id t c.in_ok-held.ensures.found in
+    let clear = fault-seen m (Downgrade m.seat.me.0.number c.args.id c.args.mode) None (just-done _ _ c.in_ok-held.ensures.just) in
+    record { slow = unnumbered m t.number (spared (member m) t.number t (slow-held m c.args.id c.args.mode t held clear)) }
 
 pub invariant_of-member : goal.invariant_of-member
 invariant_of-member g c =
@@ -58,10 +72,10 @@ invariant_of-member g c =
     let clear = fault-seen m (Downgrade m.seat.me.0.number c.args.id c.args.mode) None (just-done _ _ c.in_ok-held.ensures.just) in
     let did = c.downgrade.ensures in
     let visit = did.downgraded in
-    let done = rescheduled m.seat c.downgrade.new.seat m.sessions (alters-slow is t.place t.number c.args.mode t held.slow) visit in
+    let slow = slow-held m c.args.id c.args.mode t held clear in
+    let done = rescheduled m.seat c.downgrade.new.seat m.sessions (alters-slow is t.place t.number c.args.mode t slow) visit in
     record {
-      lawful = ∣ kept is (done-order done is (inr refl))
-          (downgraded m.seat c.downgrade.new.seat m.sessions c.args.id c.args.mode t is held clear did.downgraded did.step).0 ∣₁;
+      lawful = ∣ kept is (done-order done is (inr refl)) (downgraded m.seat c.downgrade.new.seat m.sessions c.args.id c.args.mode t is held slow clear visit did.step).0 ∣₁;
       lists = lists-done m t.place (Alter t.number c.args.mode ∷ []) (lists-rescheduled visit) c.set_mode.ensures.changed.0 c.set_mode.ensures.changed.1;
       room = λ ask asks. room-kept m.tickets c.set_mode.new.self c.set_mode.ensures.room (m.room ask asks);
     }
@@ -73,5 +87,5 @@ returns g c =
     let held = holds-ticket m c.args.id t c.in_ok-held.ensures.found in
     let clear = fault-seen m (Downgrade m.seat.me.0.number c.args.id c.args.mode) None (just-done _ _ c.in_ok-held.ensures.just) in
     let did = c.downgrade.ensures in
-    let both = downgraded m.seat c.downgrade.new.seat m.sessions c.args.id c.args.mode t (member m) held clear did.downgraded did.step in
+    let both = downgraded m.seat c.downgrade.new.seat m.sessions c.args.id c.args.mode t (member m) held (slow-held m c.args.id c.args.mode t held clear) clear did.downgraded did.step in
     rw (← c.self.view_is) (record { joined = both.0; shown = both.1 })

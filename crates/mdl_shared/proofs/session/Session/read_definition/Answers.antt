@@ -8,7 +8,7 @@ use Rattle.mdl_shared.specs.Passes.{view_of}
 use Rattle.mdl_shared.specs.SessionViews.{tickets_seen}
 use Rattle.mdl_visits.specs.Visits.{Visits}
 use Rattle.mdl_steps.specs.SeatStates.{AtItsTable}
-use Rattle.mdl_shared.proofs.MemberFacts.{held-slow, may-visit, slow-there, speaks, ticket-known, unwaited}
+use Rattle.mdl_shared.proofs.MemberFacts.{may-visit, slow-there, speaks, ticket-known, unwaited}
 use Rattle.mdl_shared.proofs.Members.{done-nothing, done-order, held-seen, kept, lists-done, lists-visited, room-kept, visited}
 use Rattle.mdl_shared.proofs.Props.{member}
 use Rattle.mdl_shared.proofs.ReadCalls.{lists-noted, noted-by, noted-order, read-joins, read-shows, unread-joins, unread-shows}
@@ -87,5 +87,5 @@ returns g c =
     rw (← c.self.view_is) (record {
       joined = read-joins is id t its c.in-Ok.standing noted did.follows;
       shown = read-shows is id t its c.in-Ok.standing noted did.follows (does_learns m.seat.me c.read_definition.new.seat.me t.place c.in-Ok.standing did.learnt.0) did.quiet.1
-          (step.0, step.1, (step.2, step.3 id (slow-there is id t (held-slow is id t its)) (unwaited is id (ap is_some its))));
+          (step.0, step.1, (step.2, λ slow. step.3 id (slow-there is id t slow) (unwaited is id (ap is_some its))));
     })

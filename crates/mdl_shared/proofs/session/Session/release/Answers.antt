@@ -1,57 +1,92 @@
--- The ticket goes, or there is none.
-use Rattle.std.proofs.Common.{[], ap, false, inr, is_some, refl, subst, sym, ◌∙◌, ◌∷◌}
+-- The ticket goes, be it slow or fast, or there is none.
+use Rattle.std.proofs.Common.{◌≡◌, ℕ, [], ◌∷◌, Some, None, false, inr, is_some, refl, sym, ap, subst, ◌∙◌}
 use Rattle.mdl_calls.specs.declared.space_error.SpaceError.TheVariants.{NotHeld}
 use Rattle.mdl_calls.specs.Words.{Release}
-use Rattle.mdl_steps.specs.Deeds.{NotWaited}
-use Rattle.mdl_shared.specs.Passes.{view_of}
-use Rattle.mdl_shared.specs.SessionViews.{tickets_seen}
 use Rattle.mdl_steps.specs.declared.deed.Deed.TheVariants.{Lose}
+use Rattle.mdl_steps.specs.Deeds.{NotWaited}
+use Rattle.mdl_visits.specs.Numbers.{numbered}
+use Rattle.mdl_visits.proofs.Numbers.{has_number}
+use Rattle.mdl_shared.specs.Passes.{view_of}
+use Rattle.mdl_shared.specs.SessionViews.{Lists, tickets_seen}
 use Rattle.mdl_shared.proofs.HeldTickets.{holds-ticket}
-use Rattle.mdl_shared.proofs.MemberFacts.{held-slow, loses-slow, spared, speaks}
+use Rattle.mdl_shared.proofs.MemberFacts.{loses-slow, slow-there, spared, speaks}
 use Rattle.mdl_shared.proofs.Members.{done-order, fast-struck, held-seen, kept, lists-done, lists-rescheduled, rescheduled, room-kept}
 use Rattle.mdl_shared.proofs.Props.{member}
+use Rattle.mdl_shared.proofs.ReleaseCalls.{released-fast, released-slow}
 use Rattle.mdl_shared.proofs.SameSpace.{refused, same-stays}
+use Rattle.mdl_shared.proofs.SlowOrFast.{fast-seen, slow-else}
 use Rattle.mdl_shared.proofs.SpaceTickets.{holds-told}
-use Rattle.mdl_shared.proofs.TicketCalls.{release-joins}
 use Rattle.mdl_shared.proofs.session.Session.release.Goals as goal
 
-pub returns-in_default-clause-joined : goal.returns-in_default-clause-joined
-returns-in_default-clause-joined g c =
+-- ---- a fast one
+
+pub give_up_fast-requires : goal.give_up_fast-requires
+give_up_fast-requires g c =
+    let t = c.in-Some.held in
+    let fast = c.self.inside.member.tickets.fast in
+    let its : numbered c.args.id fast ≡ Some t = sym c.get_fast.ensures.found ∙ c.in-Some.is in
+    record { held = subst (λ (n : ℕ). numbered n fast ≡ Some t) (sym (has_number c.args.id t fast its)) its }
+
+pub returns-in-Some : goal.returns-in-Some
+returns-in-Some g c =
+    let m = c.self.inside.member in
+    let t = c.in-Some.held in
+    let its = fast-seen m c.args.id (Some t) (sym c.in-Some.is ∙ c.get_fast.ensures.found) in
+    let gone = c.give_up_fast.ensures in
+    let both = released-fast c.args.id t (member m) its gone.lost gone.did gone.given_up in
+    rw (← c.self.view_is) (record { joined = both.0; shown = both.1 })
+
+-- ---- none
+
+pub returns-in_default-get-clause-joined : goal.returns-in_default-get-clause-joined
+returns-in_default-get-clause-joined g c =
     let m = c.self.inside.member in
     let s = view_of m in
-    let none = held-seen m c.args.id c.get.result c.get.ensures.found ∙ c.in_default.is in
+    let none = held-seen m c.args.id c.get.result c.get.ensures.found ∙ c.in_default-get.is in
     rw (← c.self.view_is)
     (refused s s (Release s.me.0.number c.args.id) NotHeld (same-stays s) (speaks (member m)) refl refl
     (holds-told c.args.id (tickets_seen s.me.0) false (ap is_some none)) (λ state how is. cc) tt)
 
+-- ---- a slow one
+
 pub release-requires : goal.release-requires
 release-requires g c =
     let m = c.self.inside.member in
-    let held = holds-ticket m c.args.id c.in-Some.held (sym c.get.ensures.found ∙ c.in-Some.is) in record {
+    let id = c.args.id in
+    let t = c.in-Some-get.held in
+    let none = fast-seen m id None (sym c.in_default.is ∙ c.get_fast.ensures.found) in
+    let its = held-seen m id c.get.result c.get.ensures.found ∙ c.in-Some-get.is in
+    let held = holds-ticket m id t (sym c.get.ensures.found ∙ c.in-Some-get.is) in record {
       at = held.at;
       known = held.known;
       unwaited = subst (NotWaited m.seat.me.0) held.number held.unwaited;
-      held = held.there;
+      held = slow-there (member m) id t (slow-else (member m) id t none its);
     }
 
 pub invariant_of-member : goal.invariant_of-member
 invariant_of-member g c =
     let m = c.self.inside.member in
     let is = member m in
-    let its = held-seen m c.args.id c.get.result c.get.ensures.found ∙ c.in-Some.is in
-    let slow = held-slow is c.args.id c.in-Some.held its in
+    let id = c.args.id in
+    let t = c.in-Some-get.held in
+    let none = fast-seen m id None (sym c.in_default.is ∙ c.get_fast.ensures.found) in
+    let its = held-seen m id c.get.result c.get.ensures.found ∙ c.in-Some-get.is in
+    let slow = slow-else is id t none its in
     let visit = c.release.ensures.released in
-    let done = rescheduled m.seat c.release.new.seat m.sessions (loses-slow is c.in-Some.held.place c.args.id c.in-Some.held slow) visit in record {
-      lawful = ∣ kept is (done-order done is (inr refl)) (release-joins is c.args.id c.in-Some.held its done) ∣₁;
-      lists = lists-done m c.in-Some.held.place (Lose c.args.id ∷ []) (lists-rescheduled visit) c.strike.ensures.struck.0
-          (fast-struck m c.in-Some.held.place c.args.id (spared is c.args.id c.in-Some.held slow) c.strike.ensures.struck.1);
+    let done = rescheduled m.seat c.release.new.seat m.sessions (loses-slow is t.place id t slow) visit in
+    let both = released-slow m.seat c.release.new.seat m.sessions id t is its slow none visit c.release.ensures.step in record {
+      lawful = ∣ kept is (done-order done is (inr refl)) both.0 ∣₁;
+      lists = lists-done m t.place (Lose id ∷ []) (lists-rescheduled visit) c.strike.ensures.struck.0 (fast-struck m t.place id (spared is id t slow) c.strike.ensures.struck.1);
       room = λ ask asks. room-kept m.tickets c.strike.new.self c.strike.ensures.room (m.room ask asks);
     }
 
-pub returns-clause-joined : goal.returns-clause-joined
-returns-clause-joined g c =
+pub returns : goal.returns
+returns g c =
     let m = c.self.inside.member in
-    let its = held-seen m c.args.id c.get.result c.get.ensures.found ∙ c.in-Some.is in
-    let slow = loses-slow (member m) c.in-Some.held.place c.args.id c.in-Some.held (held-slow (member m) c.args.id c.in-Some.held its) in
-    rw (← c.self.view_is)
-    (release-joins (member m) c.args.id c.in-Some.held its (rescheduled m.seat c.release.new.seat m.sessions slow c.release.ensures.released))
+    let is = member m in
+    let id = c.args.id in
+    let t = c.in-Some-get.held in
+    let none = fast-seen m id None (sym c.in_default.is ∙ c.get_fast.ensures.found) in
+    let its = held-seen m id c.get.result c.get.ensures.found ∙ c.in-Some-get.is in
+    let both = released-slow m.seat c.release.new.seat m.sessions id t is its (slow-else is id t none its) none c.release.ensures.released c.release.ensures.step in
+    rw (← c.self.view_is) (record { joined = both.0; shown = both.1 })
