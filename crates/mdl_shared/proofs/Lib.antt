@@ -39,3 +39,5 @@ pub mod QuietDeeds
 pub mod FastDone
 pub mod FastFacts
 pub mod SlowPlaces
+pub mod FastWishing
+pub mod FastWishShows

@@ -1,5 +1,5 @@
 -- What calls that ask for tickets show.
-use Rattle.std.proofs.Common.{◌≡◌, ℕ, None, List, [], ◌∷◌, sym, ap, ◌∙◌}
+use Rattle.std.proofs.Common.{◌≡◌, ℕ, None, List, [], ◌∷◌, inl, sym, ap, ◌∙◌}
 use Rattle.mdl_key.specs.declared.mode.Mode.{Mode}
 use Rattle.mdl_calls.specs.Words.{Answer, Call, Granted, Waits, Would_wait, Begin_wait, Try_now}
 use Rattle.mdl_steps.specs.declared.deed.Deed.{Deed}
@@ -12,6 +12,7 @@ use Rattle.mdl_visits.specs.WaitOpenings.{MeetsOpening, Opens}
 use Rattle.mdl_shared.specs.Members.{kind_known, wish_fault}
 use Rattle.mdl_shared.specs.SessionViews.{SessionView, lists_seen, tickets_seen}
 use Rattle.mdl_shared.specs.Showings.{ShowsStep, KeepsTold, MeetsSo, SettlesSo, Shows, StepsSo, done_by, own_fault}
+use Rattle.mdl_shared.proofs.FastWishing.{from-here}
 use Rattle.mdl_shared.proofs.Faults.{if-clear}
 
 -- what a visit did
@@ -43,20 +44,23 @@ module _ {s s′ : SessionView} (table : s′.table ≡ s.table) (sessions : s�
 
     pub try-granted-shows : {id : ℕ} → Visits place (Gain id mode ∷ []) s.me s′.me → ShowsStep s s′ (MeetsGrantable place s.me.0.number mode (Gain id mode))
         → Shows (Try_now s.me.0.number place mode) (Granted id) s s′
-    try-granted-shows went met = shows clear (did went) (settles went) (told went) tt met
+    try-granted-shows went met = shows clear (did went) (settles went) (told went) tt (met.0, met.1, inl met.2)
 
-    pub try-blocked-shows : Visits place [] s.me s′.me → ShowsStep s s′ (MeetsBlocked place s.me.0.number mode) → Shows (Try_now s.me.0.number place mode) Would_wait s s′
-    try-blocked-shows went met = shows clear (did went) (settles went) (told went) tt met
+    -- without a fast ticket
+    pub try-blocked-shows : s.me.0.fast ≡ [] → Visits place [] s.me s′.me → ShowsStep s s′ (MeetsBlocked place s.me.0.number mode)
+        → Shows (Try_now s.me.0.number place mode) Would_wait s s′
+    try-blocked-shows none went met = shows clear (did went) (settles went) (told went) tt (from-here s s′ none met)
 
     -- ---- waits that begin
 
     pub begin-granted-shows : {id : ℕ} → Visits place (Gain id mode ∷ []) s.me s′.me → ShowsStep s s′ (MeetsGrantable place s.me.0.number mode (Gain id mode))
         → Shows (Begin_wait s.me.0.number place mode) (Granted id) s s′
-    begin-granted-shows went met = shows clear (did went) (settles went) (told went) tt met
+    begin-granted-shows went met = shows clear (did went) (settles went) (told went) tt (met.0, met.1, inl met.2)
 
-    pub begun-shows : {number : ℕ} → s.me.0.told ≡ None → Opens place mode s.me s′.me
+    -- without a fast ticket
+    pub begun-shows : {number : ℕ} → s.me.0.fast ≡ [] → s.me.0.told ≡ None → Opens place mode s.me s′.me
         → (e f : Met) × AreStepsOf s.me s′.me e f × MeetsBlocked place s.me.0.number mode e × MeetsOpening s.table.slots place s.me.0.number s.me.0.waits s.me.0.next mode f
         → Shows (Begin_wait s.me.0.number place mode) (Waits number) s s′
-    begun-shows untold opens met =
+    begun-shows none untold opens met =
         shows clear (opens.made, ap (λ (m : Mine). m.0.log) opens.now, opens.did) (ap (λ (m : Mine). m.0.settles) opens.now)
-        (ap (λ (m : Mine). m.0.told) opens.now ∙ sym untold) tt met
+        (ap (λ (m : Mine). m.0.told) opens.now ∙ sym untold) tt (from-here s s′ none met)

@@ -21,6 +21,7 @@ pub mod DeedsDone
 pub mod Doings
 pub mod Endings
 pub mod FastDeeds
+pub mod FastWishes
 pub mod Members
 pub mod Modes
 pub mod OwnLists

@@ -1,19 +1,24 @@
 //! A lock is asked for, and waited for where it can't be had now.
+ghost use Rattle.std.specs.Prelude.{◌≡◌, None, Some, []};
 ghost use Rattle.mdl_calls.specs.Words.{Begin_wait, begun};
 ghost use Rattle.mdl_session_laws.specs.SessionJoins.{Joins};
+ghost use Rattle.mdl_shared.specs.Members.{kind_known, wish_fault};
+ghost use Rattle.mdl_shared.specs.Passes.{view_of};
 ghost use Rattle.mdl_shared.specs.SessionViews.{space_of};
 ghost use Rattle.mdl_shared.specs.Showings.{Shows};
+ghost use Rattle.mdl_shared.specs.TicketLists.{HasRoom};
 
 use crate::Session;
+use crate::member::Member;
 use crate::wishes::refusal;
 use mdl_calls::{Begun, Place, SpaceError};
-use mdl_key::Mode;
+use mdl_key::{Kind, Mode};
 use mdl_steps::Ask;
 use mdl_visits::{Queued, begin_wait};
 use std::sync::Wait;
 
 impl<R: Wait> Session<R> {
-    /// Asks for a lock, and begins to wait for it where it can't be had now. Nobody is waited for here but those who hold the latch of the
+    /// Asks for a lock, and begins to wait for it where it can't be had now. Nobody is waited for here but those who hold the latch of a
     /// place. What takes memory of the session's own is done here, for the end of the wait, too.
     pub fn begin_wait(&mut self, place: Place, mode: Mode) -> Result<Begun, SpaceError>
         ensures joined { Joins (space_of self.old) (Begin_wait self.old.me.0.number place mode) (begun result) (space_of self.new) }
@@ -22,27 +27,46 @@ impl<R: Wait> Session<R> {
         let place = place as usize;
         let kind = self.member.kind_wished(place, mode)?;
         let member = &mut self.member;
-        if member.tickets.reserve(place).is_err() {
-            return Err(SpaceError::OutOfMemory);
+        if let Some(number) = member.try_fast_first(&self.rt, place, kind, mode)? {
+            return Ok(Begun::Granted(number));
         }
-        let number = member.next;
-        let wait = member.waits + 1;
-        match begin_wait(&self.rt, &mut member.seat, place, kind, number, mode, wait) {
+        member.begin_by_latch(&self.rt, place, kind, mode)
+    }
+}
+
+impl Member {
+    // The same by the latch of the place, at which there is room for a ticket. The session has no fast ticket.
+    fn begin_by_latch<R: Wait>(
+        &mut self,
+        rt: &R,
+        place: usize,
+        kind: Kind,
+        mode: Mode,
+    ) -> Result<Begun, SpaceError>
+        requires wished { (kind_known place self.old.known.known ≡ Some kind) × (wish_fault (Some kind) self.old.asks mode self.old.next ≡ None) }
+        requires unfast { self.old.tickets.fast ≡ [] }
+        requires room { HasRoom place self.old.tickets }
+        ensures joined { Joins (space_of (view_of self.old)) (Begin_wait self.old.seat.me.0.number place mode) (begun result) (space_of (view_of self.new)) }
+        ensures shown { Shows (Begin_wait self.old.seat.me.0.number place mode) (begun result) (view_of self.old) (view_of self.new) }
+    {
+        let number = self.next;
+        let wait = self.waits + 1;
+        match begin_wait(rt, &mut self.seat, place, kind, number, mode, wait) {
             Ok(Queued::Granted) => {
-                member.tickets.push_reserved(number, place, mode);
-                member.next += 1;
+                self.tickets.push_reserved(number, place, mode);
+                self.next += 1;
                 return Ok(Begun::Granted(number));
             }
             Ok(Queued::Waiting) => {}
             Err(cause) => return Err(refusal(cause)),
         }
-        member.asks = Some(Ask {
+        self.asks = Some(Ask {
             number,
             place,
             mode,
         });
-        member.next += 1;
-        member.waits = wait;
+        self.next += 1;
+        self.waits = wait;
         Ok(Begun::Waiting(wait))
     }
 }

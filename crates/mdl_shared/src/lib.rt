@@ -43,6 +43,7 @@ mod change_definition;
 mod clone_ticket;
 mod downgrade;
 mod end_wait;
+mod fast_first;
 mod fast_path;
 mod held;
 mod holdings;

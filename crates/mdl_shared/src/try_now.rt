@@ -1,18 +1,23 @@
 //! A lock is asked for, without waiting.
+ghost use Rattle.std.specs.Prelude.{◌≡◌, None, Some, []};
 ghost use Rattle.mdl_calls.specs.Words.{Try_now, attempted};
 ghost use Rattle.mdl_session_laws.specs.SessionJoins.{Joins};
+ghost use Rattle.mdl_shared.specs.Members.{kind_known, wish_fault};
+ghost use Rattle.mdl_shared.specs.Passes.{view_of};
 ghost use Rattle.mdl_shared.specs.SessionViews.{space_of};
 ghost use Rattle.mdl_shared.specs.Showings.{Shows};
+ghost use Rattle.mdl_shared.specs.TicketLists.{HasRoom};
 
 use crate::Session;
+use crate::member::Member;
 use crate::wishes::refusal;
 use mdl_calls::{Attempt, Place, SpaceError};
-use mdl_key::Mode;
+use mdl_key::{Kind, Mode};
 use mdl_visits::{Tried, try_now};
 use std::sync::Wait;
 
 impl<R: Wait> Session<R> {
-    /// Asks for a lock, without waiting. Nobody is waited for but those who hold the latch of the place.
+    /// Asks for a lock, without waiting. Nobody is waited for but those who hold the latch of a place.
     pub fn try_now(&mut self, place: Place, mode: Mode) -> Result<Attempt, SpaceError>
         ensures joined { Joins (space_of self.old) (Try_now self.old.me.0.number place mode) (attempted result) (space_of self.new) }
         ensures shown { Shows (Try_now self.old.me.0.number place mode) (attempted result) self.old self.new }
@@ -20,17 +25,36 @@ impl<R: Wait> Session<R> {
         let place = place as usize;
         let kind = self.member.kind_wished(place, mode)?;
         let member = &mut self.member;
-        if member.tickets.reserve(place).is_err() {
-            return Err(SpaceError::OutOfMemory);
+        if let Some(number) = member.try_fast_first(&self.rt, place, kind, mode)? {
+            return Ok(Attempt::Granted(number));
         }
-        let number = member.next;
-        match try_now(&self.rt, &mut member.seat, place, kind, number, mode) {
+        member.try_by_latch(&self.rt, place, kind, mode)
+    }
+}
+
+impl Member {
+    // The same by the latch of the place, at which there is room for a ticket. The session has no fast ticket.
+    fn try_by_latch<R: Wait>(
+        &mut self,
+        rt: &R,
+        place: usize,
+        kind: Kind,
+        mode: Mode,
+    ) -> Result<Attempt, SpaceError>
+        requires wished { (kind_known place self.old.known.known ≡ Some kind) × (wish_fault (Some kind) self.old.asks mode self.old.next ≡ None) }
+        requires unfast { self.old.tickets.fast ≡ [] }
+        requires room { HasRoom place self.old.tickets }
+        ensures joined { Joins (space_of (view_of self.old)) (Try_now self.old.seat.me.0.number place mode) (attempted result) (space_of (view_of self.new)) }
+        ensures shown { Shows (Try_now self.old.seat.me.0.number place mode) (attempted result) (view_of self.old) (view_of self.new) }
+    {
+        let number = self.next;
+        match try_now(rt, &mut self.seat, place, kind, number, mode) {
             Ok(Tried::Granted) => {}
             Ok(Tried::Blocked) => return Ok(Attempt::WouldWait),
             Err(cause) => return Err(refusal(cause)),
         }
-        member.tickets.push_reserved(number, place, mode);
-        member.next += 1;
+        self.tickets.push_reserved(number, place, mode);
+        self.next += 1;
         Ok(Attempt::Granted(number))
     }
 }

@@ -1,0 +1,113 @@
+-- The session may wish so, and what became of the wish is told by the visit.
+use Rattle.std.proofs.Common.{Ok, Option, [], ap, arith, inl, refl, subst, sym, ℕ, ◌+◌, ◌∙◌, ◌∷◌, ◌≡◌}
+use Rattle.std.specs.Option.{option_map_or}
+use Rattle.mdl_steps.specs.declared.deed.Deed.TheVariants.{Gain}
+use Rattle.mdl_steps.specs.declared.view.Ask.{Ask}
+use Rattle.mdl_steps.specs.declared.view.Met.{Met}
+use Rattle.mdl_visits.specs.Visits.{AreStepsOf, MeetsBlocked}
+use Rattle.mdl_visits.specs.WaitOpenings.{MeetsOpening}
+use Rattle.mdl_shared.specs.SessionViews.{Lists, SessionView, lists_seen}
+use Rattle.mdl_shared.specs.TicketLists.{HasRoom}
+use Rattle.mdl_shared.proofs.Members.{done-nothing, done-order, kept, lists-done, lists-visited, visited}
+use Rattle.mdl_shared.proofs.Props.{member}
+use Rattle.mdl_shared.proofs.WaitSteps.{still-member}
+use Rattle.mdl_shared.proofs.WishCalls.{begun, begun-joins, begun-order, begin-granted, begin-refused, refusal-causes, untold-wish}
+use Rattle.mdl_shared.proofs.WishShows.{begin-granted-shows, begun-shows}
+use Rattle.mdl_shared.proofs.Wishing.{below-seen, gained-by, may-wish, none-seen, unasked, unfast-seen, waiting-lists}
+use Rattle.mdl_shared.proofs.member.Member.begin_by_latch.Goals as goal
+
+pub overflow_add-wait : goal.overflow_add-wait
+overflow_add-wait g c =
+    let m = c.args.self.now in
+    let may = may-wish m c.args.place c.args.kind c.args.mode c.requires.wished in
+    omega (arith, may.below, (member m).fewer.0, ap (λ (l : Lists). l.waits) m.lists)
+
+pub begin_wait-requires : goal.begin_wait-requires
+begin_wait-requires g c =
+    let m = c.args.self.now in
+    let may = may-wish m c.args.place c.args.kind c.args.mode c.requires.wished in
+    let waits = ap (λ (l : Lists). l.waits) m.lists in record {
+      at = may.at;
+      wish = may.wish;
+      unfast = unfast-seen m c.requires.unfast;
+      number = ap (λ (l : Lists). l.next) m.lists;
+      wait = (ap (λ (n : ℕ). n + 1) waits, omega (arith, may.below, (member m).fewer.0, waits));
+    }
+
+pub invariant_of-self-in-Err-1 : goal.invariant_of-self-in-Err-1
+invariant_of-self-in-Err-1 g c =
+    let m = c.args.self.now in
+    let visit = c.in-Err.ensures.unchanged in
+    let done = visited m.seat c.begin_wait.new.seat m.sessions refl visit in
+    record {
+      lawful = ∣ still-member done (member m) ∣₁;
+      lists = lists-done m c.args.place [] (lists-visited visit) refl refl;
+      room = m.room;
+    }
+
+pub returns-in-Err-clause-joined : goal.returns-in-Err-clause-joined
+returns-in-Err-clause-joined g c =
+    let m = c.args.self.now in
+    let may = may-wish m c.args.place c.args.kind c.args.mode c.requires.wished in
+    begin-refused (member m) c.args.place c.args.mode may.clear (done-nothing (visited m.seat c.begin_wait.new.seat m.sessions refl c.in-Err.ensures.unchanged))
+    (refusal-causes c.in-Err.cause c.refusal.result c.refusal.ensures.full c.refusal.ensures.memory c.in-Err.ensures.refused)
+
+-- ---- the ticket was granted
+
+pub push_reserved-requires-clause-below : goal.push_reserved-requires-clause-below
+push_reserved-requires-clause-below g c = below-seen c.args.self.now _ _ (refl, refl)
+
+pub push_reserved-requires-clause-slow : goal.push_reserved-requires-clause-slow
+push_reserved-requires-clause-slow g c = none-seen c.args.self.now c.args.place _ c.requires.unfast refl
+
+pub overflow_add-self : goal.overflow_add-self
+overflow_add-self g c =
+    let m = c.args.self.now in
+    let may = may-wish m c.args.place c.args.kind c.args.mode c.requires.wished in
+    omega (arith, may.below, ap (λ (l : Lists). l.next) m.lists)
+
+pub invariant_of-self : goal.invariant_of-self
+invariant_of-self g c =
+    let m = c.args.self.now in
+    let may = may-wish m c.args.place c.args.kind c.args.mode c.requires.wished in
+    let visit = (c.begin_wait.ensures.granted (c.in-Ok-Granted.is ∙ ap Ok c.in-Ok-Granted.field-0-is)).0 in
+    let done = gained-by m c.begin_wait.new.seat c.args.place c.args.mode c.requires.unfast visit in
+    record {
+      lawful = ∣ kept (member m) (done-order done (member m) (inl may.wish.idle)) (begin-granted (member m) c.args.place c.args.mode may.clear (ap (λ (l : Lists). l.next) m.lists) done) ∣₁;
+      lists = lists-done m c.args.place (Gain m.next c.args.mode ∷ []) (lists-visited visit) c.push_reserved.ensures.gained c.push_reserved.ensures.same;
+      room = unasked m may.wish.idle _;
+    }
+
+pub returns-in-Ok-Granted : goal.returns-in-Ok-Granted
+returns-in-Ok-Granted g c =
+    let m = c.args.self.now in
+    let may = may-wish m c.args.place c.args.kind c.args.mode c.requires.wished in
+    let went = c.begin_wait.ensures.granted (c.in-Ok-Granted.is ∙ ap Ok c.in-Ok-Granted.field-0-is) in record {
+      joined = begin-granted (member m) c.args.place c.args.mode may.clear (ap (λ (l : Lists). l.next) m.lists) (gained-by m c.begin_wait.new.seat c.args.place c.args.mode c.requires.unfast went.0);
+      shown = begin-granted-shows went.0.0 refl may.clear went.0.1 went.1;
+    }
+
+-- ---- the session waits for it
+
+pub invariant_of-self-2 : goal.invariant_of-self-2
+invariant_of-self-2 g c =
+    let m = c.args.self.now in
+    let may = may-wish m c.args.place c.args.kind c.args.mode c.requires.wished in
+    let now = begun m.seat c.begin_wait.new.seat m.sessions (c.begin_wait.ensures.waiting (c.in-Ok-Waiting.is ∙ ap Ok c.in-Ok-Waiting.field-0-is)).0 in
+    record {
+      lawful = ∣ kept (member m) (begun-order (member m) may.clear now (unfast-seen m c.requires.unfast)) (begun-joins (member m) may.clear now refl) ∣₁;
+      lists = waiting-lists m c.args.place c.args.mode m.tickets.slow m.tickets.fast (refl, refl) ∙ sym (ap (λ (x : SessionView). lists_seen x.me.0) now);
+      room = λ ask asks. let place : c.args.place ≡ ask.place = ap (λ (o : Option Ask). option_map_or (λ (a : Ask). a.place) o 0) asks in subst (λ (p : ℕ). HasRoom p m.tickets) place c.requires.room;
+    }
+
+pub returns : goal.returns
+returns g c =
+    let m = c.args.self.now in
+    let may = may-wish m c.args.place c.args.kind c.args.mode c.requires.wished in
+    let went = c.begin_wait.ensures.waiting (c.in-Ok-Waiting.is ∙ ap Ok c.in-Ok-Waiting.field-0-is) in
+    let number = ap (λ (l : Lists). l.next) m.lists in record {
+      joined = begun-joins (member m) may.clear (begun m.seat c.begin_wait.new.seat m.sessions went.0) (ap (λ (l : Lists). l.waits + 1) m.lists);
+      shown = begun-shows went.0.0 refl may.clear (unfast-seen m c.requires.unfast) (untold-wish (member m) c.args.place c.args.mode may.clear) went.0.1
+          (subst (λ (n : ℕ). (e f : Met) × AreStepsOf m.seat.me c.begin_wait.new.seat.me e f × MeetsBlocked c.args.place m.seat.me.0.number c.args.mode e
+          × MeetsOpening m.seat.table.slots c.args.place m.seat.me.0.number m.seat.me.0.waits n c.args.mode f) number went.1);
+    }

@@ -1,0 +1,58 @@
+//! A wish for a ticket is tried on the fast path first.
+//!
+//! After MySQL 5.7, sql/mdl.cc: `MDL_context::try_acquire_lock_impl`, which makes the session's fast tickets slow before it goes by the latch.
+ghost use Rattle.std.specs.Prelude.{◌≡◌, ◌<◌, None, Ok, Some, IfErr, IfNone, IfOk, IfSome, [], OnErr};
+ghost use Rattle.mdl_shared.specs.DeedsDone.{DoesQuietly};
+ghost use Rattle.mdl_shared.specs.FastDeeds.{LacksRoomForFast};
+ghost use Rattle.mdl_shared.specs.FastWishes.{BecomesSlow, GainsFast};
+ghost use Rattle.mdl_shared.specs.Members.{kind_known, most_numbers};
+ghost use Rattle.mdl_shared.specs.Passes.{view_of};
+ghost use Rattle.mdl_shared.specs.TicketLists.{HasRoom};
+
+use crate::member::Member;
+use mdl_calls::{SpaceError, TicketId};
+use mdl_key::{Kind, Mode};
+use mdl_word::Word;
+use std::sync::Wait;
+
+impl Member {
+    /// Makes room for a ticket of the next number at a place of this kind, and grants it if the fast path is open to the mode. If not, it returns
+    /// no ticket, and the session has no fast one any more: what follows goes by the latch of the place.
+    pub(crate) fn try_fast_first<R: Wait>(
+        &mut self,
+        rt: &R,
+        place: usize,
+        kind: Kind,
+        mode: Mode,
+    ) -> Result<Option<TicketId>, SpaceError>
+        requires idle { self.old.asks ≡ None }
+        requires known { kind_known place self.old.known.known ≡ Some kind }
+        requires number { self.old.next < most_numbers }
+        ensures granted { IfOk result (λ ticket. IfSome ticket (λ id. GainsFast place mode id (view_of self.old) (view_of self.new))) }
+        ensures slow { result ≡ Ok None → BecomesSlow (view_of self.old) (view_of self.new) × (self.new.tickets.fast ≡ []) × HasRoom place self.new.tickets }
+        ensures unchanged { OnErr result (DoesQuietly 0 [] (view_of self.old) (view_of self.new)) }
+        ensures refused { IfErr result (λ why. LacksRoomForFast why (view_of self.old) (view_of self.new)) }
+    {
+        if self.tickets.reserve(place).is_err() {
+            return Err(SpaceError::OutOfMemory);
+        }
+        if let Some(number) = self.gain_unobtrusive(place, kind, mode) {
+            return Ok(Some(number));
+        }
+        self.materialise(rt)?;
+        Ok(None)
+    }
+
+    // Grants a fast ticket, for which there is room, if the mode is an unobtrusive one of the kind and the fast path is open.
+    fn gain_unobtrusive(&mut self, place: usize, kind: Kind, mode: Mode) -> Option<TicketId>
+        requires idle { self.old.asks ≡ None }
+        requires known { kind_known place self.old.known.known ≡ Some kind }
+        requires number { self.old.next < most_numbers }
+        requires room { HasRoom place self.old.tickets }
+        ensures granted { IfSome result (λ id. GainsFast place mode id (view_of self.old) (view_of self.new)) }
+        ensures unchanged { IfNone result (DoesQuietly place [] (view_of self.old) (view_of self.new) × (self.new.tickets ≡ self.old.tickets)) }
+    {
+        let one = Word::increment(kind, mode)?;
+        self.gain_fast(place, mode, one).ok()
+    }
+}
