@@ -13,19 +13,19 @@ use Rattle.mdl_steps.specs.declared.view.Own.{Own}
 use Rattle.mdl_session_laws.specs.SessionJoins.{Joins}
 use Rattle.mdl_session_laws.specs.SessionSpaces.{Knows}
 use Rattle.mdl_visits.specs.Numbers.{numbered}
-use Rattle.mdl_visits.specs.Visits.{MeetsFull, Visits}
+use Rattle.mdl_shared.specs.DeedsDone.{DoesQuietly}
 use Rattle.mdl_shared.specs.Members.{IsMember}
 use Rattle.mdl_shared.specs.Modes.{clone_fault}
 use Rattle.mdl_shared.specs.OwnLists.{told_of}
 use Rattle.mdl_shared.specs.SessionViews.{SessionView, lists_seen, space_of, tickets_seen}
-use Rattle.mdl_shared.specs.Showings.{ShowsStep, MeetsTicket, OfTicket, Shows}
+use Rattle.mdl_shared.specs.Showings.{FullForOne, MeetsClone, OfTicket, Shows, ShowsStep}
 use Rattle.mdl_shared.proofs.MemberFacts.{speaks}
 use Rattle.mdl_shared.proofs.Members.{HasDone}
+use Rattle.mdl_shared.proofs.QuietDeeds.{quiet-shows}
 use Rattle.mdl_shared.proofs.SameSpace.{Stays, refused, same-stays, waits-asks}
 use Rattle.mdl_shared.proofs.SpaceLists.{ticket-told}
 use Rattle.mdl_shared.proofs.WishCalls.{by-cause, gain-joins}
 use Rattle.mdl_shared.proofs.WishFaults.{clone-cause, clone-clear}
-use Rattle.mdl_shared.proofs.WishShows.{did, settles, shows, told}
 
 -- why the session is refused, by what the visit met
 pub refusal-met : {X Y : Type 0} → (X → Y) → (cause : BookError) (why : SpaceError) → (cause ≡ fault.Full → why ≡ Full) → (cause ≡ fault.OutOfMemory → why ≡ OutOfMemory)
@@ -54,10 +54,9 @@ module _ {s : SessionView} (is : IsMember s) (id : ℕ) (mode : Mode) where
         (by-cause (λ w. IsCause (Knows (space_of s) s.me.0.number) (Clone_ticket s.me.0.number id mode) w (space_of s).own) why tt may-clone causes)
         (λ state how is. cc) tt
 
-    pub refused-shows : {s′ : SessionView} {place : ℕ} {why : SpaceError} → s′.table ≡ s.table → s′.sessions ≡ s.sessions → Visits place [] s.me s′.me
-        → (why ≡ OutOfMemory) ⊎ ((why ≡ Full) × OfTicket id (lists_seen s.me.0) (λ t. ShowsStep s s′ (MeetsFull t.place)))
-        → Shows (Clone_ticket s.me.0.number id mode) (Refused why) s s′
-    refused-shows table sessions went met = shows table sessions clear (did went) (settles went) (told went) tt (inr met)
+    pub refused-shows : {s′ : SessionView} {place : ℕ} {why : SpaceError} → DoesQuietly place [] s s′
+        → (why ≡ OutOfMemory) ⊎ ((why ≡ Full) × OfTicket id (lists_seen s.me.0) (λ t. FullForOne t.place s s′)) → Shows (Clone_ticket s.me.0.number id mode) (Refused why) s s′
+    refused-shows quiet met = quiet-shows quiet refl clear (λ e. e) (λ e. e) tt (inr met)
 
     -- made
     module _ (t : Own) (its : numbered id (tickets_seen s.me.0) ≡ Some t) where
@@ -68,6 +67,6 @@ module _ {s : SessionView} (is : IsMember s) (id : ℕ) (mode : Mode) where
           (ap (λ o. cloning new mode o (space_of s).own) (ticket-told id (tickets_seen s.me.0) ∙ ap (option_map told_of) its)) (λ d. d)
           may-clone tt refl (λ state how is. cc) (λ how is. cc) refl (λ r. r) tt
 
-      pub clone-shows : {s′ : SessionView} {new : ℕ} → s′.table ≡ s.table → s′.sessions ≡ s.sessions → Visits t.place (Gain new mode ∷ []) s.me s′.me
-          → MeetsTicket id (Gain new mode ∷ []) s s′ t → Shows (Clone_ticket s.me.0.number id mode) (Granted new) s s′
-      clone-shows table sessions went met = shows table sessions clear (did went) (settles went) (told went) tt (t, its, met)
+      pub clone-shows : {s′ : SessionView} {new : ℕ} → DoesQuietly t.place (Gain new mode ∷ []) s s′ → ShowsStep s s′ (MeetsClone t.place s.me.0.number id (Gain new mode))
+          → Shows (Clone_ticket s.me.0.number id mode) (Granted new) s s′
+      clone-shows quiet met = quiet-shows quiet refl clear (λ e. e) (λ e. e) tt (t, its, met)

@@ -39,5 +39,7 @@ pub mod QuietDeeds
 pub mod FastDone
 pub mod FastFacts
 pub mod SlowPlaces
+pub mod SlowHeld
 pub mod FastWishing
+pub mod SlowFirst
 pub mod FastWishShows

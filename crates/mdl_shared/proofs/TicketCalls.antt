@@ -74,7 +74,7 @@ module _ {m : SessionView} (is : IsMember m) (id : ℕ) (t : Own) (its : numbere
   -- ---- upgrades
 
   module _ (mode : Mode) (clear : upgrade_fault mode m.me.0.known m.me.0.asks (numbered id (tickets_seen m.me.0)) ≡ None) where
-    may-rise : (is_waiting (space_of m).own ≡ false) × OfHeld id (space_of m).own (MayUpgrade (knows m) mode)
+    pub may-rise : (is_waiting (space_of m).own ≡ false) × OfHeld id (space_of m).own (MayUpgrade (knows m) mode)
     may-rise = upgrade-clear m id mode t its (sym (ap (upgrade_fault mode m.me.0.known m.me.0.asks) its) ∙ clear)
 
     -- to a mode that its own covers
@@ -103,21 +103,6 @@ module _ {m : SessionView} (is : IsMember m) (id : ℕ) (t : Own) (its : numbere
         (and_from _ _ (eq-eqb t.place t.place refl) (not_from_false (covers t.mode mode) short))))
         refl (drawn done (done-next done)) may-rise tt refl (λ state how is. cc) (λ how is. cc) refl (deed-reads is done) tt
 
-    deeds : (answer : Upgrade) → covers t.mode mode ≡ false → rise_deeds id mode answer ≡ upgrade_deeds id mode (Ok answer) (numbered id (tickets_seen m.me.0))
-    deeds answer short = sym (ap (upgrade_deeds id mode (Ok answer)) its ∙ ap (λ b. if b then [] else rise_deeds id mode answer) short)
-
-    pub upgrade-shows : {m′ : SessionView} → m′.table ≡ m.table → m′.sessions ≡ m.sessions → covers t.mode mode ≡ false → Visits t.place (Alter id mode ∷ []) m.me m′.me
-        → ShowsStep m m′ (MeetsGrantable t.place m.me.0.number mode (Alter id mode)) → Shows (Upgrade_now m.me.0.number id mode) Upgraded m m′
-    upgrade-shows {m′} table sessions short went met =
-        shows table sessions clear (subst (λ (ds : List Deed). Does ds m.me m′.me) (deeds upgrade.Upgraded short) (did went)) (settles went) (told went) tt
-        (t, its, (λ has. let never = sym has ∙ short in cc, λ less. met))
-
-    pub blocked-shows : {m′ : SessionView} → m′.table ≡ m.table → m′.sessions ≡ m.sessions → covers t.mode mode ≡ false → Visits t.place [] m.me m′.me
-        → ShowsStep m m′ (MeetsBlocked t.place m.me.0.number mode) → Shows (Upgrade_now m.me.0.number id mode) Would_wait m m′
-    blocked-shows {m′} table sessions short went met =
-        shows table sessions clear (subst (λ (ds : List Deed). Does ds m.me m′.me) (deeds upgrade.WouldWait short) (did went)) (settles went) (told went) tt
-        (t, its, (short, met))
-
     -- that would have to wait
     pub blocked-joins : {m′ : SessionView} → covers t.mode mode ≡ false → HasDone t.place [] m m′ → Joins (space_of m) (Upgrade_now m.me.0.number id mode) Would_wait (space_of m′)
     blocked-joins {m′} short done =
@@ -127,7 +112,7 @@ module _ {m : SessionView} (is : IsMember m) (id : ℕ) (t : Own) (its : numbere
 
   -- ---- merges, the ticket being kept
 
-  merge-joins : {m′ : SessionView} (new : ℕ) (gone : Own) → numbered new (tickets_seen m.me.0) ≡ Some gone → merge_fault (Some t) (Some gone) m.me.0.asks ≡ None
+  pub merge-joins : {m′ : SessionView} (new : ℕ) (gone : Own) → numbered new (tickets_seen m.me.0) ≡ Some gone → merge_fault (Some t) (Some gone) m.me.0.asks ≡ None
       → HasDone t.place (Alter id gone.mode ∷ Lose new ∷ []) m m′ → Joins (space_of m) (Merge m.me.0.number id new) Done (space_of m′)
   merge-joins {m′} new gone other clear done =
       joins-held m m′ (Merge m.me.0.number id new) Done (map (in_mode_told id (λ _. gone.mode)) (filter (λ (h : Held). not (is_number new h)) (map told_of (tickets_seen m.me.0))))
@@ -186,35 +171,3 @@ downgraded seat seat′ sessions id mode t is held slow clear visit step =
         met = ((t, held.own, (step.0, step.1, (step.2, step.3))), (t, held.own, visit.1.way));
       },
     )
-
--- ---- what a merge comes to
-
-pub merged : (seat seat′ : SeatState) (sessions old new : ℕ) (kept gone : Own) → IsMember (session_at seat sessions)
-    → HoldsTicket old kept (session_at seat sessions) → HoldsTicket new gone (session_at seat sessions) → merge_fault (numbered old (tickets_seen seat.me.0)) (numbered new (tickets_seen seat.me.0)) seat.me.0.asks ≡ None
-    → AtItsTable seat seat′ (Visits kept.place (Alter kept.number gone.mode ∷ Lose gone.number ∷ []))
-    → ((e : Met) × IsStepOf seat.me seat′.me e × MeetsOwn kept.place seat.me.0.number kept.number e × MeetsOwn kept.place seat.me.0.number gone.number e
-    × (e.deeds ≡ Alter kept.number gone.mode ∷ Lose gone.number ∷ []))
-    → Joins (space_of (session_at seat sessions)) (Merge seat.me.0.number old new) Done (space_of (session_at seat′ sessions))
-    × Shows (Merge seat.me.0.number old new) Done (session_at seat sessions) (session_at seat′ sessions)
-merged seat seat′ sessions old new kept gone is one other clear visit step =
-    let fault : (n p : ℕ) → numbered n (tickets_seen seat.me.0) ≡ Some kept → numbered p (tickets_seen seat.me.0) ≡ Some gone
-    → merge_fault (numbered n (tickets_seen seat.me.0)) (numbered p (tickets_seen seat.me.0)) seat.me.0.asks ≡ merge_fault (Some kept) (Some gone) seat.me.0.asks =
-    λ n p x y. ap (λ o. merge_fault o (numbered p (tickets_seen seat.me.0)) seat.me.0.asks) x ∙ ap (λ o. merge_fault (Some kept) o seat.me.0.asks) y in
-    let free = sym (fault old new one.its other.its) ∙ clear in
-    subst (λ (n : ℕ). Joins (space_of (session_at seat sessions)) (Merge seat.me.0.number n new) Done (space_of (session_at seat′ sessions))
-    × Shows (Merge seat.me.0.number n new) Done (session_at seat sessions) (session_at seat′ sessions)) one.number
-    (subst (λ (n : ℕ). Joins (space_of (session_at seat sessions)) (Merge seat.me.0.number kept.number n) Done (space_of (session_at seat′ sessions))
-    × Shows (Merge seat.me.0.number kept.number n) Done (session_at seat sessions) (session_at seat′ sessions)) other.number (
-      merge-joins is kept.number kept one.own gone.number gone other.own free
-          (visited seat seat′ sessions (merges-slow is kept.place kept.number gone.number gone.mode kept gone one.slow other.slow) visit),
-      record {
-        table = visit.0;
-        sessions = refl;
-        refused = if-clear _ _ (fault kept.number gone.number one.own other.own ∙ free);
-        did = subst (λ (o : Option Own). Does (merge_deeds kept.number gone.number (Ok tt) o) seat.me seat′.me) (sym other.own) (did visit.1);
-        settled = settles visit.1;
-        told = told visit.1;
-        steps = tt;
-        met = (kept, one.own, (gone, other.own, (step.0, step.1, (step.2, step.3, step.4))));
-      },
-    ))

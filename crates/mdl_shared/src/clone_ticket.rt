@@ -1,20 +1,27 @@
 //! A second ticket is made of one.
-ghost use Rattle.std.specs.Prelude.{IfOk, Some, ◌≡◌};
+ghost use Rattle.std.specs.Prelude.{◌≡◌, ◌⊎◌, ◌∷◌, [], None, Some, IfErr, IfOk, OnErr};
 ghost use Rattle.mdl_key.specs.Refusals.{RefusesJust};
+ghost use Rattle.mdl_calls.specs.declared.space_error.SpaceError.TheVariants.{Full, OutOfMemory};
 ghost use Rattle.mdl_calls.specs.Words.{Clone_ticket, cloned};
 ghost use Rattle.mdl_session_laws.specs.SessionJoins.{Joins};
+ghost use Rattle.mdl_steps.specs.declared.deed.Deed.TheVariants.{Gain};
 ghost use Rattle.mdl_steps.specs.Interleavings.{interleaved};
 ghost use Rattle.mdl_visits.specs.Numbers.{numbered};
+ghost use Rattle.mdl_visits.specs.Visits.{MeetsFull};
+ghost use Rattle.mdl_shared.specs.DeedsDone.{DoesQuietly};
+ghost use Rattle.mdl_shared.specs.Members.{kind_known};
 ghost use Rattle.mdl_shared.specs.Modes.{clone_fault};
+ghost use Rattle.mdl_shared.specs.Passes.{view_of};
 ghost use Rattle.mdl_shared.specs.SessionViews.{space_of};
-ghost use Rattle.mdl_shared.specs.Showings.{Shows};
+ghost use Rattle.mdl_shared.specs.Showings.{MeetsTicket, Shows, ShowsStep};
+ghost use Rattle.mdl_shared.specs.TicketLists.{HasRoom};
 
 use crate::Session;
 use crate::holdings::MOST_NUMBERS;
 use crate::member::Member;
 use crate::wishes::refusal;
 use mdl_calls::{SpaceError, TicketId};
-use mdl_key::Mode;
+use mdl_key::{Kind, Mode};
 use mdl_steps::Own;
 use mdl_system::covers;
 use mdl_visits::clone_ticket;
@@ -26,25 +33,19 @@ impl<R: Wait> Session<R> {
         ensures joined { Joins (space_of self.old) (Clone_ticket self.old.me.0.number id mode) (cloned result) (space_of self.new) }
         ensures shown { Shows (Clone_ticket self.old.me.0.number id mode) (cloned result) self.old self.new }
     {
-        let held = self.member.clonable(id, mode)?;
+        let (held, kind) = self.member.clonable(id, mode)?;
         let member = &mut self.member;
-        if member.tickets.reserve(held.place).is_err() {
-            return Err(SpaceError::OutOfMemory);
+        if let Some(number) = member.try_fast_first(&self.rt, held.place, kind, mode)? {
+            return Ok(number);
         }
-        let number = member.next;
-        if let Err(cause) = clone_ticket(&self.rt, &mut member.seat, held, number, mode) {
-            return Err(refusal(cause));
-        }
-        member.tickets.push_reserved(number, held.place, mode);
-        member.next += 1;
-        Ok(number)
+        member.clone_by_latch(&self.rt, held, mode)
     }
 }
 
 impl Member {
-    // The ticket of a number, where a second one in a mode may be made of it.
-    fn clonable(&self, id: TicketId, mode: Mode) -> Result<Own, SpaceError>
-        ensures found { IfOk result (λ held. numbered id (interleaved self.now.tickets.slow self.now.tickets.fast) ≡ Some held) }
+    // The ticket of a number, where a second one in a mode may be made of it, and the kind of its lock.
+    fn clonable(&self, id: TicketId, mode: Mode) -> Result<(Own, Kind), SpaceError>
+        ensures found { IfOk result (λ two. (numbered id (interleaved self.now.tickets.slow self.now.tickets.fast) ≡ Some two.0) × (kind_known two.0.place self.now.known.known ≡ Some two.1)) }
         ensures just { RefusesJust (clone_fault (numbered id (interleaved self.now.tickets.slow self.now.tickets.fast)) self.now.asks mode self.now.known.known self.now.next) result }
     {
         let Some(held) = self.tickets.get(id) else {
@@ -53,12 +54,41 @@ impl Member {
         if self.asks.is_some() {
             return Err(SpaceError::AlreadyWaiting);
         }
-        if !covers(held.mode, mode) || !self.is_fit(held.place, mode) {
+        let Some(kind) = self.known.kind_at(held.place) else {
+            return Err(SpaceError::BadMode);
+        };
+        if !covers(held.mode, mode) || !kind.has_mode(mode) {
             return Err(SpaceError::BadMode);
         }
         if self.next > MOST_NUMBERS {
             return Err(SpaceError::CounterFull);
         }
-        Ok(held)
+        Ok((held, kind))
+    }
+
+    // Makes a second ticket of a slow one, under the latch of its place, where there is room for one. The session has no fast ticket.
+    fn clone_by_latch<R: Wait>(
+        &mut self,
+        rt: &R,
+        held: Own,
+        mode: Mode,
+    ) -> Result<TicketId, SpaceError>
+        requires held { numbered held.number self.old.tickets.slow ≡ Some held }
+        requires clear { clone_fault (Some held) self.old.asks mode self.old.known.known self.old.next ≡ None }
+        requires unfast { self.old.tickets.fast ≡ [] }
+        requires room { HasRoom held.place self.old.tickets }
+        ensures cloned { IfOk result (λ new. (new ≡ self.old.next)
+            × DoesQuietly held.place (Gain new mode ∷ []) (view_of self.old) (view_of self.new)
+            × MeetsTicket held.number (Gain new mode ∷ []) (view_of self.old) (view_of self.new) held) }
+        ensures unchanged { OnErr result (DoesQuietly held.place [] (view_of self.old) (view_of self.new)) }
+        ensures refused { IfErr result (λ why. (why ≡ OutOfMemory) ⊎ ((why ≡ Full) × ShowsStep (view_of self.old) (view_of self.new) (MeetsFull held.place))) }
+    {
+        let number = self.next;
+        if let Err(cause) = clone_ticket(rt, &mut self.seat, held, number, mode) {
+            return Err(refusal(cause));
+        }
+        self.tickets.push_reserved(number, held.place, mode);
+        self.next += 1;
+        Ok(number)
     }
 }

@@ -1,11 +1,15 @@
 //! Two tickets become one.
-ghost use Rattle.std.specs.Prelude.{IfOk, Some, ◌≡◌};
+ghost use Rattle.std.specs.Prelude.{◌≡◌, ◌∷◌, [], IfOk, None, Some};
 ghost use Rattle.mdl_key.specs.Refusals.{RefusesJust};
 ghost use Rattle.mdl_calls.specs.Words.{Merge, done};
 ghost use Rattle.mdl_session_laws.specs.SessionJoins.{Joins};
+ghost use Rattle.mdl_steps.specs.declared.deed.Deed.TheVariants.{Alter, Lose};
 ghost use Rattle.mdl_steps.specs.Interleavings.{interleaved};
+ghost use Rattle.mdl_visits.specs.Leavings.{MergesOwn};
 ghost use Rattle.mdl_visits.specs.Numbers.{numbered};
+ghost use Rattle.mdl_shared.specs.DeedsDone.{DoesQuietly};
 ghost use Rattle.mdl_shared.specs.Modes.{may_merge, merge_fault};
+ghost use Rattle.mdl_shared.specs.Passes.{view_of};
 ghost use Rattle.mdl_shared.specs.SessionViews.{space_of};
 ghost use Rattle.mdl_shared.specs.Showings.{Shows};
 
@@ -19,16 +23,15 @@ use std::sync::Wait;
 
 impl<R: Wait> Session<R> {
     /// Lets a held ticket have the mode of another one of its place, which is at least as strong, and gives that one up. The first ticket keeps
-    /// its number. It takes no memory.
+    /// its number. It takes memory only where the session has fast tickets, which become slow ones first, and is refused where there is no room
+    /// for them.
     pub fn merge(&mut self, old: TicketId, new: TicketId) -> Result<(), SpaceError>
         ensures joined { Joins (space_of self.old) (Merge self.old.me.0.number old new) (done result) (space_of self.new) }
         ensures shown { Shows (Merge self.old.me.0.number old new) (done result) self.old self.new }
     {
         let (kept, gone) = self.member.mergeable(old, new)?;
-        let member = &mut self.member;
-        merge(&self.rt, &mut member.seat, kept, gone);
-        member.tickets.set_mode(kept.place, kept.number, gone.mode);
-        member.tickets.strike(kept.place, gone.number);
+        self.member.materialise(&self.rt)?;
+        self.member.merge_by_latch(&self.rt, kept, gone);
         Ok(())
     }
 }
@@ -52,6 +55,20 @@ impl Member {
             return Err(SpaceError::BadMode);
         }
         Ok((kept, gone))
+    }
+
+    // Lets a slow ticket have the mode of another slow one of its place, and gives that one up, under the latch of the place. The session has no
+    // fast ticket.
+    fn merge_by_latch<R: Wait>(&mut self, rt: &R, kept: Own, gone: Own)
+        requires held { (numbered kept.number self.old.tickets.slow ≡ Some kept) × (numbered gone.number self.old.tickets.slow ≡ Some gone) }
+        requires clear { merge_fault (Some kept) (Some gone) self.old.asks ≡ None }
+        requires unfast { self.old.tickets.fast ≡ [] }
+        ensures merged { DoesQuietly kept.place (Alter kept.number gone.mode ∷ Lose gone.number ∷ []) (view_of self.old) (view_of self.new) }
+        ensures met { MergesOwn kept gone self.old.seat self.new.seat }
+    {
+        merge(rt, &mut self.seat, kept, gone);
+        self.tickets.set_mode(kept.place, kept.number, gone.mode);
+        self.tickets.strike(kept.place, gone.number);
     }
 }
 

@@ -1,13 +1,19 @@
 //! A ticket gets a stronger mode, without waiting.
-ghost use Rattle.std.specs.Prelude.{IfOk, Some, ◌≡◌};
+ghost use Rattle.std.specs.Prelude.{◌≡◌, ◌∷◌, [], false, IfOk, None, Some};
 ghost use Rattle.mdl_key.specs.Refusals.{RefusesJust};
+ghost use Rattle.mdl_system.specs.Strength.{covers};
+ghost use Rattle.mdl_calls.specs.declared.answers.Upgrade.TheVariants.{Upgraded, WouldWait};
 ghost use Rattle.mdl_calls.specs.Words.{Upgrade_now, upgrade_tried};
 ghost use Rattle.mdl_session_laws.specs.SessionJoins.{Joins};
+ghost use Rattle.mdl_steps.specs.declared.deed.Deed.TheVariants.{Alter};
 ghost use Rattle.mdl_steps.specs.Interleavings.{interleaved};
 ghost use Rattle.mdl_visits.specs.Numbers.{numbered};
+ghost use Rattle.mdl_visits.specs.Visits.{MeetsBlocked, MeetsGrantable};
+ghost use Rattle.mdl_shared.specs.DeedsDone.{DoesQuietly};
 ghost use Rattle.mdl_shared.specs.Members.{kind_known};
+ghost use Rattle.mdl_shared.specs.Passes.{view_of};
 ghost use Rattle.mdl_shared.specs.SessionViews.{space_of};
-ghost use Rattle.mdl_shared.specs.Showings.{Shows};
+ghost use Rattle.mdl_shared.specs.Showings.{Shows, ShowsStep};
 ghost use Rattle.mdl_shared.specs.Upgrades.{can_have, upgrade_fault};
 
 use crate::Session;
@@ -21,7 +27,8 @@ use std::sync::Wait;
 
 impl<R: Wait> Session<R> {
     /// Asks for a stronger mode of a ticket, without waiting: of SU for SNW, SNRW or X, of SNW for SNRW or X, of SNRW for X. A mode that
-    /// the ticket's covers it has already. The session's other tickets don't stand in the way. It takes no memory.
+    /// the ticket's covers it has already. The session's other tickets don't stand in the way. It takes memory only where the session has fast
+    /// tickets, which become slow ones first, and is refused where there is no room for them.
     pub fn upgrade_now(&mut self, id: TicketId, mode: Mode) -> Result<Upgrade, SpaceError>
         ensures joined { Joins (space_of self.old) (Upgrade_now self.old.me.0.number id mode) (upgrade_tried result) (space_of self.new) }
         ensures shown { Shows (Upgrade_now self.old.me.0.number id mode) (upgrade_tried result) self.old self.new }
@@ -30,13 +37,8 @@ impl<R: Wait> Session<R> {
         if covers(held.mode, mode) {
             return Ok(Upgrade::Upgraded);
         }
-        let member = &mut self.member;
-        match upgrade_now(&self.rt, &mut member.seat, held.place, id, mode) {
-            Tried::Granted => {}
-            Tried::Blocked => return Ok(Upgrade::WouldWait),
-        }
-        member.tickets.set_mode(held.place, id, mode);
-        Ok(Upgrade::Upgraded)
+        self.member.materialise(&self.rt)?;
+        Ok(self.member.upgrade_by_latch(&self.rt, held, mode))
     }
 }
 
@@ -56,6 +58,25 @@ impl Member {
             return Err(SpaceError::AlreadyWaiting);
         }
         Ok(held)
+    }
+
+    // Asks for a mode of a slow ticket, which it hasn't and may be upgraded to, under the latch of its place. The session has no fast ticket.
+    fn upgrade_by_latch<R: Wait>(&mut self, rt: &R, held: Own, mode: Mode) -> Upgrade
+        requires held { numbered held.number self.old.tickets.slow ≡ Some held }
+        requires clear { upgrade_fault mode self.old.known.known self.old.asks (Some held) ≡ None }
+        requires short { covers held.mode mode ≡ false }
+        requires unfast { self.old.tickets.fast ≡ [] }
+        ensures upgraded { result ≡ Upgraded → DoesQuietly held.place (Alter held.number mode ∷ []) (view_of self.old) (view_of self.new)
+            × ShowsStep (view_of self.old) (view_of self.new) (MeetsGrantable held.place self.old.seat.me.0.number mode (Alter held.number mode)) }
+        ensures blocked { result ≡ WouldWait → DoesQuietly held.place [] (view_of self.old) (view_of self.new)
+            × ShowsStep (view_of self.old) (view_of self.new) (MeetsBlocked held.place self.old.seat.me.0.number mode) }
+    {
+        match upgrade_now(rt, &mut self.seat, held.place, held.number, mode) {
+            Tried::Granted => {}
+            Tried::Blocked => return Upgrade::WouldWait,
+        }
+        self.tickets.set_mode(held.place, held.number, mode);
+        Upgrade::Upgraded
     }
 
     // Whether a ticket can have a mode, by the kind of its lock.

@@ -1,0 +1,132 @@
+-- Upgrades and merges, before which the fast tickets of their session become slow ones.
+use Rattle.std.proofs.Common.{◌≡◌, ◌⊎◌, inl, inr, ℕ, true, false, List, [], ◌∷◌, Option, Some, None, Ok, if◌then◌else◌, refl, sym, ap, subst, subst₂, ◌∙◌}
+use mathlib.Core.Path.{subst₃}
+use Rattle.mdl_key.specs.declared.mode.Mode.{Mode}
+use Rattle.mdl_system.specs.Strength.{covers}
+use Rattle.mdl_calls.specs.declared.answers.Upgrade.{Upgrade}
+use Rattle.mdl_calls.specs.declared.answers.Upgrade.TheVariants as upgrade
+use Rattle.mdl_calls.specs.declared.space_error.SpaceError.{SpaceError}
+use Rattle.mdl_calls.specs.declared.space_error.SpaceError.TheVariants.{Full, OutOfMemory}
+use Rattle.mdl_calls.specs.Words.{Done, IsCause, Merge, Refused, Upgrade_now, Upgraded, Would_wait}
+use Rattle.mdl_steps.specs.declared.deed.Deed.{Deed}
+use Rattle.mdl_steps.specs.declared.deed.Deed.TheVariants.{Alter, Lose}
+use Rattle.mdl_steps.specs.declared.view.Met.{Met}
+use Rattle.mdl_steps.specs.declared.view.Own.{Own}
+use Rattle.mdl_steps.specs.Interleavings.{interleaved}
+use Rattle.mdl_session_laws.specs.SessionJoins.{Joins}
+use Rattle.mdl_session_laws.specs.SessionSpaces.{Knows}
+use Rattle.mdl_visits.specs.Leavings.{MeetsOwn}
+use Rattle.mdl_visits.specs.Numbers.{numbered}
+use Rattle.mdl_visits.specs.Visits.{IsStepOf, MeetsBlocked, MeetsGrantable}
+use Rattle.mdl_visits.proofs.Numbers.{has_number}
+use Rattle.mdl_shared.specs.declared.member.Member.{Member}
+use Rattle.mdl_shared.specs.DeedsDone.{DoesQuietly, HasDone}
+use Rattle.mdl_shared.specs.Doings.{merge_deeds, rise_deeds, upgrade_deeds}
+use Rattle.mdl_shared.specs.FastDeeds.{LacksRoomForFast}
+use Rattle.mdl_shared.specs.FastWishes.{BecomesSlow}
+use Rattle.mdl_shared.specs.Members.{IsMember}
+use Rattle.mdl_shared.specs.Modes.{merge_fault}
+use Rattle.mdl_shared.specs.Passes.{view_of}
+use Rattle.mdl_shared.specs.SessionViews.{SessionView, space_of, tickets_seen}
+use Rattle.mdl_shared.specs.Showings.{AllMadeSlow, Shows, ShowsStep}
+use Rattle.mdl_shared.specs.Upgrades.{upgrade_fault}
+use Rattle.mdl_shared.proofs.FastWishing.{shows-slow, slow-number}
+use Rattle.mdl_shared.proofs.MemberFacts.{speaks}
+use Rattle.mdl_shared.proofs.Members.{done-nothing}
+use Rattle.mdl_shared.proofs.QuietDeeds.{quiet-shows, quiet-steps, quiet-then, same-lists}
+use Rattle.mdl_shared.proofs.SameSpace.{refused}
+use Rattle.mdl_shared.proofs.TicketCalls.{blocked-joins, may-rise, merge-joins, upgrade-joins}
+use Rattle.mdl_shared.proofs.TicketFaults.{merge-clear}
+use Rattle.mdl_shared.proofs.WishCalls.{by-cause}
+use Rattle.mdl_shared.proofs.Wishing.{unfast-seen}
+
+-- ---- the fast tickets
+
+-- they became slow ones
+pub becomes-slow : (m m′ : Member) → DoesQuietly 0 [] (view_of m) (view_of m′) → (m′.tickets.fast ≡ []) × AllMadeSlow (view_of m) (view_of m′) → BecomesSlow (view_of m) (view_of m′)
+becomes-slow m m′ quiet made = record { quiet = quiet; unfast = unfast-seen m′ made.0; made = made.1 }
+
+-- so each ticket that the session had is a slow one
+pub slow-then : {place : ℕ} (m m′ : Member) → HasDone place [] (view_of m) (view_of m′) → m′.tickets.fast ≡ [] → (id : ℕ) (t : Own)
+    → numbered id (interleaved m.tickets.slow m.tickets.fast) ≡ Some t → numbered t.number m′.tickets.slow ≡ Some t
+slow-then m m′ done none id t found =
+    let its = ap (numbered id) (same-lists m m′ done).tickets ∙ found in
+    let slow = subst (λ (ts : List Own). numbered id (interleaved m′.tickets.slow ts) ≡ Some t) none its in
+    subst (λ (n : ℕ). numbered n m′.tickets.slow ≡ Some t) (sym (has_number id t m′.tickets.slow slow)) slow
+
+-- why there was no room for them
+pub causes-of : {why : SpaceError} {a b : SessionView} → LacksRoomForFast why a b → (why ≡ OutOfMemory) ⊎ (why ≡ Full)
+causes-of (inl memory) = inl memory
+causes-of (inr full) = inr full.0
+
+-- ---- upgrades, to a mode that the ticket's own doesn't cover
+
+module _ {a : SessionView} (is : IsMember a) (id : ℕ) (t : Own) (its : numbered id (tickets_seen a.me.0) ≡ Some t) (mode : Mode)
+    (clear : upgrade_fault mode a.me.0.known a.me.0.asks (numbered id (tickets_seen a.me.0)) ≡ None) where
+  -- there was no room for the fast tickets
+  pub upgrade-refused : {b : SessionView} {why : SpaceError} → DoesQuietly 0 [] a b → LacksRoomForFast why a b
+      → Joins (space_of a) (Upgrade_now a.me.0.number id mode) (Refused why) (space_of b) × Shows (Upgrade_now a.me.0.number id mode) (Refused why) a b
+  upgrade-refused {b} {why} quiet lacks = (
+    refused a b (Upgrade_now a.me.0.number id mode) why (done-nothing quiet.done) (speaks is) refl refl
+        (by-cause (λ w. IsCause (Knows (space_of a) a.me.0.number) (Upgrade_now a.me.0.number id mode) w (space_of a).own) why tt (may-rise is id t its mode clear) (causes-of lacks))
+        (λ state how is. cc) tt,
+    quiet-shows quiet refl clear (λ e. e) (λ e. e) tt (inr lacks),
+  )
+
+  module _ (short : covers t.mode mode ≡ false) {b c : SessionView} (slow : BecomesSlow a b) where
+    deeds : (answer : Upgrade) → rise_deeds id mode answer ≡ upgrade_deeds id mode (Ok answer) (numbered id (tickets_seen a.me.0))
+    deeds answer = sym (ap (upgrade_deeds id mode (Ok answer)) its ∙ ap (λ b. if b then [] else rise_deeds id mode answer) short)
+
+    -- it has the mode
+    pub upgraded-slow : DoesQuietly t.place (Alter t.number mode ∷ []) b c × ShowsStep b c (MeetsGrantable t.place b.me.0.number mode (Alter t.number mode))
+        → Joins (space_of a) (Upgrade_now a.me.0.number id mode) Upgraded (space_of c) × Shows (Upgrade_now a.me.0.number id mode) Upgraded a c
+    upgraded-slow went =
+        let number = has_number id t (tickets_seen a.me.0) its in
+        let quiet = quiet-then slow.quiet (subst (λ (n : ℕ). DoesQuietly t.place (Alter n mode ∷ []) b c) number went.0) in
+        let met = subst (λ (n : ℕ). ShowsStep b c (MeetsGrantable t.place b.me.0.number mode (Alter n mode))) number went.1 in
+        let by = subst (λ (who : ℕ). ShowsStep b c (MeetsGrantable t.place who mode (Alter id mode))) (slow-number slow) met in (
+          upgrade-joins is id t its mode clear short quiet.done,
+          quiet-shows quiet (deeds upgrade.Upgraded) clear (λ e. e) (λ e. e) tt (t, its, ((λ has. let no = sym has ∙ short in cc), (λ less. shows-slow slow c by))),
+        )
+
+    -- it would have to wait
+    pub blocked-slow : DoesQuietly t.place [] b c × ShowsStep b c (MeetsBlocked t.place b.me.0.number mode)
+        → Joins (space_of a) (Upgrade_now a.me.0.number id mode) Would_wait (space_of c) × Shows (Upgrade_now a.me.0.number id mode) Would_wait a c
+    blocked-slow went =
+        let quiet = quiet-then slow.quiet went.0 in
+        let by = subst (λ (who : ℕ). ShowsStep b c (MeetsBlocked t.place who mode)) (slow-number slow) went.1 in (
+          blocked-joins is id t its mode clear short quiet.done,
+          quiet-shows quiet (deeds upgrade.WouldWait) clear (λ e. e) (λ e. e) tt (t, its, (short, (b, quiet-steps slow.quiet, slow.made, by))),
+        )
+
+-- ---- merges
+
+module _ {a : SessionView} (is : IsMember a) (old new : ℕ) (kept gone : Own) (its : numbered old (tickets_seen a.me.0) ≡ Some kept)
+    (other : numbered new (tickets_seen a.me.0) ≡ Some gone) (clear : merge_fault (numbered old (tickets_seen a.me.0)) (numbered new (tickets_seen a.me.0)) a.me.0.asks ≡ None) where
+  free : merge_fault (Some kept) (Some gone) a.me.0.asks ≡ None
+  free = sym (λ i. merge_fault (its i) (other i) a.me.0.asks) ∙ clear
+
+  -- there was no room for the fast tickets
+  pub merge-refused : {b : SessionView} {why : SpaceError} → DoesQuietly 0 [] a b → LacksRoomForFast why a b
+      → Joins (space_of a) (Merge a.me.0.number old new) (Refused why) (space_of b) × Shows (Merge a.me.0.number old new) (Refused why) a b
+  merge-refused {b} {why} quiet lacks = (
+    refused a b (Merge a.me.0.number old new) why (done-nothing quiet.done) (speaks is) refl refl
+        (by-cause (λ w. IsCause (Knows (space_of a) a.me.0.number) (Merge a.me.0.number old new) w (space_of a).own) why tt (merge-clear a old new kept gone its other free) (causes-of lacks))
+        (λ state how is. cc) tt,
+    quiet-shows quiet refl clear (λ e. e) (λ e. e) tt (inr lacks),
+  )
+
+  -- the tickets are one
+  pub merged-slow : {b c : SessionView} → BecomesSlow a b → DoesQuietly kept.place (Alter kept.number gone.mode ∷ Lose gone.number ∷ []) b c
+      → ((e : Met) × IsStepOf b.me c.me e × MeetsOwn kept.place b.me.0.number kept.number e × MeetsOwn kept.place b.me.0.number gone.number e
+      × (e.deeds ≡ Alter kept.number gone.mode ∷ Lose gone.number ∷ []))
+      → Joins (space_of a) (Merge a.me.0.number old new) Done (space_of c) × Shows (Merge a.me.0.number old new) Done a c
+  merged-slow {b} {c} slow went step =
+      let one = has_number old kept (tickets_seen a.me.0) its in
+      let two = has_number new gone (tickets_seen a.me.0) other in
+      let quiet = quiet-then slow.quiet (subst₂ (λ (n p : ℕ). DoesQuietly kept.place (Alter n gone.mode ∷ Lose p ∷ []) b c) one two went) in
+      let met = subst₃ (λ (who n p : ℕ). MeetsOwn kept.place who n step.0 × MeetsOwn kept.place who p step.0 × (step.0.deeds ≡ Alter n gone.mode ∷ Lose p ∷ []))
+      (slow-number slow) one two step.2 in (
+        merge-joins is old kept its new gone other free quiet.done,
+        quiet-shows quiet (sym (ap (merge_deeds old new (Ok tt)) other)) clear (λ e. e) (λ e. e) tt (kept, its, (gone, other, shows-slow slow c (step.0, step.1, met))),
+      )

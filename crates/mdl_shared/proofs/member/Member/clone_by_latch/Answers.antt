@@ -1,0 +1,68 @@
+-- The second ticket is the last of the session's, or none is made.
+use Rattle.std.proofs.Common.{Some, [], ◌∷◌, inl, refl, sym, ap, ◌∙◌, arith}
+use Rattle.mdl_steps.specs.declared.deed.Deed.TheVariants.{Gain}
+use Rattle.mdl_shared.specs.Modes.{clone_fault}
+use Rattle.mdl_shared.specs.SessionViews.{Lists}
+use Rattle.mdl_shared.proofs.CloneCalls.{clone-joins, refusal-met}
+use Rattle.mdl_shared.proofs.Fitting.{fit_there}
+use Rattle.mdl_shared.proofs.Members.{done-order, kept, lists-done, lists-visited, visited}
+use Rattle.mdl_shared.proofs.Props.{member}
+use Rattle.mdl_shared.proofs.QuietDeeds.{quiet-visit}
+use Rattle.mdl_shared.proofs.SlowHeld.{slow-held}
+use Rattle.mdl_shared.proofs.WaitSteps.{still-member}
+use Rattle.mdl_shared.proofs.WishFaults.{clone-passed}
+use Rattle.mdl_shared.proofs.Wishing.{below-seen, gained-by, none-seen, unasked}
+use Rattle.mdl_shared.proofs.member.Member.clone_by_latch.Goals as goal
+
+pub clone_ticket-requires-clause-at : goal.clone_ticket-requires-clause-at
+clone_ticket-requires-clause-at g c = (slow-held c.args.self.now c.args.held c.requires.unfast c.requires.held).0.at
+
+pub clone_ticket-requires-clause-held : goal.clone_ticket-requires-clause-held
+clone_ticket-requires-clause-held g c = (slow-held c.args.self.now c.args.held c.requires.unfast c.requires.held).1.its
+
+pub clone_ticket-requires-clause-fits : goal.clone_ticket-requires-clause-fits
+clone_ticket-requires-clause-fits g c =
+    let m = c.args.self.now in
+    let t = c.args.held in
+    let clear = ap (λ (l : Lists). clone_fault (Some t) l.asks c.args.mode l.known l.next) (sym m.lists) ∙ c.requires.clear in
+    fit_there t.place c.args.mode m.seat.me.0.known (clone-passed m.seat.me.0.asks c.args.mode m.seat.me.0.known m.seat.me.0.next (Some t) t refl clear).1
+
+-- ---- none is made
+
+pub invariant_of-self : goal.invariant_of-self
+invariant_of-self g c =
+    let m = c.args.self.now in
+    let visit = c.in-Err.ensures.unchanged in
+    record {
+      lawful = ∣ still-member (visited m.seat c.clone_ticket.new.seat m.sessions refl visit) (member m) ∣₁;
+      lists = lists-done m c.args.held.place [] (lists-visited visit) refl refl;
+      room = m.room;
+    }
+
+-- ---- it is made
+
+pub push_reserved-requires-clause-below : goal.push_reserved-requires-clause-below
+push_reserved-requires-clause-below g c = below-seen c.args.self.now _ _ (refl, refl)
+
+pub overflow_add-self : goal.overflow_add-self
+overflow_add-self g c =
+    let m = c.args.self.now in
+    let may = clone-passed m.asks c.args.mode m.known.known m.next (Some c.args.held) c.args.held refl c.requires.clear in
+    omega (arith, may.2)
+
+pub invariant_of-self-2 : goal.invariant_of-self-2
+invariant_of-self-2 g c =
+    let m = c.args.self.now in
+    let is = member m in
+    let t = c.args.held in
+    let its = (slow-held m t c.requires.unfast c.requires.held).0.its in
+    let free = ap (λ (l : Lists). clone_fault (Some t) l.asks c.args.mode l.known l.next) (sym m.lists) ∙ c.requires.clear in
+    let clear = ap (λ o. clone_fault o m.seat.me.0.asks c.args.mode m.seat.me.0.known m.seat.me.0.next) its ∙ free in
+    let idle = (clone-passed m.seat.me.0.asks c.args.mode m.seat.me.0.known m.seat.me.0.next (Some t) t refl free).0 in
+    let visit = c.in_default.ensures.cloned in
+    let done = gained-by m c.clone_ticket.new.seat t.place c.args.mode c.requires.unfast visit in
+    record {
+      lawful = ∣ kept is (done-order done is (inl idle)) (clone-joins is t.number c.args.mode clear t its (ap (λ (l : Lists). l.next) m.lists) done) ∣₁;
+      lists = lists-done m t.place (Gain m.next c.args.mode ∷ []) (lists-visited visit) c.push_reserved.ensures.gained c.push_reserved.ensures.same;
+      room = unasked m idle _;
+    }

@@ -1,0 +1,60 @@
+-- The ticket has the other one's mode, and that one goes.
+use Rattle.std.proofs.Common.{Some, [], ◌∷◌, inr, refl, sym, ap, ◌∙◌}
+use Rattle.mdl_steps.specs.declared.deed.Deed.TheVariants.{Alter, Lose}
+use Rattle.mdl_visits.specs.Numbers.{numbered}
+use Rattle.mdl_shared.specs.Members.{without_at}
+use Rattle.mdl_shared.specs.Modes.{merge_fault}
+use Rattle.mdl_shared.specs.SessionViews.{Lists}
+use Rattle.mdl_shared.proofs.MemberFacts.{merges-slow, spared}
+use Rattle.mdl_shared.proofs.Members.{done-order, fast-struck, kept, lists-done, lists-visited, room-kept, unnumbered, visited}
+use Rattle.mdl_shared.proofs.Props.{member}
+use Rattle.mdl_shared.proofs.QuietDeeds.{quiet-visit}
+use Rattle.mdl_shared.proofs.SlowHeld.{slow-held}
+use Rattle.mdl_shared.proofs.TicketCalls.{merge-joins}
+use Rattle.mdl_shared.proofs.member.Member.merge_by_latch.Goals as goal
+
+pub merge-requires-clause-at : goal.merge-requires-clause-at
+merge-requires-clause-at g c = (slow-held c.args.self.now c.args.kept c.requires.unfast c.requires.held.0).0.at
+
+pub merge-requires-clause-known : goal.merge-requires-clause-known
+merge-requires-clause-known g c = (slow-held c.args.self.now c.args.kept c.requires.unfast c.requires.held.0).0.known
+
+pub merge-requires-clause-held : goal.merge-requires-clause-held
+merge-requires-clause-held g c =
+    let m = c.args.self.now in
+    ((slow-held m c.args.kept c.requires.unfast c.requires.held.0).1.its, (slow-held m c.args.gone c.requires.unfast c.requires.held.1).1.its)
+
+pub set_mode-requires : goal.set_mode-requires
+set_mode-requires g c =
+    let m = c.args.self.now in
+    let t = c.args.kept in
+    record { slow = unnumbered m t.number (spared (member m) t.number t (slow-held m t c.requires.unfast c.requires.held.0).1.its) }
+
+pub invariant_of-self : goal.invariant_of-self
+invariant_of-self g c =
+    let m = c.args.self.now in
+    let is = member m in
+    let t = c.args.kept in
+    let gone = c.args.gone in
+    let one = slow-held m t c.requires.unfast c.requires.held.0 in
+    let other = slow-held m gone c.requires.unfast c.requires.held.1 in
+    let free = ap (λ (l : Lists). merge_fault (Some t) (Some gone) l.asks) (sym m.lists) ∙ c.requires.clear in
+    let visit = c.merge.ensures.merged in
+    let done = visited m.seat c.merge.new.seat m.sessions (merges-slow is t.place t.number gone.number gone.mode t gone one.1.its other.1.its) visit in
+    record {
+      lawful = ∣ kept is (done-order done is (inr refl)) (merge-joins is t.number t one.0.its gone.number gone other.0.its free done) ∣₁;
+      lists = lists-done m t.place (Alter t.number gone.mode ∷ Lose gone.number ∷ []) (lists-visited visit)
+          (c.strike.ensures.struck.0 ∙ ap (without_at t.place gone.number) c.set_mode.ensures.changed.0)
+          (fast-struck m t.place gone.number (spared is gone.number gone other.1.its) (c.strike.ensures.struck.1 ∙ ap (without_at t.place gone.number) c.set_mode.ensures.changed.1));
+      room = λ ask asks. room-kept c.set_mode.new.self c.strike.new.self c.strike.ensures.room (room-kept m.tickets c.set_mode.new.self c.set_mode.ensures.room (m.room ask asks));
+    }
+
+pub returns-clause-merged : goal.returns-clause-merged
+returns-clause-merged g c =
+    let m = c.args.self.now in
+    let t = c.args.kept in
+    let gone = c.args.gone in
+    let one = slow-held m t c.requires.unfast c.requires.held.0 in
+    let other = slow-held m gone c.requires.unfast c.requires.held.1 in
+    let visit = c.merge.ensures.merged in
+    quiet-visit (visited m.seat c.merge.new.seat m.sessions (merges-slow (member m) t.place t.number gone.number gone.mode t gone one.1.its other.1.its) visit) visit.1

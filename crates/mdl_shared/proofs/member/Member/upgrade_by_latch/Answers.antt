@@ -1,0 +1,73 @@
+-- The ticket has the stronger mode, or would have to wait for it.
+use Rattle.std.proofs.Common.{Some, [], ◌∷◌, inr, refl, sym, ap, ◌∙◌}
+use Rattle.mdl_steps.specs.declared.deed.Deed.TheVariants.{Alter}
+use Rattle.mdl_shared.specs.SessionViews.{Lists}
+use Rattle.mdl_shared.specs.Upgrades.{upgrade_fault}
+use Rattle.mdl_shared.proofs.MemberFacts.{alters-slow, spared}
+use Rattle.mdl_shared.proofs.Members.{done-order, kept, lists-done, lists-visited, room-kept, unnumbered, visited}
+use Rattle.mdl_shared.proofs.Membership.{kind_there}
+use Rattle.mdl_shared.proofs.Props.{member}
+use Rattle.mdl_shared.proofs.QuietDeeds.{quiet-visit}
+use Rattle.mdl_shared.proofs.SlowHeld.{slow-held}
+use Rattle.mdl_shared.proofs.TicketCalls.{upgrade-joins}
+use Rattle.mdl_shared.proofs.TicketFaults.{upgrade-kind}
+use Rattle.mdl_shared.proofs.WaitSteps.{still-member}
+use Rattle.mdl_shared.proofs.member.Member.upgrade_by_latch.Goals as goal
+
+pub upgrade_now-requires-clause-at : goal.upgrade_now-requires-clause-at
+upgrade_now-requires-clause-at g c = (slow-held c.args.self.now c.args.held c.requires.unfast c.requires.held).0.at
+
+pub upgrade_now-requires-clause-held : goal.upgrade_now-requires-clause-held
+upgrade_now-requires-clause-held g c = (slow-held c.args.self.now c.args.held c.requires.unfast c.requires.held).1.there
+
+pub upgrade_now-requires-clause-wish : goal.upgrade_now-requires-clause-wish
+upgrade_now-requires-clause-wish g c =
+    let m = c.args.self.now in
+    let t = c.args.held in
+    let clear = ap (λ (l : Lists). upgrade_fault c.args.mode l.known l.asks (Some t)) (sym m.lists) ∙ c.requires.clear in
+    let kind = upgrade-kind c.args.mode m.seat.me.0.known m.seat.me.0.asks (Some t) t refl clear c.requires.short in
+    (kind.0, record { idle = kind.4; knows = kind_there t.place kind.0 m.seat.me.0.known kind.1; is_mode = kind.2 }, kind.3)
+
+-- ---- it would have to wait
+
+pub invariant_of-self : goal.invariant_of-self
+invariant_of-self g c =
+    let m = c.args.self.now in
+    let visit = (c.upgrade_now.ensures.blocked c.in-Blocked.is).0 in
+    record {
+      lawful = ∣ still-member (visited m.seat c.upgrade_now.new.seat m.sessions refl visit) (member m) ∣₁;
+      lists = lists-done m c.args.held.place [] (lists-visited visit) refl refl;
+      room = m.room;
+    }
+
+-- ---- it has the mode
+
+pub set_mode-requires : goal.set_mode-requires
+set_mode-requires g c =
+    let m = c.args.self.now in
+    let t = c.args.held in
+    record { slow = unnumbered m t.number (spared (member m) t.number t (slow-held m t c.requires.unfast c.requires.held).1.its) }
+
+pub invariant_of-self-2 : goal.invariant_of-self-2
+invariant_of-self-2 g c =
+    let m = c.args.self.now in
+    let is = member m in
+    let t = c.args.held in
+    let held = slow-held m t c.requires.unfast c.requires.held in
+    let clear = ap (λ (l : Lists). upgrade_fault c.args.mode l.known l.asks (Some t)) (sym m.lists) ∙ c.requires.clear in
+    let visit = (c.upgrade_now.ensures.granted c.in-Granted.is).0 in
+    let done = visited m.seat c.upgrade_now.new.seat m.sessions (alters-slow is t.place t.number c.args.mode t held.1.its) visit in
+    record {
+      lawful = ∣ kept is (done-order done is (inr refl)) (upgrade-joins is t.number t held.0.its c.args.mode
+          (ap (upgrade_fault c.args.mode m.seat.me.0.known m.seat.me.0.asks) held.0.its ∙ clear) c.requires.short done) ∣₁;
+      lists = lists-done m t.place (Alter t.number c.args.mode ∷ []) (lists-visited visit) c.set_mode.ensures.changed.0 c.set_mode.ensures.changed.1;
+      room = λ ask asks. room-kept m.tickets c.set_mode.new.self c.set_mode.ensures.room (m.room ask asks);
+    }
+
+pub returns-clause-upgraded : goal.returns-clause-upgraded
+returns-clause-upgraded g c =
+    let m = c.args.self.now in
+    let t = c.args.held in
+    let held = slow-held m t c.requires.unfast c.requires.held in
+    let went = c.upgrade_now.ensures.granted c.in-Granted.is in
+    λ e. (quiet-visit (visited m.seat c.upgrade_now.new.seat m.sessions (alters-slow (member m) t.place t.number c.args.mode t held.1.its) went.0) went.0.1, went.1)
