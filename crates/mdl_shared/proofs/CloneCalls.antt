@@ -3,8 +3,6 @@ use Rattle.std.proofs.Common.{◌≡◌, ◌⊎◌, inl, inr, ℕ, false, Some, 
 use Rattle.std.specs.Prelude.{IfErr, IfOk, OnErr}
 use Rattle.std.specs.Option.{option_map}
 use Rattle.mdl_key.specs.declared.mode.Mode.{Mode}
-use Rattle.mdl_book.specs.declared.book_error.BookError.{BookError}
-use Rattle.mdl_book.specs.declared.book_error.BookError.TheVariants as fault
 use Rattle.mdl_calls.specs.declared.space_error.SpaceError.{SpaceError}
 use Rattle.mdl_calls.specs.declared.space_error.SpaceError.TheVariants.{Full, OutOfMemory}
 use Rattle.mdl_calls.specs.Own.{cloning}
@@ -35,12 +33,6 @@ use Rattle.mdl_shared.proofs.SpaceLists.{ticket-told}
 use Rattle.mdl_shared.proofs.WishCalls.{by-cause, gain-joins}
 use Rattle.mdl_shared.proofs.WishFaults.{clone-cause, clone-clear}
 
--- why the session is refused, by what the visit met
-pub refusal-met : {X Y : Type 0} → (X → Y) → (cause : BookError) (why : SpaceError) → (cause ≡ fault.Full → why ≡ Full) → (cause ≡ fault.OutOfMemory → why ≡ OutOfMemory)
-    → (cause ≡ fault.OutOfMemory) ⊎ ((cause ≡ fault.Full) × X) → (why ≡ OutOfMemory) ⊎ ((why ≡ Full) × Y)
-refusal-met more cause why full memory (inl is) = inl (memory is)
-refusal-met more cause why full memory (inr is) = inr (full is.0, more is.1)
-
 module _ {s : SessionView} (is : IsMember s) (id : ℕ) (mode : Mode) where
   -- refused for what the session has
   pub clone-unfit : (why : SpaceError) → clone_fault (numbered id (tickets_seen s.me.0)) s.me.0.asks mode s.me.0.known s.me.0.next ≡ Some why
@@ -63,7 +55,8 @@ module _ {s : SessionView} (is : IsMember s) (id : ℕ) (mode : Mode) where
         (λ state how is. cc) tt
 
     pub refused-shows : {s′ : SessionView} {place : ℕ} {why : SpaceError} → DoesQuietly place [] s s′
-        → (why ≡ OutOfMemory) ⊎ ((why ≡ Full) × OfTicket id (lists_seen s.me.0) (λ t. FullForOne t.place s s′)) → Shows (Clone_ticket s.me.0.number id mode) (Refused why) s s′
+        → (why ≡ OutOfMemory) ⊎ ((why ≡ Full) × OfTicket id (lists_seen s.me.0) (λ t. FullForOne t.place s s′))
+        → Shows (Clone_ticket s.me.0.number id mode) (Refused why) s s′
     refused-shows quiet met = quiet-shows quiet refl clear (λ e. e) (λ e. e) tt (inr met)
 
     -- made
@@ -75,8 +68,8 @@ module _ {s : SessionView} (is : IsMember s) (id : ℕ) (mode : Mode) where
           (ap (λ o. cloning new mode o (space_of s).own) (ticket-told id (tickets_seen s.me.0) ∙ ap (option_map told_of) its)) (λ d. d)
           may-clone tt refl (λ state how is. cc) (λ how is. cc) refl (λ r. r) tt
 
-      pub clone-shows : {s′ : SessionView} {new : ℕ} → DoesQuietly t.place (Gain new mode ∷ []) s s′ → ShowsStep s s′ (MeetsClone t.place s.me.0.number id (Gain new mode))
-          → Shows (Clone_ticket s.me.0.number id mode) (Granted new) s s′
+      pub clone-shows : {s′ : SessionView} {new : ℕ} → DoesQuietly t.place (Gain new mode ∷ []) s s′
+          → ShowsStep s s′ (MeetsClone t.place s.me.0.number id (Gain new mode)) → Shows (Clone_ticket s.me.0.number id mode) (Granted new) s s′
       clone-shows quiet met = quiet-shows quiet refl clear (λ e. e) (λ e. e) tt (t, its, met)
 
       -- by the fast path
@@ -88,21 +81,22 @@ module _ {s : SessionView} (is : IsMember s) (id : ℕ) (mode : Mode) where
       )
 
       -- there was no room for the fast tickets
-      lacks-one : {b : SessionView} {why : SpaceError} → LacksRoomForFast why s b
+      lacks-one : (b : SessionView) {why : SpaceError} → LacksRoomForFast why s b
           → (why ≡ OutOfMemory) ⊎ ((why ≡ Full) × OfTicket id (lists_seen s.me.0) (λ u. FullForOne u.place s b))
-      lacks-one (inl memory) = inl memory
-      lacks-one (inr full) = inr (full.0, (t, its, inr full.1))
+      lacks-one b (inl memory) = inl memory
+      lacks-one b (inr full) = inr (full.0, (t, its, inr full.1))
 
       pub clone-full : {b : SessionView} {why : SpaceError} → DoesQuietly 0 [] s b → LacksRoomForFast why s b
           → Joins (space_of s) (Clone_ticket s.me.0.number id mode) (Refused why) (space_of b) × Shows (Clone_ticket s.me.0.number id mode) (Refused why) s b
-      clone-full quiet lacks = (clone-refused (done-nothing quiet.done) (lack-cause lacks), refused-shows quiet (lacks-one lacks))
+      clone-full {b} quiet lacks = (clone-refused (done-nothing quiet.done) (lack-cause s b lacks), refused-shows quiet (lacks-one b lacks))
 
       -- by the latch of the place, once they are slow ones
       module _ {b c : SessionView} (slow : BecomesSlow s b) where
         pub cloned-slow : (next : ℕ) → next ≡ s.me.0.next → (result : Result ℕ SpaceError)
             → IfOk result (λ new. (new ≡ next) × DoesQuietly t.place (Gain new mode ∷ []) b c × MeetsTicket t.number (Gain new mode ∷ []) b c t)
             → OnErr result (DoesQuietly t.place [] b c) → IfErr result (λ why. (why ≡ OutOfMemory) ⊎ ((why ≡ Full) × ShowsStep b c (MeetsFull t.place)))
-            → Joins (space_of s) (Clone_ticket s.me.0.number id mode) (cloned result) (space_of c) × Shows (Clone_ticket s.me.0.number id mode) (cloned result) s c
+            → Joins (space_of s) (Clone_ticket s.me.0.number id mode) (cloned result) (space_of c)
+            × Shows (Clone_ticket s.me.0.number id mode) (cloned result) s c
         cloned-slow next first (Ok new) made unchanged why =
             let quiet = quiet-then slow.quiet made.1 in
             let met = made.2 in
@@ -116,6 +110,7 @@ module _ {s : SessionView} (is : IsMember s) (id : ℕ) (mode : Mode) where
             either-cause (inl memory) = inl memory
             either-cause (inr full) = inr full.0
 
-            full-one : (why ≡ OutOfMemory) ⊎ ((why ≡ Full) × ShowsStep b c (MeetsFull t.place)) → (why ≡ OutOfMemory) ⊎ ((why ≡ Full) × OfTicket id (lists_seen s.me.0) (λ u. FullForOne u.place s c))
+            full-one : (why ≡ OutOfMemory) ⊎ ((why ≡ Full) × ShowsStep b c (MeetsFull t.place))
+                → (why ≡ OutOfMemory) ⊎ ((why ≡ Full) × OfTicket id (lists_seen s.me.0) (λ u. FullForOne u.place s c))
             full-one (inl memory) = inl memory
             full-one (inr full) = inr (full.0, (t, its, inl (shows-slow slow c full.1)))

@@ -1,27 +1,22 @@
 -- A fast ticket is given up, and the place is rescheduled where that is owed.
-use Rattle.std.proofs.Common.{◌≡◌, ℕ, true, false, Bool, List, [], ◌∷◌, ◌++◌, Option, Some, None, inl, inr, refl, sym, ap, subst, ◌∙◌, append-nil}
+use Rattle.std.proofs.Common.{◌≡◌, ℕ, true, false, Bool, List, [], ◌∷◌, ◌++◌, inl, inr, sym, ap, subst, ◌∙◌, append-nil}
 use Rattle.std.proofs.lemmas.Bool.{false≢true}
 use Rattle.atomic_table.specs.Seated.{TableId}
-use Rattle.mdl_word.specs.Words.{slow_flag}
-use Rattle.mdl_calls.specs.Words.{Done, Release}
 use Rattle.mdl_steps.specs.declared.deed.Deed.{Deed}
 use Rattle.mdl_steps.specs.declared.deed.Deed.TheVariants.{Lose}
 use Rattle.mdl_steps.specs.declared.view.Met.{Met}
 use Rattle.mdl_steps.specs.declared.view.Own.{Own}
-use Rattle.mdl_steps.specs.Deeds.{all_next, all_owned}
 use Rattle.mdl_steps.specs.Plays.{Mine}
 use Rattle.mdl_steps.specs.SeatStates.{AtItsTable, SeatState}
 use Rattle.mdl_visits.specs.FastTries.{ReleasesFast}
 use Rattle.mdl_visits.specs.Grantings.{HasRescheduled, VisitsAndReschedules}
-use Rattle.mdl_visits.specs.Numbers.{numbered}
 use Rattle.mdl_visits.specs.Polls.{SettlesNothing}
-use Rattle.mdl_visits.specs.Visits.{Does, IsStepOf, LeavesBy, MakesMoreSteps, StaysOn}
+use Rattle.mdl_visits.specs.Visits.{IsStepOf, StaysOn}
 use Rattle.mdl_visits.proofs.Steps.{goes_none, goes_staying, leaves_after, step_after, step_before}
 use Rattle.mdl_visits.proofs.Way.{granted_within, looked_within}
 use Rattle.mdl_shared.specs.DeedsDone.{DoesQuietly, HasDone, StaysFast}
-use Rattle.mdl_shared.specs.Members.{IsMember, holding_fault}
 use Rattle.mdl_shared.specs.SessionViews.{SessionView, session_at, tickets_seen}
-use Rattle.mdl_shared.specs.Showings.{GivesUpFast, GivesUpSlow, LeavesWaits, MeetsFastRelease, Reschedules, Shows}
+use Rattle.mdl_shared.specs.Showings.{GivesUpFast, LeavesWaits, MeetsFastRelease}
 
 -- ---- two parts of a call
 
@@ -60,18 +55,22 @@ rescheduled-since id place a b c stays number asks told settles way =
       grants = way.grants;
       settles = way.settles ∙ ap (λ all. all ++ way.grants) settles;
       granted = granted_within id place a b a b c c more more (goes_none c) way.grants way.granted;
-      served = (last.0, leaves_after a b c stays last.0 last.1, record {
-        kind = met.kind;
-        did = met.did;
-        word = met.word;
-        freed = met.freed ∙ number;
-        latch = met.latch;
-        held = met.held;
-        served = elim met.served [
-          | inl none ↦ inl none
-          | inr looked ↦ inr (looked_within b c a c (step_after a b c more) id place met.latch met.latch.book.waiting looked)
-        ];
-      });
+      served = (
+        last.0,
+        leaves_after a b c stays last.0 last.1,
+        record {
+          kind = met.kind;
+          did = met.did;
+          word = met.word;
+          freed = met.freed ∙ number;
+          latch = met.latch;
+          held = met.held;
+          served = elim met.served [
+            | inl none ↦ inl none
+            | inr looked ↦ inr (looked_within b c a c (step_after a b c more) id place met.latch met.latch.book.waiting looked)
+          ];
+        },
+      );
       stays = λ state is. way.stays state (told ∙ is);
       unasked = λ none. way.unasked (asks ∙ none) ∙ told;
     }
@@ -100,8 +99,11 @@ module _ (a b : SessionView) (t : Own) (owes : Bool) (released : ReleasesFast t.
   gives-up_after {seat} lost stays due visit = (
     released.step,
     step_before a.me b.me seat.me (visit.1.made, ap (λ (m : Mine). m.0.log) visit.1.now) released.step release_then,
-    (release_met, (λ up. subst (λ (id : TableId). HasRescheduled id t.place a.me seat.me) (ap (λ (s : SessionView). s.table) lost.done.now)
-        (rescheduled-since b.table t.place a.me b.me seat.me stays (ap (λ (s : SessionView). s.me.0.number) lost.done.now)
-        (ap (λ (s : SessionView). s.me.0.asks) lost.done.now) lost.told lost.settled visit.1.way)),
-    (λ down. absurd (false≢true (sym down ∙ sym released.owes_is ∙ due)))),
+    (
+      release_met,
+      (λ up. subst (λ (id : TableId). HasRescheduled id t.place a.me seat.me) (ap (λ (s : SessionView). s.table) lost.done.now)
+          (rescheduled-since b.table t.place a.me b.me seat.me stays (ap (λ (s : SessionView). s.me.0.number) lost.done.now)
+          (ap (λ (s : SessionView). s.me.0.asks) lost.done.now) lost.told lost.settled visit.1.way)),
+      (λ down. absurd (false≢true (sym down ∙ sym released.owes_is ∙ due))),
+    ),
   )

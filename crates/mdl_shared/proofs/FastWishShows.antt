@@ -1,5 +1,5 @@
 -- What wishes tell and show that were tried on the fast path first.
-use Rattle.std.proofs.Common.{◌≡◌, ◌⊎◌, inl, inr, ℕ, [], ◌∷◌, None, Result, Ok, Err, refl, sym, ap, subst, ◌∙◌}
+use Rattle.std.proofs.Common.{◌≡◌, ◌⊎◌, inl, inr, ℕ, [], None, Result, Ok, Err, refl, sym, ap, subst, ◌∙◌}
 use Rattle.mdl_key.specs.declared.mode.Mode.{Mode}
 use Rattle.mdl_calls.specs.declared.answers.Attempt.{Attempt}
 use Rattle.mdl_calls.specs.declared.answers.Attempt.TheVariants as attempt

@@ -4,20 +4,18 @@ use Rattle.std.specs.Prelude.{filter_map}
 use Rattle.mdl_calls.specs.declared.space_error.SpaceError.{SpaceError}
 use Rattle.mdl_calls.specs.Words.{Answer, Call}
 use Rattle.mdl_steps.specs.declared.deed.Deed.{Deed}
-use Rattle.mdl_steps.specs.declared.view.Ask.{Ask}
 use Rattle.mdl_steps.specs.declared.view.Met.{Met}
 use Rattle.mdl_steps.specs.declared.view.Own.{Own}
 use Rattle.mdl_steps.specs.Cells.{own_at}
 use Rattle.mdl_steps.specs.Lists.{Each}
 use Rattle.mdl_session_laws.specs.SessionSpaces.{Space}
 use Rattle.mdl_visits.specs.Materialisings.{MeetsFullFor}
-use Rattle.mdl_visits.specs.Visits.{Does, MakesMoreSteps, MeetsFull}
+use Rattle.mdl_visits.specs.Visits.{Does, MakesMoreSteps}
 use Rattle.mdl_visits.proofs.Steps.{does_then, each_map, goes_none, goes_on}
 use Rattle.mdl_shared.specs.declared.member.Member.{Member}
 use Rattle.mdl_shared.specs.DeedsDone.{DoesQuietly}
 use Rattle.mdl_shared.specs.FastDeeds.{LacksRoomForFast}
 use Rattle.mdl_shared.specs.FastWishes.{BecomesSlow}
-use Rattle.mdl_shared.specs.OwnLists.{told_of}
 use Rattle.mdl_shared.specs.SessionViews.{Lists, SessionView, lists_seen, note_of, settled_told, space_of, tickets_seen}
 use Rattle.mdl_shared.specs.Showings.{AllMadeSlow, FromUnfast, FullForFast, FullForOne, KeepsTold, MakesSlow, MeetsSo, SettlesSo, Shows, ShowsStep, StepsSo, done_by, own_fault}
 use Rattle.mdl_shared.proofs.Faults.{if-clear}
@@ -50,12 +48,13 @@ from-here a b none is =
     (a, goes_none a.me, subst (λ (fast : List Own). Each (λ (t : Own). ShowsStep a a (MakesSlow t.place)) fast) (sym none) tt, is)
 
 -- by the tickets that became slow at a part of the call they did at the whole
-pub made-first : (a b c : SessionView) → MakesMoreSteps b.me c.me → AllMadeSlow a b → AllMadeSlow a c
+made-first : (a b c : SessionView) → MakesMoreSteps b.me c.me → AllMadeSlow a b → AllMadeSlow a c
 made-first a b c more made =
     each_map (λ (t : Own). ShowsStep a b (MakesSlow t.place)) (λ (t : Own). ShowsStep a c (MakesSlow t.place))
     (λ t shown. shows-first a b c more shown) a.me.0.fast made
 
 module _ {a b : SessionView} (slow : BecomesSlow a b) where
+  -- it is the session that it was
   pub number-slow : b.me.0.number ≡ a.me.0.number
   number-slow = ap (λ (x : SessionView). x.me.0.number) slow.quiet.done.now
 
@@ -73,7 +72,7 @@ module _ {a b : SessionView} (slow : BecomesSlow a b) where
   fuller : (n place : ℕ) (e : Met) → MeetsFullFor 0 place e → MeetsFullFor n place e
   fuller n place e met = let full = met.full in record { word = met.word; latch = met.latch; held = met.held; full = omega arith }
 
-  pub full-slow : (c : SessionView) → FullForFast b c → FullForFast a c
+  full-slow : (c : SessionView) → FullForFast b c → FullForFast a c
   full-slow c full =
       let none : length (own_at full.0 b.me.0.fast) ≡ 0 = ap (λ (fast : List Own). length (own_at full.0 fast)) slow.unfast in
       let shown = shows-slow c full.1 in
@@ -104,12 +103,14 @@ module _ {a b : SessionView} (slow : BecomesSlow a b) where
 
 -- ---- after steps that left the fast tickets as they were
 
+-- they became slow ones
 pub made-later : (a b c : SessionView) → MakesMoreSteps a.me b.me → b.me.0.fast ≡ a.me.0.fast → AllMadeSlow b c → AllMadeSlow a c
 made-later a b c more same made =
     each_map (λ (t : Own). ShowsStep b c (MakesSlow t.place)) (λ (t : Own). ShowsStep a c (MakesSlow t.place))
     (λ t shown. shows-later a b c more shown) a.me.0.fast (subst (λ (fast : List Own). Each (λ (t : Own). ShowsStep b c (MakesSlow t.place)) fast) same made)
 
-pub full-later : (a b c : SessionView) → MakesMoreSteps a.me b.me → b.me.0.fast ≡ a.me.0.fast → FullForFast b c → FullForFast a c
+-- there was no room for them
+full-later : (a b c : SessionView) → MakesMoreSteps a.me b.me → b.me.0.fast ≡ a.me.0.fast → FullForFast b c → FullForFast a c
 full-later a b c more same full =
     let shown = shows-later a b c more full.1 in
     (full.0, (shown.0, shown.1, subst (λ (fast : List Own). MeetsFullFor (length (own_at full.0 fast)) full.0 shown.0) same shown.2))
@@ -119,6 +120,6 @@ pub lacks-later : (a b c : SessionView) {why : SpaceError} → MakesMoreSteps a.
 lacks-later a b c more same (inl memory) = inl memory
 lacks-later a b c more same (inr full) = inr (full.0, full-later a b c more same full.1)
 
--- so they are where its own list of them is
+-- they are as they were where its own list of them is
 pub fast-still : (m m′ : Member) → m′.tickets.fast ≡ m.tickets.fast → m′.seat.me.0.fast ≡ m.seat.me.0.fast
 fast-still m m′ same = sym (ap (λ (l : Lists). l.fast) m′.lists) ∙ same ∙ ap (λ (l : Lists). l.fast) m.lists

@@ -39,6 +39,7 @@ pub mod CloneCalls
 pub mod QuietDeeds
 pub mod FastDone
 pub mod FastFacts
+pub mod SlowPlaces
 pub mod SlowHeld
 pub mod FastWishing
 pub mod SlowFirst

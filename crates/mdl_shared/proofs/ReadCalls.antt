@@ -167,7 +167,7 @@ module _ {s : SessionView} (is : IsMember s) (id : ℕ) (t : Own) (its : numbere
   unread-shows table sessions visit quiet = record {
     table = table;
     sessions = sessions;
-    refused = if-clear _ (holding_fault id s.me.0.slow) (ap (λ (o : Option Own). if is_some o then None else Some NotHeld) its);
+    refused = if-clear _ (holding_fault id (tickets_seen s.me.0)) (ap (λ (o : Option Own). if is_some o then None else Some NotHeld) its);
     did = does_visits s.me _ t.place [] visit;
     settled = ap (λ (m : Mine). m.0.settles) visit.now;
     told = ap (λ (m : Mine). m.0.told) visit.now;

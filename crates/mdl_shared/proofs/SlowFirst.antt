@@ -1,14 +1,12 @@
 -- Upgrades and merges, before which the fast tickets of their session become slow ones.
-use Rattle.std.proofs.Common.{◌≡◌, ◌⊎◌, inl, inr, ℕ, true, false, List, [], ◌∷◌, Option, Some, None, Ok, if◌then◌else◌, refl, sym, ap, subst, subst₂, ◌∙◌}
+use Rattle.std.proofs.Common.{◌≡◌, inr, ℕ, false, List, [], ◌∷◌, Some, None, Ok, if◌then◌else◌, refl, sym, ap, subst, subst₂, ◌∙◌}
 use mathlib.Core.Path.{subst₃}
 use Rattle.mdl_key.specs.declared.mode.Mode.{Mode}
 use Rattle.mdl_system.specs.Strength.{covers}
 use Rattle.mdl_calls.specs.declared.answers.Upgrade.{Upgrade}
 use Rattle.mdl_calls.specs.declared.answers.Upgrade.TheVariants as upgrade
 use Rattle.mdl_calls.specs.declared.space_error.SpaceError.{SpaceError}
-use Rattle.mdl_calls.specs.declared.space_error.SpaceError.TheVariants.{Full, OutOfMemory}
 use Rattle.mdl_calls.specs.Words.{Done, IsCause, Merge, Refused, Upgrade_now, Upgraded, Would_wait, upgrade_tried}
-use Rattle.mdl_steps.specs.declared.deed.Deed.{Deed}
 use Rattle.mdl_steps.specs.declared.deed.Deed.TheVariants.{Alter, Lose}
 use Rattle.mdl_steps.specs.declared.view.Met.{Met}
 use Rattle.mdl_steps.specs.declared.view.Own.{Own}
@@ -44,7 +42,8 @@ use Rattle.mdl_shared.proofs.Wishing.{unfast-seen}
 -- ---- the fast tickets
 
 -- they became slow ones
-pub becomes-slow : (m m′ : Member) → DoesQuietly 0 [] (view_of m) (view_of m′) → (m′.tickets.fast ≡ []) × AllMadeSlow (view_of m) (view_of m′) → BecomesSlow (view_of m) (view_of m′)
+pub becomes-slow : (m m′ : Member) → DoesQuietly 0 [] (view_of m) (view_of m′) → (m′.tickets.fast ≡ []) × AllMadeSlow (view_of m) (view_of m′)
+    → BecomesSlow (view_of m) (view_of m′)
 becomes-slow m m′ quiet made = record { quiet = quiet; unfast = unfast-seen m′ made.0; made = made.1 }
 
 -- so each ticket that the session had is a slow one
@@ -64,15 +63,16 @@ module _ {a : SessionView} (is : IsMember a) (id : ℕ) (t : Own) (its : numbere
       → Joins (space_of a) (Upgrade_now a.me.0.number id mode) (Refused why) (space_of b) × Shows (Upgrade_now a.me.0.number id mode) (Refused why) a b
   upgrade-refused {b} {why} quiet lacks = (
     refused a b (Upgrade_now a.me.0.number id mode) why (done-nothing quiet.done) (speaks is) refl refl
-        (by-cause (λ w. IsCause (Knows (space_of a) a.me.0.number) (Upgrade_now a.me.0.number id mode) w (space_of a).own) why tt (may-rise is id t its mode clear) (lack-cause lacks))
+        (by-cause (λ w. IsCause (Knows (space_of a) a.me.0.number) (Upgrade_now a.me.0.number id mode) w (space_of a).own) why tt
+        (may-rise is id t its mode clear) (lack-cause a b lacks))
         (λ state how is. cc) tt,
     quiet-shows quiet refl clear (λ e. e) (λ e. e) tt (inr lacks),
   )
 
-  module _ (short : covers t.mode mode ≡ false) {b c : SessionView} (slow : BecomesSlow a b) where
-    deeds : (answer : Upgrade) → rise_deeds id mode answer ≡ upgrade_deeds id mode (Ok answer) (numbered id (tickets_seen a.me.0))
-    deeds answer = sym (ap (upgrade_deeds id mode (Ok answer)) its ∙ ap (λ b. if b then [] else rise_deeds id mode answer) short)
+  deeds : (answer : Upgrade) → covers t.mode mode ≡ false → rise_deeds id mode answer ≡ upgrade_deeds id mode (Ok answer) (numbered id (tickets_seen a.me.0))
+  deeds answer short = sym (ap (upgrade_deeds id mode (Ok answer)) its ∙ ap (λ b. if b then [] else rise_deeds id mode answer) short)
 
+  module _ (short : covers t.mode mode ≡ false) {b c : SessionView} (slow : BecomesSlow a b) where
     -- it has the mode
     upgraded-slow : DoesQuietly t.place (Alter t.number mode ∷ []) b c × ShowsStep b c (MeetsGrantable t.place b.me.0.number mode (Alter t.number mode))
         → Joins (space_of a) (Upgrade_now a.me.0.number id mode) Upgraded (space_of c) × Shows (Upgrade_now a.me.0.number id mode) Upgraded a c
@@ -82,7 +82,8 @@ module _ {a : SessionView} (is : IsMember a) (id : ℕ) (t : Own) (its : numbere
         let met = subst (λ (n : ℕ). ShowsStep b c (MeetsGrantable t.place b.me.0.number mode (Alter n mode))) number went.1 in
         let by = subst (λ (who : ℕ). ShowsStep b c (MeetsGrantable t.place who mode (Alter id mode))) (number-slow slow) met in (
           upgrade-joins is id t its mode clear short quiet.done,
-          quiet-shows quiet (deeds upgrade.Upgraded) clear (λ e. e) (λ e. e) tt (t, its, ((λ has. let no = sym has ∙ short in cc), (λ less. shows-slow slow c by))),
+          quiet-shows quiet (deeds upgrade.Upgraded short) clear (λ e. e) (λ e. e) tt
+              (t, its, ((λ has. let no = sym has ∙ short in cc), (λ less. shows-slow slow c by))),
         )
 
     -- it would have to wait
@@ -92,12 +93,13 @@ module _ {a : SessionView} (is : IsMember a) (id : ℕ) (t : Own) (its : numbere
         let quiet = quiet-then slow.quiet went.0 in
         let by = subst (λ (who : ℕ). ShowsStep b c (MeetsBlocked t.place who mode)) (number-slow slow) went.1 in (
           blocked-joins is id t its mode clear short quiet.done,
-          quiet-shows quiet (deeds upgrade.WouldWait) clear (λ e. e) (λ e. e) tt (t, its, (short, (b, quiet-steps slow.quiet, slow.made, by))),
+          quiet-shows quiet (deeds upgrade.WouldWait short) clear (λ e. e) (λ e. e) tt (t, its, (short, (b, quiet-steps slow.quiet, slow.made, by))),
         )
 
     -- either
     pub tried-slow : (answer : Upgrade)
-        → (answer ≡ upgrade.Upgraded → DoesQuietly t.place (Alter t.number mode ∷ []) b c × ShowsStep b c (MeetsGrantable t.place b.me.0.number mode (Alter t.number mode)))
+        → (answer ≡ upgrade.Upgraded → DoesQuietly t.place (Alter t.number mode ∷ []) b c
+        × ShowsStep b c (MeetsGrantable t.place b.me.0.number mode (Alter t.number mode)))
         → (answer ≡ upgrade.WouldWait → DoesQuietly t.place [] b c × ShowsStep b c (MeetsBlocked t.place b.me.0.number mode))
         → Joins (space_of a) (Upgrade_now a.me.0.number id mode) (upgrade_tried (Ok answer)) (space_of c)
         × Shows (Upgrade_now a.me.0.number id mode) (upgrade_tried (Ok answer)) a c
@@ -107,7 +109,8 @@ module _ {a : SessionView} (is : IsMember a) (id : ℕ) (t : Own) (its : numbere
 -- ---- merges
 
 module _ {a : SessionView} (is : IsMember a) (old new : ℕ) (kept gone : Own) (its : numbered old (tickets_seen a.me.0) ≡ Some kept)
-    (other : numbered new (tickets_seen a.me.0) ≡ Some gone) (clear : merge_fault (numbered old (tickets_seen a.me.0)) (numbered new (tickets_seen a.me.0)) a.me.0.asks ≡ None) where
+    (other : numbered new (tickets_seen a.me.0) ≡ Some gone)
+    (clear : merge_fault (numbered old (tickets_seen a.me.0)) (numbered new (tickets_seen a.me.0)) a.me.0.asks ≡ None) where
   free : merge_fault (Some kept) (Some gone) a.me.0.asks ≡ None
   free = sym (λ i. merge_fault (its i) (other i) a.me.0.asks) ∙ clear
 
@@ -116,7 +119,8 @@ module _ {a : SessionView} (is : IsMember a) (old new : ℕ) (kept gone : Own) (
       → Joins (space_of a) (Merge a.me.0.number old new) (Refused why) (space_of b) × Shows (Merge a.me.0.number old new) (Refused why) a b
   merge-refused {b} {why} quiet lacks = (
     refused a b (Merge a.me.0.number old new) why (done-nothing quiet.done) (speaks is) refl refl
-        (by-cause (λ w. IsCause (Knows (space_of a) a.me.0.number) (Merge a.me.0.number old new) w (space_of a).own) why tt (merge-clear a old new kept gone its other free) (lack-cause lacks))
+        (by-cause (λ w. IsCause (Knows (space_of a) a.me.0.number) (Merge a.me.0.number old new) w (space_of a).own) why tt
+        (merge-clear a old new kept gone its other free) (lack-cause a b lacks))
         (λ state how is. cc) tt,
     quiet-shows quiet refl clear (λ e. e) (λ e. e) tt (inr lacks),
   )
@@ -133,5 +137,6 @@ module _ {a : SessionView} (is : IsMember a) (old new : ℕ) (kept gone : Own) (
       let met = subst₃ (λ (who n p : ℕ). MeetsOwn kept.place who n step.0 × MeetsOwn kept.place who p step.0 × (step.0.deeds ≡ Alter n gone.mode ∷ Lose p ∷ []))
       (number-slow slow) one two (step.2, step.3, step.4) in (
         merge-joins is old kept its new gone other free quiet.done,
-        quiet-shows quiet (sym (ap (merge_deeds old new (Ok tt)) other)) clear (λ e. e) (λ e. e) tt (kept, its, (gone, other, shows-slow slow c (step.0, step.1, met))),
+        quiet-shows quiet (sym (ap (merge_deeds old new (Ok tt)) other)) clear (λ e. e) (λ e. e) tt
+            (kept, its, (gone, other, shows-slow slow c (step.0, step.1, met))),
       )

@@ -8,7 +8,8 @@ use Rattle.mdl_shared.specs.Passes.{view_of}
 use Rattle.mdl_shared.specs.SessionViews.{Lists}
 use Rattle.mdl_shared.proofs.HeldTickets.{HoldsSlow, HoldsTicket, holds-slow, holds-ticket}
 
-pub slow-held : (m : Member) (t : Own) → m.tickets.fast ≡ [] → numbered t.number m.tickets.slow ≡ Some t → HoldsTicket t.number t (view_of m) × HoldsSlow t.number t (view_of m)
+pub slow-held : (m : Member) (t : Own) → m.tickets.fast ≡ [] → numbered t.number m.tickets.slow ≡ Some t
+    → HoldsTicket t.number t (view_of m) × HoldsSlow t.number t (view_of m)
 slow-held m t none held = (
   holds-ticket m t.number t (subst (λ (ts : List Own). numbered t.number (interleaved m.tickets.slow ts) ≡ Some t) (sym none) held),
   holds-slow m t.number t (ap (λ (l : Lists). numbered t.number l.slow) (sym m.lists) ∙ held),

@@ -110,8 +110,8 @@ pub uncounted-slow : {s : SessionView} → IsMember s → (id : ℕ) (t : Own) �
 uncounted-slow {s} is id t its never = elim (slow-or-fast is id t its) [
   | inl slow ↦ slow
   | inr fast ↦ let counts = counted-one id t s.me.0.known s.me.0.fast is.plain fast in
-  let none = uncounted t.place t.mode s.me.0.known never in
-  absurd (cc)
+      let none = uncounted t.place t.mode s.me.0.known never in
+      absurd (cc)
 ]
 
 -- so is an exclusive one

@@ -1,11 +1,10 @@
 -- Calls on held tickets: releases, downgrades, upgrades and merges.
-use Rattle.std.proofs.Common.{◌≡◌, ℕ, true, false, not, ◌&&◌, List, [], ◌∷◌, Option, Some, None, map, filter, is_some, if◌then◌else◌, Ok, refl, sym, ap, subst, ◌∙◌}
+use Rattle.std.proofs.Common.{◌≡◌, ℕ, true, false, not, ◌&&◌, List, [], ◌∷◌, Some, None, map, filter, is_some, if◌then◌else◌, Ok, refl, sym, ap, subst, ◌∙◌}
 use Rattle.std.specs.Option.{option_map}
 use Rattle.std.proofs.lemmas.Bool.{and_from, and_parts, eq-eqb, not-true, not_from_false}
 use Rattle.mdl_key.specs.declared.mode.Mode.{Mode}
 use Rattle.mdl_system.specs.Strength.{covers}
 use Rattle.mdl_calls.specs.declared.answers.Held.{Held}
-use Rattle.mdl_calls.specs.declared.answers.Upgrade.{Upgrade}
 use Rattle.mdl_calls.specs.declared.answers.Upgrade.TheVariants as upgrade
 use Rattle.mdl_calls.specs.declared.space_error.SpaceError.{SpaceError}
 use Rattle.mdl_calls.specs.Words.{Done, Refused, Upgraded, Would_wait, Release, Downgrade, Upgrade_now, Merge, MayUpgrade, OfHeld, is_number, is_waiting}
@@ -19,19 +18,19 @@ use Rattle.mdl_session_laws.specs.SessionJoins.{Joins, ReadsNothing}
 use Rattle.mdl_visits.specs.Grantings.{VisitsAndReschedules}
 use Rattle.mdl_visits.specs.Leavings.{MeetsOwn}
 use Rattle.mdl_visits.specs.Numbers.{numbered}
-use Rattle.mdl_visits.specs.Visits.{Does, IsStepOf, MeetsBlocked, MeetsGrantable, Visits}
+use Rattle.mdl_visits.specs.Visits.{Does, IsStepOf}
 use Rattle.mdl_visits.proofs.Doing.{does_reschedule}
-use Rattle.mdl_shared.specs.Doings.{merge_deeds, rise_deeds, upgrade_deeds}
+use Rattle.mdl_shared.specs.Doings.{rise_deeds, upgrade_deeds}
 use Rattle.mdl_shared.specs.Members.{IsMember}
 use Rattle.mdl_shared.specs.Modes.{downgrade_fault, merge_fault}
 use Rattle.mdl_shared.specs.OwnLists.{told_of}
 use Rattle.mdl_shared.specs.SessionViews.{SessionView, session_at, space_of, tickets_seen}
-use Rattle.mdl_shared.specs.Showings.{ShowsStep, Shows}
+use Rattle.mdl_shared.specs.Showings.{Shows}
 use Rattle.mdl_shared.specs.Upgrades.{upgrade_fault}
 use Rattle.mdl_shared.proofs.Faults.{if-clear}
 use Rattle.mdl_shared.proofs.HeldTickets.{HoldsTicket}
-use Rattle.mdl_shared.proofs.MemberFacts.{alters-slow, merges-slow, speaks}
-use Rattle.mdl_shared.proofs.Members.{HasDone, done-next, done-nothing, done-reads, done-rest, done-tickets, rescheduled, visited}
+use Rattle.mdl_shared.proofs.MemberFacts.{alters-slow, speaks}
+use Rattle.mdl_shared.proofs.Members.{HasDone, done-next, done-nothing, done-reads, done-rest, done-tickets, rescheduled}
 use Rattle.mdl_shared.proofs.NotedOnce.{one-note, one-note_done}
 use Rattle.mdl_shared.proofs.Refusals.{does-nothing}
 use Rattle.mdl_shared.proofs.SameSpace.{joins-held, joins-still, numbers-same, refused, same-rest, same-stays}
@@ -39,7 +38,7 @@ use Rattle.mdl_shared.proofs.SpaceLists.{ticket-told}
 use Rattle.mdl_shared.proofs.SpaceNotes.{AllNoted, noted-less, noted-moded, nothing-read, noted_under}
 use Rattle.mdl_shared.proofs.SpaceTickets.{all_of, given-up, holds-told, in-mode, in_mode_told, is_here, merged-told, of-held, only-one, same-mode}
 use Rattle.mdl_shared.proofs.TicketFaults.{downgrade-cause, downgrade-clear, knows, merge-cause, merge-clear, merge-here, upgrade-cause, upgrade-clear}
-use Rattle.mdl_shared.proofs.WishShows.{did, settles, shows, told}
+use Rattle.mdl_shared.proofs.WishShows.{did, shows, told}
 
 -- ---- a call with one deed
 
@@ -103,24 +102,6 @@ module _ {m : SessionView} (is : IsMember m) (id : ℕ) (t : Own) (its : numbere
         (and_from _ _ (eq-eqb t.place t.place refl) (not_from_false (covers t.mode mode) short))))
         refl (drawn done (done-next done)) may-rise tt refl (λ state how is. cc) (λ how is. cc) refl (deed-reads is done) tt
 
-<<<<<<< HEAD
-=======
-    deeds : (answer : Upgrade) → covers t.mode mode ≡ false → rise_deeds id mode answer ≡ upgrade_deeds id mode (Ok answer) (numbered id (tickets_seen m.me.0))
-    deeds answer short = sym (ap (upgrade_deeds id mode (Ok answer)) its ∙ ap (λ b. if b then [] else rise_deeds id mode answer) short)
-
-    pub upgrade-shows : {m′ : SessionView} → m′.table ≡ m.table → m′.sessions ≡ m.sessions → covers t.mode mode ≡ false → Visits t.place (Alter id mode ∷ []) m.me m′.me
-        → ShowsStep m m′ (MeetsGrantable t.place m.me.0.number mode (Alter id mode)) → Shows (Upgrade_now m.me.0.number id mode) Upgraded m m′
-    upgrade-shows {m′} table sessions short went met =
-        shows table sessions clear (subst (λ (ds : List Deed). Does ds m.me m′.me) (deeds upgrade.Upgraded short) (did went)) (settles went) (told went) tt
-        (t, its, (λ has. let never = sym has ∙ short in cc, λ less. met))
-
-    pub blocked-shows : {m′ : SessionView} → m′.table ≡ m.table → m′.sessions ≡ m.sessions → covers t.mode mode ≡ false → Visits t.place [] m.me m′.me
-        → ShowsStep m m′ (MeetsBlocked t.place m.me.0.number mode) → Shows (Upgrade_now m.me.0.number id mode) Would_wait m m′
-    blocked-shows {m′} table sessions short went met =
-        shows table sessions clear (subst (λ (ds : List Deed). Does ds m.me m′.me) (deeds upgrade.WouldWait short) (did went)) (settles went) (told went) tt
-        (t, its, (short, met))
-
->>>>>>> w-C1
     -- that would have to wait
     pub blocked-joins : {m′ : SessionView} → covers t.mode mode ≡ false → HasDone t.place [] m m′ → Joins (space_of m) (Upgrade_now m.me.0.number id mode) Would_wait (space_of m′)
     blocked-joins {m′} short done =

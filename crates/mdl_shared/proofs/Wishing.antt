@@ -7,7 +7,6 @@ use Rattle.mdl_steps.specs.declared.deed.Deed.TheVariants.{Gain}
 use Rattle.mdl_steps.specs.declared.view.Ask.{Ask}
 use Rattle.mdl_steps.specs.declared.view.Own.{Own}
 use Rattle.mdl_steps.specs.Cells.{own_at}
-use Rattle.mdl_steps.specs.Deeds.{owned}
 use Rattle.mdl_steps.specs.Interleavings.{interleaved}
 use Rattle.mdl_steps.specs.SeatStates.{AtItsTable, SeatState}
 use Rattle.mdl_visits.specs.Visits.{HasWish, MayVisit, Visits}
@@ -70,11 +69,6 @@ pub gained-by : (m : Member) (seat′ : SeatState) (place : ℕ) (mode : Mode) �
     → HasDone place (Gain m.next mode ∷ []) (view_of m) (session_at seat′ m.sessions)
 gained-by m seat′ place mode none visit =
     visited m.seat seat′ m.sessions (gains-slow (member m) place m.next mode (ap (λ (l : Lists). l.next) m.lists) (none-there (member m) (unfast-seen m none) place)) visit
-
--- the ticket that was gained is the last slow one of its own list
-pub gained-seen : (place number : ℕ) (mode : Mode) (own slow slow′ : List Own) → slow ≡ own → slow′ ≡ owned place (Gain number mode) slow
-    → slow′ ≡ owned place (Gain number mode) own
-gained-seen place number mode own slow slow′ same gained = gained ∙ ap (owned place (Gain number mode)) same
 
 -- its own lists as it begins to wait
 pub waiting-lists : (m : Member) (place : ℕ) (mode : Mode)

@@ -18,7 +18,8 @@ use mdl_visits::{release, reschedule};
 use std::sync::Wait;
 
 impl<R: Wait> Session<R> {
-    /// Gives up a ticket, and grants the waits at its place that can be granted then. It takes no memory.
+    /// Gives up a ticket, and grants the waits at its place that can be granted then. A fast ticket goes by one step on the word of its place,
+    /// and the latch is taken only if that step finds that somebody may wait there. It takes no memory.
     pub fn release(&mut self, id: TicketId) -> Result<(), SpaceError>
         ensures joined { Joins (space_of self.old) (Release self.old.me.0.number id) (done result) (space_of self.new) }
         ensures shown { Shows (Release self.old.me.0.number id) (done result) self.old self.new }

@@ -1,7 +1,6 @@
 -- The ticket has the other one's mode, and that one goes.
 use Rattle.std.proofs.Common.{Some, [], ◌∷◌, inr, refl, sym, ap, ◌∙◌}
 use Rattle.mdl_steps.specs.declared.deed.Deed.TheVariants.{Alter, Lose}
-use Rattle.mdl_visits.specs.Numbers.{numbered}
 use Rattle.mdl_shared.specs.Members.{without_at}
 use Rattle.mdl_shared.specs.Modes.{merge_fault}
 use Rattle.mdl_shared.specs.SessionViews.{Lists}
@@ -40,13 +39,16 @@ invariant_of-self g c =
     let other = slow-held m gone c.requires.unfast c.requires.held.1 in
     let free = ap (λ (l : Lists). merge_fault (Some t) (Some gone) l.asks) (sym m.lists) ∙ c.requires.clear in
     let visit = c.merge.ensures.merged in
-    let done = visited m.seat c.merge.new.seat m.sessions (merges-slow is t.place t.number gone.number gone.mode t gone one.1.its other.1.its) visit in
+    let slow = merges-slow is t.place t.number gone.number gone.mode t gone one.1.its other.1.its in
+    let done = visited m.seat c.merge.new.seat m.sessions slow visit in
     record {
       lawful = ∣ kept is (done-order done is (inr refl)) (merge-joins is t.number t one.0.its gone.number gone other.0.its free done) ∣₁;
       lists = lists-done m t.place (Alter t.number gone.mode ∷ Lose gone.number ∷ []) (lists-visited visit)
           (c.strike.ensures.struck.0 ∙ ap (without_at t.place gone.number) c.set_mode.ensures.changed.0)
-          (fast-struck m t.place gone.number (spared is gone.number gone other.1.its) (c.strike.ensures.struck.1 ∙ ap (without_at t.place gone.number) c.set_mode.ensures.changed.1));
-      room = λ ask asks. room-kept c.set_mode.new.self c.strike.new.self c.strike.ensures.room (room-kept m.tickets c.set_mode.new.self c.set_mode.ensures.room (m.room ask asks));
+          (fast-struck m t.place gone.number (spared is gone.number gone other.1.its)
+          (c.strike.ensures.struck.1 ∙ ap (without_at t.place gone.number) c.set_mode.ensures.changed.1));
+      room = λ ask asks.
+          room-kept c.set_mode.new.self c.strike.new.self c.strike.ensures.room (room-kept m.tickets c.set_mode.new.self c.set_mode.ensures.room (m.room ask asks));
     }
 
 pub returns-clause-merged : goal.returns-clause-merged
@@ -57,4 +59,5 @@ returns-clause-merged g c =
     let one = slow-held m t c.requires.unfast c.requires.held.0 in
     let other = slow-held m gone c.requires.unfast c.requires.held.1 in
     let visit = c.merge.ensures.merged in
-    quiet-visit (visited m.seat c.merge.new.seat m.sessions (merges-slow (member m) t.place t.number gone.number gone.mode t gone one.1.its other.1.its) visit) visit.1
+    let slow = merges-slow (member m) t.place t.number gone.number gone.mode t gone one.1.its other.1.its in
+    quiet-visit (visited m.seat c.merge.new.seat m.sessions slow visit) visit.1

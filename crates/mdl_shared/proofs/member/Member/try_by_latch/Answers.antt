@@ -1,5 +1,5 @@
 -- The session may wish so, and what became of the wish is told by the visit.
-use Rattle.std.proofs.Common.{Ok, [], ap, arith, inl, refl, ◌∙◌, ◌∷◌, ◌≡◌}
+use Rattle.std.proofs.Common.{Ok, [], ap, arith, inl, refl, ◌∙◌, ◌∷◌}
 use Rattle.mdl_shared.specs.SessionViews.{Lists}
 use Rattle.mdl_steps.specs.declared.deed.Deed.TheVariants.{Gain}
 use Rattle.mdl_shared.proofs.Members.{done-nothing, done-order, kept, lists-done, lists-visited, visited}

@@ -1,5 +1,5 @@
 -- The mode is one of the lock's kind that the ticket's own covers, and the second ticket is the last of the session's.
-use Rattle.std.proofs.Common.{Err, None, Ok, Option, Some, ap, refl, rules, subst, sym, ℕ, ◌∙◌, ◌≡◌}
+use Rattle.std.proofs.Common.{Err, None, Ok, Option, Some, ap, rules, subst, sym, ℕ, ◌∙◌, ◌≡◌}
 use Rattle.std.specs.Option.{IfSome}
 use Rattle.mdl_calls.specs.Words.{Clone_ticket}
 use Rattle.mdl_shared.specs.FastWishes.{GainsFast}
@@ -18,7 +18,7 @@ pub returns-in_err-held : goal.returns-in_err-held
 returns-in_err-held g c =
     let m = c.self.inside.member in
     let why = c.in_err-held.field-0.0 in
-    let refused : c.from_residual-in_err-held.result ≡ Err why = search rules in
+    let refused : c.from_residual.result ≡ Err why = search rules in
     let call = Clone_ticket m.seat.me.0.number c.args.id c.args.mode in
     let fault = fault-seen m call (Some why) (just-refused _ _ why c.in_err-held.ensures.just) in
     rw refused (rw (← c.self.view_is) (record {
@@ -44,7 +44,8 @@ returns-in-Some g c =
     let t = c.in_ok-held.held in
     let its = held-seen m c.args.id (Some t) (sym c.in_ok-held.ensures.found.0) in
     let clear = fault-seen m (Clone_ticket m.seat.me.0.number c.args.id c.args.mode) None (just-done _ _ c.in_ok-held.ensures.just) in
-    let gains = subst (λ (o : Option ℕ). IfSome o (λ id. GainsFast t.place c.args.mode id (view_of m) (view_of c.try_fast_first.new.self))) c.in-Some.is c.in_ok-number.ensures.granted in
+    let gains = subst (λ (o : Option ℕ). IfSome o (λ id. GainsFast t.place c.args.mode id (view_of m) (view_of c.try_fast_first.new.self)))
+    c.in-Some.is c.in_ok-number.ensures.granted in
     let both = fast-cloned (member m) c.args.id c.args.mode clear t its gains in
     rw (← c.self.view_is) (record { joined = both.0; shown = both.1 })
 

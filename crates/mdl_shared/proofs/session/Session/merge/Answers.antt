@@ -1,5 +1,5 @@
 -- The ticket has the other one's mode, and that one goes; or they can't be merged.
-use Rattle.std.proofs.Common.{Err, None, Some, refl, rules, sym, ◌∙◌, ◌≡◌}
+use Rattle.std.proofs.Common.{Err, None, Some, rules, sym, ◌≡◌}
 use Rattle.mdl_calls.specs.Words.{Merge}
 use Rattle.mdl_shared.specs.Passes.{view_of}
 use Rattle.mdl_shared.proofs.Faults.{just-done, just-refused}
@@ -14,7 +14,7 @@ pub returns-in_err-kept : goal.returns-in_err-kept
 returns-in_err-kept g c =
     let m = c.self.inside.member in
     let why = c.in_err-kept.field-0.0 in
-    let refused : c.from_residual-in_err-kept.result ≡ Err why = search rules in
+    let refused : c.from_residual.result ≡ Err why = search rules in
     let call = Merge m.seat.me.0.number c.args.old c.args.new in
     let fault = fault-seen m call (Some why) (just-refused _ _ why c.in_err-kept.ensures.just) in
     rw refused (rw (← c.self.view_is) (record {
@@ -32,7 +32,8 @@ returns-in_err-materialise g c =
     let its = held-seen m c.args.old (Some c.in_ok-kept.kept) (sym c.in_ok-kept.ensures.found.0) in
     let other = held-seen m c.args.new (Some c.in_ok-kept.gone) (sym c.in_ok-kept.ensures.found.1) in
     let clear = fault-seen m (Merge m.seat.me.0.number c.args.old c.args.new) None (just-done _ _ c.in_ok-kept.ensures.just) in
-    let both = merge-refused (member m) c.args.old c.args.new c.in_ok-kept.kept c.in_ok-kept.gone its other clear c.materialise.ensures.done c.in_err-materialise.ensures.refused in
+    let both = merge-refused (member m) c.args.old c.args.new c.in_ok-kept.kept c.in_ok-kept.gone its other clear
+    c.materialise.ensures.done c.in_err-materialise.ensures.refused in
     rw refused (rw (← c.self.view_is) (record { joined = both.0; shown = both.1 }))
 
 pub merge_by_latch-requires-clause-held : goal.merge_by_latch-requires-clause-held
@@ -51,5 +52,6 @@ returns g c =
     let other = held-seen m c.args.new (Some c.in_ok-kept.gone) (sym c.in_ok-kept.ensures.found.1) in
     let clear = fault-seen m (Merge m.seat.me.0.number c.args.old c.args.new) None (just-done _ _ c.in_ok-kept.ensures.just) in
     let slow = becomes-slow m c.materialise.new.self c.materialise.ensures.done c.in_ok-materialise.ensures.slow in
-    let both = merged-slow (member m) c.args.old c.args.new c.in_ok-kept.kept c.in_ok-kept.gone its other clear slow c.merge_by_latch.ensures.merged c.merge_by_latch.ensures.met in
+    let both = merged-slow (member m) c.args.old c.args.new c.in_ok-kept.kept c.in_ok-kept.gone its other clear slow
+    c.merge_by_latch.ensures.merged c.merge_by_latch.ensures.met in
     rw (← c.self.view_is) (record { joined = both.0; shown = both.1 })

@@ -7,7 +7,7 @@ use Rattle.mdl_steps.specs.Deeds.{NotWaited}
 use Rattle.mdl_visits.specs.Numbers.{numbered}
 use Rattle.mdl_visits.proofs.Numbers.{has_number}
 use Rattle.mdl_shared.specs.Passes.{view_of}
-use Rattle.mdl_shared.specs.SessionViews.{Lists, tickets_seen}
+use Rattle.mdl_shared.specs.SessionViews.{tickets_seen}
 use Rattle.mdl_shared.proofs.HeldTickets.{holds-ticket}
 use Rattle.mdl_shared.proofs.MemberFacts.{loses-slow, slow-there, spared, speaks}
 use Rattle.mdl_shared.proofs.Members.{done-order, fast-struck, held-seen, kept, lists-done, lists-rescheduled, rescheduled, room-kept}

@@ -1,26 +1,20 @@
 -- The ticket has the stronger mode, or would have to wait for it, or can't have it.
-use Rattle.std.proofs.Common.{Err, None, Some, refl, rules, sym, ◌∙◌, ◌≡◌}
+use Rattle.std.proofs.Common.{Err, None, Some, rules, sym, ◌∙◌, ◌≡◌}
 use Rattle.mdl_calls.specs.Words.{Upgrade_now}
 use Rattle.mdl_shared.specs.Passes.{view_of}
 use Rattle.mdl_shared.proofs.Faults.{just-done, just-refused}
 use Rattle.mdl_shared.proofs.Members.{fault-seen, held-seen}
 use Rattle.mdl_shared.proofs.Props.{member}
 use Rattle.mdl_shared.proofs.Refusals.{own-shows}
-<<<<<<< HEAD
 use Rattle.mdl_shared.proofs.SlowFirst.{becomes-slow, slow-then, tried-slow, upgrade-refused}
-use Rattle.mdl_shared.proofs.TicketCalls.{covered-joins, upgrade-unfit}
-=======
-use Rattle.mdl_shared.proofs.TicketCalls.{blocked-joins, blocked-shows, covered-joins, covered-shows, upgrade-joins, upgrade-shows, upgrade-unfit}
-use Rattle.mdl_shared.proofs.TicketFaults.{upgrade-kind}
-use Rattle.mdl_shared.proofs.WaitSteps.{still-member}
->>>>>>> w-C1
+use Rattle.mdl_shared.proofs.TicketCalls.{covered-joins, covered-shows, upgrade-unfit}
 use Rattle.mdl_shared.proofs.session.Session.upgrade_now.Goals as goal
 
 pub returns-in_err-held : goal.returns-in_err-held
 returns-in_err-held g c =
     let m = c.self.inside.member in
     let why = c.in_err-held.field-0.0 in
-    let refused : c.from_residual-in_err-held.result ≡ Err why = search rules in
+    let refused : c.from_residual.result ≡ Err why = search rules in
     let call = Upgrade_now m.seat.me.0.number c.args.id c.args.mode in
     let fault = fault-seen m call (Some why) (just-refused _ _ why c.in_err-held.ensures.just) in
     rw refused (rw (← c.self.view_is) (record {
@@ -31,12 +25,8 @@ returns-in_err-held g c =
 pub returns-then-covers : goal.returns-then-covers
 returns-then-covers g c =
     let m = c.self.inside.member in
-<<<<<<< HEAD
-    let its = held-seen m c.args.id (Some c.in_ok-held.held) (sym c.in_ok-held.ensures.found) in
-=======
     let t = c.in_ok-held.held in
-    let its = (holds-ticket m c.args.id t c.in_ok-held.ensures.found).its in
->>>>>>> w-C1
+    let its = held-seen m c.args.id (Some t) (sym c.in_ok-held.ensures.found) in
     let clear = fault-seen m (Upgrade_now m.seat.me.0.number c.args.id c.args.mode) None (just-done _ _ c.in_ok-held.ensures.just) in
     let has = sym c.covers.ensures ∙ c.if-covers.true in
     rw (← c.self.view_is) (record {
@@ -58,7 +48,8 @@ returns-in_err-materialise g c =
 
 pub upgrade_by_latch-requires-clause-held : goal.upgrade_by_latch-requires-clause-held
 upgrade_by_latch-requires-clause-held g c =
-    slow-then c.self.inside.member c.materialise.new.self c.materialise.ensures.done.done c.in_ok-materialise.ensures.slow.0 c.args.id c.in_ok-held.held c.in_ok-held.ensures.found
+    slow-then c.self.inside.member c.materialise.new.self c.materialise.ensures.done.done c.in_ok-materialise.ensures.slow.0
+    c.args.id c.in_ok-held.held c.in_ok-held.ensures.found
 
 pub returns : goal.returns
 returns g c =
