@@ -18,10 +18,16 @@ const MOST_FAST: u64 = 1023;
 
 const ROOM: &[Row] = &[
     (Act::Resolve(Lock::Sales), Reply::Place(1)),
+    (Act::Resolve(Lock::Orders), Reply::Place(2)),
     (Act::Reserve(1024), Reply::Done),
 ];
 
-const ONE_MORE: &[Row] = &[(Act::TryFast(1, Mode::S), Reply::Limit)];
+const ONE_MORE: &[Row] = &[
+    (Act::TryFast(1, Mode::S), Reply::Limit),
+    (Act::TryFast(1, Mode::SR), Reply::Limit),
+    (Act::TryFast(2, Mode::S), Reply::Granted(1024)),
+    (Act::ReleaseFast(1024), Reply::Owes(false)),
+];
 
 // Tries for as many fast tickets as there may be: how many are granted, with the numbers from 1 on.
 fn gained<R: Wait>(alloc: Global, session: &mut Session<R>) -> u64 {
@@ -43,9 +49,10 @@ fn given_up<R: Wait>(alloc: Global, session: &mut Session<R>) -> u64 {
     right
 }
 
+// There it gains no more, but it does elsewhere.
 #[test]
 fn a_session_gains_1023_fast_tickets_at_a_place(rt: HostRuntime) -> Result<(), Fail> {
-    let (manager, mut passes) = Manager::new(rt.alloc(), 1, 1)?;
+    let (manager, mut passes) = Manager::new(rt.alloc(), 2, 1)?;
     let mut session = Session::open(&rt, &manager, passes.remove(0));
     assert_eq!(rt; first_wrong(rt.alloc(), &mut session, ROOM), None);
     assert_eq!(rt; gained(rt.alloc(), &mut session), MOST_FAST);
