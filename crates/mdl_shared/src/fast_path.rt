@@ -1,6 +1,6 @@
 //! The fast path: a ticket in an unobtrusive mode is granted, and released, without the latch of its place, as long as the lock has no ticket in
-//! an obtrusive mode. The lock's word counts it, and no book has it. Before a session goes by the latch of a place in earnest, its fast tickets
-//! become slow ones, which stand in the books.
+//! an obtrusive mode. The lock's word counts it, and no book has it. Before the session asks for a ticket or a mode under the latch of a place,
+//! its fast tickets become slow ones, which stand in the books.
 //!
 //! After MySQL 5.7, sql/mdl.cc: `MDL_context::try_acquire_lock_impl`, `MDL_context::release_lock` and
 //! `MDL_context::materialize_fast_path_locks`.
