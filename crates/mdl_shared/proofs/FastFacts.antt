@@ -1,7 +1,7 @@
 -- What a session with fast tickets, or one that asks for one, gives the steps of its fast path.
-use Rattle.std.proofs.Common.{◌≡◌, ◌≢◌, ℕ, ◌+◌, ◌<◌, ◌==◌, ◌&&◌, Bool, true, false, not, nat_le, List, [], ◌∷◌, filter, map, length, is_some, Option, Some, None, refl, sym, ap, subst, ◌∙◌, arith}
+use Rattle.std.proofs.Common.{◌≡◌, ◌≢◌, ℕ, ◌<◌, ◌==◌, Bool, true, List, [], ◌∷◌, filter, map, length, is_some, Option, Some, None, refl, sym, ap, subst, ◌∙◌, arith}
 use Rattle.std.specs.Option.{option_and_then, unwrap_or}
-use Rattle.std.proofs.lemmas.Bool.{and_parts, eq-eqb, eqb-true, false≢true, lt-leb}
+use Rattle.std.proofs.lemmas.Bool.{and_parts, eq-eqb, eqb-true, lt-leb}
 use Rattle.mdl_key.specs.declared.mode.Mode.{Mode}
 use Rattle.mdl_key.specs.declared.namespace.Kind.{Kind}
 use Rattle.mdl_key.specs.Words.{is_mode_of}
@@ -12,14 +12,14 @@ use Rattle.mdl_steps.specs.declared.view.Own.{Own}
 use Rattle.mdl_steps.specs.Cells.{own_at, ticket_by}
 use Rattle.mdl_steps.specs.Deeds.{is_own}
 use Rattle.mdl_steps.specs.FastPlays.{IsCounted, MayReleaseFast, moved}
-use Rattle.mdl_steps.specs.Lists.{Each, Once}
+use Rattle.mdl_steps.specs.Lists.{Once}
 use Rattle.mdl_steps.proofs.FastLists.{counted_mode}
 use Rattle.mdl_steps.proofs.Interleaving.{Differ, IsOther, each-filtered}
 use Rattle.mdl_steps.proofs.Views.{by_bool}
 use Rattle.mdl_visits.specs.Numbers.{is_no_number, numbered}
 use Rattle.mdl_visits.specs.Visits.{KnowsKind, MayVisit}
 use Rattle.mdl_shared.specs.declared.member.Member.{Member}
-use Rattle.mdl_shared.specs.Members.{are_counted, increment_at, is_known_place, kind_known, most_numbers, wish_fault, without_at}
+use Rattle.mdl_shared.specs.Members.{are_counted, increment_at, kind_known, most_numbers, wish_fault, without_at}
 use Rattle.mdl_shared.specs.Passes.{view_of}
 use Rattle.mdl_shared.specs.SessionViews.{Lists, SessionView}
 use Rattle.mdl_shared.proofs.MemberFacts.{differ, fast-alone, may-visit}

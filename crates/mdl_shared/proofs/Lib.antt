@@ -45,4 +45,3 @@ pub mod FastWishing
 pub mod SlowFirst
 pub mod FastWishShows
 pub mod FastCalls
-pub mod SlowPlaces

@@ -1,16 +1,14 @@
 -- What is always so of a session between two calls is so after each call.
 pub use Rattle.mdl_shared.specs.DeedsDone.{HasDone, StaysFast}
-use Rattle.std.proofs.Common.{◌≡◌, ◌⊎◌, inl, inr, ℕ, ◌+◌, ◌≤◌, ◌<◌, true, List, [], ◌∷◌, length, Option, Some, None, refl, sym, ap, subst, ◌∙◌, arith}
+use Rattle.std.proofs.Common.{◌≡◌, ◌⊎◌, inl, inr, ℕ, ◌+◌, ◌≤◌, ◌<◌, true, List, [], ◌∷◌, Option, Some, None, refl, sym, ap, subst, ◌∙◌, arith}
 use Rattle.atomic_table.specs.Seated.{TableId}
 use Rattle.mdl_calls.specs.declared.space_error.SpaceError.{SpaceError}
 use Rattle.mdl_calls.specs.Words.{Answer, Call}
 use Rattle.mdl_steps.specs.declared.deed.Deed.{Deed}
 use Rattle.mdl_steps.specs.declared.deed.Deed.TheVariants.{Gain, Alter, Lose}
 use Rattle.mdl_steps.specs.declared.view.Ask.{Ask}
-use Rattle.mdl_steps.specs.declared.view.Met.{Met}
 use Rattle.mdl_steps.specs.declared.view.Known.{Known}
 use Rattle.mdl_steps.specs.declared.view.Own.{Own}
-use Rattle.mdl_steps.specs.declared.view.Settlement.{Settlement}
 use Rattle.mdl_steps.specs.Deeds.{all_next, all_owned}
 use Rattle.mdl_steps.specs.Interleavings.{interleaved}
 use Rattle.mdl_steps.specs.Layout.{word_count}

@@ -38,7 +38,7 @@ use Rattle.mdl_shared.proofs.SpaceLists.{ticket-told}
 use Rattle.mdl_shared.proofs.SpaceNotes.{AllNoted, noted-less, noted-moded, nothing-read, noted_under}
 use Rattle.mdl_shared.proofs.SpaceTickets.{all_of, given-up, holds-told, in-mode, in_mode_told, is_here, merged-told, of-held, only-one, same-mode}
 use Rattle.mdl_shared.proofs.TicketFaults.{downgrade-cause, downgrade-clear, knows, merge-cause, merge-clear, merge-here, upgrade-cause, upgrade-clear}
-use Rattle.mdl_shared.proofs.WishShows.{did, shows, told}
+use Rattle.mdl_shared.proofs.WishShows.{shows}
 
 -- ---- a call with one deed
 

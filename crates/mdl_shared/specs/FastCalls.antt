@@ -29,15 +29,16 @@ fast_fault place mode l =
 abbrev pub HasFewerFast : ℕ → SessionView → Type 0
 HasFewerFast place s = length (own_at place s.me.0.fast) < most_fast
 
--- it got no fast ticket at a place: it has what it had, and its steps did no deeds
+-- it got no fast ticket at a place, though it may have more there: it has what it had, and its steps did no deeds
 abbrev pub GetsNothing : ℕ → SessionView → SessionView → Type 0
-GetsNothing place a b = KeepsLists a b × DoesQuietly place [] a b
+GetsNothing place a b = HasFewerFast place a × KeepsLists a b × DoesQuietly place [] a b
 
 -- what a try for a fast ticket does, by its answer: it was granted as the flag OBTRUSIVE was down; or a step met the flag up; or eight tries each met
 -- another word than the step before; or the session has as many fast tickets there as it may have, and made no step
 abbrev pub HasTriedFast : ℕ → Mode → Fast → SessionView → SessionView → Type 0
 HasTriedFast place mode (Granted id) a b =
-    Joins (space_of a) (Try_now a.me.0.number place mode) (calls.Granted id) (space_of b)
+    HasFewerFast place a
+    × Joins (space_of a) (Try_now a.me.0.number place mode) (calls.Granted id) (space_of b)
     × DoesQuietly place (Gain id mode ∷ []) a b
     × ShowsStep a b (MeetsClear place (Gain id mode))
 HasTriedFast place mode (Obtruded word) a b = GetsNothing place a b × ShowsStep a b (MeetsObtrusive place word.0)
@@ -46,9 +47,12 @@ HasTriedFast place mode Limit a b = (b ≡ a) × (most_fast ≤ length (own_at p
 
 -- why it's refused: for what the session has of its own, or as memory ran out. No step was made
 abbrev pub RefusesFast : ℕ → Mode → SpaceError → SessionView → SessionView → Type 0
-RefusesFast place mode why a b = (b ≡ a) × ((fast_fault place mode (lists_seen a.me.0) ≡ Some why) ⊎ ((fast_fault place mode (lists_seen a.me.0) ≡ None) × (why ≡ OutOfMemory)))
+RefusesFast place mode why a b =
+    (b ≡ a)
+    × ((fast_fault place mode (lists_seen a.me.0) ≡ Some why) ⊎ ((fast_fault place mode (lists_seen a.me.0) ≡ None) × (why ≡ OutOfMemory)))
 
--- the fast ticket of a number was given up by one step. The session owes its place a reschedule where the flag SLOW of the word that the step found was up
+-- the fast ticket of a number was given up by one step. The session owes its place a reschedule where the flag SLOW of the word that the step found was
+-- up
 abbrev pub GaveUpFast : ℕ → Bool → SessionView → SessionView → Type 0
 GaveUpFast id owes a b =
     Joins (space_of a) (Release a.me.0.number id) Done (space_of b)

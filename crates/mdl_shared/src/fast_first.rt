@@ -1,6 +1,6 @@
 //! A wish for a ticket is tried on the fast path first.
 //!
-//! After MySQL 5.7, sql/mdl.cc: `MDL_context::try_acquire_lock_impl`, which makes the session's fast tickets slow before it goes by the latch.
+//! After MySQL 5.7, sql/mdl.cc: `MDL_context::try_acquire_lock_impl`, which makes the session's fast tickets slow before it takes the latch.
 ghost use Rattle.std.specs.Prelude.{◌≡◌, ◌<◌, None, Ok, Some, IfErr, IfNone, IfOk, IfSome, [], OnErr};
 ghost use Rattle.mdl_shared.specs.DeedsDone.{DoesQuietly};
 ghost use Rattle.mdl_shared.specs.FastDeeds.{LacksRoomForFast};
@@ -17,7 +17,7 @@ use std::sync::Wait;
 
 impl Member {
     /// Makes room for a ticket of the next number at a place of this kind, and grants it if the fast path is open to the mode. If not, it returns
-    /// no ticket, and the session has no fast one any more: what follows goes by the latch of the place.
+    /// no ticket, and the session has no fast one any more: what follows is done under the latch of the place.
     pub(crate) fn try_fast_first<R: Wait>(
         &mut self,
         rt: &R,

@@ -1,16 +1,18 @@
 //! The fast path: a ticket in an unobtrusive mode is granted, and released, without the latch of its place, as long as the lock has no ticket in
-//! an obtrusive mode. The lock's word counts it, and no book has it. Before a session goes by the latch of a place in earnest, its fast tickets
-//! become slow ones, which stand in the books.
+//! an obtrusive mode. The lock's word counts it, and no book has it. Before the session asks for a ticket or a mode under the latch of a place,
+//! its fast tickets become slow ones, which stand in the books.
 //!
 //! After MySQL 5.7, sql/mdl.cc: `MDL_context::try_acquire_lock_impl`, `MDL_context::release_lock` and
 //! `MDL_context::materialize_fast_path_locks`.
-ghost use Rattle.std.specs.Prelude.{◌≡◌, ◌<◌, ◌≤◌, ◌∷◌, [], None, Some, length, IfErr, IfOk, OnErr, OnOk};
+ghost use Rattle.std.specs.Prelude.{◌≡◌, ◌⊎◌, Err, ◌<◌, ◌≤◌, ◌∷◌, [], None, Some, length, IfErr, IfOk, OnErr, OnOk};
 ghost use Rattle.mdl_steps.specs.declared.deed.Deed.TheVariants.{Gain, Lose};
 ghost use Rattle.mdl_steps.specs.Cells.{own_at};
 ghost use Rattle.mdl_steps.specs.FastPlays.{but_at};
+ghost use Rattle.mdl_steps.specs.Limits.{most_fast};
 ghost use Rattle.mdl_visits.specs.FastTries.{MeetsClear, ReleasesFast};
 ghost use Rattle.mdl_visits.specs.Numbers.{numbered};
 ghost use Rattle.mdl_visits.specs.Visits.{StaysOn};
+ghost use Rattle.mdl_shared.specs.declared.fast_path.NotFast.TheVariants.{Limit};
 ghost use Rattle.mdl_shared.specs.DeedsDone.{DoesQuietly};
 ghost use Rattle.mdl_shared.specs.FastDeeds.{HasNoFast, LacksRoomForFast};
 ghost use Rattle.mdl_shared.specs.Members.{increment_at, most_numbers};
@@ -60,6 +62,7 @@ impl Member {
             × ShowsStep (view_of self.old) (view_of self.new) (MeetsClear place (Gain id mode))) }
         ensures unchanged { OnErr result (DoesQuietly place [] (view_of self.old) (view_of self.new) × (self.new.tickets ≡ self.old.tickets)) }
         ensures closed { IfErr result (λ why. HasNoFast why place (view_of self.old) (view_of self.new)) }
+        ensures fewer { (result ≡ Err Limit) ⊎ (length (own_at place self.old.tickets.fast) < most_fast) }
         ensures stays { StaysOn self.old.seat.me self.new.seat.me }
     {
         if self.tickets.fast_at(place) >= MOST_FAST {
