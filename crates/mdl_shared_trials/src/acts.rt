@@ -1,7 +1,4 @@
 //! Calls of a session and what comes of them, as the rows of tests have them.
-ghost use Rattle.std.specs.Prelude.{◌≡◌, true};
-ghost use Rattle.mdl_session_laws.specs.SessionSpaces.{is_known};
-ghost use Rattle.mdl_shared.specs.SessionViews.{space_of};
 
 use crate::audits::{Shown, are_shown};
 use mdl_calls::{
@@ -298,31 +295,25 @@ fn released(outcome: Result<Released, SpaceError>) -> Reply {
     }
 }
 
-const NO_PLACE: Reply = Reply::Refused(SpaceError::NoPlace);
-
-// Whether the session knows a place: it does unless it is refused the key for that.
-fn knows<R>(session: &mut Session<R>, place: Place) -> bool
-    ensures { result ≡ true → is_known place (space_of session.new).known ≡ true }
-{
-    match session.key_of(place) {
-        Err(SpaceError::NoPlace) => false,
-        _ => true,
-    }
-}
-
 fn reschedule<R: Wait>(session: &mut Session<R>, place: Place) -> Reply {
-    if !knows(session, place) {
-        return NO_PLACE;
+    match session.key_of(place) {
+        Ok(_key) => {
+            session.reschedule(place);
+            Reply::Done
+        }
+        Err(why) => Reply::Refused(why),
     }
-    session.reschedule(place);
-    Reply::Done
 }
 
 fn try_fast<R>(session: &mut Session<R>, place: Place, mode: Mode) -> Reply {
-    if !knows(session, place) {
-        return NO_PLACE;
+    match session.key_of(place) {
+        Ok(_key) => tried_fast(session.try_fast(place, mode)),
+        Err(why) => Reply::Refused(why),
     }
-    match session.try_fast(place, mode) {
+}
+
+fn tried_fast(outcome: Result<Fast, SpaceError>) -> Reply {
+    match outcome {
         Ok(Fast::Granted(id)) => Reply::Granted(id),
         Ok(Fast::Obtruded(word)) => Reply::Obtruded(word),
         Ok(Fast::Contended(word)) => Reply::Contended(word),
