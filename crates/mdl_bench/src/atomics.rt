@@ -1,21 +1,14 @@
-//! The atomic steps by which a lock of the table that threads share is taken in X and given up, by which a fast ticket is gained and given up,
-//! and by which all latches are taken, and nothing else.
+//! The atomic steps by which a lock of the table that threads share is taken in X and given up, and by which all its latches are, and nothing else.
 use std::alloc::{AllocError, Global};
 use std::sync::atomic::{AtomicU64, Ordering};
 use std::thread;
 use std::thread::Threads;
-
-/// How many places have words for the steps: those that four threads make are at the last four.
-pub const STEPPED: usize = 5;
 
 // The words of a place, of which the first is its latch and the second its lock's word.
 const A_PLACE: usize = 8;
 
 // Both flags of a lock's word.
 const FLAGS: u64 = 3 << 60;
-
-// What a lock's word counts a ticket in SR by.
-const ONE: u64 = 1 << 20;
 
 /// Words that stand as those of the table do.
 #[derive(Drop)]
@@ -95,54 +88,6 @@ fn steps_of_two<R: Threads + Sync>(
         rt,
         move || steps(words, places.0, turns),
         move || steps(words, places.1, turns),
-    );
-    early == turns && late == turns
-}
-
-/// Counts a fast ticket in the word of a place and takes it out again, so many times: how often the word was 0 between.
-pub fn fast_steps(words: &Words, place: usize, turns: u32) -> u32 {
-    let first = place.wrapping_mul(A_PLACE);
-    let Some(word) = words.all.get(first.wrapping_add(1)) else {
-        return 0;
-    };
-    let mut made = 0u32;
-    for _turn in 0..turns {
-        if count(word) && word.fetch_sub(ONE, Ordering::SeqCst) == ONE {
-            made = made.wrapping_add(1);
-        }
-    }
-    made
-}
-
-// The word is read, and counts one more. Whether it was 0.
-fn count(word: &AtomicU64) -> bool {
-    let read = word.load(Ordering::SeqCst);
-    let more = read.wrapping_add(ONE);
-    let counted = word.compare_exchange(read, more, Ordering::SeqCst, Ordering::SeqCst);
-    read == 0 && counted.is_ok()
-}
-
-/// The same on four threads, each at a place of its own: whether each word was always 0 between.
-pub fn fast_steps_of_four<R: Threads + Sync>(rt: &R, words: &Words, turns: u32) -> bool {
-    let (early, late) = thread::join(
-        rt,
-        move || fast_steps_of_two(rt, words, (1, 2), turns),
-        move || fast_steps_of_two(rt, words, (3, 4), turns),
-    );
-    early && late
-}
-
-// The same on two threads.
-fn fast_steps_of_two<R: Threads + Sync>(
-    rt: &R,
-    words: &Words,
-    places: (usize, usize),
-    turns: u32,
-) -> bool {
-    let (early, late) = thread::join(
-        rt,
-        move || fast_steps(words, places.0, turns),
-        move || fast_steps(words, places.1, turns),
     );
     early == turns && late == turns
 }

@@ -1,12 +1,10 @@
 //! Sessions of the lock table that threads share, which are closed as they are let go.
-ghost use Rattle.std.specs.Prelude.{◌≡◌, true};
-ghost use Rattle.mdl_session_laws.specs.SessionSpaces.{is_known};
+ghost use Rattle.std.specs.Prelude.{◌≡◌};
 ghost use Rattle.mdl_shared.specs.Passes.{ArePasses, table_of, pass_table};
-ghost use Rattle.mdl_shared.specs.SessionViews.{space_of};
 
 use crate::failure::Failure;
 use mdl_key::{Key, Mode};
-use mdl_shared::{Fast, HoldsTickets, Manager, Pass, Released, Session};
+use mdl_shared::{HoldsTickets, Manager, Pass, Session};
 use mdl_space::{Attempt, Begun, Ended, Place, Poll, Search, SpaceError, TicketId, Upgrade};
 use std::alloc::Global;
 use std::sync::Wait;
@@ -20,8 +18,8 @@ pub struct Guest<'r, R: Wait> {
 }
 
 impl<'r, R: Wait> Guest<'r, R> {
-    /// The session of a pass, which has nothing yet.
-    pub fn new(rt: &'r R, manager: &Manager, pass: Pass) -> Guest<'r, R>
+    // The session of a pass, which has nothing yet.
+    fn new(rt: &'r R, manager: &Manager, pass: Pass) -> Guest<'r, R>
         requires { pass_table pass ≡ table_of manager.now }
     {
         Guest {
@@ -45,13 +43,6 @@ impl<'r, R: Wait> Guest<'r, R> {
             }
             Attempt::WouldWait => Err(Failure::Unexpected),
         }
-    }
-
-    /// Gains a fast ticket at the place of a key and gives it up, so many times: how often it was granted, and nothing was owed after.
-    pub fn take_fast(&mut self, key: &Key, turns: u32) -> Result<u32, Failure> {
-        let place = self.session.resolve(key)?;
-        self.session.reserve_tickets(1)?;
-        Ok(take_fast_often(&mut self.session, place, turns))
     }
 
     /// Begins to wait for a lock that isn't free.
@@ -142,34 +133,6 @@ impl<R: Wait> Drop for Guest<'_, R> {
             ticket: _,
         } = self;
         close(rt, session);
-    }
-}
-
-// Gains a fast ticket at a place that the session knows and gives it up, so many times, while it is granted and nothing is owed: how often.
-fn take_fast_often<R>(session: &mut Session<R>, place: Place, turns: u32) -> u32
-    requires known { is_known place (space_of session.old).known ≡ true }
-{
-    let mut made = 0u32;
-    for _turn in 0..turns {
-        if !takes_fast(session, place) {
-            break;
-        }
-        made = made.wrapping_add(1);
-    }
-    made
-}
-
-// The same once: whether it was granted, and nothing is owed.
-fn takes_fast<R>(session: &mut Session<R>, place: Place) -> bool
-    requires known { is_known place (space_of session.old).known ≡ true }
-    ensures known { result ≡ true → is_known place (space_of session.new).known ≡ true }
-{
-    match session.try_fast(place, Mode::SR) {
-        Ok(Fast::Granted(id)) => match session.release_fast(id) {
-            Ok(Released { owes }) => !owes,
-            Err(_) => false,
-        },
-        _ => false,
     }
 }
 

@@ -21,14 +21,7 @@ const NEWCOMERS: u32 = MOST_SESSIONS as u32 - 1;
 const ROUNDS: usize = 10;
 
 // The calls that a session makes over and over.
-const CALLS: [Job; 6] = [
-    Job::Take,
-    Job::TakeFast,
-    Job::Resolve,
-    Job::KeyOf,
-    Job::Read,
-    Job::Alter,
-];
+const CALLS: [Job; 5] = [Job::Take, Job::Resolve, Job::KeyOf, Job::Read, Job::Alter];
 
 const ONE: Stock = Stock { known: 1, held: 1 };
 
@@ -54,8 +47,6 @@ struct Stock {
 enum Job {
     // The lock is taken and given up. The session's ticket there doesn't stand in the way.
     Take,
-    // A fast ticket is gained and given up, beside others that the session holds.
-    TakeFast,
     // Its key is looked up, which the session knows.
     Resolve,
     // The session is told its key.
@@ -72,20 +63,11 @@ impl Job {
     fn name(self) -> &'static str {
         match self {
             Job::Take => "try_now_and_release",
-            Job::TakeFast => "try_fast_and_release_fast",
             Job::Resolve => "resolve",
             Job::KeyOf => "key_of",
             Job::Read => "read_definition",
             Job::Alter => "upgrade_and_downgrade",
             Job::FirstLookUp => "first_look_up",
-        }
-    }
-
-    // The mode of the session's tickets. Beside one that can be upgraded no ticket is fast.
-    fn mode(self) -> Mode {
-        match self {
-            Job::TakeFast => Mode::SR,
-            _ => Mode::SU,
         }
     }
 
@@ -102,7 +84,6 @@ impl Job {
                 guest.give_up()?;
                 Ok(true)
             }
-            Job::TakeFast => Ok(guest.take_fast(key, 1)? == 1),
             Job::Resolve | Job::FirstLookUp => Ok(guest.resolve(key)? == place),
             Job::KeyOf => guest.has_key(place, key),
             Job::Read => guest.finds_nothing(),
@@ -124,12 +105,12 @@ struct Party<'r, R: Wait> {
 }
 
 impl<'r, R: Wait> Party<'r, R> {
-    fn new(rt: &'r R, alloc: Global, stock: Stock, mode: Mode) -> Result<Party<'r, R>, Failure> {
+    fn new(rt: &'r R, alloc: Global, stock: Stock) -> Result<Party<'r, R>, Failure> {
         let key = table(alloc, stock.known.saturating_sub(1))?;
         let mut guests = guests(rt, alloc, MOST_PLACES, MOST_SESSIONS)?;
         match guests.first_mut() {
             Some(first) => {
-                let place = stock_up(alloc, first, stock, mode)?;
+                let place = stock_up(alloc, first, stock)?;
                 Ok(Party { guests, key, place })
             }
             None => Err(Failure::Unexpected),
@@ -138,10 +119,10 @@ impl<'r, R: Wait> Party<'r, R> {
 
     // So many turns: how many went as they should.
     fn run(&mut self, job: Job, turns: u32) -> Result<u32, Failure> {
-        match job {
-            Job::FirstLookUp => self.call_each(job, turns),
-            Job::TakeFast => self.take_fast(turns),
-            _ => self.call_often(job, turns),
+        if job == Job::FirstLookUp {
+            self.call_each(job, turns)
+        } else {
+            self.call_often(job, turns)
         }
     }
 
@@ -157,14 +138,6 @@ impl<'r, R: Wait> Party<'r, R> {
         Ok(made)
     }
 
-    // Fast tickets are gained and given up by the first session, which looks the key up once before.
-    fn take_fast(&mut self, turns: u32) -> Result<u32, Failure> {
-        match self.guests.first_mut() {
-            Some(first) => first.take_fast(&self.key, turns),
-            None => Err(Failure::Unexpected),
-        }
-    }
-
     // By each of so many others.
     fn call_each(&mut self, job: Job, turns: u32) -> Result<u32, Failure> {
         let mut made = 0u32;
@@ -175,18 +148,17 @@ impl<'r, R: Wait> Party<'r, R> {
     }
 }
 
-// A session learns its places, and takes its tickets in a mode: the last place.
+// A session learns its places, and takes its tickets, which can be upgraded: the last place.
 fn stock_up<R: Wait>(
     alloc: Global,
     guest: &mut Guest<'_, R>,
     stock: Stock,
-    mode: Mode,
 ) -> Result<Place, Failure> {
     let mut place = 0;
     for index in 0..stock.known {
         place = guest.resolve(&table(alloc, index)?)?;
         if index.saturating_add(stock.held) >= stock.known {
-            guest.take(place, mode)?;
+            guest.take(place, Mode::SU)?;
         }
     }
     Ok(place)
@@ -203,7 +175,7 @@ struct Timed {
 impl Timed {
     // A round of so many turns, over a new table.
     fn round<R: Wait + Clock>(&mut self, rt: &R, alloc: Global, turns: u32) -> Result<(), Failure> {
-        let mut party = Party::new(rt, alloc, self.stock, self.job.mode())?;
+        let mut party = Party::new(rt, alloc, self.stock)?;
         let began = Instant::now(rt)?;
         let made = party.run(self.job, turns)?;
         let spent = began.elapsed(rt)?;
@@ -223,7 +195,7 @@ impl Timed {
         let (of, size) = self.size();
         let name = format!(in alloc; "{}_{of}_{size}", self.job.name())?;
         println!(rt;
-            "{name:<36} {:>9} ns, {:>9} ns in the median",
+            "{name:<31} {:>9} ns, {:>9} ns in the median",
             least / 10,
             median / 10
         )?;

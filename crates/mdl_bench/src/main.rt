@@ -8,10 +8,8 @@
 
 mod atomics;
 mod chain;
-mod costs;
 mod crowd;
 mod failure;
-mod fast;
 mod field;
 mod figure;
 mod granting;
@@ -30,7 +28,6 @@ mod waits;
 use chain::Chain;
 use crowd::{A_TURN, Asking, Finding};
 use failure::Failure;
-use fast::time_fast;
 use field::Field;
 use figure::{Figure, LOOPS, time};
 use known_places::time_known_places;
@@ -67,7 +64,7 @@ const KEPT: [(u16, u32); 4] = [
 // How often a context locks a hundred tables and goes back.
 const GONE_BACK: u32 = 2_000;
 
-// How often in each round a session of the space that threads share takes a lock, or gains a fast ticket, and gives it up.
+// How often in each round a session of the space that threads share takes a lock and gives it up.
 const SHARED: u32 = 100_000;
 
 // The sessions that wait for one another, and how often a deadlock is looked for.
@@ -77,7 +74,6 @@ fn main(rt: HostRuntime) -> ExitCode {
     let outcome = match is_quick(&rt) {
         Ok(quick) => time_all(&rt, quick)
             .and_then(|()| time_sharing(&rt, rt.alloc(), unless(quick, SHARED)))
-            .and_then(|()| time_fast(&rt, rt.alloc(), unless(quick, SHARED)))
             .and_then(|()| time_waits(&rt, rt.alloc(), quick))
             .and_then(|()| time_known_places(&rt, rt.alloc(), quick)),
         Err(failure) => Err(failure),

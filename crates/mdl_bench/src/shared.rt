@@ -5,9 +5,9 @@ ghost use Rattle.std.specs.Prelude.{◌≡◌};
 ghost use Rattle.std.specs.Thread.{IsSync};
 ghost use Rattle.mdl_shared.specs.Passes.{table_of, pass_table};
 
-use crate::atomics::{STEPPED, Words, steps, steps_of_four};
-use crate::costs::{Costs, ROUNDS, Start, print};
+use crate::atomics::{Words, steps, steps_of_four};
 use crate::failure::Failure;
+use crate::figure::tenths;
 use mdl_key::{Key, MOST_PLACES, MOST_SESSIONS};
 use mdl_shared::{Manager, Pass};
 use mdl_shared_trials::{takings, takings_of_two};
@@ -15,9 +15,85 @@ use std::alloc::Global;
 use std::sync::Wait;
 use std::thread;
 use std::thread::Threads;
-use std::time::{Clock, CpuClock};
+use std::time::{Clock, CpuClock, Duration, Instant};
 
-const NAME: &str = "try_now_and_release";
+// The places whose words there are for the atomic steps: those that four threads make are at the last four.
+const STEPPED: usize = 5;
+
+// The figures are the least of so many rounds, since other work on the machine can only add to them.
+const ROUNDS: u32 = 20;
+
+// What one turn took, in tenths of a nanosecond: by the clock, and of the processor that the thread ran on.
+#[derive(Clone, Copy)]
+struct Cost {
+    clock: u64,
+    processor: u64,
+}
+
+impl Cost {
+    // More than anything takes.
+    const MOST: Cost = Cost {
+        clock: u64::MAX,
+        processor: u64::MAX,
+    };
+
+    // The less of each.
+    fn or_less(self, other: Cost) -> Cost {
+        Cost {
+            clock: self.clock.min(other.clock),
+            processor: self.processor.min(other.processor),
+        }
+    }
+}
+
+// A time from which costs count.
+#[derive(Clone, Copy)]
+struct Start {
+    at: Instant,
+    used: Duration,
+}
+
+impl Start {
+    fn now<R: Clock + CpuClock>(rt: &R) -> Result<Start, Failure> {
+        let used = rt.process_cpu_time()?;
+        let at = Instant::now(rt)?;
+        Ok(Start { at, used })
+    }
+
+    // What each of so many turns took since, on each of so many threads.
+    fn cost<R: Clock + CpuClock>(self, rt: &R, threads: u32, turns: u32) -> Result<Cost, Failure> {
+        let spent = self.at.elapsed(rt)?;
+        let used = rt.process_cpu_time()?.saturating_sub(self.used);
+        let turns = u64::from(turns);
+        Ok(Cost {
+            clock: tenths(spent, turns),
+            processor: tenths(used, turns.saturating_mul(u64::from(threads))),
+        })
+    }
+}
+
+// What a turn costs by the calls of a session, and by the atomic steps alone.
+#[derive(Clone, Copy)]
+struct Costs {
+    calls: Cost,
+    steps: Cost,
+}
+
+impl Costs {
+    // More than anything takes.
+    const MOST: Costs = Costs {
+        calls: Cost::MOST,
+        steps: Cost::MOST,
+    };
+
+    // The less of each.
+    fn or_less(self, other: Costs) -> Costs {
+        Costs {
+            calls: self.calls.or_less(other.calls),
+            steps: self.steps.or_less(other.steps),
+        }
+    }
+}
 
 /// Times so many turns in each round, and prints the least. With none it makes one turn, which shows that it works, and prints nothing.
 pub fn time_sharing<R: Threads + Wait + Sync + Clock + CpuClock + Print>(
@@ -36,8 +112,8 @@ pub fn time_sharing<R: Threads + Wait + Sync + Clock + CpuClock + Print>(
         alone = alone.or_less(round_alone(rt, alloc, turns)?);
         four = four.or_less(round_of_four(rt, alloc, turns)?);
     }
-    print(rt, alloc, 1, NAME, alone)?;
-    print(rt, alloc, 4, NAME, four)
+    print(rt, 1, alone)?;
+    print(rt, 4, four)
 }
 
 // One session on one thread.
@@ -133,4 +209,39 @@ fn takings_of_four<R: Threads + Wait + Sync>(
         { takings_of_two(rt, manager, (c, third), (d, fourth), turns) },
     );
     early == (turns, turns) && late == (turns, turns)
+}
+
+// For a clock and for the processor a line for a reader, and two for a program.
+fn print<R: Print>(rt: &R, threads: u16, costs: Costs) -> Result<(), Failure> {
+    let Costs { calls, steps } = costs;
+    print_lines(rt, threads, "try_now_and_release", calls.clock, steps.clock)?;
+    print_lines(
+        rt,
+        threads,
+        "try_now_and_release_cpu",
+        calls.processor,
+        steps.processor,
+    )
+}
+
+// These three lines.
+fn print_lines<R: Print>(
+    rt: &R,
+    threads: u16,
+    name: &str,
+    calls: u64,
+    steps: u64,
+) -> Result<(), Failure> {
+    println!(rt;
+        "{name:<24} {threads:>6} {:>9} ns, {:>9} ns by the atomic steps alone, on so many threads",
+        calls / 10,
+        steps / 10
+    )?;
+    println!(rt; "ROW shared {threads} {name} {}.{}", calls / 10, calls % 10)?;
+    println!(rt;
+        "ROW shared {threads} {name}_steps {}.{}",
+        steps / 10,
+        steps % 10
+    )?;
+    Ok(())
 }
