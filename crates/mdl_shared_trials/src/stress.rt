@@ -419,6 +419,43 @@ fn play_watched<R: Threads + Wait + Abort + Clock + Sync>(
     played
 }
 
+// The same of eight, while the session of a ninth pass looks on.
+fn play_eight<R: Threads + Wait + Abort + Clock + Sync>(
+    rt: &R,
+    alloc: Global,
+    manager: &Manager,
+    one: Pass,
+    two: Pass,
+    three: Pass,
+    four: Pass,
+    five: Pass,
+    six: Pass,
+    seven: Pass,
+    eight: Pass,
+    watcher: Pass,
+    change: &Change,
+) -> Result<[u64; 8], Wrong>
+    requires first { (pass_table one ≡ table_of manager.now) × (pass_table two ≡ table_of manager.now) }
+    requires second { (pass_table three ≡ table_of manager.now) × (pass_table four ≡ table_of manager.now) }
+    requires third { (pass_table five ≡ table_of manager.now) × (pass_table six ≡ table_of manager.now) }
+    requires fourth { (pass_table seven ≡ table_of manager.now) × (pass_table eight ≡ table_of manager.now) }
+    requires watcher { pass_table watcher ≡ table_of manager.now }
+{
+    let (early, late) = thread::join(
+        rt,
+        move || -> Result<[u64; 8], Wrong>
+            requires { IsSync R.row × ((pass_table one ≡ table_of manager.now) × (pass_table two ≡ table_of manager.now))
+                × ((pass_table three ≡ table_of manager.now) × (pass_table four ≡ table_of manager.now)) }
+        { play_four(rt, alloc, manager, one, two, three, four, change) },
+        move || -> Result<[u64; 8], Wrong>
+            requires { IsSync R.row × ((pass_table five ≡ table_of manager.now) × (pass_table six ≡ table_of manager.now))
+                × ((pass_table seven ≡ table_of manager.now) × (pass_table eight ≡ table_of manager.now))
+                × (pass_table watcher ≡ table_of manager.now) }
+        { play_watched(rt, alloc, manager, five, six, seven, eight, watcher, change) },
+    );
+    Ok(sums(early?, late?))
+}
+
 // The pass of the last session.
 fn take_last(_manager: &Manager, passes: &mut Vec<Pass>) -> Pass
     requires some { 0 < length passes.old.items }
@@ -445,21 +482,14 @@ fn eight_threads_make_all_calls_beside_audits(rt: HostRuntime) -> Result<(), Fai
     let two = take_last(&manager, &mut passes);
     let one = take_last(&manager, &mut passes);
     let change = putting(alloc)?;
-    let (runtime, manager, change) = (&rt, &manager, &change);
-    let (early, late) = thread::join(
-        runtime,
-        move || play_four(runtime, alloc, manager, one, two, three, four, change),
-        move || {
-            play_watched(
-                runtime, alloc, manager, five, six, seven, eight, nine, change,
-            )
-        },
+    let played = play_eight(
+        &rt, alloc, &manager, one, two, three, four, five, six, seven, eight, nine, &change,
     );
-    let mut last = Session::open(&rt, manager, ten);
+    let mut last = Session::open(&rt, &manager, ten);
     let books = last.audit();
     closed(&rt, last);
-    match (early, late, books) {
-        (Ok(early), Ok(late), Ok(books)) => assert!(rt; is_left(&books, sums(early, late))),
+    match (played, books) {
+        (Ok(changes), Ok(books)) => assert!(rt; is_left(&books, changes)),
         _ => panic!(rt; "a call went wrong"),
     }
     Ok(())
