@@ -6,20 +6,31 @@
 //! else, by a session that knows and holds so much.
 #![tactic(auto)]
 
+mod contended;
+mod crowd;
 mod failure;
+mod hot;
+mod own;
 mod pairs;
+mod patient;
+mod player;
 mod row;
 mod seat;
 mod table;
+mod threads;
 mod words;
 
+use crowd::{CROWD, CROWD_GOALS};
 use failure::Failure;
+use hot::{HOT, HOT_GOALS};
+use own::{OWN, OWN_GOALS};
 use pairs::{PAIR_GOALS, PAIRS, Stock, time_calls};
 use row::time_row;
 use std::alloc::Global;
 use std::process::ExitCode;
 use std::sync::Wait;
-use std::time::Clock;
+use std::thread::Threads;
+use std::time::{Clock, CpuClock};
 
 fn main(rt: HostRuntime) -> ExitCode {
     let outcome = match command_line(&rt) {
@@ -36,9 +47,16 @@ fn main(rt: HostRuntime) -> ExitCode {
 }
 
 // Does it.
-fn answer<R: Wait + Clock + Print>(rt: &R, alloc: Global, wanted: Wanted) -> Result<(), Failure> {
+fn answer<R: Threads + Wait + Sync + Clock + CpuClock + Print>(
+    rt: &R,
+    alloc: Global,
+    wanted: Wanted,
+) -> Result<(), Failure> {
     match wanted {
-        Wanted::Rows { quick } => time_all(rt, alloc, quick),
+        Wanted::Rows { quick } => {
+            time_all(rt, alloc, quick)?;
+            time_threads(rt, alloc, quick)
+        }
         Wanted::Pairs { turns, stock } => {
             time_calls(rt, alloc, stock, turns)?;
             Ok(())
@@ -81,7 +99,18 @@ fn small(number: u32) -> u16 {
     u16::try_from(number).unwrap_or(u16::MAX)
 }
 
-// Times all rows.
+// Times all rows of one thread.
 fn time_all<R: Wait + Clock + Print>(rt: &R, alloc: Global, quick: bool) -> Result<(), Failure> {
     time_row(rt, alloc, quick, &PAIRS, &PAIR_GOALS)
+}
+
+// Times all rows of several threads.
+fn time_threads<R: Threads + Wait + Sync + Clock + CpuClock + Print>(
+    rt: &R,
+    alloc: Global,
+    quick: bool,
+) -> Result<(), Failure> {
+    time_row(rt, alloc, quick, &HOT, &HOT_GOALS)?;
+    time_row(rt, alloc, quick, &OWN, &OWN_GOALS)?;
+    time_row(rt, alloc, quick, &CROWD, &CROWD_GOALS)
 }

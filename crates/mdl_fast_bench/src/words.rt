@@ -27,8 +27,8 @@ impl Words {
         Ok(Words { all })
     }
 
-    // The word of a place's lock.
-    fn word(&self, place: usize) -> Option<&AtomicU64> {
+    /// The word of a place's lock.
+    pub fn word(&self, place: usize) -> Option<&AtomicU64> {
         self.all.get(place.wrapping_mul(A_PLACE).wrapping_add(1))
     }
 
