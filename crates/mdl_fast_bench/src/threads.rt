@@ -1,7 +1,7 @@
 //! Sessions that each play a part on a thread of their own: how long they take.
-ghost use Rattle.std.specs.Prelude.{◌≡◌};
+ghost use Rattle.std.specs.Prelude.{◌≡◌, ◌+◌, ◌<◌, length};
 ghost use Rattle.std.specs.Thread.{IsSync};
-ghost use Rattle.mdl_shared.specs.Passes.{table_of, pass_table};
+ghost use Rattle.mdl_shared.specs.Passes.{ArePasses, table_of, pass_table};
 
 use crate::failure::Failure;
 use crate::player::{Keys, Part, play};
@@ -79,7 +79,7 @@ impl Play {
         turns: u32,
     ) -> Result<Played, Failure> {
         let (manager, mut passes) = Manager::new(alloc, MOST_PLACES, MOST_SESSIONS)?;
-        let pass = passes.remove(0);
+        let pass = take_pass(&manager, &mut passes);
         let keys = self.keys(alloc, 0)?;
         let start = Start::now(rt)?;
         let alters = play(rt, alloc, &manager, pass, &keys, self.part, turns)?;
@@ -94,8 +94,8 @@ impl Play {
         turns: u32,
     ) -> Result<Played, Failure> {
         let (manager, mut passes) = Manager::new(alloc, MOST_PLACES, MOST_SESSIONS)?;
-        let two = passes.remove(1);
-        let one = passes.remove(0);
+        let one = take_pass(&manager, &mut passes);
+        let two = take_pass(&manager, &mut passes);
         let (first, second) = (self.keys(alloc, 0)?, self.keys(alloc, 1)?);
         let start = Start::now(rt)?;
         let alters = play_two(
@@ -118,10 +118,10 @@ impl Play {
         turns: u32,
     ) -> Result<Played, Failure> {
         let (manager, mut passes) = Manager::new(alloc, MOST_PLACES, MOST_SESSIONS)?;
-        let four = passes.remove(3);
-        let three = passes.remove(2);
-        let two = passes.remove(1);
-        let one = passes.remove(0);
+        let one = take_pass(&manager, &mut passes);
+        let two = take_pass(&manager, &mut passes);
+        let three = take_pass(&manager, &mut passes);
+        let four = take_pass(&manager, &mut passes);
         let keys = [
             self.keys(alloc, 0)?,
             self.keys(alloc, 1)?,
@@ -141,6 +141,17 @@ impl Play {
         )?;
         start.played(rt, 4, alters)
     }
+}
+
+// The pass of the last session.
+fn take_pass(_manager: &Manager, passes: &mut Vec<Pass>) -> Pass
+    requires some { 0 < length passes.old.items }
+    requires theirs { ArePasses (table_of _manager.now) passes.old.items }
+    ensures left { length passes.new.items + 1 ≡ length passes.old.items }
+    ensures theirs { ArePasses (table_of _manager.now) passes.new.items }
+    ensures table { pass_table result ≡ table_of _manager.now }
+{
+    passes.remove(passes.len() - 1)
 }
 
 // Two sessions play, on two threads.
