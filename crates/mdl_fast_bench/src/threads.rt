@@ -71,6 +71,16 @@ impl Play {
         Keys::new(alloc, from)
     }
 
+    // The keys of four sessions.
+    fn keys_of_four(self, alloc: Global) -> Result<[Keys; 4], Failure> {
+        Ok([
+            self.keys(alloc, 0)?,
+            self.keys(alloc, 1)?,
+            self.keys(alloc, 2)?,
+            self.keys(alloc, 3)?,
+        ])
+    }
+
     /// On one thread.
     pub fn alone<R: Wait + Clock + CpuClock>(
         self,
@@ -78,10 +88,10 @@ impl Play {
         alloc: Global,
         turns: u32,
     ) -> Result<Played, Failure> {
-        let (manager, mut passes) = Manager::new(alloc, MOST_PLACES, MOST_SESSIONS)?;
-        let pass = take_pass(&manager, &mut passes);
         let keys = self.keys(alloc, 0)?;
+        let (manager, mut passes) = Manager::new(alloc, MOST_PLACES, MOST_SESSIONS)?;
         let start = Start::now(rt)?;
+        let pass = take_pass(&manager, &mut passes);
         let alters = play(rt, alloc, &manager, pass, &keys, self.part, turns)?;
         start.played(rt, 1, alters)
     }
@@ -93,17 +103,16 @@ impl Play {
         alloc: Global,
         turns: u32,
     ) -> Result<Played, Failure> {
+        let keys = (self.keys(alloc, 0)?, self.keys(alloc, 1)?);
         let (manager, mut passes) = Manager::new(alloc, MOST_PLACES, MOST_SESSIONS)?;
-        let one = take_pass(&manager, &mut passes);
-        let two = take_pass(&manager, &mut passes);
-        let (first, second) = (self.keys(alloc, 0)?, self.keys(alloc, 1)?);
         let start = Start::now(rt)?;
+        let two = take_two(&manager, &mut passes);
         let alters = play_two(
             rt,
             alloc,
             &manager,
-            (one, &first),
-            (two, &second),
+            two,
+            (&keys.0, &keys.1),
             self.part,
             turns,
         )?;
@@ -117,28 +126,12 @@ impl Play {
         alloc: Global,
         turns: u32,
     ) -> Result<Played, Failure> {
+        let keys = self.keys_of_four(alloc)?;
         let (manager, mut passes) = Manager::new(alloc, MOST_PLACES, MOST_SESSIONS)?;
-        let one = take_pass(&manager, &mut passes);
-        let two = take_pass(&manager, &mut passes);
-        let three = take_pass(&manager, &mut passes);
-        let four = take_pass(&manager, &mut passes);
-        let keys = [
-            self.keys(alloc, 0)?,
-            self.keys(alloc, 1)?,
-            self.keys(alloc, 2)?,
-            self.keys(alloc, 3)?,
-        ];
         let start = Start::now(rt)?;
-        let alters = play_four(
-            rt,
-            alloc,
-            &manager,
-            (one, two),
-            (three, four),
-            &keys,
-            self.part,
-            turns,
-        )?;
+        let two = take_two(&manager, &mut passes);
+        let more = take_two(&manager, &mut passes);
+        let alters = play_four(rt, alloc, &manager, two, more, &keys, self.part, turns)?;
         start.played(rt, 4, alters)
     }
 }
@@ -154,19 +147,33 @@ fn take_pass(_manager: &Manager, passes: &mut Vec<Pass>) -> Pass
     passes.remove(passes.len() - 1)
 }
 
+// The passes of the last two.
+fn take_two(_manager: &Manager, passes: &mut Vec<Pass>) -> (Pass, Pass)
+    requires some { 1 < length passes.old.items }
+    requires theirs { ArePasses (table_of _manager.now) passes.old.items }
+    ensures left { length passes.new.items + 2 ≡ length passes.old.items }
+    ensures theirs { ArePasses (table_of _manager.now) passes.new.items }
+    ensures one { pass_table result.0 ≡ table_of _manager.now }
+    ensures other { pass_table result.1 ≡ table_of _manager.now }
+{
+    let one = take_pass(_manager, passes);
+    let other = take_pass(_manager, passes);
+    (one, other)
+}
+
 // Two sessions play, on two threads.
 fn play_two<R: Threads + Wait + Sync + Clock>(
     rt: &R,
     alloc: Global,
     manager: &Manager,
-    one: (Pass, &Keys),
-    two: (Pass, &Keys),
+    passes: (Pass, Pass),
+    keys: (&Keys, &Keys),
     part: Part,
     turns: u32,
 ) -> Result<Vec<u64>, Failure>
-    requires { (pass_table one.0 ≡ table_of manager.now) × (pass_table two.0 ≡ table_of manager.now) }
+    requires { (pass_table passes.0 ≡ table_of manager.now) × (pass_table passes.1 ≡ table_of manager.now) }
 {
-    let ((one, first), (two, second)) = (one, two);
+    let ((one, two), (first, second)) = (passes, keys);
     let (early, late) = thread::join(
         rt,
         move || play(rt, alloc, manager, one, first, part, turns),
@@ -180,25 +187,24 @@ fn play_four<R: Threads + Wait + Sync + Clock>(
     rt: &R,
     alloc: Global,
     manager: &Manager,
-    one: (Pass, Pass),
     two: (Pass, Pass),
+    more: (Pass, Pass),
     keys: &[Keys; 4],
     part: Part,
     turns: u32,
 ) -> Result<Vec<u64>, Failure>
-    requires one { (pass_table one.0 ≡ table_of manager.now) × (pass_table one.1 ≡ table_of manager.now) }
     requires two { (pass_table two.0 ≡ table_of manager.now) × (pass_table two.1 ≡ table_of manager.now) }
+    requires more { (pass_table more.0 ≡ table_of manager.now) × (pass_table more.1 ≡ table_of manager.now) }
 {
-    let ((a, b), (c, d)) = (one, two);
-    let [first, second, third, fourth] = keys;
+    let [a, b, c, d] = keys;
     let (early, late) = thread::join(
         rt,
         move || -> Result<Vec<u64>, Failure>
-            requires { IsSync R.row × ((pass_table a ≡ table_of manager.now) × (pass_table b ≡ table_of manager.now)) }
-        { play_two(rt, alloc, manager, (a, first), (b, second), part, turns) },
+            requires { IsSync R.row × ((pass_table two.0 ≡ table_of manager.now) × (pass_table two.1 ≡ table_of manager.now)) }
+        { play_two(rt, alloc, manager, two, (a, b), part, turns) },
         move || -> Result<Vec<u64>, Failure>
-            requires { IsSync R.row × ((pass_table c ≡ table_of manager.now) × (pass_table d ≡ table_of manager.now)) }
-        { play_two(rt, alloc, manager, (c, third), (d, fourth), part, turns) },
+            requires { IsSync R.row × ((pass_table more.0 ≡ table_of manager.now) × (pass_table more.1 ≡ table_of manager.now)) }
+        { play_two(rt, alloc, manager, more, (c, d), part, turns) },
     );
     both(early, late)
 }
