@@ -1,5 +1,6 @@
 //! What can end a measurement.
 use mdl_calls::{NewError, SpaceError};
+use mdl_context::ContextError;
 use mdl_key::KeyError;
 use std::alloc::AllocError;
 use std::io;
@@ -46,6 +47,12 @@ impl From<NewError> for Failure {
 
 impl From<SpaceError> for Failure {
     fn from(_error: SpaceError) -> Failure {
+        Failure::Refused
+    }
+}
+
+impl From<ContextError> for Failure {
+    fn from(_error: ContextError) -> Failure {
         Failure::Refused
     }
 }
