@@ -6,20 +6,30 @@
 //! else, by a session that knows and holds so much.
 #![tactic(auto)]
 
+mod again;
+mod contexts;
+mod exclusive;
 mod failure;
+mod grants;
+mod guest;
 mod pairs;
 mod row;
 mod seat;
 mod table;
+mod transactions;
 mod words;
 
+use again::{AGAIN, AGAIN_GOALS};
+use exclusive::{EXCLUSIVE, EXCLUSIVE_GOALS};
 use failure::Failure;
+use grants::{GRANT_GOALS, GRANTS};
 use pairs::{PAIR_GOALS, PAIRS, Stock, time_calls};
 use row::time_row;
 use std::alloc::Global;
 use std::process::ExitCode;
 use std::sync::Wait;
 use std::time::Clock;
+use transactions::{TRANSACTION_GOALS, TRANSACTIONS};
 
 fn main(rt: HostRuntime) -> ExitCode {
     let outcome = match command_line(&rt) {
@@ -83,5 +93,9 @@ fn small(number: u32) -> u16 {
 
 // Times all rows.
 fn time_all<R: Wait + Clock + Print>(rt: &R, alloc: Global, quick: bool) -> Result<(), Failure> {
-    time_row(rt, alloc, quick, &PAIRS, &PAIR_GOALS)
+    time_row(rt, alloc, quick, &PAIRS, &PAIR_GOALS)?;
+    time_row(rt, alloc, quick, &TRANSACTIONS, &TRANSACTION_GOALS)?;
+    time_row(rt, alloc, quick, &EXCLUSIVE, &EXCLUSIVE_GOALS)?;
+    time_row(rt, alloc, quick, &GRANTS, &GRANT_GOALS)?;
+    time_row(rt, alloc, quick, &AGAIN, &AGAIN_GOALS)
 }
