@@ -1,5 +1,7 @@
 //! A session's calls through its context.
+ghost use Rattle.std.specs.Prelude.{◌≡◌};
 ghost use Rattle.mdl_context.specs.Contexts.{Attends};
+ghost use Rattle.mdl_shared.specs.Passes.{table_of, pass_table};
 
 use crate::failure::Failure;
 use crate::row::Start;
@@ -8,7 +10,7 @@ use crate::table::table;
 use mdl_calls::{LockSpace, TicketId};
 use mdl_context::{Acquire, Context, Request};
 use mdl_key::{Duration, Key, MOST_PLACES, MOST_SESSIONS, Mode};
-use mdl_shared::{Manager, Session};
+use mdl_shared::{Manager, Pass, Session};
 use std::alloc::Global;
 use std::sync::Wait;
 use std::time;
@@ -37,7 +39,22 @@ pub fn time_task<R: Wait + Clock>(
 ) -> Result<time::Duration, Failure> {
     let (manager, mut passes) = Manager::new(alloc, MOST_PLACES, MOST_SESSIONS)?;
     let pass = passes.remove(0);
-    let mut session = Session::open(rt, &manager, pass);
+    time_pass(rt, rt, alloc, &manager, pass, task, turns)
+}
+
+// The same by the session of a pass, which waits by a handle of its own.
+fn time_pass<R: Wait + Clock, W: Wait + Drop>(
+    rt: &R,
+    wait: W,
+    alloc: Global,
+    manager: &Manager,
+    pass: Pass,
+    task: Task,
+    turns: u32,
+) -> Result<time::Duration, Failure>
+    requires { pass_table pass ≡ table_of manager.now }
+{
+    let mut session = Session::open(wait, manager, pass);
     let mut context = Context::new(alloc, session.number());
     let spent = timed(rt, alloc, &mut session, &mut context, task, turns);
     close(rt, session);
