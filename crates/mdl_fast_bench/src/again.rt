@@ -63,7 +63,7 @@ impl<R: Wait + Clock> Job<R> for Again {
                 Again::Calls(_) => "call",
                 Again::Probe(_) => "probe",
             },
-            turns: 100_000,
+            turns: 20_000,
         }
     }
 

@@ -37,7 +37,7 @@ impl<R: Wait + Clock> Job<R> for Exclusive {
             },
             threads: 1,
             what: "pair",
-            turns: 50_000,
+            turns: 10_000,
         }
     }
 

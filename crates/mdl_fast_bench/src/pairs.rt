@@ -82,7 +82,7 @@ impl<R: Wait + Clock> Job<R> for Pairs {
                 Pairs::Request => "request",
                 _ => "pair",
             },
-            turns: 100_000,
+            turns: 20_000,
         }
     }
 

@@ -6,7 +6,8 @@ use std::time::{Clock, Duration, Instant};
 // The rounds of which the least and the median are told: as the median the upper of the two in the middle.
 const ROUNDS: usize = 10;
 
-/// What is timed: its name, by how many threads, what a turn of it is, and how many turns a round has.
+/// What is timed: its name, by how many threads, what a turn of it is, and how many turns a round has: so few that a round takes a
+/// millisecond or two, and often ends before other work gets the processor.
 #[derive(Clone, Copy)]
 pub struct Figure {
     pub name: &'static str,

@@ -56,7 +56,7 @@ impl<R: Wait + Clock> Job<R> for Transactions {
             },
             threads: 1,
             what: "transaction",
-            turns: 50_000,
+            turns: 5_000,
         }
     }
 
@@ -126,7 +126,7 @@ fn transact_often<R>(session: &mut Session<R>, places: Places, turns: u32) -> u3
     made
 }
 
-// Gains the fast tickets and gives them up. Whether all went well.
+// Gains the fast tickets and gives them up, the last one first, as MySQL ends a transaction. Whether all went well.
 fn transacts<R>(session: &mut Session<R>, places: Places) -> bool
     requires global { is_known places.global (space_of session.old).known ≡ true }
     requires first { is_known places.first (space_of session.old).known ≡ true }
@@ -146,10 +146,10 @@ fn transacts<R>(session: &mut Session<R>, places: Places) -> bool
     let Some(third) = gain(session, places.third, Mode::SW) else {
         return false;
     };
-    give_up(session, global)
-        && give_up(session, first)
+    give_up(session, third)
         && give_up(session, second)
-        && give_up(session, third)
+        && give_up(session, first)
+        && give_up(session, global)
 }
 
 // How long the steps of so many took.

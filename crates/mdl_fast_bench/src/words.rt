@@ -62,7 +62,7 @@ impl Words {
         let mut made = 0u32;
         for _turn in 0..turns {
             let gained = gain(a) && gain(b) && gain(c) && gain(d);
-            if gained && give_up(a) && give_up(b) && give_up(c) && give_up(d) {
+            if gained && give_up(d) && give_up(c) && give_up(b) && give_up(a) {
                 made = made.wrapping_add(1);
             }
         }
