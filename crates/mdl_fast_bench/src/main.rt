@@ -6,31 +6,37 @@
 //! else, by a session that knows and holds so much.
 #![tactic(auto)]
 
+mod again;
 mod contended;
-mod crowd;
+mod contexts;
+mod exclusive;
 mod failure;
-mod hot;
-mod own;
+mod grants;
+mod guest;
 mod pairs;
 mod patient;
 mod player;
+mod races;
 mod row;
 mod seat;
 mod table;
 mod threads;
+mod transactions;
 mod words;
 
-use crowd::{CROWD, CROWD_GOALS};
+use again::{AGAIN, AGAIN_GOALS};
+use exclusive::{EXCLUSIVE, EXCLUSIVE_GOALS};
 use failure::Failure;
-use hot::{HOT, HOT_GOALS};
-use own::{OWN, OWN_GOALS};
+use grants::{GRANT_GOALS, GRANTS};
 use pairs::{PAIR_GOALS, PAIRS, Stock, time_calls};
+use races::{CROWD_GOALS, CROWDS, HOT, HOT_GOALS, MIXED, MIXED_GOALS, OWN, OWN_GOALS, time_races};
 use row::time_row;
 use std::alloc::Global;
 use std::process::ExitCode;
 use std::sync::Wait;
 use std::thread::Threads;
 use std::time::{Clock, CpuClock};
+use transactions::{TRANSACTION_GOALS, TRANSACTIONS};
 
 fn main(rt: HostRuntime) -> ExitCode {
     let outcome = match command_line(&rt) {
@@ -101,7 +107,11 @@ fn small(number: u32) -> u16 {
 
 // Times all rows of one thread.
 fn time_all<R: Wait + Clock + Print>(rt: &R, alloc: Global, quick: bool) -> Result<(), Failure> {
-    time_row(rt, alloc, quick, &PAIRS, &PAIR_GOALS)
+    time_row(rt, alloc, quick, &PAIRS, &PAIR_GOALS)?;
+    time_row(rt, alloc, quick, &TRANSACTIONS, &TRANSACTION_GOALS)?;
+    time_row(rt, alloc, quick, &EXCLUSIVE, &EXCLUSIVE_GOALS)?;
+    time_row(rt, alloc, quick, &GRANTS, &GRANT_GOALS)?;
+    time_row(rt, alloc, quick, &AGAIN, &AGAIN_GOALS)
 }
 
 // Times all rows of several threads.
@@ -110,7 +120,8 @@ fn time_threads<R: Threads + Wait + Sync + Clock + CpuClock + Print>(
     alloc: Global,
     quick: bool,
 ) -> Result<(), Failure> {
-    time_row(rt, alloc, quick, &HOT, &HOT_GOALS)?;
-    time_row(rt, alloc, quick, &OWN, &OWN_GOALS)?;
-    time_row(rt, alloc, quick, &CROWD, &CROWD_GOALS)
+    time_races(rt, alloc, quick, &HOT, &HOT_GOALS)?;
+    time_races(rt, alloc, quick, &OWN, &OWN_GOALS)?;
+    time_races(rt, alloc, quick, &CROWDS, &CROWD_GOALS)?;
+    time_races(rt, alloc, quick, &MIXED, &MIXED_GOALS)
 }

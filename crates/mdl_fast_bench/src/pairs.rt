@@ -3,6 +3,7 @@ ghost use Rattle.std.specs.Prelude.{◌≡◌, true};
 ghost use Rattle.mdl_session_laws.specs.SessionSpaces.{is_known};
 ghost use Rattle.mdl_shared.specs.SessionViews.{space_of};
 
+use crate::contexts::{Task, time_task};
 use crate::failure::Failure;
 use crate::row::{Figure, Goal, Job, Start};
 use crate::seat::{close, gain, give_up, look_up};
@@ -38,11 +39,18 @@ pub enum Pairs {
     CallsOfMany,
     /// The two atomic steps alone.
     Steps,
+    /// The same calls through a context.
+    Request,
 }
 
-pub const PAIRS: [Pairs; 3] = [Pairs::Calls, Pairs::CallsOfMany, Pairs::Steps];
+pub const PAIRS: [Pairs; 4] = [
+    Pairs::Calls,
+    Pairs::CallsOfMany,
+    Pairs::Steps,
+    Pairs::Request,
+];
 
-pub const PAIR_GOALS: [Goal; 2] = [
+pub const PAIR_GOALS: [Goal; 3] = [
     Goal {
         figure: 0,
         beside: 2,
@@ -53,6 +61,11 @@ pub const PAIR_GOALS: [Goal; 2] = [
         beside: 2,
         most: 17,
     },
+    Goal {
+        figure: 3,
+        beside: 0,
+        most: 28,
+    },
 ];
 
 impl<R: Wait + Clock> Job<R> for Pairs {
@@ -62,10 +75,14 @@ impl<R: Wait + Clock> Job<R> for Pairs {
                 Pairs::Calls => "a_pair",
                 Pairs::CallsOfMany => "a_pair_held_250",
                 Pairs::Steps => "a_pair_steps",
+                Pairs::Request => "a_request",
             },
             threads: 1,
-            what: "pair",
-            turns: 100_000,
+            what: match self {
+                Pairs::Request => "request",
+                _ => "pair",
+            },
+            turns: 20_000,
         }
     }
 
@@ -74,6 +91,7 @@ impl<R: Wait + Clock> Job<R> for Pairs {
             Pairs::Calls => time_calls(rt, alloc, LITTLE, turns),
             Pairs::CallsOfMany => time_calls(rt, alloc, MUCH, turns),
             Pairs::Steps => time_steps(rt, alloc, turns),
+            Pairs::Request => time_task(rt, alloc, Task::Request, turns),
         }
     }
 }

@@ -3,10 +3,11 @@ use crate::failure::Failure;
 use std::alloc::Global;
 use std::time::{Clock, Duration, Instant};
 
-// The rounds of which the least and the median are told: as the median the upper of the two in the middle.
-const ROUNDS: usize = 10;
+/// The rounds of which the least and the median are told: as the median the upper of the two in the middle.
+pub const ROUNDS: usize = 10;
 
-/// What is timed: its name, by how many threads, what a turn of it is, and how many turns a round has.
+/// What is timed: its name, by how many threads, what a turn of it is, and how many turns a round has: so few that a round takes a
+/// millisecond or two, and often ends before other work gets the processor.
 #[derive(Clone, Copy)]
 pub struct Figure {
     pub name: &'static str,
@@ -118,6 +119,53 @@ impl Timed {
     }
 }
 
+/// The figures of a row, in order, and what their turns took.
+#[derive(Drop)]
+pub struct Row {
+    all: Vec<Timed>,
+}
+
+impl Row {
+    /// It has no figures yet.
+    pub fn new(alloc: Global) -> Row {
+        Row {
+            all: Vec::new(alloc),
+        }
+    }
+
+    /// One figure more, before the first round.
+    pub fn add(&mut self, alloc: Global, figure: Figure) -> Result<(), Failure> {
+        let timed = Timed {
+            figure,
+            rounds: Vec::new(alloc),
+        };
+        if self.all.push(timed).is_err() {
+            return Err(Failure::Memory);
+        }
+        Ok(())
+    }
+
+    /// A round of one of them, by its place from 0 on, took so long.
+    pub fn note(&mut self, place: usize, spent: Duration) -> Result<(), Failure> {
+        match self.all.get_mut(place) {
+            Some(timed) => timed.note(spent),
+            None => Err(Failure::Unexpected),
+        }
+    }
+
+    /// The lines for a program, and then those for a reader.
+    pub fn print<R: Print>(&mut self, rt: &R, goals: &[Goal]) -> Result<(), Failure> {
+        for timed in self.all.iter_mut() {
+            timed.sort()?;
+            timed.print(rt)?;
+        }
+        for goal in goals {
+            print_goal(rt, &self.all, *goal)?;
+        }
+        Ok(())
+    }
+}
+
 /// Times the figures of a row, one after another in each round, so that other work on the machine weighs on all of them alike. Prints
 /// them, and how they do beside each other. Where no figures are wanted it makes one turn of each, which shows that they work, and
 /// prints nothing.
@@ -135,7 +183,7 @@ pub fn time_row<R: Print, J: Job<R> + Copy>(
     for _round in 0..ROUNDS {
         time_each(rt, alloc, jobs, &mut row)?;
     }
-    print_row(rt, &mut row, goals)
+    row.print(rt, goals)
 }
 
 // One turn of each.
@@ -148,17 +196,11 @@ fn make_each<R, J: Job<R> + Copy>(rt: &R, alloc: Global, jobs: &[J]) -> Result<(
 }
 
 // The figures before the first round.
-fn untimed<R, J: Job<R> + Copy>(alloc: Global, jobs: &[J]) -> Result<Vec<Timed>, Failure> {
-    let mut row = Vec::new(alloc);
+fn untimed<R, J: Job<R> + Copy>(alloc: Global, jobs: &[J]) -> Result<Row, Failure> {
+    let mut row = Row::new(alloc);
     for job in jobs {
         let job = *job;
-        let timed = Timed {
-            figure: job.figure(),
-            rounds: Vec::new(alloc),
-        };
-        if row.push(timed).is_err() {
-            return Err(Failure::Memory);
-        }
+        row.add(alloc, job.figure())?;
     }
     Ok(row)
 }
@@ -168,24 +210,12 @@ fn time_each<R, J: Job<R> + Copy>(
     rt: &R,
     alloc: Global,
     jobs: &[J],
-    row: &mut [Timed],
+    row: &mut Row,
 ) -> Result<(), Failure> {
-    for (job, timed) in jobs.iter().zip(row.iter_mut()) {
+    for (place, job) in jobs.iter().enumerate() {
         let job = *job;
-        let spent = job.round(rt, alloc, timed.figure.turns)?;
-        timed.note(spent)?;
-    }
-    Ok(())
-}
-
-// The lines for a program, and then those for a reader.
-fn print_row<R: Print>(rt: &R, row: &mut [Timed], goals: &[Goal]) -> Result<(), Failure> {
-    for timed in row.iter_mut() {
-        timed.sort()?;
-        timed.print(rt)?;
-    }
-    for goal in goals {
-        print_goal(rt, row, *goal)?;
+        let spent = job.round(rt, alloc, job.figure().turns)?;
+        row.note(place, spent)?;
     }
     Ok(())
 }

@@ -9,14 +9,14 @@ use mdl_key::{Key, Mode};
 use mdl_shared::{Fast, HoldsTickets, Released, Session};
 use std::sync::Wait;
 
-/// The place of a key, which the session knows from then on, beside all that it knew. There is room for so many tickets more.
+/// The place of a key, which the session knows from then on, beside what it knew. There is room for so many tickets more.
 pub fn look_up<R: Wait>(
     session: &mut Session<R>,
     key: &Key,
     tickets: usize,
 ) -> Result<Place, Failure>
     ensures known { IfOk result (λ place. is_known place (space_of session.new).known ≡ true) }
-    ensures keeps { (place : ℕ) → is_known place (space_of session.old).known ≡ true → is_known place (space_of session.new).known ≡ true }
+    ensures kept { (place : ℕ) → is_known place (space_of session.old).known ≡ true → is_known place (space_of session.new).known ≡ true }
 {
     let place = match session.resolve(key) {
         Ok(place) => place,
@@ -50,7 +50,7 @@ pub fn give_up<R>(session: &mut Session<R>, id: TicketId) -> bool
 }
 
 /// Closes a session. Where there is no memory to list what it has to give up before, it tries again.
-pub fn close<R: Wait>(rt: &R, mut session: Session<&R>) {
+pub fn close<R: Wait, W: Wait + Drop>(rt: &R, mut session: Session<W>) {
     for _ in rt.forever() {
         match session.close() {
             Ok(_pass) => return,
