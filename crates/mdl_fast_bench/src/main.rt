@@ -29,7 +29,7 @@ use exclusive::{EXCLUSIVE, EXCLUSIVE_GOALS};
 use failure::Failure;
 use grants::{GRANT_GOALS, GRANTS};
 use pairs::{PAIR_GOALS, PAIRS, Stock, time_calls};
-use races::{CROWD_GOALS, CROWDS, HOT, HOT_GOALS, MIXED, MIXED_GOALS, OWN, OWN_GOALS, time_races};
+use races::{CROWD_GOALS, HOT_GOALS, MIXED_GOALS, OWN_GOALS, crowds, hot, mixed, own, time_races};
 use row::time_row;
 use std::alloc::Global;
 use std::process::ExitCode;
@@ -120,8 +120,8 @@ fn time_threads<R: Threads + Wait + Sync + Clock + CpuClock + Print>(
     alloc: Global,
     quick: bool,
 ) -> Result<(), Failure> {
-    time_races(rt, alloc, quick, &HOT, &HOT_GOALS)?;
-    time_races(rt, alloc, quick, &OWN, &OWN_GOALS)?;
-    time_races(rt, alloc, quick, &CROWDS, &CROWD_GOALS)?;
-    time_races(rt, alloc, quick, &MIXED, &MIXED_GOALS)
+    time_races(rt, alloc, quick, &hot(), &HOT_GOALS)?;
+    time_races(rt, alloc, quick, &own(), &OWN_GOALS)?;
+    time_races(rt, alloc, quick, &crowds(), &CROWD_GOALS)?;
+    time_races(rt, alloc, quick, &mixed(), &MIXED_GOALS)
 }

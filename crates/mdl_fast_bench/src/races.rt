@@ -58,7 +58,7 @@ const ALTERED_TABLES: Play = Play {
 };
 
 // Pairs.
-const fn in_pairs(name: &'static str, threads: u16, turns: u32, work: Work) -> Race {
+fn in_pairs(name: &'static str, threads: u16, turns: u32, work: Work) -> Race {
     Race {
         figure: Figure {
             name,
@@ -71,7 +71,7 @@ const fn in_pairs(name: &'static str, threads: u16, turns: u32, work: Work) -> R
 }
 
 // Transactions on four threads, or the ALTERs among them.
-const fn in_crowds(name: &'static str, what: &'static str, work: Work) -> Race {
+fn in_crowds(name: &'static str, what: &'static str, work: Work) -> Race {
     Race {
         figure: Figure {
             name,
@@ -84,12 +84,14 @@ const fn in_crowds(name: &'static str, what: &'static str, work: Work) -> Race {
 }
 
 /// Pairs at one place.
-pub const HOT: [Race; 4] = [
-    in_pairs("b_hot", 2, 100_000, Work::Play(ONE_PLACE)),
-    in_pairs("b_hot_steps", 2, 100_000, Work::PairSteps),
-    in_pairs("b_hot", 4, 100_000, Work::Play(ONE_PLACE)),
-    in_pairs("b_hot_steps", 4, 100_000, Work::PairSteps),
-];
+pub fn hot() -> [Race; 4] {
+    [
+        in_pairs("b_hot", 2, 100_000, Work::Play(ONE_PLACE)),
+        in_pairs("b_hot_steps", 2, 100_000, Work::PairSteps),
+        in_pairs("b_hot", 4, 100_000, Work::Play(ONE_PLACE)),
+        in_pairs("b_hot_steps", 4, 100_000, Work::PairSteps),
+    ]
+}
 
 pub const HOT_GOALS: [Goal; 2] = [
     Goal {
@@ -105,11 +107,13 @@ pub const HOT_GOALS: [Goal; 2] = [
 ];
 
 /// Pairs of each thread at a place of its own.
-pub const OWN: [Race; 3] = [
-    in_pairs("c_own", 1, 400_000, Work::Play(OWN_PLACES)),
-    in_pairs("c_own", 4, 400_000, Work::Play(OWN_PLACES)),
-    in_pairs("c_own_cpu", 4, 400_000, Work::PlayOfProcessors(OWN_PLACES)),
-];
+pub fn own() -> [Race; 3] {
+    [
+        in_pairs("c_own", 1, 400_000, Work::Play(OWN_PLACES)),
+        in_pairs("c_own", 4, 400_000, Work::Play(OWN_PLACES)),
+        in_pairs("c_own_cpu", 4, 400_000, Work::PlayOfProcessors(OWN_PLACES)),
+    ]
+}
 
 pub const OWN_GOALS: [Goal; 2] = [
     Goal {
@@ -125,10 +129,12 @@ pub const OWN_GOALS: [Goal; 2] = [
 ];
 
 /// Transactions, each thread with tables of its own.
-pub const CROWDS: [Race; 2] = [
-    in_crowds("d_transaction", "transaction", Work::Play(OWN_TABLES)),
-    in_crowds("d_transaction_steps", "transaction", Work::TransactionSteps),
-];
+pub fn crowds() -> [Race; 2] {
+    [
+        in_crowds("d_transaction", "transaction", Work::Play(OWN_TABLES)),
+        in_crowds("d_transaction_steps", "transaction", Work::TransactionSteps),
+    ]
+}
 
 pub const CROWD_GOALS: [Goal; 1] = [Goal {
     figure: 0,
@@ -137,11 +143,13 @@ pub const CROWD_GOALS: [Goal; 1] = [Goal {
 }];
 
 /// Transactions, all with the same tables, with an ALTER at times and without.
-pub const MIXED: [Race; 3] = [
-    in_crowds("e_mixed", "transaction", Work::Play(ALTERED_TABLES)),
-    in_crowds("e_mixed_without", "transaction", Work::Play(SHARED_TABLES)),
-    in_crowds("e_mixed", "alter", Work::AltersOfPlay(ALTERED_TABLES)),
-];
+pub fn mixed() -> [Race; 3] {
+    [
+        in_crowds("e_mixed", "transaction", Work::Play(ALTERED_TABLES)),
+        in_crowds("e_mixed_without", "transaction", Work::Play(SHARED_TABLES)),
+        in_crowds("e_mixed", "alter", Work::AltersOfPlay(ALTERED_TABLES)),
+    ]
+}
 
 pub const MIXED_GOALS: [Goal; 1] = [Goal {
     figure: 0,
