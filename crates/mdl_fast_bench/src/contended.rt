@@ -1,8 +1,11 @@
 //! Atomic steps on words that several threads change: each exchange is tried until it replaces the word that was found last.
+use crate::failure::Failure;
+use crate::lap::{Gate, Lap, LapStart};
 use crate::words::Words;
 use std::sync::atomic::{AtomicU64, Ordering};
 use std::thread;
 use std::thread::Threads;
+use std::time::{Clock, CpuClock};
 
 // What a lock's word counts a ticket by.
 const ONE: u64 = 1 << 20;
@@ -27,37 +30,57 @@ impl Count {
             Count::Transaction(place) => count_transactions(words, place, turns),
         }
     }
+
+    // How long that took a thread, once all are there.
+    fn timed<R: Clock + CpuClock>(
+        self,
+        rt: &R,
+        gate: &Gate,
+        words: &Words,
+        turns: u32,
+    ) -> Result<Lap, Failure> {
+        let start = LapStart::at_gate(rt, gate)?;
+        let made = self.count(words, turns);
+        let lap = start.lap(rt)?;
+        if made == turns {
+            Ok(lap)
+        } else {
+            Err(Failure::Unexpected)
+        }
+    }
 }
 
-/// Two threads count: whether all was done at each turn.
-pub fn count_by_two<R: Threads + Sync>(
+/// How long two threads count.
+pub fn count_by_two<R: Threads + Sync + Clock + CpuClock>(
     rt: &R,
+    gate: &Gate,
     words: &Words,
     counts: (Count, Count),
     turns: u32,
-) -> bool {
-    let (early, late) = thread::join(
+) -> Result<Lap, Failure> {
+    let (one, other) = thread::join(
         rt,
-        move || counts.0.count(words, turns),
-        move || counts.1.count(words, turns),
+        move || counts.0.timed(rt, gate, words, turns),
+        move || counts.1.timed(rt, gate, words, turns),
     );
-    early == turns && late == turns
+    Ok(one?.or_longer(other?))
 }
 
-/// Four threads count: whether all was done at each turn.
-pub fn count_by_four<R: Threads + Sync>(
+/// How long four threads count.
+pub fn count_by_four<R: Threads + Sync + Clock + CpuClock>(
     rt: &R,
+    gate: &Gate,
     words: &Words,
-    one: (Count, Count),
     two: (Count, Count),
+    more: (Count, Count),
     turns: u32,
-) -> bool {
-    let (early, late) = thread::join(
+) -> Result<Lap, Failure> {
+    let (one, other) = thread::join(
         rt,
-        move || count_by_two(rt, words, one, turns),
-        move || count_by_two(rt, words, two, turns),
+        move || count_by_two(rt, gate, words, two, turns),
+        move || count_by_two(rt, gate, words, more, turns),
     );
-    early && late
+    Ok(one?.or_longer(other?))
 }
 
 // A ticket in the word of a place.

@@ -13,6 +13,7 @@ mod exclusive;
 mod failure;
 mod grants;
 mod guest;
+mod lap;
 mod pairs;
 mod patient;
 mod player;

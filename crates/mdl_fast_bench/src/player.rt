@@ -5,6 +5,7 @@ ghost use Rattle.mdl_shared.specs.Passes.{table_of, pass_table};
 ghost use Rattle.mdl_shared.specs.SessionViews.{space_of};
 
 use crate::failure::Failure;
+use crate::lap::{Gate, Lap, LapStart};
 use crate::patient::{gain, give_up, take};
 use crate::seat::{close, look_up};
 use crate::table::table;
@@ -13,7 +14,7 @@ use mdl_key::{Key, Mode};
 use mdl_shared::{Manager, Pass, Session};
 use std::alloc::Global;
 use std::sync::Wait;
-use std::time::{Clock, Instant};
+use std::time::{Clock, CpuClock, Instant};
 
 /// What is done in a turn.
 #[derive(Clone, Copy, PartialEq)]
@@ -161,6 +162,17 @@ impl<R: Wait + Clock> Player<'_, R> {
         Ok(alters)
     }
 
+    // So many turns of a part: how long each ALTER took.
+    fn play(&mut self, alloc: Global, part: Part, turns: u32) -> Result<Vec<u64>, Failure> {
+        match part {
+            Part::TransactionOrAlter => self.alter_at_times(alloc, turns),
+            _ => {
+                self.turn_often(part, turns)?;
+                Ok(Vec::new(alloc))
+            }
+        }
+    }
+
     // How long an ALTER took, in nanoseconds.
     fn timed_alter(&mut self) -> Result<u64, Failure> {
         let began = Instant::now(self.rt)?;
@@ -189,24 +201,35 @@ fn look_all_up<R: Wait>(session: &mut Session<R>, keys: &Keys) -> Result<Places,
     })
 }
 
-/// Plays a part for so many turns, by the session of a pass: how long each ALTER took, in nanoseconds.
-pub fn play<R: Wait + Clock>(
+/// How long turns took, and how long each ALTER among them, in nanoseconds.
+#[derive(Drop)]
+pub struct Played {
+    pub lap: Lap,
+    pub alters: Vec<u64>,
+}
+
+/// What all sessions do that play beside each other: which part, for how many turns.
+#[derive(Drop)]
+pub struct Turns {
+    pub gate: Gate,
+    pub part: Part,
+    pub count: u32,
+}
+
+/// Plays by the session of a pass, once all sessions are there.
+pub fn play<R: Wait + Clock + CpuClock>(
     rt: &R,
     alloc: Global,
     manager: &Manager,
     pass: Pass,
     keys: &Keys,
-    part: Part,
-    turns: u32,
-) -> Result<Vec<u64>, Failure>
+    turns: &Turns,
+) -> Result<Played, Failure>
     requires { pass_table pass ≡ table_of manager.now }
 {
     let mut player = Player::new(rt, manager, pass, keys)?;
-    match part {
-        Part::TransactionOrAlter => player.alter_at_times(alloc, turns),
-        _ => {
-            player.turn_often(part, turns)?;
-            Ok(Vec::new(alloc))
-        }
-    }
+    let start = LapStart::at_gate(rt, &turns.gate)?;
+    let alters = player.play(alloc, turns.part, turns.count)?;
+    let lap = start.lap(rt)?;
+    Ok(Played { lap, alters })
 }

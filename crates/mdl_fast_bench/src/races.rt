@@ -1,9 +1,10 @@
 //! Rows of threads that do the same beside each other: sessions at one place and at places of their own, transactions, and ALTERs among them.
 use crate::contended::{Count, count_by_four, count_by_two};
 use crate::failure::Failure;
-use crate::player::Part;
-use crate::row::{Figure, Goal, ROUNDS, Row, Start};
-use crate::threads::{Play, Played};
+use crate::lap::Gate;
+use crate::player::{Part, Played};
+use crate::row::{Figure, Goal, ROUNDS, Row};
+use crate::threads::Play;
 use crate::words::Words;
 use std::alloc::Global;
 use std::sync::Wait;
@@ -22,7 +23,7 @@ pub struct Race {
 enum Work {
     // Sessions play: how long by the clock.
     Play(Play),
-    // How long by the processors' time, each thread's share of it.
+    // How long by the processor's time of a thread.
     PlayOfProcessors(Play),
     // How long if each turn took what an ALTER took in the median.
     AltersOfPlay(Play),
@@ -215,8 +216,10 @@ impl Race {
     ) -> Result<Duration, Failure> {
         let threads = self.figure.threads;
         match self.work {
-            Work::Play(play) => Ok(played(rt, alloc, play, threads, turns)?.clock),
-            Work::PlayOfProcessors(play) => Ok(played(rt, alloc, play, threads, turns)?.processor),
+            Work::Play(play) => Ok(played(rt, alloc, play, threads, turns)?.lap.clock),
+            Work::PlayOfProcessors(play) => Ok(
+                played(rt, alloc, play, threads, turns)?.lap.processor,
+            ),
             Work::AltersOfPlay(play) => {
                 median_alters(played(rt, alloc, play, threads, turns)?, turns)
             }
@@ -254,32 +257,31 @@ fn median_alters(played: Played, turns: u32) -> Result<Duration, Failure> {
 }
 
 // How long the steps of so many pairs took.
-fn time_pairs<R: Threads + Sync + Clock>(
+fn time_pairs<R: Threads + Sync + Clock + CpuClock>(
     rt: &R,
     alloc: Global,
     threads: u16,
     turns: u32,
 ) -> Result<Duration, Failure> {
+    let gate = Gate::new(u32::from(threads));
     let words = Words::new(alloc, 1)?;
     let two = (Count::Pair(0), Count::Pair(0));
-    let start = Start::now(rt)?;
-    let done = match threads {
-        2 => count_by_two(rt, &words, two, turns),
-        _ => count_by_four(rt, &words, two, two, turns),
+    let lap = match threads {
+        2 => count_by_two(rt, &gate, &words, two, turns)?,
+        _ => count_by_four(rt, &gate, &words, two, two, turns)?,
     };
-    start.spent(rt, u32::from(done), 1)
+    Ok(lap.clock)
 }
 
 // How long the steps of so many transactions took.
-fn time_transactions<R: Threads + Sync + Clock>(
+fn time_transactions<R: Threads + Sync + Clock + CpuClock>(
     rt: &R,
     alloc: Global,
     turns: u32,
 ) -> Result<Duration, Failure> {
+    let gate = Gate::new(4);
     let words = Words::new(alloc, 13)?;
     let two = (Count::Transaction(1), Count::Transaction(4));
     let more = (Count::Transaction(7), Count::Transaction(10));
-    let start = Start::now(rt)?;
-    let done = count_by_four(rt, &words, two, more, turns);
-    start.spent(rt, u32::from(done), 1)
+    Ok(count_by_four(rt, &gate, &words, two, more, turns)?.clock)
 }

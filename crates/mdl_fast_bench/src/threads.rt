@@ -4,60 +4,21 @@ ghost use Rattle.std.specs.Thread.{IsSync};
 ghost use Rattle.mdl_shared.specs.Passes.{ArePasses, table_of, pass_table};
 
 use crate::failure::Failure;
-use crate::player::{Keys, Part, play};
+use crate::lap::Gate;
+use crate::player::{Keys, Part, Played, Turns, play};
 use mdl_key::{MOST_PLACES, MOST_SESSIONS};
 use mdl_shared::{Manager, Pass};
 use std::alloc::Global;
 use std::sync::Wait;
 use std::thread;
 use std::thread::Threads;
-use std::time::{Clock, CpuClock, Duration, Instant};
+use std::time::{Clock, CpuClock};
 
 /// What the sessions play, and whether all of them have the same tables.
 #[derive(Clone, Copy)]
 pub struct Play {
     pub part: Part,
     pub shared: bool,
-}
-
-/// How long a play took: by the clock, and of the processor for each thread. And how long each ALTER took, in nanoseconds.
-#[derive(Drop)]
-pub struct Played {
-    pub clock: Duration,
-    pub processor: Duration,
-    pub alters: Vec<u64>,
-}
-
-/// A time from which a play counts.
-#[derive(Clone, Copy)]
-pub struct Start {
-    at: Instant,
-    used: Duration,
-}
-
-impl Start {
-    /// The time that it is.
-    pub fn now<R: Clock + CpuClock>(rt: &R) -> Result<Start, Failure> {
-        let used = rt.process_cpu_time()?;
-        let at = Instant::now(rt)?;
-        Ok(Start { at, used })
-    }
-
-    // What a play on so many threads took since.
-    fn played<R: Clock + CpuClock>(
-        self,
-        rt: &R,
-        threads: u32,
-        alters: Vec<u64>,
-    ) -> Result<Played, Failure> {
-        let clock = self.at.elapsed(rt)?;
-        let used = rt.process_cpu_time()?.saturating_sub(self.used);
-        Ok(Played {
-            clock,
-            processor: used.checked_div(threads).unwrap_or(Duration::ZERO),
-            alters,
-        })
-    }
 }
 
 impl Play {
@@ -81,19 +42,27 @@ impl Play {
         ])
     }
 
+    // What its sessions do on so many threads.
+    fn turns(self, threads: u32, count: u32) -> Turns {
+        Turns {
+            gate: Gate::new(threads),
+            part: self.part,
+            count,
+        }
+    }
+
     /// On one thread.
     pub fn alone<R: Wait + Clock + CpuClock>(
         self,
         rt: &R,
         alloc: Global,
-        turns: u32,
+        count: u32,
     ) -> Result<Played, Failure> {
+        let turns = self.turns(1, count);
         let keys = self.keys(alloc, 0)?;
         let (manager, mut passes) = Manager::new(alloc, MOST_PLACES, MOST_SESSIONS)?;
-        let start = Start::now(rt)?;
         let pass = take_pass(&manager, &mut passes);
-        let alters = play(rt, alloc, &manager, pass, &keys, self.part, turns)?;
-        start.played(rt, 1, alters)
+        play(rt, alloc, &manager, pass, &keys, &turns)
     }
 
     /// On two threads.
@@ -101,22 +70,13 @@ impl Play {
         self,
         rt: &R,
         alloc: Global,
-        turns: u32,
+        count: u32,
     ) -> Result<Played, Failure> {
+        let turns = self.turns(2, count);
         let keys = (self.keys(alloc, 0)?, self.keys(alloc, 1)?);
         let (manager, mut passes) = Manager::new(alloc, MOST_PLACES, MOST_SESSIONS)?;
-        let start = Start::now(rt)?;
         let two = take_two(&manager, &mut passes);
-        let alters = play_two(
-            rt,
-            alloc,
-            &manager,
-            two,
-            (&keys.0, &keys.1),
-            self.part,
-            turns,
-        )?;
-        start.played(rt, 2, alters)
+        play_two(rt, alloc, &manager, two, (&keys.0, &keys.1), &turns)
     }
 
     /// On four threads.
@@ -124,15 +84,14 @@ impl Play {
         self,
         rt: &R,
         alloc: Global,
-        turns: u32,
+        count: u32,
     ) -> Result<Played, Failure> {
+        let turns = self.turns(4, count);
         let keys = self.keys_of_four(alloc)?;
         let (manager, mut passes) = Manager::new(alloc, MOST_PLACES, MOST_SESSIONS)?;
-        let start = Start::now(rt)?;
         let two = take_two(&manager, &mut passes);
         let more = take_two(&manager, &mut passes);
-        let alters = play_four(rt, alloc, &manager, two, more, &keys, self.part, turns)?;
-        start.played(rt, 4, alters)
+        play_four(rt, alloc, &manager, two, more, &keys, &turns)
     }
 }
 
@@ -162,61 +121,59 @@ fn take_two(_manager: &Manager, passes: &mut Vec<Pass>) -> (Pass, Pass)
 }
 
 // Two sessions play, on two threads.
-fn play_two<R: Threads + Wait + Sync + Clock>(
+fn play_two<R: Threads + Wait + Sync + Clock + CpuClock>(
     rt: &R,
     alloc: Global,
     manager: &Manager,
     passes: (Pass, Pass),
     keys: (&Keys, &Keys),
-    part: Part,
-    turns: u32,
-) -> Result<Vec<u64>, Failure>
+    turns: &Turns,
+) -> Result<Played, Failure>
     requires { (pass_table passes.0 ≡ table_of manager.now) × (pass_table passes.1 ≡ table_of manager.now) }
 {
     let ((one, two), (first, second)) = (passes, keys);
     let (early, late) = thread::join(
         rt,
-        move || play(rt, alloc, manager, one, first, part, turns),
-        move || play(rt, alloc, manager, two, second, part, turns),
+        move || play(rt, alloc, manager, one, first, turns),
+        move || play(rt, alloc, manager, two, second, turns),
     );
-    both(early, late)
+    both(early?, late?)
 }
 
 // Four sessions play, on four threads.
-fn play_four<R: Threads + Wait + Sync + Clock>(
+fn play_four<R: Threads + Wait + Sync + Clock + CpuClock>(
     rt: &R,
     alloc: Global,
     manager: &Manager,
     two: (Pass, Pass),
     more: (Pass, Pass),
     keys: &[Keys; 4],
-    part: Part,
-    turns: u32,
-) -> Result<Vec<u64>, Failure>
+    turns: &Turns,
+) -> Result<Played, Failure>
     requires two { (pass_table two.0 ≡ table_of manager.now) × (pass_table two.1 ≡ table_of manager.now) }
     requires more { (pass_table more.0 ≡ table_of manager.now) × (pass_table more.1 ≡ table_of manager.now) }
 {
     let [a, b, c, d] = keys;
     let (early, late) = thread::join(
         rt,
-        move || -> Result<Vec<u64>, Failure>
+        move || -> Result<Played, Failure>
             requires { IsSync R.row × ((pass_table two.0 ≡ table_of manager.now) × (pass_table two.1 ≡ table_of manager.now)) }
-        { play_two(rt, alloc, manager, two, (a, b), part, turns) },
-        move || -> Result<Vec<u64>, Failure>
+        { play_two(rt, alloc, manager, two, (a, b), turns) },
+        move || -> Result<Played, Failure>
             requires { IsSync R.row × ((pass_table more.0 ≡ table_of manager.now) × (pass_table more.1 ≡ table_of manager.now)) }
-        { play_two(rt, alloc, manager, more, (c, d), part, turns) },
+        { play_two(rt, alloc, manager, more, (c, d), turns) },
     );
-    both(early, late)
+    both(early?, late?)
 }
 
-// How long the ALTERs of both took.
-fn both(
-    early: Result<Vec<u64>, Failure>,
-    late: Result<Vec<u64>, Failure>,
-) -> Result<Vec<u64>, Failure> {
-    let (mut alters, more) = (early?, late?);
-    if alters.extend_from_slice(&more).is_err() {
+// How long both took, and all ALTERs.
+fn both(early: Played, late: Played) -> Result<Played, Failure> {
+    let Played { lap, mut alters } = early;
+    if alters.extend_from_slice(&late.alters).is_err() {
         return Err(Failure::Memory);
     }
-    Ok(alters)
+    Ok(Played {
+        lap: lap.or_longer(late.lap),
+        alters,
+    })
 }
