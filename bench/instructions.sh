@@ -29,5 +29,6 @@ for stock in '1 0' '1 1' '250 0' '250 1' '250 250'; do
     known=${stock% *}
     held=${stock#* }
     less=$(counted "$few" "$known" "$held") && more=$(counted "$many" "$known" "$held") || exit 1
-    echo "a_pair instructions 1 known_${known}_held_$held $(((more - less) / (many - few)))"
+    tenths=$(((more - less) * 10 / (many - few)))
+    echo "a_pair instructions 1 known_${known}_held_$held $((tenths / 10)).$((tenths % 10))"
 done

@@ -3,14 +3,15 @@
 //!
 //! For each number of threads it prints the least and the median of ten rounds, a line each: `a_pair`, `peers`, the threads, what it is, and
 //! the nanoseconds that a pair takes a thread.
-use std::sync::RwLock;
+use std::hint::black_box;
 use std::sync::atomic::{AtomicU64, Ordering};
+use std::sync::{Barrier, RwLock};
 use std::thread;
 use std::time::Instant;
 
 const ROUNDS: usize = 10;
 
-const TURNS: u32 = 1_000_000;
+const TURNS: u32 = 100_000;
 
 /// What pairs are made on.
 trait Peer: Sync {
@@ -57,27 +58,34 @@ impl Peer for AtomicU64 {
     }
 }
 
-/// What a thread does: so many pairs.
-fn pairs<P: Peer>(peer: &P) -> u64 {
-    (0..TURNS).fold(0, |seen, _| seen.wrapping_add(peer.pair()))
+/// What a thread does: so many pairs, once all threads are there. The nanoseconds that they took.
+fn pairs<P: Peer>(peer: &P, gate: &Barrier) -> u128 {
+    gate.wait();
+    let began = Instant::now();
+    let seen = (0..TURNS).fold(0u64, |seen, _| seen.wrapping_add(peer.pair()));
+    black_box(seen);
+    began.elapsed().as_nanos()
 }
 
-/// A round of so many threads: the nanoseconds that a pair took a thread.
-fn timed<P: Peer>(peer: &P, threads: u32) -> f64 {
-    let began = Instant::now();
-    thread::scope(|scope| {
-        for _ in 1..threads {
-            scope.spawn(|| std::hint::black_box(pairs(peer)));
-        }
-        std::hint::black_box(pairs(peer));
+/// A round of so many threads: the nanoseconds of a pair in the thread that took longest.
+fn timed<P: Peer>(peer: &P, threads: usize) -> f64 {
+    let gate = Barrier::new(threads);
+    let longest = thread::scope(|scope| {
+        let others: Vec<_> = (1..threads)
+            .map(|_| scope.spawn(|| pairs(peer, &gate)))
+            .collect();
+        let mine = pairs(peer, &gate);
+        others
+            .into_iter()
+            .map(|other| other.join().unwrap())
+            .fold(mine, u128::max)
     });
-    let spent = began.elapsed();
     assert!(peer.is_over(), "a pair isn't over");
-    spent.as_nanos() as f64 / f64::from(TURNS)
+    longest as f64 / f64::from(TURNS)
 }
 
 /// All rounds of so many threads. As the median the upper of the two in the middle is told.
-fn tell<P: Peer>(peer: &P, threads: u32) {
+fn tell<P: Peer>(peer: &P, threads: usize) {
     let mut rounds: Vec<f64> = (0..ROUNDS).map(|_| timed(peer, threads)).collect();
     rounds.sort_by(f64::total_cmp);
     let name = peer.name();
