@@ -90,7 +90,10 @@ fn tell<P: Peer>(peer: &P, threads: usize) {
     rounds.sort_by(f64::total_cmp);
     let name = peer.name();
     println!("a_pair peers {threads} {name}_least {:.1}", rounds[0]);
-    println!("a_pair peers {threads} {name}_median {:.1}", rounds[ROUNDS / 2]);
+    println!(
+        "a_pair peers {threads} {name}_median {:.1}",
+        rounds[ROUNDS / 2]
+    );
 }
 
 fn main() {
