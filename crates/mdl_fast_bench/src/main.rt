@@ -86,7 +86,8 @@ fn command_line(rt: &HostRuntime) -> Result<Wanted, Failure> {
         return Ok(Wanted::Rows { quick: false });
     };
     if first.as_str() != "pairs" {
-        return Ok(Wanted::Rows { quick: true });
+        let quick = first.as_str() == "quick";
+        return Ok(Wanted::Rows { quick });
     }
     let mut numbers = [0u32; 3];
     for (number, word) in numbers.iter_mut().zip(words) {
