@@ -46,7 +46,7 @@ impl Member {
         requires known { kind_known place self.old.known.known ≡ Some kind }
         requires clear { wish_fault (Some kind) self.old.asks mode self.old.next ≡ None }
         requires unfast { self.old.tickets.fast ≡ [] }
-        requires room { HasRoom place self.old.tickets }
+        requires room { HasRoom place self.old.tickets.room }
         ensures joined { Joins (space_of (view_of self.old)) (Begin_wait self.old.seat.me.0.number place mode) (begun result)
             (space_of (view_of self.new)) }
         ensures shown { Shows (Begin_wait self.old.seat.me.0.number place mode) (begun result) (view_of self.old) (view_of self.new) }

@@ -76,7 +76,7 @@ impl Member {
         requires held { numbered held.number self.old.tickets.slow ≡ Some held }
         requires clear { clone_fault (Some held) self.old.asks mode self.old.known.known self.old.next ≡ None }
         requires unfast { self.old.tickets.fast ≡ [] }
-        requires room { HasRoom held.place self.old.tickets }
+        requires room { HasRoom held.place self.old.tickets.room }
         ensures cloned { IfOk result (λ new. (new ≡ self.old.next)
             × DoesQuietly held.place (Gain new mode ∷ []) (view_of self.old) (view_of self.new)
             × MeetsTicket held.number (Gain new mode ∷ []) (view_of self.old) (view_of self.new) held) }

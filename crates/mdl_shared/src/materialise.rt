@@ -1,11 +1,12 @@
 //! A session's fast tickets become slow ones.
 //!
 //! After MySQL 5.7, sql/mdl.cc: `MDL_context::materialize_fast_path_locks`.
-ghost use Rattle.std.specs.Prelude.{◌≡◌, [], IfErr, OnOk};
+ghost use Rattle.std.specs.Prelude.{◌≡◌, [], IfErr, OnErr, OnOk};
 ghost use Rattle.mdl_shared.specs.DeedsDone.{DoesQuietly};
-ghost use Rattle.mdl_shared.specs.FastDeeds.{LacksRoomForFast};
+ghost use Rattle.mdl_shared.specs.FastDeeds.{AreSameOrSlow};
 ghost use Rattle.mdl_shared.specs.SessionViews.{space_of};
-ghost use Rattle.mdl_shared.specs.Showings.{AllMadeSlow};
+ghost use Rattle.mdl_shared.specs.Showings.{AllMadeSlow, LacksRoomForFast};
+ghost use Rattle.mdl_shared.specs.TicketLists.{KeepsRoom};
 
 use crate::Session;
 use mdl_calls::SpaceError;
@@ -21,6 +22,8 @@ impl<R: Wait> Session<R> {
         ensures quiet { DoesQuietly 0 [] self.old self.new }
         ensures slow { OnOk result ((self.new.me.0.fast ≡ []) × AllMadeSlow self.old self.new) }
         ensures refused { IfErr result (λ why. LacksRoomForFast why self.old self.new) }
+        ensures partly { OnErr result (AreSameOrSlow self.old self.new) }
+        ensures room { KeepsRoom 0 self.old.room self.new.room }
     {
         if self.member.asks.is_some() {
             return Ok(());
