@@ -24,6 +24,7 @@ use Rattle.mdl_shared.specs.Members.{IsMember}
 use Rattle.mdl_shared.specs.SessionViews.{SessionView, lists_seen, session_at, settled_of, space_of}
 use Rattle.mdl_shared.specs.Showings.{MeetsOwnWait, Shows}
 use Rattle.mdl_shared.specs.Waitings.{wait_fault}
+use Rattle.mdl_shared.specs.TicketLists.{Room}
 use Rattle.mdl_shared.proofs.EndCalls.{HasEnded, lost-joins, unsettled-joins, won-joins}
 use Rattle.mdl_shared.proofs.Faults.{if-clear}
 use Rattle.mdl_shared.proofs.Members.{done-nothing}
@@ -130,9 +131,9 @@ module _ {s mid : SessionView} (is : IsMember s) (a : Ask) (asks : s.me.0.asks �
 -- ---- the steps that end it
 
 module _ {seat mid seat′ : SeatState} (sessions session found : ℕ)
-    (now : session_at mid sessions ≡ word-step ReadWait session found found seat.me.0.settles (session_at seat sessions)) where
+    (now : session_at mid sessions room ≡ word-step ReadWait session found found seat.me.0.settles (session_at seat sessions room)) where
   -- as lost
-  pub ended-lost : {place : ℕ} → AtItsTable mid seat′ (EndsLost mid.table place) → HasEnded seat.me.0.slow (session_at seat sessions) (session_at seat′ sessions)
+  pub ended-lost : {place : ℕ} → AtItsTable mid seat′ (EndsLost mid.table place) → HasEnded seat.me.0.slow (session_at seat sessions room) (session_at seat′ sessions room′)
   ended-lost ends =
       let went = ends.1 in
       let table : seat′.table ≡ seat.table = ends.0 ∙ ap (λ (x : SessionView). x.table) now in
@@ -149,7 +150,7 @@ module _ {seat mid seat′ : SeatState} (sessions session found : ℕ)
 
   -- as granted, without settling any wait
   pub ended-won : (a : Ask) → seat.me.0.asks ≡ Some a → seat′ ≡ record mid { me = ended_granted mid.table.slots mid.me }
-      → (ended : HasEnded (owned a.place (Gain a.number a.mode) seat.me.0.slow) (session_at seat sessions) (session_at seat′ sessions)) × (ended.settles ≡ seat.me.0.settles)
+      → (ended : HasEnded (owned a.place (Gain a.number a.mode) seat.me.0.slow) (session_at seat sessions room) (session_at seat′ sessions room′)) × (ended.settles ≡ seat.me.0.settles)
   ended-won a asks made =
       let log = (ended_granted mid.table.slots mid.me).0.log in (
         record {
@@ -158,7 +159,7 @@ module _ {seat mid seat′ : SeatState} (sessions session found : ℕ)
           now =
               ap (λ (x : SeatState). session_at x sessions) made
               ∙ ap (λ (x : SessionView). record x { me = (record x.me.0 { slow = x.me.0.slow ++ taken_over x.me.0.asks x.me.0.slow; asks = None; told = None; log = log }, x.me.1) }) now
-              ∙ ap (λ (o : Option Ask). record (session_at seat sessions) { me = (record seat.me.0 { slow = seat.me.0.slow ++ taken_over o seat.me.0.slow; asks = None; told = None; log = log }, seat.me.1) }) asks;
+              ∙ ap (λ (o : Option Ask). record (session_at seat sessions room) { me = (record seat.me.0 { slow = seat.me.0.slow ++ taken_over o seat.me.0.slow; asks = None; told = None; log = log }, seat.me.1) }) asks;
         },
         refl,
       )

@@ -25,6 +25,7 @@ use Rattle.mdl_shared.specs.DeedsDone.{DoesQuietly, StaysFast}
 use Rattle.mdl_shared.specs.Members.{IsMember, increment_at}
 use Rattle.mdl_shared.specs.Rememberings.{AreAlike}
 use Rattle.mdl_shared.specs.SessionViews.{Lists, lists_seen, session_at, tickets_seen}
+use Rattle.mdl_shared.specs.TicketLists.{Room}
 use Rattle.mdl_shared.proofs.Alike.{all_noted}
 use Rattle.mdl_shared.proofs.MemberFacts.{below, rising}
 use Rattle.mdl_shared.proofs.Members.{seat-changed}
@@ -75,11 +76,11 @@ fewer-fast known asks fast keep = record {
   plain = counted-kept keep known fast;
 }
 
-module _ (seat seat′ : SeatState) (sessions : ℕ) (is : IsMember (session_at seat sessions)) where
+module _ (seat seat′ : SeatState) (sessions : ℕ) {room : Room} (is : IsMember (session_at seat sessions room)) where
   -- a fast ticket was granted
-  pub fast-granted : {place one : ℕ} {mode : Mode} {noted : Option ℕ} → seat.me.0.asks ≡ None → increment_at place mode seat.me.0.known ≡ Some one
+  pub fast-granted : {room′ : Room} {place one : ℕ} {mode : Mode} {noted : Option ℕ} → seat.me.0.asks ≡ None → increment_at place mode seat.me.0.known ≡ Some one
       → noted ≡ noted_at place seat.me.0 → AtItsTable seat seat′ (GrantsFast place mode noted)
-      → DoesQuietly place (Gain seat.me.0.next mode ∷ []) (session_at seat sessions) (session_at seat′ sessions)
+      → DoesQuietly place (Gain seat.me.0.next mode ∷ []) (session_at seat sessions room) (session_at seat′ sessions room′)
   fast-granted {place} {one} {mode} {noted} idle counted it granted =
       let v = seat.me.0 in
       let its : noted ≡ note_at place (tickets_seen v) = it ∙ one-noted place v.slow v.fast is.alike in
@@ -106,8 +107,8 @@ module _ (seat seat′ : SeatState) (sessions : ℕ) (is : IsMember (session_at 
       }
 
   -- one was released
-  pub fast-released : {place number : ℕ} {owes : Bool} {t : Own} → numbered number seat.me.0.fast ≡ Some t → AtItsTable seat seat′ (ReleasesFast place number owes)
-      → DoesQuietly place (Lose number ∷ []) (session_at seat sessions) (session_at seat′ sessions)
+  pub fast-released : {room′ : Room} {place number : ℕ} {owes : Bool} {t : Own} → numbered number seat.me.0.fast ≡ Some t → AtItsTable seat seat′ (ReleasesFast place number owes)
+      → DoesQuietly place (Lose number ∷ []) (session_at seat sessions room) (session_at seat′ sessions room′)
   fast-released {place} {number} {owes} {t} its released =
       let v = seat.me.0 in
       let now = released.1.now in record {
@@ -129,7 +130,7 @@ module _ (seat seat′ : SeatState) (sessions : ℕ) (is : IsMember (session_at 
       }
 
   -- those of a place became slow ones
-  pub fast-materialised : {place : ℕ} → AtItsTable seat seat′ (Materialises place) → DoesQuietly 0 [] (session_at seat sessions) (session_at seat′ sessions)
+  pub fast-materialised : {room′ : Room} {place : ℕ} → AtItsTable seat seat′ (Materialises place) → DoesQuietly 0 [] (session_at seat sessions room) (session_at seat′ sessions room′)
   fast-materialised {place} moved =
       let v = seat.me.0 in
       let now = moved.1.now in record {

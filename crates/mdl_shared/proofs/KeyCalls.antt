@@ -38,6 +38,7 @@ use Rattle.mdl_shared.specs.OwnLists.{key_known}
 use Rattle.mdl_shared.specs.Passes.{view_of}
 use Rattle.mdl_shared.specs.SessionViews.{Lists, SessionView, lists_seen, session_at, space_of}
 use Rattle.mdl_shared.specs.Showings.{Shows}
+use Rattle.mdl_shared.specs.TicketLists.{Room}
 use Rattle.mdl_shared.proofs.KnownKeys.{all_learnt, apart_and, new_place}
 use Rattle.mdl_shared.proofs.MemberFacts.{keys-apart, speaks}
 use Rattle.mdl_shared.proofs.Members.{HasDone, StaysInOrder, visited}
@@ -53,8 +54,8 @@ pub record HasLearnt (more : List Known) (s s′ : SessionView) : Type 0 where
   pub now : s′ ≡ record s { me = (record s.me.0 { known = s.me.0.known ++ more; log = log }, s.me.1) }
 
 -- what its seat's visit tells
-pub learnt-by : (seat seat′ : SeatState) (sessions : ℕ) (more : List Known) → seat′.table ≡ seat.table
-    → MakesSteps (record seat.me.0 { known = seat.me.0.known ++ more }, seat.me.1) seat′.me → HasLearnt more (session_at seat sessions) (session_at seat′ sessions)
+pub learnt-by : (seat seat′ : SeatState) (sessions : ℕ) {room room′ : Room} (more : List Known) → seat′.table ≡ seat.table
+    → MakesSteps (record seat.me.0 { known = seat.me.0.known ++ more }, seat.me.1) seat′.me → HasLearnt more (session_at seat sessions room) (session_at seat′ sessions room′)
 learnt-by seat seat′ sessions more table steps = record {
   log = seat.me.0.log ++ steps.0;
   now = λ i. record { table = table i; sessions = sessions; me = steps.1 i };
@@ -75,7 +76,7 @@ learnt-order {more} {s} {s′} learnt is within = subst (λ (x : SessionView). S
 })
 
 -- steps alone
-pub stepped : (seat seat′ : SeatState) (sessions : ℕ) → seat′.table ≡ seat.table → MakesSteps seat.me seat′.me → HasDone 0 [] (session_at seat sessions) (session_at seat′ sessions)
+pub stepped : (seat seat′ : SeatState) (sessions : ℕ) {room room′ : Room} → seat′.table ≡ seat.table → MakesSteps seat.me seat′.me → HasDone 0 [] (session_at seat sessions room) (session_at seat′ sessions room′)
 stepped seat seat′ sessions table steps = visited seat seat′ sessions refl (table, record { made = steps.0; now = steps.1; did = steps.2 })
 
 -- which leave its lists
@@ -137,7 +138,7 @@ module _ {s : SessionView} (is : IsMember s) (key : KeyName) where
 pub resolved : (seat seat′ : SeatState) (sessions place : ℕ) (key : KeyName) → place_known key seat.me.0.known ≡ None
     → ((0 < place) × (place < seat.table.slots) × MakesSteps (knowing (record { key = key; place = place }) seat.me) seat′.me)
     → ((k left : Keys) × AtItsTable seat seat′ (TookDirectory seat.table.slots k left) × IsAnswer seat.table.slots key k left (Ok place))
-    → HasLearnt (record { key = key; place = place } ∷ []) (session_at seat sessions) (session_at seat′ sessions)
+    → HasLearnt (record { key = key; place = place } ∷ []) (session_at seat sessions room) (session_at seat′ sessions room′)
     × AreWithin seat.table.slots (record { key = key; place = place } ∷ []) × (is_known_place seat.me.0.known place ≡ false)
 resolved seat seat′ sessions place key none knows answer =
     let one : Known = record { key = key; place = place } in
@@ -240,21 +241,21 @@ steps-then m m′ m″ first second = (
 )
 
 -- what the directory tells of them, and then the place of each
-module _ (seat mid seat′ : SeatState) (sessions : ℕ) (schema : List ℕ) (k : Keys) (tables : List Known) (is : IsMember (session_at seat sessions))
+module _ (seat mid seat′ : SeatState) (sessions : ℕ) {room room′ : Room} (schema : List ℕ) (k : Keys) (tables : List Known) (is : IsMember (session_at seat sessions room))
     (took : AtItsTable seat mid (TookDirectory seat.table.slots k k)) (are : AreTables schema k tables) (knows : MakesSteps (knowing_all tables seat.me) mid.me)
     (steps : AtItsTable mid seat′ MakesSteps) where
   abbrev all : List Known
   all = seat.me.0.known ++ unknown seat.me.0.known tables
 
-  pub learnt-all : HasLearnt (unknown seat.me.0.known tables) (session_at seat sessions) (session_at seat′ sessions)
+  pub learnt-all : HasLearnt (unknown seat.me.0.known tables) (session_at seat sessions room) (session_at seat′ sessions room′)
   learnt-all = learnt-by seat seat′ sessions (unknown seat.me.0.known tables) (steps.0 ∙ took.0) (steps-then (knowing_all tables seat.me) mid.me seat′.me knows steps.1)
 
   pub all-apart : are_apart all ≡ true
   all-apart = apart_and schema k seat.me.0 tables took.1.recorded.known are (keys-apart is)
 
   pub told-tables : (places : List ℕ) → StaysQuiet mid.me seat′.me → HasAsked mid.me.0.number tables places mid.me seat′.me
-      → Joins (space_of (session_at seat sessions)) (Tables_of seat.me.0.number schema) (Tables places) (space_of (session_at seat′ sessions))
-      × Shows (Tables_of seat.me.0.number schema) (Tables places) (session_at seat sessions) (session_at seat′ sessions)
+      → Joins (space_of (session_at seat sessions room)) (Tables_of seat.me.0.number schema) (Tables places) (space_of (session_at seat′ sessions room′))
+      × Shows (Tables_of seat.me.0.number schema) (Tables places) (session_at seat sessions room) (session_at seat′ sessions room′)
   told-tables places quiet asked =
       let old : Mine = seat.me in
       let new : Mine = seat′.me in

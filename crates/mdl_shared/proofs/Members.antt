@@ -25,7 +25,7 @@ use Rattle.mdl_shared.specs.Members.{IsMember, are_counted, are_within, most_num
 use Rattle.mdl_shared.specs.Rememberings.{AreAlike}
 use Rattle.mdl_shared.specs.SessionViews.{Lists, SessionView, lists_seen, session_at, space_of, tickets_of, tickets_seen}
 use Rattle.mdl_shared.specs.Showings.{own_fault}
-use Rattle.mdl_shared.specs.TicketLists.{HasRoom, TicketList}
+use Rattle.mdl_shared.specs.TicketLists.{HasRoom, Room, TicketList}
 use Rattle.mdl_shared.specs.Waitings.{is_ask_last, is_ask_told}
 use Rattle.mdl_shared.proofs.Alike.{alike_done}
 use Rattle.mdl_shared.proofs.SameSpace.{KeepsRest, Stays}
@@ -69,11 +69,11 @@ pub same-fast : (known : List Known) (asks : Option Ask) (fast : List Own) → S
 same-fast known asks fast = record { unfast = λ a waits e. e; plain = λ e. e }
 
 -- what its seat's visit tells
-pub seat-changed : (seat seat′ : SeatState) (sessions : ℕ) → seat′.table ≡ seat.table → (m : Mine) → seat′.me ≡ m → session_at seat′ sessions ≡ record (session_at seat sessions) { me = m }
+pub seat-changed : (seat seat′ : SeatState) (sessions : ℕ) {room room′ : Room} → seat′.table ≡ seat.table → (m : Mine) → seat′.me ≡ m → session_at seat′ sessions room′ ≡ record (session_at seat sessions room) { me = m; room = room′ }
 seat-changed seat seat′ sessions table m me = λ i. record { table = table i; sessions = sessions; me = me i }
 
-pub visited : {place : ℕ} {ds : List Deed} (seat seat′ : SeatState) (sessions : ℕ) → DoesSlow place ds seat.me.0 → AtItsTable seat seat′ (Visits place ds)
-    → HasDone place ds (session_at seat sessions) (session_at seat′ sessions)
+pub visited : {place : ℕ} {ds : List Deed} (seat seat′ : SeatState) (sessions : ℕ) {room room′ : Room} → DoesSlow place ds seat.me.0 → AtItsTable seat seat′ (Visits place ds)
+    → HasDone place ds (session_at seat sessions room) (session_at seat′ sessions room′)
 visited {place} {ds} seat seat′ sessions same visits = record {
   slow = all_owned place ds seat.me.0.slow;
   fast = seat.me.0.fast;
@@ -87,8 +87,8 @@ visited {place} {ds} seat seat′ sessions same visits = record {
   unasked = λ none. refl;
 }
 
-pub rescheduled : {place : ℕ} {ds : List Deed} (seat seat′ : SeatState) (sessions : ℕ) → DoesSlow place ds seat.me.0 → AtItsTable seat seat′ (VisitsAndReschedules seat.table place ds)
-    → HasDone place ds (session_at seat sessions) (session_at seat′ sessions)
+pub rescheduled : {place : ℕ} {ds : List Deed} (seat seat′ : SeatState) (sessions : ℕ) {room room′ : Room} → DoesSlow place ds seat.me.0 → AtItsTable seat seat′ (VisitsAndReschedules seat.table place ds)
+    → HasDone place ds (session_at seat sessions room) (session_at seat′ sessions room′)
 rescheduled {place} {ds} seat seat′ sessions same visits =
     let told : seat′.me.0.told ≡ visits.1.told = ap (λ (m : Mine). m.0.told) visits.1.now in
     record {

@@ -13,6 +13,7 @@ use Rattle.mdl_shared.specs.DeedsDone.{DoesQuietly, HasDone}
 use Rattle.mdl_shared.specs.Passes.{view_of}
 use Rattle.mdl_shared.specs.SessionViews.{Lists, SessionView, lists_seen, session_at, tickets_of, tickets_seen}
 use Rattle.mdl_shared.specs.Showings.{KeepsTold, MeetsSo, SettlesSo, ShowsStep, Shows, StepsSo, done_by, own_fault}
+use Rattle.mdl_shared.specs.TicketLists.{Room}
 use Rattle.mdl_shared.proofs.Faults.{if-clear}
 use Rattle.mdl_shared.proofs.Members.{done-then, same-fast, seat-changed}
 
@@ -61,7 +62,7 @@ quiet-none s = record {
 }
 
 -- steps and nothing else
-pub quiet-made : {place : ℕ} (seat seat′ : SeatState) (sessions : ℕ) → AtItsTable seat seat′ MakesSteps → DoesQuietly place [] (session_at seat sessions) (session_at seat′ sessions)
+pub quiet-made : {place : ℕ} (seat seat′ : SeatState) (sessions : ℕ) {room room′ : Room} → AtItsTable seat seat′ MakesSteps → DoesQuietly place [] (session_at seat sessions room) (session_at seat′ sessions room′)
 quiet-made seat seat′ sessions made = record {
   done = record {
     slow = seat.me.0.slow;

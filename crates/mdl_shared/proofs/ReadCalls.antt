@@ -35,6 +35,7 @@ use Rattle.mdl_shared.specs.Passes.{view_of}
 use Rattle.mdl_shared.specs.Rememberings.{AreAlike}
 use Rattle.mdl_shared.specs.SessionViews.{Lists, SessionView, lists_seen, session_at, space_of, tickets_seen}
 use Rattle.mdl_shared.specs.Showings.{ShowsStep, Shows}
+use Rattle.mdl_shared.specs.TicketLists.{Room}
 use Rattle.mdl_shared.proofs.Alike.{alike_noting}
 use Rattle.mdl_shared.proofs.Faults.{if-clear, test-failed}
 use Rattle.mdl_shared.proofs.MemberFacts.{speaks}
@@ -64,8 +65,8 @@ pub record HasNoted (place : ℕ) (standing : Standing) (s s′ : SessionView) :
   }
 
 -- what its seat's visit tells
-pub noted-by : {place : ℕ} {standing : Standing} (seat seat′ : SeatState) (sessions : ℕ) → seat′.table ≡ seat.table → Learns place standing seat.me seat′.me
-    → HasNoted place standing (session_at seat sessions) (session_at seat′ sessions)
+pub noted-by : {place : ℕ} {standing : Standing} (seat seat′ : SeatState) (sessions : ℕ) {room room′ : Room} → seat′.table ≡ seat.table → Learns place standing seat.me seat′.me
+    → HasNoted place standing (session_at seat sessions room) (session_at seat′ sessions room′)
 noted-by seat seat′ sessions table learns = record {
   log = seat.me.0.log ++ learns.0;
   now = λ i. record { table = table i; sessions = sessions; me = learns.1 i };

@@ -16,6 +16,7 @@ use Rattle.mdl_shared.specs.DeedsDone.{HasDone}
 use Rattle.mdl_shared.specs.Members.{IsMember, holding_fault}
 use Rattle.mdl_shared.specs.SessionViews.{SessionView, session_at, space_of, tickets_seen}
 use Rattle.mdl_shared.specs.Showings.{GivesUpFast, GivesUpSlow, Shows}
+use Rattle.mdl_shared.specs.TicketLists.{Room}
 use Rattle.mdl_shared.proofs.Faults.{if-clear}
 use Rattle.mdl_shared.proofs.MemberFacts.{loses-slow}
 use Rattle.mdl_shared.proofs.Members.{rescheduled}
@@ -38,11 +39,11 @@ release-shows {a} {b} id t its done did met = record {
 }
 
 -- a slow one, by a visit of its place
-pub released-slow : (seat seat′ : SeatState) (sessions id : ℕ) (t : Own) → IsMember (session_at seat sessions) → numbered id (tickets_seen seat.me.0) ≡ Some t
+pub released-slow : (seat seat′ : SeatState) (sessions id : ℕ) {room room′ : Room} (t : Own) → IsMember (session_at seat sessions room) → numbered id (tickets_seen seat.me.0) ≡ Some t
     → numbered id seat.me.0.slow ≡ Some t → numbered id seat.me.0.fast ≡ None → AtItsTable seat seat′ (VisitsAndReschedules seat.table t.place (Lose id ∷ []))
     → DoesToOwn t.place id (Lose id ∷ []) seat seat′
-    → Joins (space_of (session_at seat sessions)) (Release seat.me.0.number id) Done (space_of (session_at seat′ sessions))
-    × Shows (Release seat.me.0.number id) Done (session_at seat sessions) (session_at seat′ sessions)
+    → Joins (space_of (session_at seat sessions room)) (Release seat.me.0.number id) Done (space_of (session_at seat′ sessions room′))
+    × Shows (Release seat.me.0.number id) Done (session_at seat sessions room) (session_at seat′ sessions room′)
 released-slow seat seat′ sessions id t is its slow none visit step =
     let done = rescheduled seat seat′ sessions (loses-slow is t.place id t slow) visit in (
       release-joins is id t its done,

@@ -21,14 +21,15 @@ use Rattle.mdl_shared.specs.declared.member.Member.{Member}
 use Rattle.mdl_shared.specs.Members.{IsMember}
 use Rattle.mdl_shared.specs.SessionViews.{Lists, SessionView, lists_seen, session_at, tickets_seen}
 use Rattle.mdl_shared.specs.Showings.{KeepsTold, MakesNoStep, MeetsSo, SettlesSo, Shows, StepsSo, done_by, own_fault}
+use Rattle.mdl_shared.specs.TicketLists.{Room}
 use Rattle.mdl_shared.proofs.MemberFacts.{speaks}
 use Rattle.mdl_shared.proofs.Members.{HasDone, done-nothing, done-order, done-then, kept, same-fast}
 use Rattle.mdl_shared.proofs.SameSpace.{joins-still}
 
 -- a visit without a deed
-pub quietly : {seat seat′ : SeatState} {log : List Met} {told : Option ℕ} {settles : List Settlement} (sessions : ℕ) → seat′.table ≡ seat.table
+pub quietly : {seat seat′ : SeatState} {log : List Met} {told : Option ℕ} {settles : List Settlement} (sessions : ℕ) {room room′ : Room} → seat′.table ≡ seat.table
     → seat′.me ≡ (record seat.me.0 { told = told; settles = settles; log = log }, seat.me.1) → StaysTold seat.me.0.told told
-    → (seat.me.0.asks ≡ None → told ≡ seat.me.0.told) → HasDone 0 [] (session_at seat sessions) (session_at seat′ sessions)
+    → (seat.me.0.asks ≡ None → told ≡ seat.me.0.told) → HasDone 0 [] (session_at seat sessions room) (session_at seat′ sessions room′)
 quietly {seat = seat} {log = log} {told = told} {settles = settles} sessions table me stays unasked = record {
   slow = seat.me.0.slow;
   fast = seat.me.0.fast;

@@ -21,6 +21,7 @@ use Rattle.mdl_visits.specs.WaitOpenings.{Opens, awaiting}
 use Rattle.mdl_shared.specs.Members.{IsMember, kind_known, wish_fault}
 use Rattle.mdl_shared.specs.OwnLists.{told_of}
 use Rattle.mdl_shared.specs.SessionViews.{SessionView, session_at, settled_told, space_of, tickets_seen}
+use Rattle.mdl_shared.specs.TicketLists.{Room}
 use Rattle.mdl_shared.proofs.MemberFacts.{next-some, nothing-told, speaks}
 use Rattle.mdl_shared.proofs.Members.{HasDone, StaysInOrder, done-next, done-rest, done-tickets}
 use Rattle.mdl_shared.proofs.SameSpace.{Stays, joins-held, joins-still, no-asks, numbers_by, own_by, refused, same-stays, waits-asks}
@@ -135,8 +136,8 @@ module _ {s : SessionView} (is : IsMember s) (place : ℕ) (mode : Mode) where
 -- ---- waits that begin
 
 -- what the visit tells
-pub begun : {place : ℕ} {mode : Mode} (seat seat′ : SeatState) (sessions : ℕ) (opens : AtItsTable seat seat′ (Opens place mode))
-    → session_at seat′ sessions ≡ record (session_at seat sessions) { me = (record (awaiting place mode seat.me.0) { log = seat.me.0.log ++ opens.1.made }, seat.me.1) }
+pub begun : {place : ℕ} {mode : Mode} (seat seat′ : SeatState) (sessions : ℕ) {room room′ : Room} (opens : AtItsTable seat seat′ (Opens place mode))
+    → session_at seat′ sessions room′ ≡ record (session_at seat sessions room) { me = (record (awaiting place mode seat.me.0) { log = seat.me.0.log ++ opens.1.made }, seat.me.1); room = room′ }
 begun seat seat′ sessions opens = λ i. record { table = opens.0 i; sessions = sessions; me = opens.1.now i }
 
 module _ {s s′ : SessionView} (is : IsMember s) {place : ℕ} {mode : Mode} (clear : wish_fault (kind_known place s.me.0.known) s.me.0.asks mode s.me.0.next ≡ None)
