@@ -20,31 +20,36 @@ use Rattle.mdl_visits.proofs.Numbers.{has_number}
 use Rattle.mdl_shared.specs.declared.member.Member.{Member}
 use Rattle.mdl_shared.specs.DeedsDone.{DoesQuietly, HasDone}
 use Rattle.mdl_shared.specs.Doings.{merge_deeds, rise_deeds, upgrade_deeds}
-use Rattle.mdl_shared.specs.FastDeeds.{LacksRoomForFast}
 use Rattle.mdl_shared.specs.FastWishes.{BecomesSlow}
 use Rattle.mdl_shared.specs.Members.{IsMember}
 use Rattle.mdl_shared.specs.Modes.{merge_fault}
 use Rattle.mdl_shared.specs.Passes.{view_of}
-use Rattle.mdl_shared.specs.SessionViews.{SessionView, space_of, tickets_seen}
-use Rattle.mdl_shared.specs.Showings.{AllMadeSlow, Shows, ShowsStep}
+use Rattle.mdl_shared.specs.SessionViews.{Lists, SessionView, space_of, tickets_seen}
+use Rattle.mdl_shared.specs.Showings.{AllMadeSlow, FromUnfast, LacksRoomForFast, Shows, ShowsStep}
 use Rattle.mdl_shared.specs.Upgrades.{upgrade_fault}
-use Rattle.mdl_shared.proofs.FastWishing.{number-slow, shows-slow}
-use Rattle.mdl_shared.proofs.FastWishShows.{lack-cause}
 use Rattle.mdl_shared.proofs.MemberFacts.{speaks}
 use Rattle.mdl_shared.proofs.Members.{done-nothing}
 use Rattle.mdl_shared.proofs.QuietDeeds.{quiet-shows, quiet-steps, quiet-then, same-lists}
 use Rattle.mdl_shared.proofs.SameSpace.{refused}
+use Rattle.mdl_shared.proofs.SlowPlaces.{lack-cause}
 use Rattle.mdl_shared.proofs.TicketCalls.{blocked-joins, may-rise, merge-joins, upgrade-joins}
 use Rattle.mdl_shared.proofs.TicketFaults.{merge-clear}
 use Rattle.mdl_shared.proofs.WishCalls.{by-cause}
-use Rattle.mdl_shared.proofs.Wishing.{unfast-seen}
 
 -- ---- the fast tickets
 
 -- they became slow ones
 pub becomes-slow : (m m′ : Member) → DoesQuietly 0 [] (view_of m) (view_of m′) → (m′.tickets.fast ≡ []) × AllMadeSlow (view_of m) (view_of m′)
     → BecomesSlow (view_of m) (view_of m′)
-becomes-slow m m′ quiet made = record { quiet = quiet; unfast = unfast-seen m′ made.0; made = made.1 }
+becomes-slow m m′ quiet made = record { quiet = quiet; unfast = sym (ap (λ (l : Lists). l.fast) m′.lists) ∙ made.0; made = made.1 }
+
+-- it is the session that it was
+same-number : {a b : SessionView} → BecomesSlow a b → b.me.0.number ≡ a.me.0.number
+same-number slow = ap (λ (x : SessionView). x.me.0.number) slow.quiet.done.now
+
+-- what is so from then on
+from-slow : {a b : SessionView} {fact : SessionView → Type 0} → BecomesSlow a b → fact b → FromUnfast a fact
+from-slow {b = b} slow is = (b, quiet-steps slow.quiet, slow.made, is)
 
 -- so each ticket that the session had is a slow one
 pub slow-then : {place : ℕ} (m m′ : Member) → HasDone place [] (view_of m) (view_of m′) → m′.tickets.fast ≡ [] → (id : ℕ) (t : Own)
@@ -59,14 +64,14 @@ slow-then m m′ done none id t found =
 module _ {a : SessionView} (is : IsMember a) (id : ℕ) (t : Own) (its : numbered id (tickets_seen a.me.0) ≡ Some t) (mode : Mode)
     (clear : upgrade_fault mode a.me.0.known a.me.0.asks (numbered id (tickets_seen a.me.0)) ≡ None) where
   -- there was no room for the fast tickets
-  pub upgrade-refused : {b : SessionView} {why : SpaceError} → DoesQuietly 0 [] a b → LacksRoomForFast why a b
+  pub upgrade-refused : {b : SessionView} {why : SpaceError} → covers t.mode mode ≡ false → DoesQuietly 0 [] a b → LacksRoomForFast why a b
       → Joins (space_of a) (Upgrade_now a.me.0.number id mode) (Refused why) (space_of b) × Shows (Upgrade_now a.me.0.number id mode) (Refused why) a b
-  upgrade-refused {b} {why} quiet lacks = (
+  upgrade-refused {b} {why} short quiet lacks = (
     refused a b (Upgrade_now a.me.0.number id mode) why (done-nothing quiet.done) (speaks is) refl refl
         (by-cause (λ w. IsCause (Knows (space_of a) a.me.0.number) (Upgrade_now a.me.0.number id mode) w (space_of a).own) why tt
         (may-rise is id t its mode clear) (lack-cause a b lacks))
         (λ state how is. cc) tt,
-    quiet-shows quiet refl clear (λ e. e) (λ e. e) tt (inr lacks),
+    quiet-shows quiet refl clear (λ e. e) (λ e. e) tt (inr ((t, its, short), lacks)),
   )
 
   deeds : (answer : Upgrade) → covers t.mode mode ≡ false → rise_deeds id mode answer ≡ upgrade_deeds id mode (Ok answer) (numbered id (tickets_seen a.me.0))
@@ -80,10 +85,10 @@ module _ {a : SessionView} (is : IsMember a) (id : ℕ) (t : Own) (its : numbere
         let number = has_number id t (tickets_seen a.me.0) its in
         let quiet = quiet-then slow.quiet (subst (λ (n : ℕ). DoesQuietly t.place (Alter n mode ∷ []) b c) number went.0) in
         let met = subst (λ (n : ℕ). ShowsStep b c (MeetsGrantable t.place b.me.0.number mode (Alter n mode))) number went.1 in
-        let by = subst (λ (who : ℕ). ShowsStep b c (MeetsGrantable t.place who mode (Alter id mode))) (number-slow slow) met in (
+        let by = subst (λ (who : ℕ). ShowsStep b c (MeetsGrantable t.place who mode (Alter id mode))) (same-number slow) met in (
           upgrade-joins is id t its mode clear short quiet.done,
           quiet-shows quiet (deeds upgrade.Upgraded short) clear (λ e. e) (λ e. e) tt
-              (t, its, ((λ has. let no = sym has ∙ short in cc), (λ less. shows-slow slow c by))),
+              (t, its, ((λ has. let no = sym has ∙ short in cc), (λ less. from-slow slow by))),
         )
 
     -- it would have to wait
@@ -91,9 +96,9 @@ module _ {a : SessionView} (is : IsMember a) (id : ℕ) (t : Own) (its : numbere
         → Joins (space_of a) (Upgrade_now a.me.0.number id mode) Would_wait (space_of c) × Shows (Upgrade_now a.me.0.number id mode) Would_wait a c
     blocked-slow went =
         let quiet = quiet-then slow.quiet went.0 in
-        let by = subst (λ (who : ℕ). ShowsStep b c (MeetsBlocked t.place who mode)) (number-slow slow) went.1 in (
+        let by = subst (λ (who : ℕ). ShowsStep b c (MeetsBlocked t.place who mode)) (same-number slow) went.1 in (
           blocked-joins is id t its mode clear short quiet.done,
-          quiet-shows quiet (deeds upgrade.WouldWait short) clear (λ e. e) (λ e. e) tt (t, its, (short, (b, quiet-steps slow.quiet, slow.made, by))),
+          quiet-shows quiet (deeds upgrade.WouldWait short) clear (λ e. e) (λ e. e) tt (t, its, (short, from-slow slow by)),
         )
 
     -- either
@@ -135,8 +140,8 @@ module _ {a : SessionView} (is : IsMember a) (old new : ℕ) (kept gone : Own) (
       let two = has_number new gone (tickets_seen a.me.0) other in
       let quiet = quiet-then slow.quiet (subst₂ (λ (n p : ℕ). DoesQuietly kept.place (Alter n gone.mode ∷ Lose p ∷ []) b c) one two went) in
       let met = subst₃ (λ (who n p : ℕ). MeetsOwn kept.place who n step.0 × MeetsOwn kept.place who p step.0 × (step.0.deeds ≡ Alter n gone.mode ∷ Lose p ∷ []))
-      (number-slow slow) one two (step.2, step.3, step.4) in (
+      (same-number slow) one two (step.2, step.3, step.4) in (
         merge-joins is old kept its new gone other free quiet.done,
         quiet-shows quiet (sym (ap (merge_deeds old new (Ok tt)) other)) clear (λ e. e) (λ e. e) tt
-            (kept, its, (gone, other, shows-slow slow c (step.0, step.1, met))),
+            (kept, its, (gone, other, from-slow slow (step.0, step.1, met))),
       )

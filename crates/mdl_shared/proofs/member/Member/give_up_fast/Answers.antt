@@ -8,10 +8,9 @@ use Rattle.mdl_shared.specs.Members.{is_known_place}
 use Rattle.mdl_shared.specs.Passes.{view_of}
 use Rattle.mdl_shared.specs.SessionViews.{Lists, SessionView}
 use Rattle.mdl_shared.proofs.FastReleases.{done-before, gives-up, gives-up_after}
-use Rattle.mdl_shared.proofs.MemberFacts.{may-visit, ticket-known}
+use Rattle.mdl_shared.proofs.MemberFacts.{fast-held, may-visit, ticket-known}
 use Rattle.mdl_shared.proofs.Members.{lists-rescheduled, rescheduled}
 use Rattle.mdl_shared.proofs.Props.{member}
-use Rattle.mdl_shared.proofs.SlowOrFast.{fast-held}
 use Rattle.mdl_shared.proofs.WaitSteps.{still-member}
 use Rattle.mdl_shared.proofs.member.Member.give_up_fast.Goals as goal
 
@@ -29,7 +28,7 @@ pub invariant_of-self : goal.invariant_of-self
 invariant_of-self g c =
     let mid = c.lose_fast.new.self in
     let visit = c.reschedule.ensures.rescheduled in
-    let done = rescheduled {place = c.args.held.place} {ds = []} mid.seat c.reschedule.new.seat mid.sessions refl visit in record {
+    let done = rescheduled {place = c.args.held.place} {ds = []} mid.seat c.reschedule.new.seat mid.sessions {mid.tickets.room} {mid.tickets.room} refl visit in record {
       lawful = ∣ still-member done (member mid) ∣₁;
       lists = mid.lists ∙ sym (lists-rescheduled visit);
       room = mid.room;
@@ -42,11 +41,12 @@ returns-then-lose_fast g c =
     let visit = c.reschedule.ensures.rescheduled in
     let lost = c.lose_fast.ensures.lost in
     let t = c.args.held in
-    let later = rescheduled {place = t.place} {ds = []} mid.seat c.reschedule.new.seat mid.sessions refl visit in
+    let later = rescheduled {place = t.place} {ds = []} mid.seat c.reschedule.new.seat mid.sessions {mid.tickets.room} {mid.tickets.room} refl visit in
     record {
       lost = done-before lost.done later;
       did = does_then (Lose t.number ∷ []) [] m.seat.me mid.seat.me c.reschedule.new.seat.me lost.did (does_reschedule mid.seat.me c.reschedule.new.seat.me mid.seat.table t.place [] visit.1);
-      given_up = gives-up_after (view_of m) (view_of mid) t c.lose_fast.result c.lose_fast.ensures.released lost c.lose_fast.ensures.stays c.if-lose_fast.true visit;
+      given_up = gives-up_after (view_of m) (view_of mid) t c.lose_fast.result c.lose_fast.ensures.released
+          (ap (λ (s : SessionView). s.table) lost.done.now) c.if-lose_fast.true visit;
     }
 
 pub returns-else-lose_fast : goal.returns-else-lose_fast
@@ -55,5 +55,5 @@ returns-else-lose_fast g c =
     record {
       lost = lost.done;
       did = lost.did;
-      given_up = gives-up (view_of c.args.self.now) (view_of c.lose_fast.new.self) c.args.held c.lose_fast.result c.lose_fast.ensures.released c.if-lose_fast.false (lost.settled, lost.told);
+      given_up = gives-up (view_of c.args.self.now) (view_of c.lose_fast.new.self) c.args.held c.lose_fast.result c.lose_fast.ensures.released c.if-lose_fast.false;
     }

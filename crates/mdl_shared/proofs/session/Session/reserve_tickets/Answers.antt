@@ -1,5 +1,5 @@
 -- The table has no more places than tickets can tell.
-use Rattle.std.proofs.Common.{arith}
+use Rattle.std.proofs.Common.{refl, arith, sym, ap, ◌∙◌}
 use Rattle.mdl_shared.proofs.Props.{member}
 use Rattle.mdl_shared.proofs.session.Session.reserve_tickets.Goals as goal
 
