@@ -56,7 +56,7 @@ module _ (m : Member) {list : TicketList} (made : HasMadeRoom m list) {place : �
         try-granted (member m) place mode seen (first ∙ ap (λ (l : Lists). l.next) m.lists) quiet.done,
         quiet,
         shown,
-        room-then m.tickets.room list.room b.room made.more room,
+        room-then 1 m.tickets.room list.room b.room made.more room,
       )
 
   -- none was

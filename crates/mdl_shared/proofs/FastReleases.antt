@@ -10,7 +10,6 @@ use Rattle.mdl_visits.specs.Grantings.{HasRescheduled, VisitsAndReschedules}
 use Rattle.mdl_shared.specs.DeedsDone.{HasDone, StaysFast}
 use Rattle.mdl_shared.specs.SessionViews.{SessionView, session_at, tickets_seen}
 use Rattle.mdl_shared.specs.Showings.{GivesUpFast}
-use Rattle.mdl_shared.specs.TicketLists.{Room}
 
 -- ---- two parts of a call
 
@@ -49,9 +48,9 @@ module _ (a b : SessionView) (t : Own) (owes : Bool) (released : ReleasesFast t.
   gives-up quiet = (b.me, owes, released, (λ due. absurd (false≢true (sym quiet ∙ due))), (λ none. refl))
 
   -- and where it is the place was rescheduled then
-  pub gives-up_after : {seat : SeatState} {room : Room} → b.table ≡ a.table → owes ≡ true
+  pub gives-up_after : {seat : SeatState} → b.table ≡ a.table → owes ≡ true
       → AtItsTable (record { table = b.table; me = b.me }) seat (VisitsAndReschedules b.table t.place [])
-      → GivesUpFast t.number a (session_at seat b.sessions room) t
+      → GivesUpFast t.number a (session_at seat b.sessions b.room) t
   gives-up_after {seat} table due visit = (
     b.me,
     owes,

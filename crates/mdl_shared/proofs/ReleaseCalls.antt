@@ -45,7 +45,7 @@ pub released-slow : (seat seat′ : SeatState) (sessions id : ℕ) {room room′
     → Joins (space_of (session_at seat sessions room)) (Release seat.me.0.number id) Done (space_of (session_at seat′ sessions room′))
     × Shows (Release seat.me.0.number id) Done (session_at seat sessions room) (session_at seat′ sessions room′)
 released-slow seat seat′ sessions id {room} {room′} t is its slow none visit step =
-    let done = rescheduled seat seat′ sessions {room} {room′} (loses-slow is t.place id t slow) visit in (
+    let done = rescheduled seat seat′ sessions {room = room} {room′ = room′} (loses-slow is t.place id t slow) visit in (
       release-joins is id t its done,
       release-shows id t its done (does_reschedule seat.me seat′.me seat.table t.place (Lose id ∷ []) visit.1) (
         (λ its_slow. ((step.0, step.1, (step.2, step.3)), visit.1.way)),

@@ -12,8 +12,8 @@ pub room-still : (room : Room) → KeepsRoom 0 room room
 room-still room = (omega arith, omega arith)
 
 -- as much as there was after a part that took none
-pub room-then : {gained : ℕ} (a b c : Room) → KeepsRoom 0 a b → KeepsRoom gained b c → KeepsRoom gained a c
-room-then a b c first later = (omega (arith, first.0, later.0), omega (arith, first.1, later.1))
+pub room-then : (gained : ℕ) (a b c : Room) → KeepsRoom 0 a b → KeepsRoom gained b c → KeepsRoom gained a c
+room-then gained a b c first later = (omega (arith, first.0, later.0), omega (arith, first.1, later.1))
 
 -- ---- calls that make room first
 

@@ -1,8 +1,6 @@
 -- A session's fast tickets become slow ones, one place after the other.
 use Rattle.std.proofs.Common.{◌≡◌, ◌≢◌, ◌⊎◌, inl, inr, ℕ, ◌+◌, ◌<◌, ◌==◌, false, List, [], ◌∷◌, ◌++◌, length, refl, sym, ap, subst, ◌∙◌, arith, append_assoc}
 use Rattle.std.proofs.lemmas.Bool.{eq-eqb, eqb-true, false≢true}
-use Rattle.mdl_book.specs.declared.book_error.BookError.{BookError}
-use Rattle.mdl_book.specs.declared.book_error.BookError.TheVariants as fault
 use Rattle.mdl_calls.specs.declared.space_error.SpaceError.{SpaceError}
 use Rattle.mdl_calls.specs.declared.space_error.SpaceError.TheVariants.{Full, OutOfMemory}
 use Rattle.mdl_steps.specs.declared.view.Own.{Own}
@@ -110,11 +108,6 @@ none-anywhere : (fast : List Own) → ((q : ℕ) → own_at q fast ≡ []) → f
 none-anywhere [] none = refl
 none-anywhere (t ∷ ts) none = absurd (filled t [] ts (none t.place))
 
--- and some where it has some at one
-pub some-there : (place : ℕ) (fast : List Own) → 0 < length (own_at place fast) → fast ≢ []
-some-there place fast some none =
-    let no : ◌≡◌ {A = ℕ} (length (own_at place fast)) 0 = ap (λ (ts : List Own). length (own_at place ts)) none in absurd (omega (arith, some))
-
 -- so it had some where it has some left
 had-some : (a b : SessionView) → AreSameOrSlow a b → b.me.0.fast ≢ [] → a.me.0.fast ≢ []
 had-some a b so some none = some (none-anywhere b.me.0.fast (λ q. there q (so q)))
@@ -142,15 +135,6 @@ pub lacks-after : (a b c : SessionView) (why : SpaceError) → MakesMoreSteps a.
 lacks-after a b c why first so lacks = (had-some a b so lacks.0, elim lacks.1 [
   | inl memory ↦ inl memory
   | inr full ↦ inr (full.0, full-after a b c first so full.1)
-])
-
--- at a place there was none for those that it has there, and all stay as they were
-pub lacks-there : (a b : SessionView) (place n : ℕ) (cause : BookError) (why : SpaceError) → 0 < length (own_at place a.me.0.fast) → n ≡ length (own_at place a.me.0.fast)
-    → b.me.0.fast ≡ a.me.0.fast → (cause ≡ fault.OutOfMemory → why ≡ OutOfMemory) → (cause ≡ fault.Full → why ≡ Full)
-    → (cause ≡ fault.OutOfMemory) ⊎ ((cause ≡ fault.Full) × ShowsStep a b (MeetsFullFor n place)) → LacksRoomForFast why a b
-lacks-there a b place n cause why some count same memory full refused = (some-there place a.me.0.fast some, elim refused [
-  | inl is ↦ inl (memory is)
-  | inr is ↦ inr (full is.0, (place, some, ap (own_at place) same, subst (λ (k : ℕ). ShowsStep a b (MeetsFullFor k place)) count is.1))
 ])
 
 -- the two causes

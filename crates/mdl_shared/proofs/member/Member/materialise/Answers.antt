@@ -30,7 +30,7 @@ loop-place-preserved g c =
       done = quiet-then c.loop-place.invariant.done done;
       slow = slow-more (view_of c.args.self.now) (view_of m) (view_of n) place (quiet-steps c.loop-place.invariant.done) (quiet-steps done) c.loop-place.invariant.slow
           (sym (ap (λ (l : Lists). l.fast) n.lists) ∙ made.0 ∙ ap (λ (l : Lists). but_at place l.fast) m.lists) made.1;
-      room = room-then c.args.self.now.tickets.room m.tickets.room n.tickets.room c.loop-place.invariant.room c.materialise_at.ensures.room;
+      room = room-then 0 c.args.self.now.tickets.room m.tickets.room n.tickets.room c.loop-place.invariant.room c.materialise_at.ensures.room;
     }
 
 pub returns-in_err-materialise_at-clause-done : goal.returns-in_err-materialise_at-clause-done
@@ -47,12 +47,13 @@ pub returns-in_err-materialise_at-clause-partly : goal.returns-in_err-materialis
 returns-in_err-materialise_at-clause-partly g c =
     let m = c.loop-place.self in
     let n = c.materialise_at.new.self in
-    slow-still (view_of c.args.self.now) (view_of m) (view_of n) (quiet-steps c.materialise_at.ensures.done) c.loop-place.invariant.slow
-    (sym (ap (λ (l : Lists). l.fast) n.lists) ∙ c.in_err-materialise_at.ensures.fast ∙ ap (λ (l : Lists). l.fast) m.lists)
+    let refused : c.from_residual.result ≡ Err c.in_err-materialise_at.field-0.0 = search rules in
+    rw refused (slow-still (view_of c.args.self.now) (view_of m) (view_of n) (quiet-steps c.materialise_at.ensures.done) c.loop-place.invariant.slow
+    (sym (ap (λ (l : Lists). l.fast) n.lists) ∙ c.in_err-materialise_at.ensures.fast ∙ ap (λ (l : Lists). l.fast) m.lists))
 
 pub returns-in_err-materialise_at-clause-room : goal.returns-in_err-materialise_at-clause-room
 returns-in_err-materialise_at-clause-room g c =
-    room-then c.args.self.now.tickets.room c.loop-place.self.tickets.room c.materialise_at.new.self.tickets.room c.loop-place.invariant.room c.materialise_at.ensures.room
+    room-then 0 c.args.self.now.tickets.room c.loop-place.self.tickets.room c.materialise_at.new.self.tickets.room c.loop-place.invariant.room c.materialise_at.ensures.room
 
 pub returns-clause-slow : goal.returns-clause-slow
 returns-clause-slow g c =

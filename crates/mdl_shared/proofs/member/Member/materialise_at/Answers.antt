@@ -1,17 +1,12 @@
 -- The fast tickets of the place are slow ones then, or stay as they were for want of room.
-use Rattle.std.proofs.Common.{◌<◌, inl, is_some, length, refl, sym, ap, subst, ◌∙◌, List}
+use Rattle.std.proofs.Common.{is_some, sym, ap, ◌∙◌}
 use Rattle.std.proofs.lemmas.Bool.{false≢true}
-use Rattle.mdl_steps.specs.declared.view.Own.{Own}
-use Rattle.mdl_steps.specs.Cells.{own_at}
-use Rattle.mdl_steps.specs.Plays.{Mine}
 use Rattle.mdl_shared.specs.Passes.{view_of}
-use Rattle.mdl_shared.specs.SessionViews.{Lists, session_at}
 use Rattle.mdl_shared.proofs.FastDone.{fast-materialised, lists-materialised}
 use Rattle.mdl_shared.proofs.FastFacts.{kind-of-fast, may-make-slow}
 use Rattle.mdl_shared.proofs.Members.{room-kept}
 use Rattle.mdl_shared.proofs.Props.{member}
 use Rattle.mdl_shared.proofs.QuietDeeds.{lists-made, quiet-made, quiet-none, steps-visited}
-use Rattle.mdl_shared.proofs.SlowPlaces.{lacks-there, some-there}
 use Rattle.mdl_shared.proofs.WaitSteps.{still-member}
 use Rattle.mdl_shared.proofs.member.Member.materialise_at.Goals as goal
 
@@ -27,12 +22,6 @@ returns-in_default-clause-slow g c =
 
 pub returns-in_default-list_fast-clause-done : goal.returns-in_default-list_fast-clause-done
 returns-in_default-list_fast-clause-done g c = quiet-none (view_of c.args.self.now)
-
-pub returns-in_default-list_fast-clause-refused : goal.returns-in_default-list_fast-clause-refused
-returns-in_default-list_fast-clause-refused g c = (
-  some-there c.args.place c.args.self.now.seat.me.0.fast (subst (λ (ts : List Own). 0 < length (own_at c.args.place ts)) (ap (λ (l : Lists). l.fast) c.args.self.now.lists) c.requires.some),
-  inl refl,
-)
 
 -- ---- the visit
 
@@ -51,7 +40,7 @@ pub invariant_of-self : goal.invariant_of-self
 invariant_of-self g c =
     let m = c.args.self.now in
     let made = steps-visited m.seat c.materialise.new.seat c.in-Err.ensures.unchanged in record {
-      lawful = ∣ still-member (quiet-made {place = 0} m.seat c.materialise.new.seat m.sessions {m.tickets.room} {m.tickets.room} made).done (member m) ∣₁;
+      lawful = ∣ still-member (quiet-made {place = 0} m.seat c.materialise.new.seat m.sessions {room = m.tickets.room} {room′ = m.tickets.room} made).done (member m) ∣₁;
       lists = lists-made m c.materialise.new.seat made;
       room = m.room;
     }
