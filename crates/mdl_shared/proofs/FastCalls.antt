@@ -84,11 +84,11 @@ module _ (m : Member) {list : TicketList} (made : HasMadeRoom m list) {place : �
         subst (λ (r : Room). KeepsRoom 0 m.tickets.room r) (sym (ap (λ (l : TicketList). l.room) missed.1)) made.more,
       )
 
-  -- and no step was made
-  pub tried-limit : (m′ : Member) → (view_of m′ ≡ record (view_of m) { room = list.room }) → StaysSame (view_of m) (view_of m′)
-  tried-limit m′ same =
-      let room : list.room ≡ m′.tickets.room = sym (ap (λ (x : SessionView). x.room) same) in
-      (same ∙ ap (λ (r : Room). record (view_of m) { room = r }) room, subst (λ (r : Room). KeepsRoom 0 m.tickets.room r) room made.more)
+-- none was, and no step was made
+pub tried-limit : (m m′ : Member) {list : TicketList} → HasMadeRoom m list → view_of m′ ≡ record (view_of m) { room = list.room } → StaysSame (view_of m) (view_of m′)
+tried-limit m m′ {list} made same =
+    let room : list.room ≡ m′.tickets.room = sym (ap (λ (x : SessionView). x.room) same) in
+    (same ∙ ap (λ (r : Room). record (view_of m) { room = r }) room, subst (λ (r : Room). KeepsRoom 0 m.tickets.room r) room made.more)
 
 -- ---- a release
 

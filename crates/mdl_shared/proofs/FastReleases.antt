@@ -48,13 +48,13 @@ module _ (a b : SessionView) (t : Own) (owes : Bool) (released : ReleasesFast t.
   gives-up quiet = (b.me, owes, released, (λ due. absurd (false≢true (sym quiet ∙ due))), (λ none. refl))
 
   -- and where it is the place was rescheduled then
-  pub gives-up_after : {seat : SeatState} → b.table ≡ a.table → owes ≡ true
+  pub gives-up_after : {at : ℕ} {ds : List Deed} {seat : SeatState} → HasDone at ds a b → owes ≡ true
       → AtItsTable (record { table = b.table; me = b.me }) seat (VisitsAndReschedules b.table t.place [])
       → GivesUpFast t.number a (session_at seat b.sessions b.room) t
-  gives-up_after {seat} table due visit = (
+  gives-up_after {seat = seat} lost due visit = (
     b.me,
     owes,
     released,
-    (λ up. subst (λ (id : TableId). HasRescheduled id t.place b.me seat.me) table visit.1.way),
+    (λ up. subst (λ (id : TableId). HasRescheduled id t.place b.me seat.me) (ap (λ (s : SessionView). s.table) lost.now) visit.1.way),
     (λ down. absurd (false≢true (sym down ∙ due))),
   )

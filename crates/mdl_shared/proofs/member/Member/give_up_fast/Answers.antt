@@ -10,7 +10,7 @@ use Rattle.mdl_shared.specs.Passes.{view_of}
 use Rattle.mdl_shared.specs.SessionViews.{Lists, SessionView}
 use Rattle.mdl_shared.proofs.FastReleases.{done-before, gives-up, gives-up_after}
 use Rattle.mdl_shared.proofs.MemberFacts.{fast-held, may-visit, ticket-known}
-use Rattle.mdl_shared.proofs.Members.{lists-rescheduled, rescheduled}
+use Rattle.mdl_shared.proofs.Members.{done-rest, lists-rescheduled, rescheduled}
 use Rattle.mdl_shared.proofs.Props.{member}
 use Rattle.mdl_shared.proofs.WaitSteps.{still-member}
 use Rattle.mdl_shared.proofs.member.Member.give_up_fast.Goals as goal
@@ -22,7 +22,7 @@ reschedule-requires g c =
     let t = c.args.held in
     let its : numbered t.number m.seat.me.0.fast ≡ Some t = ap (λ (l : Lists). numbered t.number l.fast) (sym m.lists) ∙ c.requires.held in
     let known = ticket-known (member m) t.number t (fast-held (member m) t.number t its) in
-    let same : mid.seat.me.0.known ≡ m.seat.me.0.known = ap (λ (s : SessionView). s.me.0.known) c.lose_fast.ensures.lost.done.now in
+    let same = (done-rest c.lose_fast.ensures.lost.done).known in
     record { at = may-visit (member mid) t.place (ap (λ (ks : List Known). is_known_place ks t.place) same ∙ known) }
 
 pub invariant_of-self : goal.invariant_of-self
@@ -46,8 +46,7 @@ returns-then-lose_fast g c =
     record {
       lost = done-before lost.done later;
       did = does_then (Lose t.number ∷ []) [] m.seat.me mid.seat.me c.reschedule.new.seat.me lost.did (does_reschedule mid.seat.me c.reschedule.new.seat.me mid.seat.table t.place [] visit.1);
-      given_up = gives-up_after (view_of m) (view_of mid) t c.lose_fast.result c.lose_fast.ensures.released
-          (ap (λ (s : SessionView). s.table) lost.done.now) c.if-lose_fast.true visit;
+      given_up = gives-up_after (view_of m) (view_of mid) t c.lose_fast.result c.lose_fast.ensures.released lost.done c.if-lose_fast.true visit;
     }
 
 pub returns-else-lose_fast : goal.returns-else-lose_fast
