@@ -141,7 +141,7 @@ pub begun : {place : ℕ} {mode : Mode} (seat seat′ : SeatState) (sessions : �
 begun seat seat′ sessions opens = λ i. record { table = opens.0 i; sessions = sessions; me = opens.1.now i }
 
 module _ {s s′ : SessionView} (is : IsMember s) {place : ℕ} {mode : Mode} (clear : wish_fault (kind_known place s.me.0.known) s.me.0.asks mode s.me.0.next ≡ None)
-    {log : List Met} (now : s′ ≡ record s { me = (record (awaiting place mode s.me.0) { log = log }, s.me.1) }) where
+    {log : List Met} {room : Room} (now : s′ ≡ record s { me = (record (awaiting place mode s.me.0) { log = log }, s.me.1); room = room }) where
   -- without a fast ticket
   pub begun-order : s.me.0.fast ≡ [] → StaysInOrder s s′
   begun-order none =

@@ -96,6 +96,6 @@ returns-clause-granted c =
     let first = ap (λ (l : Lists). l.next) m.lists in
     let quiet = fast-granted m.seat c.try_fast.new.seat m.sessions (member m) may.idle may.counted noted granted.0 in (
       refl,
-      subst (λ (n : ℕ). DoesQuietly c.args.place (Gain n c.args.mode ∷ []) (view_of m) (session_at c.try_fast.new.seat m.sessions)) (sym first) quiet,
-      subst (λ (n : ℕ). ShowsStep (view_of m) (session_at c.try_fast.new.seat m.sessions) (MeetsClear c.args.place (Gain n c.args.mode))) (sym first) granted.1,
+      subst (λ (n : ℕ). DoesQuietly c.args.place (Gain n c.args.mode ∷ []) (view_of m) (session_at c.try_fast.new.seat m.sessions _)) (sym first) quiet,
+      subst (λ (n : ℕ). ShowsStep (view_of m) (session_at c.try_fast.new.seat m.sessions _) (MeetsClear c.args.place (Gain n c.args.mode))) (sym first) granted.1,
     )
