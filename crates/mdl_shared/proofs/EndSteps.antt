@@ -23,8 +23,8 @@ use Rattle.mdl_visits.proofs.Steps.{does_then, step_before}
 use Rattle.mdl_shared.specs.Members.{IsMember}
 use Rattle.mdl_shared.specs.SessionViews.{SessionView, lists_seen, session_at, settled_of, space_of}
 use Rattle.mdl_shared.specs.Showings.{MeetsOwnWait, Shows}
-use Rattle.mdl_shared.specs.Waitings.{wait_fault}
 use Rattle.mdl_shared.specs.TicketLists.{Room}
+use Rattle.mdl_shared.specs.Waitings.{wait_fault}
 use Rattle.mdl_shared.proofs.EndCalls.{HasEnded, lost-joins, unsettled-joins, won-joins}
 use Rattle.mdl_shared.proofs.Faults.{if-clear}
 use Rattle.mdl_shared.proofs.Members.{done-nothing}
@@ -130,11 +130,12 @@ module _ {s mid : SessionView} (is : IsMember s) (a : Ask) (asks : s.me.0.asks �
 
 -- ---- the steps that end it
 
-module _ {seat mid seat′ : SeatState} (sessions session found : ℕ)
+module _ {seat mid seat′ : SeatState} (sessions session found : ℕ) {room : Room}
     (now : session_at mid sessions room ≡ word-step ReadWait session found found seat.me.0.settles (session_at seat sessions room)) where
   -- as lost
-  pub ended-lost : {place : ℕ} → AtItsTable mid seat′ (EndsLost mid.table place) → HasEnded seat.me.0.slow (session_at seat sessions room) (session_at seat′ sessions room′)
-  ended-lost ends =
+  pub ended-lost : {room′ : Room} {place : ℕ} → AtItsTable mid seat′ (EndsLost mid.table place)
+      → HasEnded seat.me.0.slow (session_at seat sessions room) (session_at seat′ sessions room′)
+  ended-lost {room′} ends =
       let went = ends.1 in
       let table : seat′.table ≡ seat.table = ends.0 ∙ ap (λ (x : SessionView). x.table) now in
       let told : went.told ≡ None = sym (ap (λ (m : Mine). m.0.told) went.now) ∙ went.way.unasked refl in
@@ -145,21 +146,23 @@ module _ {seat mid seat′ : SeatState} (sessions session found : ℕ)
       record {
         settles = went.settles;
         log = mid.me.0.log ++ went.made;
-        now = λ i. record { table = table i; sessions = sessions; me = me i };
+        room = room′;
+        now = λ i. record { table = table i; sessions = sessions; me = me i; room = room′ };
       }
 
   -- as granted, without settling any wait
-  pub ended-won : (a : Ask) → seat.me.0.asks ≡ Some a → seat′ ≡ record mid { me = ended_granted mid.table.slots mid.me }
+  pub ended-won : {room′ : Room} (a : Ask) → seat.me.0.asks ≡ Some a → seat′ ≡ record mid { me = ended_granted mid.table.slots mid.me }
       → (ended : HasEnded (owned a.place (Gain a.number a.mode) seat.me.0.slow) (session_at seat sessions room) (session_at seat′ sessions room′)) × (ended.settles ≡ seat.me.0.settles)
-  ended-won a asks made =
+  ended-won {room′} a asks made =
       let log = (ended_granted mid.table.slots mid.me).0.log in (
         record {
           settles = seat.me.0.settles;
           log = log;
+          room = room′;
           now =
-              ap (λ (x : SeatState). session_at x sessions) made
-              ∙ ap (λ (x : SessionView). record x { me = (record x.me.0 { slow = x.me.0.slow ++ taken_over x.me.0.asks x.me.0.slow; asks = None; told = None; log = log }, x.me.1) }) now
-              ∙ ap (λ (o : Option Ask). record (session_at seat sessions room) { me = (record seat.me.0 { slow = seat.me.0.slow ++ taken_over o seat.me.0.slow; asks = None; told = None; log = log }, seat.me.1) }) asks;
+              ap (λ (x : SeatState). session_at x sessions room′) made
+              ∙ ap (λ (x : SessionView). record x { me = (record x.me.0 { slow = x.me.0.slow ++ taken_over x.me.0.asks x.me.0.slow; asks = None; told = None; log = log }, x.me.1); room = room′ }) now
+              ∙ ap (λ (o : Option Ask). record (session_at seat sessions room) { me = (record seat.me.0 { slow = seat.me.0.slow ++ taken_over o seat.me.0.slow; asks = None; told = None; log = log }, seat.me.1); room = room′ }) asks;
         },
         refl,
       )

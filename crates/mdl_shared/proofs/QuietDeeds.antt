@@ -50,6 +50,7 @@ quiet-none s = record {
     told = s.me.0.told;
     settles = s.me.0.settles;
     log = s.me.0.log;
+    room = s.room;
     now = refl;
     tickets = refl;
     fasts = same-fast s.me.0.known s.me.0.asks s.me.0.fast;
@@ -62,14 +63,16 @@ quiet-none s = record {
 }
 
 -- steps and nothing else
-pub quiet-made : {place : ℕ} (seat seat′ : SeatState) (sessions : ℕ) {room room′ : Room} → AtItsTable seat seat′ MakesSteps → DoesQuietly place [] (session_at seat sessions room) (session_at seat′ sessions room′)
-quiet-made seat seat′ sessions made = record {
+pub quiet-made : {place : ℕ} (seat seat′ : SeatState) (sessions : ℕ) {room room′ : Room} → AtItsTable seat seat′ MakesSteps
+    → DoesQuietly place [] (session_at seat sessions room) (session_at seat′ sessions room′)
+quiet-made seat seat′ sessions {room} {room′} made = record {
   done = record {
     slow = seat.me.0.slow;
     fast = seat.me.0.fast;
     told = seat.me.0.told;
     settles = seat.me.0.settles;
     log = _;
+    room = room′;
     now = seat-changed seat seat′ sessions made.0 _ made.1.1;
     tickets = refl;
     fasts = same-fast seat.me.0.known seat.me.0.asks seat.me.0.fast;

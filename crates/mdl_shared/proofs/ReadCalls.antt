@@ -52,6 +52,7 @@ use Rattle.mdl_shared.proofs.TicketOrder.{counted-noted, noted-both}
 -- it has read this, and noted it under each ticket that it has there, and made steps; nothing else changed
 pub record HasNoted (place : ℕ) (standing : Standing) (s s′ : SessionView) : Type 0 where
   pub log : List Met
+  pub room : Room
   pub now : s′ ≡ record s {
     me = (
       record s.me.0 {
@@ -62,14 +63,16 @@ pub record HasNoted (place : ℕ) (standing : Standing) (s s′ : SessionView) :
       },
       s.me.1,
     );
+    room = room;
   }
 
 -- what its seat's visit tells
 pub noted-by : {place : ℕ} {standing : Standing} (seat seat′ : SeatState) (sessions : ℕ) {room room′ : Room} → seat′.table ≡ seat.table → Learns place standing seat.me seat′.me
     → HasNoted place standing (session_at seat sessions room) (session_at seat′ sessions room′)
-noted-by seat seat′ sessions table learns = record {
+noted-by seat seat′ sessions {room′ = room′} table learns = record {
   log = seat.me.0.log ++ learns.0;
-  now = λ i. record { table = table i; sessions = sessions; me = learns.1 i };
+  room = room′;
+  now = λ i. record { table = table i; sessions = sessions; me = learns.1 i; room = room′ };
 }
 
 module _ {place : ℕ} {standing : Standing} {s s′ : SessionView} (noted : HasNoted place standing s s′) where

@@ -26,8 +26,8 @@ use Rattle.mdl_shared.specs.Modes.{downgrade_fault, merge_fault}
 use Rattle.mdl_shared.specs.OwnLists.{told_of}
 use Rattle.mdl_shared.specs.SessionViews.{SessionView, session_at, space_of, tickets_seen}
 use Rattle.mdl_shared.specs.Showings.{Shows}
-use Rattle.mdl_shared.specs.Upgrades.{upgrade_fault}
 use Rattle.mdl_shared.specs.TicketLists.{Room}
+use Rattle.mdl_shared.specs.Upgrades.{upgrade_fault}
 use Rattle.mdl_shared.proofs.Faults.{if-clear}
 use Rattle.mdl_shared.proofs.HeldTickets.{HoldsTicket}
 use Rattle.mdl_shared.proofs.MemberFacts.{alters-slow, speaks}
@@ -149,17 +149,18 @@ module _ {s : SessionView} (is : IsMember s) (why : SpaceError) where
 
 -- ---- what a downgrade comes to
 
-pub downgraded : (seat seat′ : SeatState) (sessions id : ℕ) {room room′ : Room} (mode : Mode) (t : Own) → IsMember (session_at seat sessions room) → HoldsTicket id t (session_at seat sessions room)
+pub downgraded : (seat seat′ : SeatState) (sessions id : ℕ) {room room′ : Room} (mode : Mode) (t : Own) → IsMember (session_at seat sessions room)
+    → HoldsTicket id t (session_at seat sessions room)
     → numbered t.number seat.me.0.slow ≡ Some t → downgrade_fault (numbered id (tickets_seen seat.me.0)) mode seat.me.0.known ≡ None
     → AtItsTable seat seat′ (VisitsAndReschedules seat.table t.place (Alter t.number mode ∷ []))
     → ((e : Met) × IsStepOf seat.me seat′.me e × MeetsOwn t.place seat.me.0.number t.number e × (e.deeds ≡ Alter t.number mode ∷ []))
     → Joins (space_of (session_at seat sessions room)) (Downgrade seat.me.0.number id mode) Done (space_of (session_at seat′ sessions room′))
     × Shows (Downgrade seat.me.0.number id mode) Done (session_at seat sessions room) (session_at seat′ sessions room′)
-downgraded seat seat′ sessions id mode t is held slow clear visit step =
+downgraded seat seat′ sessions id {room} {room′} mode t is held slow clear visit step =
     let free = ap (λ o. downgrade_fault o mode seat.me.0.known) (held.own ∙ sym held.its) ∙ clear in
     subst (λ (n : ℕ). Joins (space_of (session_at seat sessions room)) (Downgrade seat.me.0.number n mode) Done (space_of (session_at seat′ sessions room′))
     × Shows (Downgrade seat.me.0.number n mode) Done (session_at seat sessions room) (session_at seat′ sessions room′)) held.number (
-      downgrade-joins is t.number t held.own mode free (rescheduled seat seat′ sessions (alters-slow is t.place t.number mode t slow) visit),
+      downgrade-joins is t.number t held.own mode free (rescheduled seat seat′ sessions {room′ = room′} (alters-slow is t.place t.number mode t slow) visit),
       record {
         table = visit.0;
         sessions = refl;

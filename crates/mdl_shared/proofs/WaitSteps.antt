@@ -30,13 +30,14 @@ use Rattle.mdl_shared.proofs.SameSpace.{joins-still}
 pub quietly : {seat seat′ : SeatState} {log : List Met} {told : Option ℕ} {settles : List Settlement} (sessions : ℕ) {room room′ : Room} → seat′.table ≡ seat.table
     → seat′.me ≡ (record seat.me.0 { told = told; settles = settles; log = log }, seat.me.1) → StaysTold seat.me.0.told told
     → (seat.me.0.asks ≡ None → told ≡ seat.me.0.told) → HasDone 0 [] (session_at seat sessions room) (session_at seat′ sessions room′)
-quietly {seat = seat} {log = log} {told = told} {settles = settles} sessions table me stays unasked = record {
+quietly {seat = seat} {log = log} {told = told} {settles = settles} sessions {room′ = room′} table me stays unasked = record {
   slow = seat.me.0.slow;
   fast = seat.me.0.fast;
   told = told;
   settles = settles;
   log = log;
-  now = λ i. record { table = table i; sessions = sessions; me = me i };
+  room = room′;
+  now = λ i. record { table = table i; sessions = sessions; me = me i; room = room′ };
   tickets = refl;
   fasts = same-fast seat.me.0.known seat.me.0.asks seat.me.0.fast;
   stays = stays;
@@ -158,6 +159,7 @@ module _ (kind : StepKind) (session found left : ℕ) (settles : List Settlement
             told = (meeting session left s.me.0).told;
             settles = settles;
             log = s.me.0.log ++ e ∷ [];
+            room = s.room;
             now = now;
             tickets = refl;
             fasts = same-fast s.me.0.known s.me.0.asks s.me.0.fast;
