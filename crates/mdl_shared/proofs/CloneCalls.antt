@@ -81,15 +81,15 @@ module _ {s : SessionView} (is : IsMember s) (id : ℕ) (mode : Mode) where
       fast-cloned gains = (clone-joins gains.first gains.quiet.done, clone-shows gains.quiet (inl gains.met))
 
       -- there was no room
-      of-one : {b : SessionView} {why : SpaceError} → (why ≡ OutOfMemory) ⊎ ((why ≡ Full) × FullForWish t.place mode s b)
+      of-one : (b : SessionView) {why : SpaceError} → (why ≡ OutOfMemory) ⊎ ((why ≡ Full) × FullForWish t.place mode s b)
           → (why ≡ OutOfMemory) ⊎ ((why ≡ Full) × OfTicket id (lists_seen s.me.0) (λ u. FullForWish u.place mode s b))
-      of-one (inl memory) = inl memory
-      of-one (inr full) = inr (full.0, (t, its, full.1))
+      of-one b (inl memory) = inl memory
+      of-one b (inr full) = inr (full.0, (t, its, full.1))
 
       pub full-cloned : {b : SessionView} {why : SpaceError} → DoesQuietly 0 [] s b
           → (why ≡ OutOfMemory) ⊎ ((why ≡ Full) × IsClosed t.place mode s b × FullForFast s b)
           → Joins (space_of s) (Clone_ticket s.me.0.number id mode) (Refused why) (space_of b) × Shows (Clone_ticket s.me.0.number id mode) (Refused why) s b
-      full-cloned quiet causes = clone-full quiet (of-one (full-fast causes))
+      full-cloned {b} quiet causes = clone-full quiet (of-one b (full-fast t.place mode s b causes))
 
       -- by the latch of the place, once all fast tickets are slow ones
       module _ {b c : SessionView} (slow : BecomesSlow s b) (closed : IsClosed t.place mode s b) where
@@ -102,6 +102,6 @@ module _ {s : SessionView} (is : IsMember s) (id : ℕ) (mode : Mode) where
             let quiet = quiet-then slow.quiet made.1 in
             let met = made.2 in
             let own = subst₂ (λ (who n : ℕ). MeetsOwn t.place who n met.0) (number-slow slow) (has_number id t (tickets_seen s.me.0) its) met.2.0 in
-            (clone-joins (made.0 ∙ first) quiet.done, clone-shows quiet (inr (by-latch slow closed (met.0, met.1, (own, met.2.1)))))
+            (clone-joins (made.0 ∙ first) quiet.done, clone-shows quiet (inr (by-latch slow t.place mode closed (met.0, met.1, (own, met.2.1)))))
         cloned-slow next first (Err why) made unchanged causes =
-            clone-full (quiet-then slow.quiet unchanged) (of-one (full-one slow closed unchanged causes))
+            clone-full (quiet-then slow.quiet unchanged) (of-one c (full-one t.place mode s b slow closed unchanged causes))

@@ -1,5 +1,5 @@
 -- What wishes tell and show that were tried on the fast path first.
-use Rattle.std.proofs.Common.{◌≡◌, ◌⊎◌, inl, inr, ℕ, [], ◌∷◌, None, Result, Ok, Err, refl, sym, ap, subst, ◌∙◌}
+use Rattle.std.proofs.Common.{◌≡◌, ◌⊎◌, inl, inr, ℕ, [], ◌∷◌, ◌++◌, None, Result, Ok, Err, refl, sym, ap, subst, ◌∙◌}
 use Rattle.std.specs.Prelude.{IfErr, IfOk, OnErr}
 use Rattle.mdl_key.specs.declared.mode.Mode.{Mode}
 use Rattle.mdl_calls.specs.declared.answers.Attempt.{Attempt}
@@ -15,7 +15,7 @@ use Rattle.mdl_steps.specs.Plays.{Mine}
 use Rattle.mdl_session_laws.specs.SessionJoins.{Joins}
 use Rattle.mdl_session_laws.specs.SessionSpaces.{Space}
 use Rattle.mdl_visits.specs.Visits.{AreStepsOf, MeetsBlocked, MeetsFull, MeetsGrantable}
-use Rattle.mdl_visits.specs.WaitOpenings.{MeetsOpening}
+use Rattle.mdl_visits.specs.WaitOpenings.{MeetsOpening, awaiting}
 use Rattle.mdl_visits.proofs.Steps.{does_then}
 use Rattle.mdl_shared.specs.DeedsDone.{DoesQuietly}
 use Rattle.mdl_shared.specs.FastWishes.{BecomesSlow, BeginsToWait, GainsFast, GainsSlow, HasBegun, HasTried}
@@ -40,7 +40,7 @@ cause-told (inr full) = inr full.0
 pub lack-cause : (a b : SessionView) {why : SpaceError} → LacksRoomForFast why a b → (why ≡ OutOfMemory) ⊎ (why ≡ Full)
 lack-cause a b lacks = cause-told lacks.1
 
-module _ {place : ℕ} {mode : Mode} {a b : SessionView} {why : SpaceError} where
+module _ (place : ℕ) (mode : Mode) (a b : SessionView) {why : SpaceError} where
   -- as a wish's answer tells it
   pub full-fast : (why ≡ OutOfMemory) ⊎ ((why ≡ Full) × IsClosed place mode a b × FullForFast a b)
       → (why ≡ OutOfMemory) ⊎ ((why ≡ Full) × FullForWish place mode a b)
@@ -48,11 +48,12 @@ module _ {place : ℕ} {mode : Mode} {a b : SessionView} {why : SpaceError} wher
   full-fast (inr full) = inr (full.0, (full.1, inr full.2))
 
   -- there was no room for one ticket more
-  pub full-one : {c : SessionView} → BecomesSlow a b → IsClosed place mode a b → {at : ℕ} → DoesQuietly at [] b c
+  pub full-one : {at : ℕ} {c : SessionView} → BecomesSlow a b → IsClosed place mode a b → DoesQuietly at [] b c
       → (why ≡ OutOfMemory) ⊎ ((why ≡ Full) × ShowsStep b c (MeetsFull place))
       → (why ≡ OutOfMemory) ⊎ ((why ≡ Full) × FullForWish place mode a c)
   full-one slow closed quiet (inl memory) = inl memory
-  full-one {c} slow closed quiet (inr full) = inr (full.0, (closed-then a b c (quiet-steps quiet) closed, inl (shows-slow slow c full.1)))
+  full-one {c = c} slow closed quiet (inr full) =
+      inr (full.0, (closed-then place mode a b c (quiet-steps quiet) closed, inl (shows-slow slow c full.1)))
 
 module _ {a : SessionView} (is : IsMember a) (place : ℕ) (mode : Mode) (clear : wish_fault (kind_known place a.me.0.known) a.me.0.asks mode a.me.0.next ≡ None) where
   -- ---- refused
@@ -94,7 +95,7 @@ module _ {a : SessionView} (is : IsMember a) (place : ℕ) (mode : Mode) (clear 
   module _ {b c : SessionView} (slow : BecomesSlow a b) (closed : IsClosed place mode a b) where
     granted-since : {id : ℕ} → GainsSlow place mode id b c → IsGranted place mode (Gain id mode) a c
     granted-since {id} gains =
-        inr (by-latch slow closed (subst (λ (n : ℕ). ShowsStep b c (MeetsGrantable place n mode (Gain id mode))) (number-slow slow) gains.met))
+        inr (by-latch slow place mode closed (subst (λ (n : ℕ). ShowsStep b c (MeetsGrantable place n mode (Gain id mode))) (number-slow slow) gains.met))
 
     pub tried-slow : (result : Result Attempt SpaceError) → IfOk result (λ answer. HasTried place mode answer b c) → OnErr result (DoesQuietly place [] b c)
         → IfErr result (λ why. (why ≡ OutOfMemory) ⊎ ((why ≡ Full) × ShowsStep b c (MeetsFull place)))
@@ -106,15 +107,16 @@ module _ {a : SessionView} (is : IsMember a) (place : ℕ) (mode : Mode) (clear 
         let quiet = quiet-then slow.quiet tried.quiet in
         let met = subst (λ (n : ℕ). ShowsStep b c (MeetsBlocked place n mode)) (number-slow slow) tried.met in (
           try-blocked is place mode clear (done-nothing quiet.done),
-          quiet-shows quiet refl clear (λ s. s) (λ t. t) tt (by-latch slow closed met),
+          quiet-shows quiet refl clear (λ s. s) (λ t. t) tt (by-latch slow place mode closed met),
         )
-    tried-slow (Err why) tried unchanged causes = try-full (quiet-then slow.quiet unchanged) (full-one slow closed unchanged causes)
+    tried-slow (Err why) tried unchanged causes = try-full (quiet-then slow.quiet unchanged) (full-one place mode a b slow closed unchanged causes)
 
     -- it waits
     waits-joins : {number : ℕ} → BeginsToWait place mode number b c → Joins (space_of a) (Begin_wait a.me.0.number place mode) (Waits number) (space_of c)
     waits-joins {number} begins =
         let still = ap (λ (x : SessionView). wish_fault (kind_known place x.me.0.known) x.me.0.asks mode x.me.0.next) slow.quiet.done.now ∙ clear in
-        let now = λ i. record { table = begins.table i; sessions = begins.sessions i; me = begins.opens.now i; room = c.room } in
+        let now : c ≡ record b { me = (record (awaiting place mode b.me.0) { log = b.me.0.log ++ begins.opens.made }, b.me.1); room = c.room }
+        = λ i. record { table = begins.table i; sessions = begins.sessions i; me = begins.opens.now i; room = c.room } in
         let joins = begun-joins (still-member slow.quiet.done is) still now begins.next in
         let by = subst (λ (n : ℕ). Joins (space_of b) (Begin_wait n place mode) (Waits number) (space_of c)) (number-slow slow) joins in
         subst (λ (s : Space). Joins s (Begin_wait a.me.0.number place mode) (Waits number) (space_of c)) (same-space slow.quiet) by
@@ -127,7 +129,7 @@ module _ {a : SessionView} (is : IsMember a) (place : ℕ) (mode : Mode) (clear 
         × MeetsOpening x.table.slots place x.me.0.number x.me.0.waits x.me.0.next mode f) slow.quiet.done.now begins.met in
         shows (begins.table ∙ ap (λ (x : SessionView). x.table) slow.quiet.done.now) (begins.sessions ∙ ap (λ (x : SessionView). x.sessions) slow.quiet.done.now) clear
         (does_then [] [] a.me b.me c.me slow.quiet.did (opens.made, log, opens.did)) (ap (λ (m : Mine). m.0.settles) opens.now ∙ slow.quiet.settled)
-        (ap (λ (m : Mine). m.0.told) opens.now ∙ sym (untold-wish is place mode clear)) tt (by-latch slow closed met)
+        (ap (λ (m : Mine). m.0.told) opens.now ∙ sym (untold-wish is place mode clear)) tt (by-latch slow place mode closed met)
 
     pub begun-slow : (result : Result Begun SpaceError) → IfOk result (λ answer. HasBegun place mode answer b c) → OnErr result (DoesQuietly place [] b c)
         → IfErr result (λ why. (why ≡ OutOfMemory) ⊎ ((why ≡ Full) × ShowsStep b c (MeetsFull place)))
@@ -136,4 +138,4 @@ module _ {a : SessionView} (is : IsMember a) (place : ℕ) (mode : Mode) (clear 
     begun-slow (Ok (begin.Granted id)) asked unchanged causes =
         begin-grants (asked.first ∙ next-slow slow) (quiet-then slow.quiet asked.quiet) (granted-since asked)
     begun-slow (Ok (begin.Waiting number)) asked unchanged causes = (waits-joins asked, waits-shows asked)
-    begun-slow (Err why) asked unchanged causes = begin-full (quiet-then slow.quiet unchanged) (full-one slow closed unchanged causes)
+    begun-slow (Err why) asked unchanged causes = begin-full (quiet-then slow.quiet unchanged) (full-one place mode a b slow closed unchanged causes)

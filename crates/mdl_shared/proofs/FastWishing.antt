@@ -11,12 +11,9 @@ use Rattle.mdl_steps.specs.Lists.{Each}
 use Rattle.mdl_session_laws.specs.SessionSpaces.{Space}
 use Rattle.mdl_visits.specs.Materialisings.{MeetsFullFor}
 use Rattle.mdl_visits.specs.Visits.{MakesMoreSteps}
-use Rattle.mdl_visits.proofs.Steps.{each_map, goes_none, goes_on}
-use Rattle.mdl_shared.specs.declared.fast_path.NotFast.{NotFast}
-use Rattle.mdl_shared.specs.declared.fast_path.NotFast.TheVariants.{Obtruded, Contended, Limit}
+use Rattle.mdl_visits.proofs.Steps.{each_map, goes_on}
 use Rattle.mdl_shared.specs.declared.member.Member.{Member}
 use Rattle.mdl_shared.specs.DeedsDone.{DoesQuietly}
-use Rattle.mdl_shared.specs.FastDeeds.{HasNoFast}
 use Rattle.mdl_shared.specs.FastWishes.{BecomesSlow}
 use Rattle.mdl_shared.specs.SessionViews.{Lists, SessionView, note_of, settled_told, space_of}
 use Rattle.mdl_shared.specs.Showings.{AllMadeSlow, ByLatch, FromUnfast, FullForFast, IsClosed, LacksRoomForFast, MakesSlow, ShowsStep}
@@ -44,19 +41,13 @@ same-space {a = a} quiet =
 -- ---- the fast path was closed
 
 -- steps only grow, so it was at the whole call where it was at a part
-pub closed-then : {place : ℕ} {mode : Mode} (a b c : SessionView) → MakesMoreSteps b.me c.me → IsClosed place mode a b → IsClosed place mode a c
-closed-then a b c more (inl uncounted) = inl uncounted
-closed-then a b c more (inr (inl many)) = inr (inl many)
-closed-then a b c more (inr (inr (inl up))) = inr (inr (inl (up.0, shows-first a b c more up.1)))
-closed-then a b c more (inr (inr (inr missed))) =
+pub closed-then : (place : ℕ) (mode : Mode) (a b c : SessionView) → MakesMoreSteps b.me c.me → IsClosed place mode a b → IsClosed place mode a c
+closed-then place mode a b c more (inl uncounted) = inl uncounted
+closed-then place mode a b c more (inr (inl many)) = inr (inl many)
+closed-then place mode a b c more (inr (inr (inl up))) = inr (inr (inl (up.0, shows-first a b c more up.1)))
+closed-then place mode a b c more (inr (inr (inr missed))) =
     let first = missed.1 in
     inr (inr (inr (missed.0, (first.0, first.1, goes_on first.0 b.me c.me first.2 more))))
-
--- as a try for a fast ticket told
-pub closed-so : {place : ℕ} {mode : Mode} (a b : SessionView) (why : NotFast) → HasNoFast why place a b → IsClosed place mode a b
-closed-so a b (Obtruded word) up = inr (inr (inl (word.0, up)))
-closed-so a b (Contended word) missed = inr (inr (inr (word.0, (b.me, missed, goes_none b.me))))
-closed-so a b Limit many = inr (inl many.1)
 
 -- ---- from a moment on at which the session has no fast ticket
 
@@ -73,8 +64,8 @@ module _ {a b : SessionView} (slow : BecomesSlow a b) where
   from-slow is = (b, quiet-steps slow.quiet, slow.made, is)
 
   -- and so by the latch, if the fast path was closed
-  pub by-latch : {place : ℕ} {mode : Mode} {fact : SessionView → Type 0} → IsClosed place mode a b → fact b → ByLatch place mode a fact
-  by-latch closed is = from-slow (closed, is)
+  pub by-latch : (place : ℕ) (mode : Mode) {fact : SessionView → Type 0} → IsClosed place mode a b → fact b → ByLatch place mode a fact
+  by-latch place mode closed is = from-slow (closed, is)
 
   -- steps that it made then
   pub shows-slow : (c : SessionView) {fact : Met → Type 0} → ShowsStep b c fact → ShowsStep a c fact
@@ -100,14 +91,14 @@ full-later a b c more same full =
     )
 
 -- and the fast path was closed before
-pub lacks-later : {place : ℕ} {mode : Mode} (a b c : SessionView) {why : SpaceError} → MakesMoreSteps a.me b.me → b.me.0.fast ≡ a.me.0.fast
+pub lacks-later : (place : ℕ) (mode : Mode) (a b c : SessionView) {why : SpaceError} → MakesMoreSteps a.me b.me → b.me.0.fast ≡ a.me.0.fast
     → MakesMoreSteps b.me c.me → IsClosed place mode a b → LacksRoomForFast why b c
     → (why ≡ OutOfMemory) ⊎ ((why ≡ Full) × IsClosed place mode a c × FullForFast a c)
-lacks-later {place} {mode} a b c {why} first same more closed lacks = by lacks.1
+lacks-later place mode a b c {why} first same more closed lacks = by lacks.1
   where
     by : (why ≡ OutOfMemory) ⊎ ((why ≡ Full) × FullForFast b c) → (why ≡ OutOfMemory) ⊎ ((why ≡ Full) × IsClosed place mode a c × FullForFast a c)
     by (inl memory) = inl memory
-    by (inr full) = inr (full.0, closed-then a b c more closed, full-later a b c first same full.1)
+    by (inr full) = inr (full.0, closed-then place mode a b c more closed, full-later a b c first same full.1)
 
 -- they are as they were where its own list of them is
 pub fast-still : (m m′ : Member) → m′.tickets.fast ≡ m.tickets.fast → m′.seat.me.0.fast ≡ m.seat.me.0.fast

@@ -12,7 +12,7 @@ use Rattle.mdl_shared.proofs.Members.{done-order, kept, lists-done, lists-visite
 use Rattle.mdl_shared.proofs.Props.{member}
 use Rattle.mdl_shared.proofs.QuietDeeds.{quiet-visit}
 use Rattle.mdl_shared.proofs.WaitSteps.{still-member}
-use Rattle.mdl_shared.proofs.WishCalls.{begun, begun-joins, begun-order, begin-granted, refusal-causes}
+use Rattle.mdl_shared.proofs.WishCalls.{begun, begun-joins, begun-order, begin-granted}
 use Rattle.mdl_shared.proofs.Wishing.{below-seen, gained-by, may-wish, none-seen, unasked, unfast-seen, waiting-lists}
 use Rattle.mdl_shared.proofs.member.Member.begin_by_latch.Goals as goal
 
@@ -43,15 +43,6 @@ invariant_of-self-in-Err-1 g c =
       lawful = ∣ still-member done (member m) ∣₁;
       lists = lists-done m c.args.place [] (lists-visited visit) refl refl;
       room = m.room;
-    }
-
-pub returns-in-Err-1 : goal.returns-in-Err-1
-returns-in-Err-1 g c =
-    let m = c.args.self.now in
-    let visit = c.in-Err.ensures.unchanged in record {
-      begun = tt;
-      unchanged = quiet-visit (visited m.seat c.begin_wait.new.seat m.sessions refl visit) visit.1;
-      refused = refusal-causes c.in-Err.cause c.refusal.result c.refusal.ensures.full c.refusal.ensures.memory c.in-Err.ensures.refused;
     }
 
 -- ---- the ticket was granted
@@ -99,7 +90,7 @@ pub invariant_of-self-2 : goal.invariant_of-self-2
 invariant_of-self-2 g c =
     let m = c.args.self.now in
     let may = may-wish m c.args.place c.args.kind c.args.mode (c.requires.known, c.requires.clear) in
-    let now = begun m.seat c.begin_wait.new.seat m.sessions {room = m.tickets.room} {room′ = m.tickets.room} (c.begin_wait.ensures.waiting (c.in-Ok-Waiting.is ∙ ap Ok c.in-Ok-Waiting.field-0-is)).0 in
+    let now = begun m.seat c.begin_wait.new.seat m.sessions {room = m.tickets.room} (c.begin_wait.ensures.waiting (c.in-Ok-Waiting.is ∙ ap Ok c.in-Ok-Waiting.field-0-is)).0 in
     record {
       lawful = ∣ kept (member m) (begun-order (member m) may.clear now (unfast-seen m c.requires.unfast)) (begun-joins (member m) may.clear now refl) ∣₁;
       lists = waiting-lists m c.args.place c.args.mode ∙ sym (ap (λ (x : SessionView). lists_seen x.me.0) now);

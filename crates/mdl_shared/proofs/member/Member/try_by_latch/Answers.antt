@@ -6,7 +6,7 @@ use Rattle.mdl_shared.proofs.Members.{done-order, kept, lists-done, lists-visite
 use Rattle.mdl_shared.proofs.Props.{member}
 use Rattle.mdl_shared.proofs.QuietDeeds.{quiet-visit}
 use Rattle.mdl_shared.proofs.WaitSteps.{still-member}
-use Rattle.mdl_shared.proofs.WishCalls.{refusal-causes, try-granted}
+use Rattle.mdl_shared.proofs.WishCalls.{try-granted}
 use Rattle.mdl_shared.proofs.Wishing.{below-seen, gained-by, may-wish, none-seen, unasked}
 use Rattle.mdl_shared.proofs.member.Member.try_by_latch.Goals as goal
 
@@ -60,15 +60,6 @@ invariant_of-self-in-Err-1 g c =
       lawful = ∣ still-member done (member m) ∣₁;
       lists = lists-done m c.args.place [] (lists-visited visit) refl refl;
       room = m.room;
-    }
-
-pub returns-in-Err-1 : goal.returns-in-Err-1
-returns-in-Err-1 g c =
-    let m = c.args.self.now in
-    let visit = c.in-Err.ensures.unchanged in record {
-      tried = tt;
-      unchanged = quiet-visit (visited m.seat c.try_now.new.seat m.sessions refl visit) visit.1;
-      refused = refusal-causes c.in-Err.cause c.refusal.result c.refusal.ensures.full c.refusal.ensures.memory c.in-Err.ensures.refused;
     }
 
 pub invariant_of-self-2 : goal.invariant_of-self-2
