@@ -24,32 +24,26 @@ use Rattle.mdl_shared.specs.FastWishes.{BecomesSlow}
 use Rattle.mdl_shared.specs.Members.{IsMember}
 use Rattle.mdl_shared.specs.Modes.{merge_fault}
 use Rattle.mdl_shared.specs.Passes.{view_of}
-use Rattle.mdl_shared.specs.SessionViews.{Lists, SessionView, space_of, tickets_seen}
-use Rattle.mdl_shared.specs.Showings.{AllMadeSlow, FromUnfast, LacksRoomForFast, Shows, ShowsStep}
+use Rattle.mdl_shared.specs.SessionViews.{SessionView, space_of, tickets_seen}
+use Rattle.mdl_shared.specs.Showings.{AllMadeSlow, LacksRoomForFast, Shows, ShowsStep}
 use Rattle.mdl_shared.specs.Upgrades.{upgrade_fault}
+use Rattle.mdl_shared.proofs.FastWishing.{from-slow, number-slow}
+use Rattle.mdl_shared.proofs.FastWishShows.{lack-cause}
 use Rattle.mdl_shared.proofs.MemberFacts.{speaks}
 use Rattle.mdl_shared.proofs.Members.{done-nothing}
 use Rattle.mdl_shared.proofs.QuietDeeds.{quiet-shows, quiet-steps, quiet-then, same-lists}
 use Rattle.mdl_shared.proofs.SameSpace.{refused}
-use Rattle.mdl_shared.proofs.SlowPlaces.{lack-cause}
 use Rattle.mdl_shared.proofs.TicketCalls.{blocked-joins, may-rise, merge-joins, upgrade-joins}
 use Rattle.mdl_shared.proofs.TicketFaults.{merge-clear}
 use Rattle.mdl_shared.proofs.WishCalls.{by-cause}
+use Rattle.mdl_shared.proofs.Wishing.{unfast-seen}
 
 -- ---- the fast tickets
 
 -- they became slow ones
 pub becomes-slow : (m m′ : Member) → DoesQuietly 0 [] (view_of m) (view_of m′) → (m′.tickets.fast ≡ []) × AllMadeSlow (view_of m) (view_of m′)
     → BecomesSlow (view_of m) (view_of m′)
-becomes-slow m m′ quiet made = record { quiet = quiet; unfast = sym (ap (λ (l : Lists). l.fast) m′.lists) ∙ made.0; made = made.1 }
-
--- it is the session that it was
-same-number : {a b : SessionView} → BecomesSlow a b → b.me.0.number ≡ a.me.0.number
-same-number slow = ap (λ (x : SessionView). x.me.0.number) slow.quiet.done.now
-
--- what is so from then on
-from-slow : {a b : SessionView} {fact : SessionView → Type 0} → BecomesSlow a b → fact b → FromUnfast a fact
-from-slow {b = b} slow is = (b, quiet-steps slow.quiet, slow.made, is)
+becomes-slow m m′ quiet made = record { quiet = quiet; unfast = unfast-seen m′ made.0; made = made.1 }
 
 -- so each ticket that the session had is a slow one
 pub slow-then : {place : ℕ} (m m′ : Member) → HasDone place [] (view_of m) (view_of m′) → m′.tickets.fast ≡ [] → (id : ℕ) (t : Own)
@@ -85,7 +79,7 @@ module _ {a : SessionView} (is : IsMember a) (id : ℕ) (t : Own) (its : numbere
         let number = has_number id t (tickets_seen a.me.0) its in
         let quiet = quiet-then slow.quiet (subst (λ (n : ℕ). DoesQuietly t.place (Alter n mode ∷ []) b c) number went.0) in
         let met = subst (λ (n : ℕ). ShowsStep b c (MeetsGrantable t.place b.me.0.number mode (Alter n mode))) number went.1 in
-        let by = subst (λ (who : ℕ). ShowsStep b c (MeetsGrantable t.place who mode (Alter id mode))) (same-number slow) met in (
+        let by = subst (λ (who : ℕ). ShowsStep b c (MeetsGrantable t.place who mode (Alter id mode))) (number-slow slow) met in (
           upgrade-joins is id t its mode clear short quiet.done,
           quiet-shows quiet (deeds upgrade.Upgraded short) clear (λ e. e) (λ e. e) tt
               (t, its, ((λ has. let no = sym has ∙ short in cc), (λ less. from-slow slow by))),
@@ -96,7 +90,7 @@ module _ {a : SessionView} (is : IsMember a) (id : ℕ) (t : Own) (its : numbere
         → Joins (space_of a) (Upgrade_now a.me.0.number id mode) Would_wait (space_of c) × Shows (Upgrade_now a.me.0.number id mode) Would_wait a c
     blocked-slow went =
         let quiet = quiet-then slow.quiet went.0 in
-        let by = subst (λ (who : ℕ). ShowsStep b c (MeetsBlocked t.place who mode)) (same-number slow) went.1 in (
+        let by = subst (λ (who : ℕ). ShowsStep b c (MeetsBlocked t.place who mode)) (number-slow slow) went.1 in (
           blocked-joins is id t its mode clear short quiet.done,
           quiet-shows quiet (deeds upgrade.WouldWait short) clear (λ e. e) (λ e. e) tt (t, its, (short, from-slow slow by)),
         )
@@ -140,7 +134,7 @@ module _ {a : SessionView} (is : IsMember a) (old new : ℕ) (kept gone : Own) (
       let two = has_number new gone (tickets_seen a.me.0) other in
       let quiet = quiet-then slow.quiet (subst₂ (λ (n p : ℕ). DoesQuietly kept.place (Alter n gone.mode ∷ Lose p ∷ []) b c) one two went) in
       let met = subst₃ (λ (who n p : ℕ). MeetsOwn kept.place who n step.0 × MeetsOwn kept.place who p step.0 × (step.0.deeds ≡ Alter n gone.mode ∷ Lose p ∷ []))
-      (same-number slow) one two (step.2, step.3, step.4) in (
+      (number-slow slow) one two (step.2, step.3, step.4) in (
         merge-joins is old kept its new gone other free quiet.done,
         quiet-shows quiet (sym (ap (merge_deeds old new (Ok tt)) other)) clear (λ e. e) (λ e. e) tt
             (kept, its, (gone, other, from-slow slow (step.0, step.1, met))),

@@ -2,7 +2,6 @@
 use Rattle.std.proofs.Common.{◌≡◌, ◌≢◌, ◌⊎◌, inl, inr, ℕ, ◌+◌, ◌<◌, ◌==◌, false, List, [], ◌∷◌, ◌++◌, length, refl, sym, ap, subst, ◌∙◌, arith, append_assoc}
 use Rattle.std.proofs.lemmas.Bool.{eq-eqb, eqb-true, false≢true}
 use Rattle.mdl_calls.specs.declared.space_error.SpaceError.{SpaceError}
-use Rattle.mdl_calls.specs.declared.space_error.SpaceError.TheVariants.{Full, OutOfMemory}
 use Rattle.mdl_steps.specs.declared.view.Own.{Own}
 use Rattle.mdl_steps.specs.Cells.{own_at}
 use Rattle.mdl_steps.specs.FastPlays.{but_at}
@@ -136,13 +135,6 @@ lacks-after a b c why first so lacks = (had-some a b so lacks.0, elim lacks.1 [
   | inl memory ↦ inl memory
   | inr full ↦ inr (full.0, full-after a b c first so full.1)
 ])
-
--- the two causes
-pub lack-cause : (a b : SessionView) {why : SpaceError} → LacksRoomForFast why a b → (why ≡ OutOfMemory) ⊎ (why ≡ Full)
-lack-cause a b lacks = elim lacks.1 [
-  | inl memory ↦ inl memory
-  | inr full ↦ inr full.0
-]
 
 -- ---- at first
 
