@@ -1,5 +1,5 @@
 -- The room of a session's own list of tickets, through the parts of a call.
-use Rattle.std.proofs.Common.{ℕ, ◌+◌, ◌≤◌, List, refl, arith}
+use Rattle.std.proofs.Common.{ℕ, List, refl, arith}
 use Rattle.mdl_steps.specs.declared.deed.Deed.{Deed}
 use Rattle.mdl_shared.specs.DeedsDone.{DoesQuietly, HasDone}
 use Rattle.mdl_shared.specs.SessionViews.{SessionView, StaysSame}

@@ -31,7 +31,7 @@ use Rattle.mdl_shared.proofs.FastWishing.{from-slow, number-slow}
 use Rattle.mdl_shared.proofs.FastWishShows.{lack-cause}
 use Rattle.mdl_shared.proofs.MemberFacts.{speaks}
 use Rattle.mdl_shared.proofs.Members.{done-nothing}
-use Rattle.mdl_shared.proofs.QuietDeeds.{quiet-shows, quiet-steps, quiet-then, same-lists}
+use Rattle.mdl_shared.proofs.QuietDeeds.{quiet-shows, quiet-then, same-lists}
 use Rattle.mdl_shared.proofs.SameSpace.{refused}
 use Rattle.mdl_shared.proofs.TicketCalls.{blocked-joins, may-rise, merge-joins, upgrade-joins}
 use Rattle.mdl_shared.proofs.TicketFaults.{merge-clear}

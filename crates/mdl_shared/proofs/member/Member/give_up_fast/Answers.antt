@@ -7,7 +7,7 @@ use Rattle.mdl_visits.proofs.Doing.{does_reschedule}
 use Rattle.mdl_visits.proofs.Steps.{does_then}
 use Rattle.mdl_shared.specs.Members.{is_known_place}
 use Rattle.mdl_shared.specs.Passes.{view_of}
-use Rattle.mdl_shared.specs.SessionViews.{Lists, SessionView}
+use Rattle.mdl_shared.specs.SessionViews.{Lists}
 use Rattle.mdl_shared.proofs.FastReleases.{done-before, gives-up, gives-up_after}
 use Rattle.mdl_shared.proofs.MemberFacts.{fast-held, may-visit, ticket-known}
 use Rattle.mdl_shared.proofs.Members.{done-rest, lists-rescheduled, rescheduled}
