@@ -149,6 +149,7 @@ impl Tickets {
         ensures same { (self.new.slow ≡ self.old.slow) × (self.new.fast ≡ self.old.fast) }
         ensures kept { KeepsRoom 0 self.old.room self.new.room }
         ensures room { OnOk result (HasRoom place self.new.room) }
+        ensures lacks { OnErr result (HasRoom place self.old.room → ⊥) }
     {
         self.reserve_many(1, place + 1)
     }
@@ -159,6 +160,7 @@ impl Tickets {
         ensures same { (self.new.slow ≡ self.old.slow) × (self.new.fast ≡ self.old.fast) }
         ensures kept { KeepsRoom 0 self.old.room self.new.room }
         ensures room { OnOk result (HasRoomFor count places self.new.room) }
+        ensures lacks { OnErr result (HasRoomFor count places self.old.room → ⊥) }
     {
         reach(&mut self.places, places)?;
         self.gained.reserve(count)
@@ -394,6 +396,7 @@ fn reach(places: &mut Vec<OfPlace>, count: usize) -> Result<(), AllocError>
     ensures length { length places.old.items ≤ length places.new.items }
     ensures narrow { count ≤ 65536 → length places.old.items ≤ 65536 → length places.new.items ≤ 65536 }
     ensures reach { OnOk result (count ≤ length places.new.items) }
+    ensures lacks { OnErr result (length places.old.items < count) }
     ensures same { (q : ℕ) → AreAt q places.old.items places.new.items }
 {
     if count <= places.len() {
