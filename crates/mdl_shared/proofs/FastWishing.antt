@@ -4,6 +4,7 @@ use Rattle.std.specs.Prelude.{filter_map}
 use Rattle.mdl_key.specs.declared.mode.Mode.{Mode}
 use Rattle.mdl_calls.specs.declared.space_error.SpaceError.{SpaceError}
 use Rattle.mdl_calls.specs.declared.space_error.SpaceError.TheVariants.{Full, OutOfMemory}
+use Rattle.mdl_steps.specs.declared.deed.Deed.{Deed}
 use Rattle.mdl_steps.specs.declared.view.Met.{Met}
 use Rattle.mdl_steps.specs.declared.view.Own.{Own}
 use Rattle.mdl_steps.specs.Cells.{own_at}
@@ -17,6 +18,7 @@ use Rattle.mdl_shared.specs.DeedsDone.{DoesQuietly}
 use Rattle.mdl_shared.specs.FastWishes.{BecomesSlow}
 use Rattle.mdl_shared.specs.SessionViews.{Lists, SessionView, note_of, settled_told, space_of}
 use Rattle.mdl_shared.specs.Showings.{AllMadeSlow, ByLatch, FromUnfast, FullForFast, IsClosed, LacksRoomForFast, MakesSlow, ShowsStep}
+use Rattle.mdl_shared.specs.TicketLists.{Room}
 use Rattle.mdl_shared.proofs.QuietDeeds.{quiet-steps, shows-first, shows-later}
 use Rattle.mdl_shared.proofs.SameSpace.{numbers_by, own_by, reading_of}
 use Rattle.mdl_shared.proofs.SpaceLists.{known_of}
@@ -37,6 +39,30 @@ same-space {a = a} quiet =
       reads = map reading_of a.me.0.reads;
     } in
     ap space_of quiet.done.now ∙ (λ i. space (quiet.done.tickets i) (told i))
+
+-- ---- after room was made
+
+-- what a session did that had more room then
+pub quiet-room : {place : ℕ} {ds : List Deed} {b : SessionView} (a : SessionView) (room : Room) → DoesQuietly place ds (record a { room = room }) b → DoesQuietly place ds a b
+quiet-room a room quiet =
+    let done = quiet.done in record {
+      done = record {
+        slow = done.slow;
+        fast = done.fast;
+        told = done.told;
+        settles = done.settles;
+        log = done.log;
+        room = done.room;
+        now = done.now;
+        tickets = done.tickets;
+        fasts = done.fasts;
+        stays = done.stays;
+        unasked = done.unasked;
+      };
+      did = quiet.did;
+      settled = quiet.settled;
+      told = quiet.told;
+    }
 
 -- ---- the fast path was closed
 
