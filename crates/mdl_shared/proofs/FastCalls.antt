@@ -21,9 +21,10 @@ use Rattle.mdl_shared.specs.Passes.{view_of}
 use Rattle.mdl_shared.specs.SessionViews.{Lists, SessionView, StaysSame, lists_seen}
 use Rattle.mdl_shared.specs.Showings.{AllMadeSlow, MakesSlow, ShowsStep}
 use Rattle.mdl_shared.specs.TicketLists.{KeepsRoom, Room, TicketList}
+use Rattle.mdl_shared.proofs.FastWishing.{quiet-room}
 use Rattle.mdl_shared.proofs.MemberFacts.{fast-held}
 use Rattle.mdl_shared.proofs.Props.{member}
-use Rattle.mdl_shared.proofs.Rooms.{quiet-since, room-then}
+use Rattle.mdl_shared.proofs.Rooms.{room-then}
 use Rattle.mdl_shared.proofs.TicketCalls.{release-joins}
 use Rattle.mdl_shared.proofs.WishCalls.{try-granted}
 
@@ -51,7 +52,7 @@ module _ (m : Member) {list : TicketList} (made : HasMadeRoom m list) {place : �
   tried-granted b mode id fewer clear first then shown room =
       let seen : wish_fault (kind_known place m.seat.me.0.known) m.seat.me.0.asks mode m.seat.me.0.next ≡ None =
       ap (λ (l : Lists). wish_fault (kind_known place l.known) l.asks mode l.next) (sym m.lists) ∙ clear in
-      let quiet = quiet-since list.room then in (
+      let quiet = quiet-room (view_of m) list.room then in (
         fewer,
         try-granted (member m) place mode seen (first ∙ ap (λ (l : Lists). l.next) m.lists) quiet.done,
         quiet,
@@ -63,7 +64,7 @@ module _ (m : Member) {list : TicketList} (made : HasMadeRoom m list) {place : �
   pub tried-nothing : (m′ : Member) → HasFewerFast place (view_of m)
       → DoesQuietly place [] (record (view_of m) { room = list.room }) (view_of m′) × (m′.tickets ≡ list) → GetsNothing place (view_of m) (view_of m′)
   tried-nothing m′ fewer missed =
-      let quiet = quiet-since list.room missed.0 in
+      let quiet = quiet-room (view_of m) list.room missed.0 in
       let slow = ap (λ (l : TicketList). l.slow) missed.1 ∙ made.slow in
       let fast = ap (λ (l : TicketList). l.fast) missed.1 ∙ made.fast in
       let now = quiet.done.now in

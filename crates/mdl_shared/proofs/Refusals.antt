@@ -13,7 +13,7 @@ use Rattle.mdl_shared.specs.Showings.{KeepsTold, MakesNoStep, MeetsSo, SettlesSo
 pub does-nothing : (m : Mine) → Does [] m m
 does-nothing m = ([], sym (append-nil m.0.log), refl)
 
-pub stays-on : (m : Mine) → StaysOn m m
+stays-on : (m : Mine) → StaysOn m m
 stays-on m = ([], sym (append-nil m.0.log), tt)
 
 -- a refusal does no deed, and settles no wait
