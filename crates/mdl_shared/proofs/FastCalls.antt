@@ -24,7 +24,7 @@ use Rattle.mdl_shared.specs.TicketLists.{KeepsRoom, Room, TicketList}
 use Rattle.mdl_shared.proofs.FastWishing.{quiet-room}
 use Rattle.mdl_shared.proofs.MemberFacts.{fast-held}
 use Rattle.mdl_shared.proofs.Props.{member}
-use Rattle.mdl_shared.proofs.Rooms.{room-then}
+use Rattle.mdl_shared.proofs.SlowPlaces.{room-then}
 use Rattle.mdl_shared.proofs.TicketCalls.{release-joins}
 use Rattle.mdl_shared.proofs.WishCalls.{try-granted}
 

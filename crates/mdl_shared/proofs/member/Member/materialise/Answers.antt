@@ -4,8 +4,7 @@ use Rattle.mdl_steps.specs.FastPlays.{but_at}
 use Rattle.mdl_shared.specs.Passes.{view_of}
 use Rattle.mdl_shared.specs.SessionViews.{Lists}
 use Rattle.mdl_shared.proofs.QuietDeeds.{quiet-none, quiet-steps, quiet-then, same-lists}
-use Rattle.mdl_shared.proofs.Rooms.{room-still, room-then}
-use Rattle.mdl_shared.proofs.SlowPlaces.{all-slow, fewer-left, lacks-after, same-at-first, slow-more, slow-still}
+use Rattle.mdl_shared.proofs.SlowPlaces.{all-slow, fewer-left, lacks-after, room-still, room-then, same-at-first, slow-more, slow-still}
 use Rattle.mdl_shared.proofs.member.Member.materialise.Goals as goal
 
 pub loop-place-init : goal.loop-place-init
