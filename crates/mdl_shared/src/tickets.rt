@@ -1,5 +1,5 @@
 //! A session's own list of its tickets.
-ghost use Rattle.std.specs.Prelude.{not, ⊥, ◌^◌, MatchOption, None, OnErr, OnOk, IfOk, IfSome, Some, [], false, find, length, map, position, remove, slice_get, slice_index_or, true, ◌+◌, ◌++◌, ◌<◌, ◌==◌, ◌∷◌, ◌≡◌, ◌≤◌, ◌&&◌, ℕ, if◌then◌else◌};
+ghost use Rattle.std.specs.Prelude.{not, ◌^◌, MatchOption, None, OnErr, OnOk, IfOk, IfSome, Some, [], false, find, length, map, position, remove, slice_get, slice_index_or, true, ◌+◌, ◌++◌, ◌<◌, ◌==◌, ◌∷◌, ◌≡◌, ◌≤◌, ◌&&◌, ℕ, if◌then◌else◌};
 ghost use Rattle.std.specs.List.{list_all};
 ghost use Rattle.std.specs.Vec.{vec_capacity, vec_len};
 ghost use Rattle.mdl_calls.specs.declared.answers.Held.{Held};
