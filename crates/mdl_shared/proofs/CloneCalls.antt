@@ -16,15 +16,14 @@ use Rattle.mdl_visits.specs.Numbers.{numbered}
 use Rattle.mdl_visits.specs.Visits.{MeetsFull}
 use Rattle.mdl_visits.proofs.Numbers.{has_number}
 use Rattle.mdl_shared.specs.DeedsDone.{DoesQuietly}
-use Rattle.mdl_shared.specs.FastDeeds.{LacksRoomForFast}
 use Rattle.mdl_shared.specs.FastWishes.{BecomesSlow, GainsFast}
 use Rattle.mdl_shared.specs.Members.{IsMember}
 use Rattle.mdl_shared.specs.Modes.{clone_fault}
 use Rattle.mdl_shared.specs.OwnLists.{told_of}
 use Rattle.mdl_shared.specs.SessionViews.{SessionView, lists_seen, space_of, tickets_seen}
-use Rattle.mdl_shared.specs.Showings.{FullForOne, MeetsClone, MeetsTicket, OfTicket, Shows, ShowsStep}
-use Rattle.mdl_shared.proofs.FastWishing.{number-slow, shows-slow}
-use Rattle.mdl_shared.proofs.FastWishShows.{lack-cause}
+use Rattle.mdl_shared.specs.Showings.{FullForFast, FullForWish, IsClosed, IsCloned, MeetsTicket, OfTicket, Shows, ShowsStep}
+use Rattle.mdl_shared.proofs.FastWishing.{by-latch, number-slow}
+use Rattle.mdl_shared.proofs.FastWishShows.{cause-told, full-fast, full-one}
 use Rattle.mdl_shared.proofs.MemberFacts.{speaks}
 use Rattle.mdl_shared.proofs.Members.{HasDone, done-nothing}
 use Rattle.mdl_shared.proofs.QuietDeeds.{quiet-shows, quiet-then}
@@ -54,10 +53,14 @@ module _ {s : SessionView} (is : IsMember s) (id : ℕ) (mode : Mode) where
         (by-cause (λ w. IsCause (Knows (space_of s) s.me.0.number) (Clone_ticket s.me.0.number id mode) w (space_of s).own) why tt may-clone causes)
         (λ state how is. cc) tt
 
-    pub refused-shows : {s′ : SessionView} {place : ℕ} {why : SpaceError} → DoesQuietly place [] s s′
-        → (why ≡ OutOfMemory) ⊎ ((why ≡ Full) × OfTicket id (lists_seen s.me.0) (λ t. FullForOne t.place s s′))
-        → Shows (Clone_ticket s.me.0.number id mode) (Refused why) s s′
-    refused-shows quiet met = quiet-shows quiet refl clear (λ e. e) (λ e. e) tt (inr met)
+    -- either way
+    pub clone-full : {at : ℕ} {b : SessionView} {why : SpaceError} → DoesQuietly at [] s b
+        → (why ≡ OutOfMemory) ⊎ ((why ≡ Full) × OfTicket id (lists_seen s.me.0) (λ t. FullForWish t.place mode s b))
+        → Joins (space_of s) (Clone_ticket s.me.0.number id mode) (Refused why) (space_of b) × Shows (Clone_ticket s.me.0.number id mode) (Refused why) s b
+    clone-full quiet causes = (
+      clone-refused (done-nothing quiet.done) (cause-told causes),
+      quiet-shows quiet refl clear (λ e. e) (λ e. e) tt (inr causes),
+    )
 
     -- made
     module _ (t : Own) (its : numbered id (tickets_seen s.me.0) ≡ Some t) where
@@ -68,30 +71,28 @@ module _ {s : SessionView} (is : IsMember s) (id : ℕ) (mode : Mode) where
           (ap (λ o. cloning new mode o (space_of s).own) (ticket-told id (tickets_seen s.me.0) ∙ ap (option_map told_of) its)) (λ d. d)
           may-clone tt refl (λ state how is. cc) (λ how is. cc) refl (λ r. r) tt
 
-      pub clone-shows : {s′ : SessionView} {new : ℕ} → DoesQuietly t.place (Gain new mode ∷ []) s s′
-          → ShowsStep s s′ (MeetsClone t.place s.me.0.number id (Gain new mode)) → Shows (Clone_ticket s.me.0.number id mode) (Granted new) s s′
+      clone-shows : {s′ : SessionView} {new : ℕ} → DoesQuietly t.place (Gain new mode ∷ []) s s′
+          → IsCloned t.place mode id (Gain new mode) s s′ → Shows (Clone_ticket s.me.0.number id mode) (Granted new) s s′
       clone-shows quiet met = quiet-shows quiet refl clear (λ e. e) (λ e. e) tt (t, its, met)
 
       -- by the fast path
       pub fast-cloned : {b : SessionView} {new : ℕ} → GainsFast t.place mode new s b
           → Joins (space_of s) (Clone_ticket s.me.0.number id mode) (Granted new) (space_of b) × Shows (Clone_ticket s.me.0.number id mode) (Granted new) s b
-      fast-cloned gains = (
-        clone-joins gains.first gains.quiet.done,
-        clone-shows gains.quiet (gains.met.0, gains.met.1, inr gains.met.2),
-      )
+      fast-cloned gains = (clone-joins gains.first gains.quiet.done, clone-shows gains.quiet (inl gains.met))
 
-      -- there was no room for the fast tickets
-      lacks-one : (b : SessionView) {why : SpaceError} → LacksRoomForFast why s b
-          → (why ≡ OutOfMemory) ⊎ ((why ≡ Full) × OfTicket id (lists_seen s.me.0) (λ u. FullForOne u.place s b))
-      lacks-one b (inl memory) = inl memory
-      lacks-one b (inr full) = inr (full.0, (t, its, inr full.1))
+      -- there was no room
+      of-one : (b : SessionView) {why : SpaceError} → (why ≡ OutOfMemory) ⊎ ((why ≡ Full) × FullForWish t.place mode s b)
+          → (why ≡ OutOfMemory) ⊎ ((why ≡ Full) × OfTicket id (lists_seen s.me.0) (λ u. FullForWish u.place mode s b))
+      of-one b (inl memory) = inl memory
+      of-one b (inr full) = inr (full.0, (t, its, full.1))
 
-      pub clone-full : {b : SessionView} {why : SpaceError} → DoesQuietly 0 [] s b → LacksRoomForFast why s b
+      pub full-cloned : {b : SessionView} {why : SpaceError} → DoesQuietly 0 [] s b
+          → (why ≡ OutOfMemory) ⊎ ((why ≡ Full) × IsClosed t.place mode s b × FullForFast s b)
           → Joins (space_of s) (Clone_ticket s.me.0.number id mode) (Refused why) (space_of b) × Shows (Clone_ticket s.me.0.number id mode) (Refused why) s b
-      clone-full {b} quiet lacks = (clone-refused (done-nothing quiet.done) (lack-cause s b lacks), refused-shows quiet (lacks-one b lacks))
+      full-cloned {b} quiet causes = clone-full quiet (of-one b (full-fast t.place mode s b causes))
 
-      -- by the latch of the place, once they are slow ones
-      module _ {b c : SessionView} (slow : BecomesSlow s b) where
+      -- by the latch of the place, once all fast tickets are slow ones
+      module _ {b c : SessionView} (slow : BecomesSlow s b) (closed : IsClosed t.place mode s b) where
         pub cloned-slow : (next : ℕ) → next ≡ s.me.0.next → (result : Result ℕ SpaceError)
             → IfOk result (λ new. (new ≡ next) × DoesQuietly t.place (Gain new mode ∷ []) b c × MeetsTicket t.number (Gain new mode ∷ []) b c t)
             → OnErr result (DoesQuietly t.place [] b c) → IfErr result (λ why. (why ≡ OutOfMemory) ⊎ ((why ≡ Full) × ShowsStep b c (MeetsFull t.place)))
@@ -101,16 +102,6 @@ module _ {s : SessionView} (is : IsMember s) (id : ℕ) (mode : Mode) where
             let quiet = quiet-then slow.quiet made.1 in
             let met = made.2 in
             let own = subst₂ (λ (who n : ℕ). MeetsOwn t.place who n met.0) (number-slow slow) (has_number id t (tickets_seen s.me.0) its) met.2.0 in
-            (clone-joins (made.0 ∙ first) quiet.done, clone-shows quiet (shows-slow slow c (met.0, met.1, inl (own, met.2.1))))
+            (clone-joins (made.0 ∙ first) quiet.done, clone-shows quiet (inr (by-latch slow t.place mode closed (met.0, met.1, (own, met.2.1)))))
         cloned-slow next first (Err why) made unchanged causes =
-            let quiet = quiet-then slow.quiet unchanged in
-            (clone-refused (done-nothing quiet.done) (either-cause causes), refused-shows quiet (full-one causes))
-          where
-            either-cause : (why ≡ OutOfMemory) ⊎ ((why ≡ Full) × ShowsStep b c (MeetsFull t.place)) → (why ≡ OutOfMemory) ⊎ (why ≡ Full)
-            either-cause (inl memory) = inl memory
-            either-cause (inr full) = inr full.0
-
-            full-one : (why ≡ OutOfMemory) ⊎ ((why ≡ Full) × ShowsStep b c (MeetsFull t.place))
-                → (why ≡ OutOfMemory) ⊎ ((why ≡ Full) × OfTicket id (lists_seen s.me.0) (λ u. FullForOne u.place s c))
-            full-one (inl memory) = inl memory
-            full-one (inr full) = inr (full.0, (t, its, inl (shows-slow slow c full.1)))
+            clone-full (quiet-then slow.quiet unchanged) (of-one c (full-one t.place mode s b slow closed unchanged causes))

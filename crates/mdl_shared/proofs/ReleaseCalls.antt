@@ -18,9 +18,9 @@ use Rattle.mdl_shared.specs.SessionViews.{SessionView, session_at, space_of, tic
 use Rattle.mdl_shared.specs.Showings.{GivesUpFast, GivesUpSlow, Shows}
 use Rattle.mdl_shared.specs.TicketLists.{Room}
 use Rattle.mdl_shared.proofs.Faults.{if-clear}
-use Rattle.mdl_shared.proofs.MemberFacts.{loses-slow}
+use Rattle.mdl_shared.proofs.MemberFacts.{fast-held, loses-slow}
 use Rattle.mdl_shared.proofs.Members.{rescheduled}
-use Rattle.mdl_shared.proofs.SlowOrFast.{fast-held, fast-only}
+use Rattle.mdl_shared.proofs.SlowOrFast.{fast-only}
 use Rattle.mdl_shared.proofs.TicketCalls.{release-joins}
 
 -- what the call comes to, by which of its tickets it gives up
@@ -44,8 +44,8 @@ pub released-slow : (seat seat′ : SeatState) (sessions id : ℕ) {room room′
     → DoesToOwn t.place id (Lose id ∷ []) seat seat′
     → Joins (space_of (session_at seat sessions room)) (Release seat.me.0.number id) Done (space_of (session_at seat′ sessions room′))
     × Shows (Release seat.me.0.number id) Done (session_at seat sessions room) (session_at seat′ sessions room′)
-released-slow seat seat′ sessions id t is its slow none visit step =
-    let done = rescheduled seat seat′ sessions (loses-slow is t.place id t slow) visit in (
+released-slow seat seat′ sessions id {room} {room′} t is its slow none visit step =
+    let done = rescheduled seat seat′ sessions {room = room} {room′ = room′} (loses-slow is t.place id t slow) visit in (
       release-joins is id t its done,
       release-shows id t its done (does_reschedule seat.me seat′.me seat.table t.place (Lose id ∷ []) visit.1) (
         (λ its_slow. ((step.0, step.1, (step.2, step.3)), visit.1.way)),

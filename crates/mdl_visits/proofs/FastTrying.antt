@@ -12,7 +12,7 @@ use Rattle.mdl_steps.specs.FastPlays.{MayGrantFast, granted_fast, met_word, miss
 use Rattle.mdl_steps.specs.Layout.{lock_word}
 use Rattle.mdl_steps.specs.Lists.{Each}
 use Rattle.mdl_steps.specs.Plays.{Mine}
-use Rattle.mdl_visits.specs.FastTries.{AllMiss, GrantsAtLast, GrantsFast, MeetsClear, Misses, last_found, with_fast}
+use Rattle.mdl_visits.specs.FastTries.{AllMiss, GrantsAtLast, GrantsFast, Misses, last_found, with_fast}
 use Rattle.mdl_visits.specs.Visits.{StaysOn, StaysThere, and_made, gives_back, raises_flags}
 use Rattle.mdl_visits.proofs.Steps.{each_append, none_then}
 

@@ -94,8 +94,9 @@ returns-clause-granted c =
     let granted = c.in-Granted.ensures.granted refl in
     let noted = c.note_of-noted.ensures ∙ ap (λ (l : Lists). first_note (own_at c.args.place l.fast ++ own_at c.args.place l.slow)) m.lists in
     let first = ap (λ (l : Lists). l.next) m.lists in
+    let after = session_at c.try_fast.new.seat m.sessions c.push_fast.new.self.room in
     let quiet = fast-granted m.seat c.try_fast.new.seat m.sessions (member m) may.idle may.counted noted granted.0 in (
       refl,
-      subst (λ (n : ℕ). DoesQuietly c.args.place (Gain n c.args.mode ∷ []) (view_of m) (session_at c.try_fast.new.seat m.sessions)) (sym first) quiet,
-      subst (λ (n : ℕ). ShowsStep (view_of m) (session_at c.try_fast.new.seat m.sessions) (MeetsClear c.args.place (Gain n c.args.mode))) (sym first) granted.1,
+      subst (λ (n : ℕ). DoesQuietly c.args.place (Gain n c.args.mode ∷ []) (view_of m) after) (sym first) quiet,
+      subst (λ (n : ℕ). ShowsStep (view_of m) after (MeetsClear c.args.place (Gain n c.args.mode))) (sym first) granted.1,
     )
