@@ -1,6 +1,8 @@
 -- A session's fast tickets become slow ones, one place after the other.
-use Rattle.std.proofs.Common.{◌≡◌, ◌≢◌, ◌⊎◌, inl, inr, ℕ, ◌+◌, ◌<◌, ◌==◌, false, List, [], ◌∷◌, ◌++◌, length, refl, sym, ap, subst, ◌∙◌, arith, append_assoc}
+use Rattle.std.proofs.Common.{◌≡◌, ◌≢◌, ◌⊎◌, inl, inr, ℕ, ◌+◌, ◌<◌, ◌≤◌, ◌==◌, false, List, [], ◌∷◌, ◌++◌, length, refl, sym, ap, subst, ◌∙◌, arith, append_assoc}
 use Rattle.std.proofs.lemmas.Bool.{eq-eqb, eqb-true, false≢true}
+use Rattle.std.proofs.lemmas.Bool.Decides.{nat_tests}
+use Rattle.std.specs.Prelude.{nat_lt}
 use Rattle.mdl_calls.specs.declared.space_error.SpaceError.{SpaceError}
 use Rattle.mdl_steps.specs.declared.view.Own.{Own}
 use Rattle.mdl_steps.specs.Cells.{own_at}
@@ -9,7 +11,7 @@ use Rattle.mdl_steps.specs.Lists.{Each}
 use Rattle.mdl_steps.proofs.Views.{by_bool}
 use Rattle.mdl_visits.specs.Materialisings.{MeetsFullFor}
 use Rattle.mdl_visits.specs.Visits.{MakesMoreSteps}
-use Rattle.mdl_shared.specs.FastDeeds.{AreSameOrSlow}
+use Rattle.mdl_shared.specs.FastDeeds.{AreSameOrSlow, AreSlowBefore}
 use Rattle.mdl_shared.specs.SessionViews.{SessionView}
 use Rattle.mdl_shared.specs.Showings.{AllMadeSlow, FullForFast, LacksRoomForFast, MakesSlow, ShowsStep}
 use Rattle.mdl_shared.specs.TicketLists.{KeepsRoom, Room}
@@ -150,7 +152,33 @@ room-still room = (omega arith, omega arith)
 pub room-then : (gained : ℕ) (a b c : Room) → KeepsRoom 0 a b → KeepsRoom gained b c → KeepsRoom gained a c
 room-then gained a b c first later = (omega (arith, first.0, later.0), omega (arith, first.1, later.1))
 
+-- ---- in the order of places
+
+-- one place more
+pub before-more : (a b c : SessionView) (place : ℕ) → AreSlowBefore a b → 0 < length (own_at place b.me.0.fast) → ((q : ℕ) → q < place → own_at q b.me.0.fast ≡ [])
+    → c.me.0.fast ≡ but_at place b.me.0.fast → AreSlowBefore a c
+before-more a b c place so some first fast =
+    let past : so.0 ≤ place = by_bool (nat_lt place so.0)
+    (λ less. absurd (let none = ap (λ (us : List Own). length us) ((so.1 place).0 (grind (arith, nat_tests, less))) in omega (arith, some, none)))
+    (λ greater. grind (arith, nat_tests, greater))
+    in (
+      place + 1,
+      λ q. (
+        λ before. ap (own_at q) fast ∙ by_bool (q == place)
+            (λ here. let is = eqb-true q place here in ap (λ (p : ℕ). own_at p (but_at place b.me.0.fast)) is ∙ none-left place b.me.0.fast)
+            (λ there. all-left place q b.me.0.fast there ∙ first q (grind (arith, nat_tests, before, there))),
+        λ after. ap (own_at q) fast ∙ all-left place q b.me.0.fast (grind (arith, nat_tests, after)) ∙ (so.1 q).1 (omega (arith, past, after)),
+      ),
+    )
+
+-- where all stay
+pub before-still : (a b c : SessionView) → AreSlowBefore a b → c.me.0.fast ≡ b.me.0.fast → AreSlowBefore a c
+before-still a b c so fast = (so.0, λ q. (λ before. ap (own_at q) fast ∙ (so.1 q).0 before, λ after. ap (own_at q) fast ∙ (so.1 q).1 after))
+
 -- ---- at first
+
+pub none-before : (a : SessionView) → AreSlowBefore a a
+none-before a = (0, λ q. (λ before. absurd (omega (arith, before)), λ after. refl))
 
 pub same-at-first : (a : SessionView) → AreSameOrSlow a a
 same-at-first a q = inl refl

@@ -1,5 +1,5 @@
 -- What a session does with its fast tickets: it tries for one, gives one up, and makes slow ones of them.
-use Rattle.std.specs.Prelude.{◌≡◌, ◌⊎◌, ℕ, ◌≤◌, [], length}
+use Rattle.std.specs.Prelude.{◌≡◌, ◌⊎◌, ℕ, ◌<◌, ◌≤◌, [], length}
 use Rattle.mdl_steps.specs.Cells.{own_at}
 use Rattle.mdl_steps.specs.Limits.{most_fast}
 use Rattle.mdl_visits.specs.FastTries.{FindsObtrusive, Misses}
@@ -19,3 +19,8 @@ HasNoFast Limit place a b = (b ≡ a) × (most_fast ≤ length (own_at place a.m
 abbrev pub AreSameOrSlow : SessionView → SessionView → Type 0
 AreSameOrSlow a b =
     (q : ℕ) → (own_at q b.me.0.fast ≡ own_at q a.me.0.fast) ⊎ ((own_at q b.me.0.fast ≡ []) × ShowsStep a b (MakesSlow q))
+
+-- before a place it has none, and from there on those that it had
+abbrev pub AreSlowBefore : SessionView → SessionView → Type 0
+AreSlowBefore a b =
+    (place : ℕ) × ((q : ℕ) → (q < place → own_at q b.me.0.fast ≡ []) × (place ≤ q → own_at q b.me.0.fast ≡ own_at q a.me.0.fast))

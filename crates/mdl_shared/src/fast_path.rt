@@ -14,7 +14,7 @@ ghost use Rattle.mdl_visits.specs.Numbers.{numbered};
 ghost use Rattle.mdl_visits.specs.Visits.{StaysOn};
 ghost use Rattle.mdl_shared.specs.declared.fast_path.NotFast.TheVariants.{Limit};
 ghost use Rattle.mdl_shared.specs.DeedsDone.{DoesQuietly};
-ghost use Rattle.mdl_shared.specs.FastDeeds.{AreSameOrSlow, HasNoFast};
+ghost use Rattle.mdl_shared.specs.FastDeeds.{AreSameOrSlow, AreSlowBefore, HasNoFast};
 ghost use Rattle.mdl_shared.specs.Members.{increment_at, most_numbers};
 ghost use Rattle.mdl_shared.specs.Passes.{view_of};
 ghost use Rattle.mdl_shared.specs.Showings.{AllMadeSlow, LacksRoomForFast, MakesSlow, ShowsStep};
@@ -105,6 +105,7 @@ impl Member {
         ensures slow { OnOk result ((self.new.tickets.fast ≡ []) × AllMadeSlow (view_of self.old) (view_of self.new)) }
         ensures refused { IfErr result (λ why. LacksRoomForFast why (view_of self.old) (view_of self.new)) }
         ensures partly { OnErr result (AreSameOrSlow (view_of self.old) (view_of self.new)) }
+        ensures order { OnErr result (AreSlowBefore (view_of self.old) (view_of self.new)) }
         ensures room { KeepsRoom 0 self.old.tickets.room self.new.tickets.room }
     {
         while let Some(place) = self.tickets.some_fast() {

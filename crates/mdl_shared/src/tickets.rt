@@ -121,9 +121,10 @@ impl Tickets {
         note_counted(&self.places, place)
     }
 
-    /// A place with a fast ticket.
+    /// The first place with a fast ticket.
     pub(crate) fn some_fast(&self) -> Option<usize>
-        ensures { MatchOption result (self.now.fast ≡ []) (λ place. 0 < length (own_at place self.now.fast)) }
+        ensures { MatchOption result (self.now.fast ≡ [])
+            (λ place. (0 < length (own_at place self.now.fast)) × ((q : ℕ) → q < place → own_at q self.now.fast ≡ [])) }
     {
         if self.fast == 0 {
             return None;

@@ -1,7 +1,7 @@
 -- Some places' fast tickets are slow ones so far.
 use Rattle.std.proofs.Common.{◌≡◌, None, [], length}
 use Rattle.mdl_shared.specs.DeedsDone.{DoesQuietly}
-use Rattle.mdl_shared.specs.FastDeeds.{AreSameOrSlow}
+use Rattle.mdl_shared.specs.FastDeeds.{AreSameOrSlow, AreSlowBefore}
 use Rattle.mdl_shared.specs.Passes.{view_of}
 use Rattle.mdl_shared.specs.TicketLists.{KeepsRoom}
 use Rattle.mdl_shared.proofs.member.Member.materialise.Given as goal
@@ -11,6 +11,7 @@ invariant-loop-place g l = record {
   idle : l.self.asks ≡ None;
   done : DoesQuietly 0 [] (view_of l.fn.self) (view_of l.self);
   slow : AreSameOrSlow (view_of l.fn.self) (view_of l.self);
+  order : AreSlowBefore (view_of l.fn.self) (view_of l.self);
   room : KeepsRoom 0 l.fn.self.tickets.room l.self.tickets.room;
 }
 
