@@ -46,15 +46,15 @@ module _ {s : SessionView} (is : IsMember s) (id : ℕ) (mode : Mode) where
     may-clone = let h = clone-clear s id mode (numbered id (tickets_seen s.me.0)) refl clear in (waits-asks s.me.0.asks s.me.0.waits ∙ h.0, h.1)
 
     -- refused, as memory ran out or the book is full
-    pub clone-refused : {s′ : SessionView} → Stays s s′ → {why : SpaceError} → (why ≡ OutOfMemory) ⊎ (why ≡ Full)
+    clone-refused : {s′ : SessionView} → Stays s s′ → {why : SpaceError} → (why ≡ OutOfMemory) ⊎ (why ≡ Full)
         → Joins (space_of s) (Clone_ticket s.me.0.number id mode) (Refused why) (space_of s′)
     clone-refused {s′} stays {why} causes =
         refused s s′ (Clone_ticket s.me.0.number id mode) why stays (speaks is) refl refl
         (by-cause (λ w. IsCause (Knows (space_of s) s.me.0.number) (Clone_ticket s.me.0.number id mode) w (space_of s).own) why tt may-clone causes)
         (λ state how is. cc) tt
 
-    -- either way
-    pub clone-full : {at : ℕ} {b : SessionView} {why : SpaceError} → DoesQuietly at [] s b
+    -- and shows it
+    clone-full : {at : ℕ} {b : SessionView} {why : SpaceError} → DoesQuietly at [] s b
         → (why ≡ OutOfMemory) ⊎ ((why ≡ Full) × OfTicket id (lists_seen s.me.0) (λ t. FullForWish t.place mode s b))
         → Joins (space_of s) (Clone_ticket s.me.0.number id mode) (Refused why) (space_of b) × Shows (Clone_ticket s.me.0.number id mode) (Refused why) s b
     clone-full quiet causes = (
