@@ -1,9 +1,10 @@
 //! A session's own list of its tickets.
-ghost use Rattle.std.specs.Prelude.{not, ◌^◌, MatchOption, None, OnErr, OnOk, IfOk, IfSome, Some, [], false, find, length, map, position, remove, slice_get, slice_index_or, true, ◌+◌, ◌++◌, ◌<◌, ◌==◌, ◌∷◌, ◌≡◌, ◌≤◌, ◌&&◌, ℕ, if◌then◌else◌};
+ghost use Rattle.std.specs.Prelude.{not, ⊥, ◌^◌, MatchOption, None, OnErr, OnOk, IfOk, IfSome, Some, [], false, find, length, map, position, remove, slice_get, slice_index_or, true, ◌+◌, ◌++◌, ◌<◌, ◌==◌, ◌∷◌, ◌≡◌, ◌≤◌, ◌&&◌, ℕ, if◌then◌else◌};
 ghost use Rattle.std.specs.List.{list_all};
 ghost use Rattle.std.specs.Vec.{vec_capacity, vec_len};
 ghost use Rattle.mdl_calls.specs.declared.answers.Held.{Held};
 ghost use Rattle.mdl_steps.specs.Cells.{note_at, own_at};
+ghost use Rattle.mdl_steps.specs.declared.view.Own.{Own};
 ghost use Rattle.mdl_steps.specs.Deeds.{is_own};
 ghost use Rattle.mdl_steps.specs.FastPlays.{but_at, fast_own, first_note};
 ghost use Rattle.mdl_steps.specs.Interleavings.{interleaved};
@@ -149,7 +150,7 @@ impl Tickets {
         ensures same { (self.new.slow ≡ self.old.slow) × (self.new.fast ≡ self.old.fast) }
         ensures kept { KeepsRoom 0 self.old.room self.new.room }
         ensures room { OnOk result (HasRoom place self.new.room) }
-        ensures lacks { OnErr result (HasRoom place self.old.room → ⊥) }
+        ensures lacked { OnErr result (HasRoom place self.old.room → ⊥) }
     {
         self.reserve_many(1, place + 1)
     }
@@ -160,7 +161,7 @@ impl Tickets {
         ensures same { (self.new.slow ≡ self.old.slow) × (self.new.fast ≡ self.old.fast) }
         ensures kept { KeepsRoom 0 self.old.room self.new.room }
         ensures room { OnOk result (HasRoomFor count places self.new.room) }
-        ensures lacks { OnErr result (HasRoomFor count places self.old.room → ⊥) }
+        ensures lacked { OnErr result (HasRoomFor count places self.old.room → ⊥) }
     {
         reach(&mut self.places, places)?;
         self.gained.reserve(count)
@@ -198,6 +199,7 @@ impl Tickets {
     /// Strikes the ticket of a number at a place, if there is one.
     pub(crate) fn strike(&mut self, place: usize, id: TicketId)
         ensures struck { (self.new.slow ≡ without_at place id self.old.slow) × (self.new.fast ≡ without_at place id self.old.fast) }
+        ensures freed { (t : Own) → numbered id self.old.fast ≡ Some t → t.place ≡ place → self.old.room.spare < self.new.room.spare }
         ensures room { KeepsRoom 0 self.old.room self.new.room }
     {
         if let Some(at) = index_at(&self.gained, place, id) {
