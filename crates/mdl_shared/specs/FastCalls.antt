@@ -1,5 +1,5 @@
 -- What comes of a session's calls that try for a fast ticket and give one up, which aren't calls of a lock space.
-use Rattle.std.specs.Prelude.{◌≡◌, ◌⊎◌, ⊥, ℕ, ◌<◌, ◌≤◌, Bool, true, [], ◌∷◌, length, Option, Some, None, is_some, if◌then◌else◌}
+use Rattle.std.specs.Prelude.{◌≡◌, ◌⊎◌, ℕ, ◌<◌, ◌≤◌, Bool, true, [], ◌∷◌, length, Option, Some, None, is_some, if◌then◌else◌}
 use Rattle.mdl_calls.specs.declared.space_error.SpaceError.{SpaceError}
 use Rattle.mdl_calls.specs.declared.space_error.SpaceError.TheVariants.{BadMode, OutOfMemory}
 use Rattle.mdl_calls.specs.Words.{Done, Release, Try_now}

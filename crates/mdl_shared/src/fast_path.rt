@@ -65,7 +65,6 @@ impl Member {
         ensures unchanged { OnErr result (DoesQuietly place [] (view_of self.old) (view_of self.new) × (self.new.tickets ≡ self.old.tickets)) }
         ensures closed { IfErr result (λ why. HasNoFast why place (view_of self.old) (view_of self.new)) }
         ensures fewer { (result ≡ Err Limit) ⊎ (length (own_at place self.old.tickets.fast) < most_fast) }
-        ensures room { KeepsRoom 1 self.old.tickets.room self.new.tickets.room }
         ensures stays { StaysOn self.old.seat.me self.new.seat.me }
     {
         if self.tickets.fast_at(place) >= MOST_FAST {

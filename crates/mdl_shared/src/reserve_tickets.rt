@@ -1,5 +1,5 @@
 //! Room is made for tickets ahead.
-ghost use Rattle.std.specs.Prelude.{◌≡◌, ⊥, IfErr, OnOk};
+ghost use Rattle.std.specs.Prelude.{◌≡◌, IfErr, OnOk};
 ghost use Rattle.mdl_calls.specs.declared.space_error.SpaceError.TheVariants.{OutOfMemory};
 ghost use Rattle.mdl_shared.specs.SessionViews.{StaysSame};
 ghost use Rattle.mdl_shared.specs.TicketLists.{HasRoomFor};
