@@ -74,6 +74,9 @@ returns-in-Obtruded-clause-unchanged c =
     let found = c.in-Obtruded.ensures.obtruded c.in-Obtruded.word refl in
     (quiet-made m.seat c.try_fast.new.seat m.sessions (missed_at m.seat c.try_fast.new.seat (found.0, found.1.0.2)), refl)
 
+pub returns-in-Obtruded-clause-closed : goal.returns-in-Obtruded-clause-closed
+returns-in-Obtruded-clause-closed c = (c.in-Obtruded.ensures.obtruded c.in-Obtruded.word refl).1
+
 pub returns-in-Contended-clause-unchanged : goal.returns-in-Contended-clause-unchanged
 returns-in-Contended-clause-unchanged c =
     let m = c.args.self.now in
