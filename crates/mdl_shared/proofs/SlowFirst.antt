@@ -74,9 +74,6 @@ module _ {a : SessionView} (is : IsMember a) (id : ℕ) (t : Own) (its : numbere
   deeds answer short = sym (ap (upgrade_deeds id mode (Ok answer)) its ∙ ap (λ b. if b then [] else rise_deeds id mode answer) short)
 
   module _ (short : covers t.mode mode ≡ false) {b c : SessionView} (slow : BecomesSlow a b) (keeps : KeepsRoom 0 b.room c.room) where
-    room : KeepsRoom 0 a.room c.room
-    room = keeps-before 0 a.room b.room c.room slow.room keeps
-
     -- it has the mode
     upgraded-slow : DoesQuietly t.place (Alter t.number mode ∷ []) b c × ShowsStep b c (MeetsGrantable t.place b.me.0.number mode (Alter t.number mode))
         → Joins (space_of a) (Upgrade_now a.me.0.number id mode) Upgraded (space_of c) × Shows (Upgrade_now a.me.0.number id mode) Upgraded a c
@@ -87,7 +84,7 @@ module _ {a : SessionView} (is : IsMember a) (id : ℕ) (t : Own) (its : numbere
         let by = subst (λ (who : ℕ). ShowsStep b c (MeetsGrantable t.place who mode (Alter id mode))) (number-slow slow) met in (
           upgrade-joins is id t its mode clear short quiet.done,
           quiet-shows quiet (deeds upgrade.Upgraded short) clear (λ e. e) (λ e. e) tt
-              (t, its, ((λ has. let no = sym has ∙ short in cc), (λ less. from-slow slow by))) room,
+              (t, its, ((λ has. let no = sym has ∙ short in cc), (λ less. from-slow slow by))) (keeps-before 0 a.room b.room c.room slow.room keeps),
         )
 
     -- it would have to wait
@@ -97,7 +94,7 @@ module _ {a : SessionView} (is : IsMember a) (id : ℕ) (t : Own) (its : numbere
         let quiet = quiet-then slow.quiet went.0 in
         let by = subst (λ (who : ℕ). ShowsStep b c (MeetsBlocked t.place who mode)) (number-slow slow) went.1 in (
           blocked-joins is id t its mode clear short quiet.done,
-          quiet-shows quiet (deeds upgrade.WouldWait short) clear (λ e. e) (λ e. e) tt (t, its, (short, from-slow slow by)) room,
+          quiet-shows quiet (deeds upgrade.WouldWait short) clear (λ e. e) (λ e. e) tt (t, its, (short, from-slow slow by)) (keeps-before 0 a.room b.room c.room slow.room keeps),
         )
 
     -- either
