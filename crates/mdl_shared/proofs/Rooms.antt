@@ -35,11 +35,3 @@ still-has place a b keeps has = (omega (arith, keeps.0, has.0), omega (arith, ke
 -- or for so many
 pub still-has-for : (count places : ℕ) (a b : Room) → KeepsRoom 0 a b → HasRoomFor count places a → HasRoomFor count places b
 still-has-for count places a b keeps has = (omega (arith, keeps.0, has.0), omega (arith, keeps.1, has.1))
-
--- there is as much as there was
-pub room-still : (room : Room) → KeepsRoom 0 room room
-room-still room = (omega arith, omega arith)
-
--- after a part of the call that took none there is what the rest of it leaves
-pub room-then : (gained : ℕ) (a b c : Room) → KeepsRoom 0 a b → KeepsRoom gained b c → KeepsRoom gained a c
-room-then gained a b c first later = (omega (arith, first.0, later.0), omega (arith, first.1, later.1))

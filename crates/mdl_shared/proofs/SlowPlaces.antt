@@ -131,10 +131,13 @@ full-after a b c first so (q, some, still, shown) =
     )
 
 pub lacks-after : (a b c : SessionView) (why : SpaceError) → MakesMoreSteps a.me b.me → AreSameOrSlow a b → LacksRoomForFast why b c → LacksRoomForFast why a c
-lacks-after a b c why first so lacks = (had-some a b so lacks.0, elim lacks.1 [
-  | inl memory ↦ inl memory
-  | inr full ↦ inr (full.0, full-after a b c first so full.1)
-])
+lacks-after a b c why first so lacks = (
+  had-some a b so lacks.0,
+  elim lacks.1 [
+    | inl memory ↦ inl memory
+    | inr full ↦ inr (full.0, full-after a b c first so full.1)
+  ],
+)
 
 -- ---- at first
 

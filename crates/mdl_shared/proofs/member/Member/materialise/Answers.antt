@@ -4,14 +4,14 @@ use Rattle.mdl_steps.specs.FastPlays.{but_at}
 use Rattle.mdl_shared.specs.Passes.{view_of}
 use Rattle.mdl_shared.specs.SessionViews.{Lists}
 use Rattle.mdl_shared.proofs.QuietDeeds.{quiet-none, quiet-steps, quiet-then, same-lists}
-use Rattle.mdl_shared.proofs.Rooms.{room-still, room-then}
+use Rattle.mdl_shared.proofs.Rooms.{keeps-before, keeps-same}
 use Rattle.mdl_shared.proofs.SlowPlaces.{all-slow, fewer-left, lacks-after, same-at-first, slow-more, slow-still}
 use Rattle.mdl_shared.proofs.member.Member.materialise.Goals as goal
 
 pub loop-place-init : goal.loop-place-init
 loop-place-init g c =
     let s = view_of c.args.self.now in
-    record { idle = c.requires.idle; done = quiet-none s; slow = same-at-first s; room = room-still c.args.self.now.tickets.room }
+    record { idle = c.requires.idle; done = quiet-none s; slow = same-at-first s; room = keeps-same c.args.self.now.tickets.room }
 
 pub loop-place-smaller : goal.loop-place-smaller
 loop-place-smaller g c =
@@ -30,7 +30,7 @@ loop-place-preserved g c =
       done = quiet-then c.loop-place.invariant.done done;
       slow = slow-more (view_of c.args.self.now) (view_of m) (view_of n) place (quiet-steps c.loop-place.invariant.done) (quiet-steps done) c.loop-place.invariant.slow
           (sym (ap (λ (l : Lists). l.fast) n.lists) ∙ made.0 ∙ ap (λ (l : Lists). but_at place l.fast) m.lists) made.1;
-      room = room-then 0 c.args.self.now.tickets.room m.tickets.room n.tickets.room c.loop-place.invariant.room c.materialise_at.ensures.room;
+      room = keeps-before 0 c.args.self.now.tickets.room m.tickets.room n.tickets.room c.loop-place.invariant.room c.materialise_at.ensures.room;
     }
 
 pub returns-in_err-materialise_at-clause-done : goal.returns-in_err-materialise_at-clause-done
@@ -53,7 +53,7 @@ returns-in_err-materialise_at-clause-partly g c =
 
 pub returns-in_err-materialise_at-clause-room : goal.returns-in_err-materialise_at-clause-room
 returns-in_err-materialise_at-clause-room g c =
-    room-then 0 c.args.self.now.tickets.room c.loop-place.self.tickets.room c.materialise_at.new.self.tickets.room c.loop-place.invariant.room c.materialise_at.ensures.room
+    keeps-before 0 c.args.self.now.tickets.room c.loop-place.self.tickets.room c.materialise_at.new.self.tickets.room c.loop-place.invariant.room c.materialise_at.ensures.room
 
 pub returns-clause-slow : goal.returns-clause-slow
 returns-clause-slow g c =
