@@ -21,12 +21,14 @@ use Rattle.mdl_shared.specs.Members.{IsMember}
 use Rattle.mdl_shared.specs.Modes.{clone_fault}
 use Rattle.mdl_shared.specs.OwnLists.{told_of}
 use Rattle.mdl_shared.specs.SessionViews.{SessionView, lists_seen, space_of, tickets_seen}
-use Rattle.mdl_shared.specs.Showings.{FullForFast, FullForWish, IsClosed, IsCloned, MeetsTicket, OfTicket, Shows, ShowsStep}
+use Rattle.mdl_shared.specs.Showings.{FullForFast, IsClosed, IsCloned, LacksMemory, LacksRoomForWish, MeetsTicket, Shows, ShowsStep}
+use Rattle.mdl_shared.specs.TicketLists.{KeepsRoom}
 use Rattle.mdl_shared.proofs.FastWishing.{by-latch, number-slow}
-use Rattle.mdl_shared.proofs.FastWishShows.{cause-told, full-fast, full-one}
+use Rattle.mdl_shared.proofs.FastWishShows.{full-fast, full-one, wish-lack}
 use Rattle.mdl_shared.proofs.MemberFacts.{speaks}
 use Rattle.mdl_shared.proofs.Members.{HasDone, done-nothing}
 use Rattle.mdl_shared.proofs.QuietDeeds.{quiet-shows, quiet-then}
+use Rattle.mdl_shared.proofs.Rooms.{keeps-before}
 use Rattle.mdl_shared.proofs.SameSpace.{Stays, refused, same-stays, waits-asks}
 use Rattle.mdl_shared.proofs.SpaceLists.{ticket-told}
 use Rattle.mdl_shared.proofs.WishCalls.{by-cause, gain-joins}
@@ -46,23 +48,13 @@ module _ {s : SessionView} (is : IsMember s) (id : ℕ) (mode : Mode) where
     may-clone = let h = clone-clear s id mode (numbered id (tickets_seen s.me.0)) refl clear in (waits-asks s.me.0.asks s.me.0.waits ∙ h.0, h.1)
 
     -- refused, as memory ran out or the book is full
-    pub clone-refused : {s′ : SessionView} → Stays s s′ → {why : SpaceError} → (why ≡ OutOfMemory) ⊎ (why ≡ Full)
+    clone-refused : {s′ : SessionView} → Stays s s′ → {why : SpaceError} → (why ≡ OutOfMemory) ⊎ (why ≡ Full)
         → Joins (space_of s) (Clone_ticket s.me.0.number id mode) (Refused why) (space_of s′)
     clone-refused {s′} stays {why} causes =
         refused s s′ (Clone_ticket s.me.0.number id mode) why stays (speaks is) refl refl
         (by-cause (λ w. IsCause (Knows (space_of s) s.me.0.number) (Clone_ticket s.me.0.number id mode) w (space_of s).own) why tt may-clone causes)
         (λ state how is. cc) tt
 
-    -- either way
-    pub clone-full : {at : ℕ} {b : SessionView} {why : SpaceError} → DoesQuietly at [] s b
-        → (why ≡ OutOfMemory) ⊎ ((why ≡ Full) × OfTicket id (lists_seen s.me.0) (λ t. FullForWish t.place mode s b))
-        → Joins (space_of s) (Clone_ticket s.me.0.number id mode) (Refused why) (space_of b) × Shows (Clone_ticket s.me.0.number id mode) (Refused why) s b
-    clone-full quiet causes = (
-      clone-refused (done-nothing quiet.done) (cause-told causes),
-      quiet-shows quiet refl clear (λ e. e) (λ e. e) tt (inr causes),
-    )
-
-    -- made
     module _ (t : Own) (its : numbered id (tickets_seen s.me.0) ≡ Some t) where
       pub clone-joins : {s′ : SessionView} {new : ℕ} → new ≡ s.me.0.next → HasDone t.place (Gain new mode ∷ []) s s′
           → Joins (space_of s) (Clone_ticket s.me.0.number id mode) (Granted new) (space_of s′)
@@ -72,36 +64,41 @@ module _ {s : SessionView} (is : IsMember s) (id : ℕ) (mode : Mode) where
           may-clone tt refl (λ state how is. cc) (λ how is. cc) refl (λ r. r) tt
 
       clone-shows : {s′ : SessionView} {new : ℕ} → DoesQuietly t.place (Gain new mode ∷ []) s s′
-          → IsCloned t.place mode id (Gain new mode) s s′ → Shows (Clone_ticket s.me.0.number id mode) (Granted new) s s′
-      clone-shows quiet met = quiet-shows quiet refl clear (λ e. e) (λ e. e) tt (t, its, met)
+          → IsCloned t.place mode id (Gain new mode) s s′ → KeepsRoom 1 s.room s′.room → Shows (Clone_ticket s.me.0.number id mode) (Granted new) s s′
+      clone-shows quiet met keeps = quiet-shows quiet refl clear (λ e. e) (λ e. e) tt (t, its, met) keeps
 
       -- by the fast path
       pub fast-cloned : {b : SessionView} {new : ℕ} → GainsFast t.place mode new s b
           → Joins (space_of s) (Clone_ticket s.me.0.number id mode) (Granted new) (space_of b) × Shows (Clone_ticket s.me.0.number id mode) (Granted new) s b
-      fast-cloned gains = (clone-joins gains.first gains.quiet.done, clone-shows gains.quiet (inl gains.met))
+      fast-cloned gains = (clone-joins gains.first gains.quiet.done, clone-shows gains.quiet (inl gains.met) gains.room)
 
       -- there was no room
-      of-one : (b : SessionView) {why : SpaceError} → (why ≡ OutOfMemory) ⊎ ((why ≡ Full) × FullForWish t.place mode s b)
-          → (why ≡ OutOfMemory) ⊎ ((why ≡ Full) × OfTicket id (lists_seen s.me.0) (λ u. FullForWish u.place mode s b))
-      of-one b (inl memory) = inl memory
-      of-one b (inr full) = inr (full.0, (t, its, full.1))
-
-      pub full-cloned : {b : SessionView} {why : SpaceError} → DoesQuietly 0 [] s b
-          → (why ≡ OutOfMemory) ⊎ ((why ≡ Full) × IsClosed t.place mode s b × FullForFast s b)
+      clone-full : {at : ℕ} {b : SessionView} {why : SpaceError} → DoesQuietly at [] s b × KeepsRoom 0 s.room b.room → LacksRoomForWish t.place mode why s b
           → Joins (space_of s) (Clone_ticket s.me.0.number id mode) (Refused why) (space_of b) × Shows (Clone_ticket s.me.0.number id mode) (Refused why) s b
-      full-cloned {b} quiet causes = clone-full quiet (of-one b (full-fast t.place mode s b causes))
+      clone-full {b = b} still lacks = (
+        clone-refused (done-nothing still.0.done) (wish-lack t.place mode s b lacks),
+        quiet-shows still.0 refl clear (λ e. e) (λ e. e) tt (inr (t, its, lacks)) still.1,
+      )
+
+      pub full-cloned : {b : SessionView} {why : SpaceError} → DoesQuietly 0 [] s b × KeepsRoom 0 s.room b.room
+          → ((why ≡ OutOfMemory) × LacksMemory t.place mode s b) ⊎ ((why ≡ Full) × IsClosed t.place mode s b × FullForFast s b)
+          → Joins (space_of s) (Clone_ticket s.me.0.number id mode) (Refused why) (space_of b) × Shows (Clone_ticket s.me.0.number id mode) (Refused why) s b
+      full-cloned {b} still causes = clone-full still (full-fast t.place mode s b causes)
 
       -- by the latch of the place, once all fast tickets are slow ones
       module _ {b c : SessionView} (slow : BecomesSlow s b) (closed : IsClosed t.place mode s b) where
         pub cloned-slow : (next : ℕ) → next ≡ s.me.0.next → (result : Result ℕ SpaceError)
-            → IfOk result (λ new. (new ≡ next) × DoesQuietly t.place (Gain new mode ∷ []) b c × MeetsTicket t.number (Gain new mode ∷ []) b c t)
-            → OnErr result (DoesQuietly t.place [] b c) → IfErr result (λ why. (why ≡ OutOfMemory) ⊎ ((why ≡ Full) × ShowsStep b c (MeetsFull t.place)))
+            → IfOk result (λ new. (new ≡ next) × DoesQuietly t.place (Gain new mode ∷ []) b c × MeetsTicket t.number (Gain new mode ∷ []) b c t × KeepsRoom 1 b.room c.room)
+            → OnErr result (DoesQuietly t.place [] b c × KeepsRoom 0 b.room c.room) → IfErr result (λ why. (why ≡ OutOfMemory) ⊎ ((why ≡ Full) × ShowsStep b c (MeetsFull t.place)))
             → Joins (space_of s) (Clone_ticket s.me.0.number id mode) (cloned result) (space_of c)
             × Shows (Clone_ticket s.me.0.number id mode) (cloned result) s c
-        cloned-slow next first (Ok new) made unchanged why =
+        cloned-slow next first (Ok new) made still causes =
             let quiet = quiet-then slow.quiet made.1 in
             let met = made.2 in
             let own = subst₂ (λ (who n : ℕ). MeetsOwn t.place who n met.0) (number-slow slow) (has_number id t (tickets_seen s.me.0) its) met.2.0 in
-            (clone-joins (made.0 ∙ first) quiet.done, clone-shows quiet (inr (by-latch slow t.place mode closed (met.0, met.1, (own, met.2.1)))))
-        cloned-slow next first (Err why) made unchanged causes =
-            clone-full (quiet-then slow.quiet unchanged) (of-one c (full-one t.place mode s b slow closed unchanged causes))
+            (
+              clone-joins (made.0 ∙ first) quiet.done,
+              clone-shows quiet (inr (by-latch slow t.place mode closed (met.0, met.1, (own, met.2.1)))) (keeps-before 1 s.room b.room c.room slow.room made.3),
+            )
+        cloned-slow next first (Err why) made still causes =
+            clone-full (quiet-then slow.quiet still.0, keeps-before 0 s.room b.room c.room slow.room still.1) (full-one t.place mode s b slow closed still.0 causes)

@@ -1,5 +1,5 @@
 -- Calls that try for a fast ticket and give one up: what they tell and do.
-use Rattle.std.proofs.Common.{◌≡◌, ◌⊎◌, inl, inr, ℕ, ◌<◌, Bool, true, List, [], ◌∷◌, length, is_some, Option, Some, None, Result, Err, refl, sym, ap, subst, ◌∙◌}
+use Rattle.std.proofs.Common.{◌≡◌, ◌⊎◌, inl, inr, ℕ, ◌<◌, ◌≤◌, Bool, true, List, [], ◌∷◌, length, is_some, Option, Some, None, Result, Err, refl, sym, ap, subst, ◌∙◌}
 use Rattle.mdl_key.specs.declared.mode.Mode.{Mode}
 use Rattle.mdl_steps.specs.declared.deed.Deed.TheVariants.{Gain, Lose}
 use Rattle.mdl_steps.specs.declared.view.Ask.{Ask}
@@ -7,7 +7,7 @@ use Rattle.mdl_steps.specs.declared.view.Own.{Own}
 use Rattle.mdl_steps.specs.Cells.{own_at}
 use Rattle.mdl_steps.specs.Limits.{most_fast}
 use Rattle.mdl_steps.specs.Lists.{Each}
-use Rattle.mdl_visits.specs.FastTries.{MeetsClear, ReleasesFast}
+use Rattle.mdl_visits.specs.FastTries.{GrantsAtLast, ReleasesFast}
 use Rattle.mdl_visits.specs.Numbers.{numbered}
 use Rattle.mdl_visits.proofs.Numbers.{has_number}
 use Rattle.mdl_shared.specs.declared.fast_path.NotFast.{NotFast}
@@ -24,7 +24,7 @@ use Rattle.mdl_shared.specs.TicketLists.{KeepsRoom, Room, TicketList}
 use Rattle.mdl_shared.proofs.FastWishing.{quiet-room}
 use Rattle.mdl_shared.proofs.MemberFacts.{fast-held}
 use Rattle.mdl_shared.proofs.Props.{member}
-use Rattle.mdl_shared.proofs.SlowPlaces.{room-then}
+use Rattle.mdl_shared.proofs.Rooms.{keeps-before}
 use Rattle.mdl_shared.proofs.TicketCalls.{release-joins}
 use Rattle.mdl_shared.proofs.WishCalls.{try-granted}
 
@@ -45,19 +45,20 @@ pub record HasMadeRoom (m : Member) (list : TicketList) : Type 0 where
 
 module _ (m : Member) {list : TicketList} (made : HasMadeRoom m list) {place : ℕ} where
   -- a ticket was granted
-  pub tried-granted : (b : SessionView) (mode : Mode) (id : ℕ) → HasFewerFast place (view_of m)
+  pub tried-granted : (m′ : Member) (mode : Mode) (id : ℕ) → HasFewerFast place (view_of m)
       → wish_fault (kind_known place m.known.known) m.asks mode m.next ≡ None → id ≡ m.next
-      → DoesQuietly place (Gain id mode ∷ []) (record (view_of m) { room = list.room }) b → ShowsStep (view_of m) b (MeetsClear place (Gain id mode))
-      → KeepsRoom 1 list.room b.room → HasTriedFast place mode (Granted id) (view_of m) b
-  tried-granted b mode id fewer clear first then shown room =
+      → DoesQuietly place (Gain id mode ∷ []) (record (view_of m) { room = list.room }) (view_of m′) → GrantsAtLast place (Gain id mode) m.seat.me m′.seat.me
+      → is_some (numbered id m′.tickets.fast) ≡ true → KeepsRoom 1 list.room m′.tickets.room → HasTriedFast place mode (Granted id) (view_of m) (view_of m′)
+  tried-granted m′ mode id fewer clear first then last held room =
       let seen : wish_fault (kind_known place m.seat.me.0.known) m.seat.me.0.asks mode m.seat.me.0.next ≡ None =
       ap (λ (l : Lists). wish_fault (kind_known place l.known) l.asks mode l.next) (sym m.lists) ∙ clear in
       let quiet = quiet-room (view_of m) list.room then in (
         fewer,
         try-granted (member m) place mode seen (first ∙ ap (λ (l : Lists). l.next) m.lists) quiet.done,
         quiet,
-        shown,
-        room-then 1 m.tickets.room list.room b.room made.more room,
+        last,
+        ap (λ (l : Lists). is_some (numbered id l.fast)) (sym m′.lists) ∙ held,
+        keeps-before 1 m.tickets.room list.room m′.tickets.room made.more room,
       )
 
   -- none was
@@ -80,9 +81,9 @@ module _ (m : Member) {list : TicketList} (made : HasMadeRoom m list) {place : �
           sessions = ap (λ (x : SessionView). x.sessions) now;
           lists = lists ∙ (λ i. record (lists_seen me) { slow = slows i; fast = fasts i });
           reads = ap (λ (x : SessionView). x.me.0.reads) now;
+          room = subst (λ (r : Room). KeepsRoom 0 m.tickets.room r) (sym (ap (λ (l : TicketList). l.room) missed.1)) made.more;
         },
         quiet,
-        subst (λ (r : Room). KeepsRoom 0 m.tickets.room r) (sym (ap (λ (l : TicketList). l.room) missed.1)) made.more,
       )
 
 -- none was, and no step was made
@@ -99,15 +100,15 @@ its-number m id t held = subst (λ (n : ℕ). numbered n m.tickets.fast ≡ Some
 
 -- it was given up
 pub gave-up-fast : (m : Member) (b : SessionView) (id : ℕ) (t : Own) {owes : Bool} → numbered id m.tickets.fast ≡ Some t
-    → DoesQuietly t.place (Lose t.number ∷ []) (view_of m) b → ReleasesFast t.place t.number owes m.seat.me b.me → KeepsRoom 0 m.tickets.room b.room
-    → GaveUpFast id owes (view_of m) b
+    → DoesQuietly t.place (Lose t.number ∷ []) (view_of m) b → ReleasesFast t.place t.number owes m.seat.me b.me
+    → (m.tickets.room.spare < b.room.spare) × (m.tickets.room.reach ≤ b.room.reach) → GaveUpFast id owes (view_of m) b
 gave-up-fast m b id t {owes} held quiet released room =
     let is : t.number ≡ id = has_number id t m.tickets.fast held in
     let its : numbered id m.seat.me.0.fast ≡ Some t = ap (λ (l : Lists). numbered id l.fast) (sym m.lists) ∙ held in
     let gone : DoesQuietly t.place (Lose id ∷ []) (view_of m) b =
     subst (λ (n : ℕ). DoesQuietly t.place (Lose n ∷ []) (view_of m) b) is quiet in
     let by : ReleasesFast t.place id owes m.seat.me b.me = subst (λ (n : ℕ). ReleasesFast t.place n owes m.seat.me b.me) is released in
-    (release-joins (member m) id t (fast-held (member m) id t its) gone.done, (t, its, gone, by), room)
+    (release-joins (member m) id t (fast-held (member m) id t its) gone.done, (t, its, gone, by), room.0, room.1)
 
 -- ---- fast tickets become slow
 

@@ -21,10 +21,12 @@ use Rattle.mdl_shared.specs.DeedsDone.{DoesQuietly}
 use Rattle.mdl_shared.specs.FastWishes.{BecomesSlow, BeginsToWait, GainsFast, GainsSlow, HasBegun, HasTried}
 use Rattle.mdl_shared.specs.Members.{IsMember, kind_known, wish_fault}
 use Rattle.mdl_shared.specs.SessionViews.{SessionView, space_of}
-use Rattle.mdl_shared.specs.Showings.{FullForFast, FullForWish, IsClosed, IsGranted, LacksRoomForFast, Shows, ShowsStep}
-use Rattle.mdl_shared.proofs.FastWishing.{by-latch, closed-then, next-slow, number-slow, same-space, shows-slow}
+use Rattle.mdl_shared.specs.Showings.{FullForFast, IsClosed, IsGranted, LacksMemory, LacksRoomForFast, LacksRoomForWish, Shows, ShowsStep}
+use Rattle.mdl_shared.specs.TicketLists.{KeepsRoom}
+use Rattle.mdl_shared.proofs.FastWishing.{by-latch, closed-then, next-slow, number-slow, same-space}
 use Rattle.mdl_shared.proofs.Members.{done-nothing}
 use Rattle.mdl_shared.proofs.QuietDeeds.{quiet-shows, quiet-steps, quiet-then}
+use Rattle.mdl_shared.proofs.Rooms.{keeps-before}
 use Rattle.mdl_shared.proofs.WaitSteps.{still-member}
 use Rattle.mdl_shared.proofs.WishCalls.{begin-granted, begin-refused, begun-joins, try-blocked, try-granted, try-refused, untold-wish}
 use Rattle.mdl_shared.proofs.WishShows.{shows}
@@ -32,7 +34,7 @@ use Rattle.mdl_shared.proofs.WishShows.{shows}
 -- ---- why it is refused
 
 -- as a lock space tells it
-pub cause-told : {X : Type 0} {why : SpaceError} → (why ≡ OutOfMemory) ⊎ ((why ≡ Full) × X) → (why ≡ OutOfMemory) ⊎ (why ≡ Full)
+cause-told : {X : Type 0} {why : SpaceError} → (why ≡ OutOfMemory) ⊎ ((why ≡ Full) × X) → (why ≡ OutOfMemory) ⊎ (why ≡ Full)
 cause-told (inl memory) = inl memory
 cause-told (inr full) = inr full.0
 
@@ -41,54 +43,57 @@ pub lack-cause : (a b : SessionView) {why : SpaceError} → LacksRoomForFast why
 lack-cause a b lacks = cause-told lacks.1
 
 module _ (place : ℕ) (mode : Mode) (a b : SessionView) {why : SpaceError} where
-  -- as a wish's answer tells it
-  pub full-fast : (why ≡ OutOfMemory) ⊎ ((why ≡ Full) × IsClosed place mode a b × FullForFast a b)
-      → (why ≡ OutOfMemory) ⊎ ((why ≡ Full) × FullForWish place mode a b)
-  full-fast (inl memory) = inl memory
-  full-fast (inr full) = inr (full.0, (full.1, inr full.2))
+  -- there was none for a wish
+  pub wish-lack : LacksRoomForWish place mode why a b → (why ≡ OutOfMemory) ⊎ (why ≡ Full)
+  wish-lack (inl memory) = inl memory.0
+  wish-lack (inr full) = inr full.0
 
-  -- there was no room for one ticket more
+  -- there was none for the fast tickets that it had, as a wish's answer tells it
+  pub full-fast : ((why ≡ OutOfMemory) × LacksMemory place mode a b) ⊎ ((why ≡ Full) × IsClosed place mode a b × FullForFast a b) → LacksRoomForWish place mode why a b
+  full-fast (inl memory) = inl memory
+  full-fast (inr full) = inr (full.0, inr (full.1, full.2))
+
+  -- there was none for one ticket more
   pub full-one : {at : ℕ} {c : SessionView} → BecomesSlow a b → IsClosed place mode a b → DoesQuietly at [] b c
-      → (why ≡ OutOfMemory) ⊎ ((why ≡ Full) × ShowsStep b c (MeetsFull place))
-      → (why ≡ OutOfMemory) ⊎ ((why ≡ Full) × FullForWish place mode a c)
-  full-one slow closed quiet (inl memory) = inl memory
-  full-one {c = c} slow closed quiet (inr full) =
-      inr (full.0, (closed-then place mode a b c (quiet-steps quiet) closed, inl (shows-slow slow c full.1)))
+      → (why ≡ OutOfMemory) ⊎ ((why ≡ Full) × ShowsStep b c (MeetsFull place)) → LacksRoomForWish place mode why a c
+  full-one {c = c} slow closed quiet (inl memory) = inl (memory, inr (closed-then place mode a b c (quiet-steps quiet) closed))
+  full-one slow closed quiet (inr full) = inr (full.0, inl (by-latch slow place mode closed full.1))
 
 module _ {a : SessionView} (is : IsMember a) (place : ℕ) (mode : Mode) (clear : wish_fault (kind_known place a.me.0.known) a.me.0.asks mode a.me.0.next ≡ None) where
   -- ---- refused
 
-  pub try-full : {at : ℕ} {b : SessionView} {why : SpaceError} → DoesQuietly at [] a b → (why ≡ OutOfMemory) ⊎ ((why ≡ Full) × FullForWish place mode a b)
+  pub try-full : {at : ℕ} {b : SessionView} {why : SpaceError} → DoesQuietly at [] a b × KeepsRoom 0 a.room b.room → LacksRoomForWish place mode why a b
       → Joins (space_of a) (Try_now a.me.0.number place mode) (Refused why) (space_of b) × Shows (Try_now a.me.0.number place mode) (Refused why) a b
-  try-full quiet causes = (
-    try-refused is place mode clear (done-nothing quiet.done) (cause-told causes),
-    quiet-shows quiet refl clear (λ s. s) (λ t. t) tt (inr causes),
+  try-full {b = b} still lacks = (
+    try-refused is place mode clear (done-nothing still.0.done) (wish-lack place mode a b lacks),
+    quiet-shows still.0 refl clear (λ s. s) (λ t. t) tt (inr lacks) still.1,
   )
 
-  pub begin-full : {at : ℕ} {b : SessionView} {why : SpaceError} → DoesQuietly at [] a b → (why ≡ OutOfMemory) ⊎ ((why ≡ Full) × FullForWish place mode a b)
+  pub begin-full : {at : ℕ} {b : SessionView} {why : SpaceError} → DoesQuietly at [] a b × KeepsRoom 0 a.room b.room → LacksRoomForWish place mode why a b
       → Joins (space_of a) (Begin_wait a.me.0.number place mode) (Refused why) (space_of b) × Shows (Begin_wait a.me.0.number place mode) (Refused why) a b
-  begin-full quiet causes = (
-    begin-refused is place mode clear (done-nothing quiet.done) (cause-told causes),
-    quiet-shows quiet refl clear (λ s. s) (λ t. t) tt (inr causes),
+  begin-full {b = b} still lacks = (
+    begin-refused is place mode clear (done-nothing still.0.done) (wish-lack place mode a b lacks),
+    quiet-shows still.0 refl clear (λ s. s) (λ t. t) tt (inr lacks) still.1,
   )
 
   -- ---- granted
 
-  module _ {b : SessionView} {id : ℕ} (first : id ≡ a.me.0.next) (quiet : DoesQuietly place (Gain id mode ∷ []) a b) (met : IsGranted place mode (Gain id mode) a b) where
+  module _ {b : SessionView} {id : ℕ} (first : id ≡ a.me.0.next) (quiet : DoesQuietly place (Gain id mode ∷ []) a b) (met : IsGranted place mode (Gain id mode) a b)
+      (keeps : KeepsRoom 1 a.room b.room) where
     pub try-grants : Joins (space_of a) (Try_now a.me.0.number place mode) (Granted id) (space_of b) × Shows (Try_now a.me.0.number place mode) (Granted id) a b
-    try-grants = (try-granted is place mode clear first quiet.done, quiet-shows quiet refl clear (λ s. s) (λ t. t) tt met)
+    try-grants = (try-granted is place mode clear first quiet.done, quiet-shows quiet refl clear (λ s. s) (λ t. t) tt met keeps)
 
     pub begin-grants : Joins (space_of a) (Begin_wait a.me.0.number place mode) (Granted id) (space_of b) × Shows (Begin_wait a.me.0.number place mode) (Granted id) a b
-    begin-grants = (begin-granted is place mode clear first quiet.done, quiet-shows quiet refl clear (λ s. s) (λ t. t) tt met)
+    begin-grants = (begin-granted is place mode clear first quiet.done, quiet-shows quiet refl clear (λ s. s) (λ t. t) tt met keeps)
 
   -- by the fast path
   pub try-fast : {b : SessionView} {id : ℕ} → GainsFast place mode id a b
       → Joins (space_of a) (Try_now a.me.0.number place mode) (Granted id) (space_of b) × Shows (Try_now a.me.0.number place mode) (Granted id) a b
-  try-fast gains = try-grants gains.first gains.quiet (inl gains.met)
+  try-fast gains = try-grants gains.first gains.quiet (inl gains.met) gains.room
 
   pub begin-fast : {b : SessionView} {id : ℕ} → GainsFast place mode id a b
       → Joins (space_of a) (Begin_wait a.me.0.number place mode) (Granted id) (space_of b) × Shows (Begin_wait a.me.0.number place mode) (Granted id) a b
-  begin-fast gains = begin-grants gains.first gains.quiet (inl gains.met)
+  begin-fast gains = begin-grants gains.first gains.quiet (inl gains.met) gains.room
 
   -- ---- by the latch of the place, once all fast tickets are slow ones
 
@@ -97,19 +102,20 @@ module _ {a : SessionView} (is : IsMember a) (place : ℕ) (mode : Mode) (clear 
     granted-since {id} gains =
         inr (by-latch slow place mode closed (subst (λ (n : ℕ). ShowsStep b c (MeetsGrantable place n mode (Gain id mode))) (number-slow slow) gains.met))
 
-    pub tried-slow : (result : Result Attempt SpaceError) → IfOk result (λ answer. HasTried place mode answer b c) → OnErr result (DoesQuietly place [] b c)
+    pub tried-slow : (result : Result Attempt SpaceError) → IfOk result (λ answer. HasTried place mode answer b c)
+        → OnErr result (DoesQuietly place [] b c × KeepsRoom 0 b.room c.room)
         → IfErr result (λ why. (why ≡ OutOfMemory) ⊎ ((why ≡ Full) × ShowsStep b c (MeetsFull place)))
         → Joins (space_of a) (Try_now a.me.0.number place mode) (attempted result) (space_of c)
         × Shows (Try_now a.me.0.number place mode) (attempted result) a c
-    tried-slow (Ok (attempt.Granted id)) tried unchanged causes =
-        try-grants (tried.first ∙ next-slow slow) (quiet-then slow.quiet tried.quiet) (granted-since tried)
-    tried-slow (Ok attempt.WouldWait) tried unchanged causes =
+    tried-slow (Ok (attempt.Granted id)) tried still causes =
+        try-grants (tried.first ∙ next-slow slow) (quiet-then slow.quiet tried.quiet) (granted-since tried) (keeps-before 1 a.room b.room c.room slow.room tried.room)
+    tried-slow (Ok attempt.WouldWait) tried still causes =
         let quiet = quiet-then slow.quiet tried.quiet in
         let met = subst (λ (n : ℕ). ShowsStep b c (MeetsBlocked place n mode)) (number-slow slow) tried.met in (
           try-blocked is place mode clear (done-nothing quiet.done),
-          quiet-shows quiet refl clear (λ s. s) (λ t. t) tt (by-latch slow place mode closed met),
+          quiet-shows quiet refl clear (λ s. s) (λ t. t) tt (by-latch slow place mode closed met) (keeps-before 0 a.room b.room c.room slow.room tried.room),
         )
-    tried-slow (Err why) tried unchanged causes = try-full (quiet-then slow.quiet unchanged) (full-one place mode a b slow closed unchanged causes)
+    tried-slow (Err why) tried still causes = try-full (quiet-then slow.quiet still.0, keeps-before 0 a.room b.room c.room slow.room still.1) (full-one place mode a b slow closed still.0 causes)
 
     -- it waits
     waits-joins : {number : ℕ} → BeginsToWait place mode number b c → Joins (space_of a) (Begin_wait a.me.0.number place mode) (Waits number) (space_of c)
@@ -129,13 +135,14 @@ module _ {a : SessionView} (is : IsMember a) (place : ℕ) (mode : Mode) (clear 
         × MeetsOpening x.table.slots place x.me.0.number x.me.0.waits x.me.0.next mode f) slow.quiet.done.now begins.met in
         shows (begins.table ∙ ap (λ (x : SessionView). x.table) slow.quiet.done.now) (begins.sessions ∙ ap (λ (x : SessionView). x.sessions) slow.quiet.done.now) clear
         (does_then [] [] a.me b.me c.me slow.quiet.did (opens.made, log, opens.did)) (ap (λ (m : Mine). m.0.settles) opens.now ∙ slow.quiet.settled)
-        (ap (λ (m : Mine). m.0.told) opens.now ∙ sym (untold-wish is place mode clear)) tt (by-latch slow place mode closed met)
+        (ap (λ (m : Mine). m.0.told) opens.now ∙ sym (untold-wish is place mode clear)) tt (by-latch slow place mode closed met) (keeps-before 0 a.room b.room c.room slow.room begins.room)
 
-    pub begun-slow : (result : Result Begun SpaceError) → IfOk result (λ answer. HasBegun place mode answer b c) → OnErr result (DoesQuietly place [] b c)
+    pub begun-slow : (result : Result Begun SpaceError) → IfOk result (λ answer. HasBegun place mode answer b c)
+        → OnErr result (DoesQuietly place [] b c × KeepsRoom 0 b.room c.room)
         → IfErr result (λ why. (why ≡ OutOfMemory) ⊎ ((why ≡ Full) × ShowsStep b c (MeetsFull place)))
         → Joins (space_of a) (Begin_wait a.me.0.number place mode) (begun result) (space_of c)
         × Shows (Begin_wait a.me.0.number place mode) (begun result) a c
-    begun-slow (Ok (begin.Granted id)) asked unchanged causes =
-        begin-grants (asked.first ∙ next-slow slow) (quiet-then slow.quiet asked.quiet) (granted-since asked)
-    begun-slow (Ok (begin.Waiting number)) asked unchanged causes = (waits-joins asked, waits-shows asked)
-    begun-slow (Err why) asked unchanged causes = begin-full (quiet-then slow.quiet unchanged) (full-one place mode a b slow closed unchanged causes)
+    begun-slow (Ok (begin.Granted id)) asked still causes =
+        begin-grants (asked.first ∙ next-slow slow) (quiet-then slow.quiet asked.quiet) (granted-since asked) (keeps-before 1 a.room b.room c.room slow.room asked.room)
+    begun-slow (Ok (begin.Waiting number)) asked still causes = (waits-joins asked, waits-shows asked)
+    begun-slow (Err why) asked still causes = begin-full (quiet-then slow.quiet still.0, keeps-before 0 a.room b.room c.room slow.room still.1) (full-one place mode a b slow closed still.0 causes)

@@ -5,7 +5,6 @@ use Rattle.mdl_key.specs.declared.mode.Mode.{Mode}
 use Rattle.mdl_calls.specs.declared.space_error.SpaceError.{SpaceError}
 use Rattle.mdl_calls.specs.declared.space_error.SpaceError.TheVariants.{Full, OutOfMemory}
 use Rattle.mdl_steps.specs.declared.deed.Deed.{Deed}
-use Rattle.mdl_steps.specs.declared.view.Met.{Met}
 use Rattle.mdl_steps.specs.declared.view.Own.{Own}
 use Rattle.mdl_steps.specs.Cells.{own_at}
 use Rattle.mdl_steps.specs.Lists.{Each}
@@ -17,9 +16,9 @@ use Rattle.mdl_shared.specs.declared.member.Member.{Member}
 use Rattle.mdl_shared.specs.DeedsDone.{DoesQuietly}
 use Rattle.mdl_shared.specs.FastWishes.{BecomesSlow}
 use Rattle.mdl_shared.specs.SessionViews.{Lists, SessionView, note_of, settled_told, space_of}
-use Rattle.mdl_shared.specs.Showings.{AllMadeSlow, ByLatch, FromUnfast, FullForFast, IsClosed, LacksRoomForFast, MakesSlow, ShowsStep}
+use Rattle.mdl_shared.specs.Showings.{AllMadeSlow, ByLatch, FromUnfast, FullForFast, IsClosed, LacksMemory, LacksRoomForFast, MakesSlow, ShowsStep}
 use Rattle.mdl_shared.specs.TicketLists.{Room}
-use Rattle.mdl_shared.proofs.QuietDeeds.{quiet-steps, shows-first, shows-later}
+use Rattle.mdl_shared.proofs.QuietDeeds.{quiet-steps, shows-later}
 use Rattle.mdl_shared.proofs.SameSpace.{numbers_by, own_by, reading_of}
 use Rattle.mdl_shared.proofs.SpaceLists.{known_of}
 
@@ -70,10 +69,7 @@ quiet-room a room quiet =
 pub closed-then : (place : ℕ) (mode : Mode) (a b c : SessionView) → MakesMoreSteps b.me c.me → IsClosed place mode a b → IsClosed place mode a c
 closed-then place mode a b c more (inl uncounted) = inl uncounted
 closed-then place mode a b c more (inr (inl many)) = inr (inl many)
-closed-then place mode a b c more (inr (inr (inl up))) = inr (inr (inl (up.0, shows-first a b c more up.1)))
-closed-then place mode a b c more (inr (inr (inr missed))) =
-    let first = missed.1 in
-    inr (inr (inr (missed.0, (first.0, first.1, goes_on first.0 b.me c.me first.2 more))))
+closed-then place mode a b c more (inr (inr vain)) = inr (inr (vain.0, vain.1, vain.2, goes_on vain.1 b.me c.me vain.3 more))
 
 -- ---- from a moment on at which the session has no fast ticket
 
@@ -92,10 +88,6 @@ module _ {a b : SessionView} (slow : BecomesSlow a b) where
   -- and so by the latch, if the fast path was closed
   pub by-latch : (place : ℕ) (mode : Mode) {fact : SessionView → Type 0} → IsClosed place mode a b → fact b → ByLatch place mode a fact
   by-latch place mode closed is = from-slow (closed, is)
-
-  -- steps that it made then
-  pub shows-slow : (c : SessionView) {fact : Met → Type 0} → ShowsStep b c fact → ShowsStep a c fact
-  shows-slow c shown = shows-later a b c (quiet-steps slow.quiet) shown
 
 -- ---- after steps that left the fast tickets as they were
 
@@ -119,11 +111,11 @@ full-later a b c more same full =
 -- and the fast path was closed before
 pub lacks-later : (place : ℕ) (mode : Mode) (a b c : SessionView) {why : SpaceError} → MakesMoreSteps a.me b.me → b.me.0.fast ≡ a.me.0.fast
     → MakesMoreSteps b.me c.me → IsClosed place mode a b → LacksRoomForFast why b c
-    → (why ≡ OutOfMemory) ⊎ ((why ≡ Full) × IsClosed place mode a c × FullForFast a c)
+    → ((why ≡ OutOfMemory) × LacksMemory place mode a c) ⊎ ((why ≡ Full) × IsClosed place mode a c × FullForFast a c)
 lacks-later place mode a b c {why} first same more closed lacks = by lacks.1
   where
-    by : (why ≡ OutOfMemory) ⊎ ((why ≡ Full) × FullForFast b c) → (why ≡ OutOfMemory) ⊎ ((why ≡ Full) × IsClosed place mode a c × FullForFast a c)
-    by (inl memory) = inl memory
+    by : (why ≡ OutOfMemory) ⊎ ((why ≡ Full) × FullForFast b c) → ((why ≡ OutOfMemory) × LacksMemory place mode a c) ⊎ ((why ≡ Full) × IsClosed place mode a c × FullForFast a c)
+    by (inl memory) = inl (memory, inr (closed-then place mode a b c more closed))
     by (inr full) = inr (full.0, closed-then place mode a b c more closed, full-later a b c first same full.1)
 
 -- they are as they were where its own list of them is

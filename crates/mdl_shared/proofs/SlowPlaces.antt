@@ -14,7 +14,6 @@ use Rattle.mdl_visits.specs.Visits.{MakesMoreSteps}
 use Rattle.mdl_shared.specs.FastDeeds.{AreSameOrSlow, AreSlowBefore}
 use Rattle.mdl_shared.specs.SessionViews.{SessionView}
 use Rattle.mdl_shared.specs.Showings.{AllMadeSlow, FullForFast, LacksRoomForFast, MakesSlow, ShowsStep}
-use Rattle.mdl_shared.specs.TicketLists.{KeepsRoom, Room}
 use Rattle.mdl_shared.proofs.QuietDeeds.{shows-first, shows-later}
 
 -- ---- the tickets of one place, without those of another
@@ -141,16 +140,6 @@ lacks-after a b c why first so lacks = (
     | inr full ↦ inr (full.0, full-after a b c first so full.1)
   ],
 )
-
--- ---- the room of the session's own list of tickets
-
--- there is as much as there was
-pub room-still : (room : Room) → KeepsRoom 0 room room
-room-still room = (omega arith, omega arith)
-
--- after a part of the call that took none there is what the rest of it leaves
-pub room-then : (gained : ℕ) (a b c : Room) → KeepsRoom 0 a b → KeepsRoom gained b c → KeepsRoom gained a c
-room-then gained a b c first later = (omega (arith, first.0, later.0), omega (arith, first.1, later.1))
 
 -- ---- in the order of places
 

@@ -38,11 +38,13 @@ pub record GainsSlow (place : ℕ) (mode : Mode) (id : ℕ) (a b : SessionView) 
   pub first : id ≡ a.me.0.next
   pub quiet : DoesQuietly place (Gain id mode ∷ []) a b
   pub met : ShowsStep a b (MeetsGrantable place a.me.0.number mode (Gain id mode))
+  pub room : KeepsRoom 1 a.room b.room
 
 -- the session did nothing, and a step shows that its wish couldn't be granted
 pub record StaysBlocked (place : ℕ) (mode : Mode) (a b : SessionView) : Type 0 where
   pub quiet : DoesQuietly place [] a b
   pub met : ShowsStep a b (MeetsBlocked place a.me.0.number mode)
+  pub room : KeepsRoom 0 a.room b.room
 
 -- the session began its next wait there: a step shows that its wish couldn't be granted, and the step after it opened the wait
 pub record BeginsToWait (place : ℕ) (mode : Mode) (number : ℕ) (a b : SessionView) : Type 0 where
@@ -52,6 +54,7 @@ pub record BeginsToWait (place : ℕ) (mode : Mode) (number : ℕ) (a b : Sessio
   pub opens : Opens place mode a.me b.me
   pub met : (e f : Met) × AreStepsOf a.me b.me e f × MeetsBlocked place a.me.0.number mode e
       × MeetsOpening a.table.slots place a.me.0.number a.me.0.waits a.me.0.next mode f
+  pub room : KeepsRoom 0 a.room b.room
 
 -- what came of a wish that isn't waited for
 abbrev pub HasTried : ℕ → Mode → Attempt → SessionView → SessionView → Type 0

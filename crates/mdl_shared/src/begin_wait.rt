@@ -10,7 +10,7 @@ ghost use Rattle.mdl_shared.specs.Members.{kind_known, wish_fault};
 ghost use Rattle.mdl_shared.specs.Passes.{view_of};
 ghost use Rattle.mdl_shared.specs.SessionViews.{space_of};
 ghost use Rattle.mdl_shared.specs.Showings.{Shows, ShowsStep};
-ghost use Rattle.mdl_shared.specs.TicketLists.{HasRoom};
+ghost use Rattle.mdl_shared.specs.TicketLists.{HasRoom, KeepsRoom};
 
 use crate::Session;
 use crate::member::Member;
@@ -52,7 +52,7 @@ impl Member {
         requires unfast { self.old.tickets.fast ≡ [] }
         requires room { HasRoom place self.old.tickets.room }
         ensures begun { IfOk result (λ answer. HasBegun place mode answer (view_of self.old) (view_of self.new)) }
-        ensures unchanged { OnErr result (DoesQuietly place [] (view_of self.old) (view_of self.new)) }
+        ensures unchanged { OnErr result (DoesQuietly place [] (view_of self.old) (view_of self.new) × KeepsRoom 0 self.old.tickets.room self.new.tickets.room) }
         ensures refused { IfErr result (λ why. (why ≡ OutOfMemory) ⊎ ((why ≡ Full) × ShowsStep (view_of self.old) (view_of self.new) (MeetsFull place))) }
     {
         let number = self.next;

@@ -11,6 +11,7 @@ use Rattle.mdl_shared.specs.TicketLists.{HasRoom}
 use Rattle.mdl_shared.proofs.Members.{done-order, kept, lists-done, lists-visited, visited}
 use Rattle.mdl_shared.proofs.Props.{member}
 use Rattle.mdl_shared.proofs.QuietDeeds.{quiet-visit}
+use Rattle.mdl_shared.proofs.Rooms.{keeps-same}
 use Rattle.mdl_shared.proofs.WaitSteps.{still-member}
 use Rattle.mdl_shared.proofs.WishCalls.{begun, begun-joins, begun-order, begin-granted}
 use Rattle.mdl_shared.proofs.Wishing.{below-seen, gained-by, may-wish, none-seen, unasked, unfast-seen, waiting-lists}
@@ -79,6 +80,7 @@ returns-in-Ok-Granted g c =
         first = ap (λ (l : Lists). l.next) m.lists;
         quiet = quiet-visit (gained-by m c.begin_wait.new.seat c.args.place c.args.mode c.requires.unfast went.0) went.0.1;
         met = went.1;
+        room = c.push_reserved.ensures.room;
       };
       unchanged = tt;
       refused = tt;
@@ -108,6 +110,7 @@ returns g c =
         opens = went.0.1;
         met = subst (λ (n : ℕ). (e f : Met) × AreStepsOf m.seat.me c.begin_wait.new.seat.me e f × MeetsBlocked c.args.place m.seat.me.0.number c.args.mode e
             × MeetsOpening m.seat.table.slots c.args.place m.seat.me.0.number m.seat.me.0.waits n c.args.mode f) (ap (λ (l : Lists). l.next) m.lists) went.1;
+        room = keeps-same m.tickets.room;
       };
       unchanged = tt;
       refused = tt;

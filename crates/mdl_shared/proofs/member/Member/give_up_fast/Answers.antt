@@ -12,6 +12,7 @@ use Rattle.mdl_shared.proofs.FastReleases.{done-before, gives-up, gives-up_after
 use Rattle.mdl_shared.proofs.MemberFacts.{fast-held, may-visit, ticket-known}
 use Rattle.mdl_shared.proofs.Members.{done-rest, lists-rescheduled, rescheduled}
 use Rattle.mdl_shared.proofs.Props.{member}
+use Rattle.mdl_shared.proofs.Rooms.{keeps-freed}
 use Rattle.mdl_shared.proofs.WaitSteps.{still-member}
 use Rattle.mdl_shared.proofs.member.Member.give_up_fast.Goals as goal
 
@@ -47,13 +48,17 @@ returns-then-lose_fast g c =
       lost = done-before lost.done later;
       did = does_then (Lose t.number ∷ []) [] m.seat.me mid.seat.me c.reschedule.new.seat.me lost.did (does_reschedule mid.seat.me c.reschedule.new.seat.me mid.seat.table t.place [] visit.1);
       given_up = gives-up_after (view_of m) (view_of mid) t c.lose_fast.result c.lose_fast.ensures.released lost.done c.if-lose_fast.true visit;
+      room = keeps-freed m.tickets.room mid.tickets.room c.lose_fast.ensures.room.0 c.lose_fast.ensures.room.1;
     }
 
 pub returns-else-lose_fast : goal.returns-else-lose_fast
 returns-else-lose_fast g c =
+    let m = c.args.self.now in
+    let mid = c.lose_fast.new.self in
     let lost = c.lose_fast.ensures.lost in
     record {
       lost = lost.done;
       did = lost.did;
-      given_up = gives-up (view_of c.args.self.now) (view_of c.lose_fast.new.self) c.args.held c.lose_fast.result c.lose_fast.ensures.released c.if-lose_fast.false;
+      given_up = gives-up (view_of m) (view_of mid) c.args.held c.lose_fast.result c.lose_fast.ensures.released c.if-lose_fast.false;
+      room = keeps-freed m.tickets.room mid.tickets.room c.lose_fast.ensures.room.0 c.lose_fast.ensures.room.1;
     }

@@ -6,13 +6,14 @@ use Rattle.mdl_steps.specs.FastPlays.{but_at}
 use Rattle.mdl_shared.specs.Passes.{view_of}
 use Rattle.mdl_shared.specs.SessionViews.{Lists}
 use Rattle.mdl_shared.proofs.QuietDeeds.{quiet-none, quiet-steps, quiet-then, same-lists}
-use Rattle.mdl_shared.proofs.SlowPlaces.{all-slow, before-more, before-still, fewer-left, lacks-after, none-before, room-still, room-then, same-at-first, slow-more, slow-still}
+use Rattle.mdl_shared.proofs.Rooms.{keeps-before, keeps-same}
+use Rattle.mdl_shared.proofs.SlowPlaces.{all-slow, before-more, before-still, fewer-left, lacks-after, none-before, same-at-first, slow-more, slow-still}
 use Rattle.mdl_shared.proofs.member.Member.materialise.Goals as goal
 
 pub loop-place-init : goal.loop-place-init
 loop-place-init g c =
     let s = view_of c.args.self.now in
-    record { idle = c.requires.idle; done = quiet-none s; slow = same-at-first s; order = none-before s; room = room-still c.args.self.now.tickets.room }
+    record { idle = c.requires.idle; done = quiet-none s; slow = same-at-first s; order = none-before s; room = keeps-same c.args.self.now.tickets.room }
 
 pub loop-place-smaller : goal.loop-place-smaller
 loop-place-smaller g c =
@@ -34,7 +35,7 @@ loop-place-preserved g c =
           fast made.1;
       order = before-more (view_of c.args.self.now) (view_of m) (view_of n) place c.loop-place.invariant.order
           (subst (λ (us : List Own). 0 < length (own_at place us)) (ap (λ (l : Lists). l.fast) m.lists) c.in-Some.ensures.0) (λ q before. ap (λ (l : Lists). own_at q l.fast) (sym m.lists) ∙ c.in-Some.ensures.1 q before) fast;
-      room = room-then 0 c.args.self.now.tickets.room m.tickets.room n.tickets.room c.loop-place.invariant.room c.materialise_at.ensures.room;
+      room = keeps-before 0 c.args.self.now.tickets.room m.tickets.room n.tickets.room c.loop-place.invariant.room c.materialise_at.ensures.room;
     }
 
 pub returns-in_err-materialise_at-clause-done : goal.returns-in_err-materialise_at-clause-done
@@ -65,7 +66,7 @@ returns-in_err-materialise_at-clause-order g c =
 
 pub returns-in_err-materialise_at-clause-room : goal.returns-in_err-materialise_at-clause-room
 returns-in_err-materialise_at-clause-room g c =
-    room-then 0 c.args.self.now.tickets.room c.loop-place.self.tickets.room c.materialise_at.new.self.tickets.room c.loop-place.invariant.room c.materialise_at.ensures.room
+    keeps-before 0 c.args.self.now.tickets.room c.loop-place.self.tickets.room c.materialise_at.new.self.tickets.room c.loop-place.invariant.room c.materialise_at.ensures.room
 
 pub returns-clause-slow : goal.returns-clause-slow
 returns-clause-slow g c =

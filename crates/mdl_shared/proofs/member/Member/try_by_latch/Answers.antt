@@ -5,6 +5,7 @@ use Rattle.mdl_steps.specs.declared.deed.Deed.TheVariants.{Gain}
 use Rattle.mdl_shared.proofs.Members.{done-order, kept, lists-done, lists-visited, visited}
 use Rattle.mdl_shared.proofs.Props.{member}
 use Rattle.mdl_shared.proofs.QuietDeeds.{quiet-visit}
+use Rattle.mdl_shared.proofs.Rooms.{keeps-same}
 use Rattle.mdl_shared.proofs.WaitSteps.{still-member}
 use Rattle.mdl_shared.proofs.WishCalls.{try-granted}
 use Rattle.mdl_shared.proofs.Wishing.{below-seen, gained-by, may-wish, none-seen, unasked}
@@ -46,7 +47,11 @@ pub returns-in-Ok-Blocked : goal.returns-in-Ok-Blocked
 returns-in-Ok-Blocked g c =
     let m = c.args.self.now in
     let went = c.try_now.ensures.blocked (c.in-Ok-Blocked.is ∙ ap Ok c.in-Ok-Blocked.field-0-is) in record {
-      tried = record { quiet = quiet-visit (visited m.seat c.try_now.new.seat m.sessions refl went.0) went.0.1; met = went.1 };
+      tried = record {
+        quiet = quiet-visit (visited m.seat c.try_now.new.seat m.sessions refl went.0) went.0.1;
+        met = went.1;
+        room = keeps-same m.tickets.room;
+      };
       unchanged = tt;
       refused = tt;
     }
@@ -82,6 +87,7 @@ returns g c =
         first = ap (λ (l : Lists). l.next) m.lists;
         quiet = quiet-visit (gained-by m c.try_now.new.seat c.args.place c.args.mode c.requires.unfast went.0) went.0.1;
         met = went.1;
+        room = c.push_reserved.ensures.room;
       };
       unchanged = tt;
       refused = tt;

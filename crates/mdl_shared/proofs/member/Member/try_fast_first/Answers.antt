@@ -10,6 +10,7 @@ use Rattle.mdl_shared.proofs.Membership.{kind_place}
 use Rattle.mdl_shared.proofs.Members.{lists-done, member-room, room-kept}
 use Rattle.mdl_shared.proofs.Props.{member}
 use Rattle.mdl_shared.proofs.QuietDeeds.{quiet-steps, quiet-then}
+use Rattle.mdl_shared.proofs.Rooms.{keeps-before}
 use Rattle.mdl_shared.proofs.Wishing.{unfast-seen}
 use Rattle.mdl_shared.proofs.member.Member.try_fast_first.Goals as goal
 
@@ -42,10 +43,11 @@ returns-in_err-materialise g c =
     let quiet = quiet-room (view_of m) c.reserve.new.self.room missed.0 in
     let same = fast-still m tried (ap (λ (l : TicketList). l.fast) missed.1 ∙ c.reserve.ensures.same.1) in
     let later = c.materialise.ensures.done in
+    let room = subst (λ (l : TicketList). KeepsRoom 0 l.room now.tickets.room) missed.1 c.materialise.ensures.room in
     rw refused (record {
       granted = tt;
       slow = λ is. cc;
-      unchanged = quiet-then quiet later;
+      unchanged = (quiet-then quiet later, keeps-before 0 m.tickets.room c.reserve.new.self.room now.tickets.room c.reserve.ensures.kept room);
       refused = lacks-later c.args.place c.args.mode (view_of m) (view_of tried) (view_of now) (quiet-steps quiet) same (quiet-steps later) c.in_default.ensures.closed
           c.in_err-materialise.ensures.refused;
     })
@@ -66,6 +68,7 @@ returns-clause-slow g c =
         quiet = quiet-then quiet later;
         unfast = unfast-seen now slow.0;
         made = made-later (view_of m) (view_of tried) (view_of now) (quiet-steps quiet) same slow.1;
+        room = keeps-before 0 m.tickets.room c.reserve.new.self.room now.tickets.room c.reserve.ensures.kept room;
       },
       closed-then c.args.place c.args.mode (view_of m) (view_of tried) (view_of now) (quiet-steps later) c.in_default.ensures.closed,
       slow.0,

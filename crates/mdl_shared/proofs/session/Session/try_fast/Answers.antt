@@ -27,7 +27,7 @@ returns-clause-tried g c =
           let it = w.in-Ok in
           let gained = it.ensures.granted in
           let some = fewer (λ limit. let never = sym limit ∙ it.is in cc) in
-          rw w.result-is (tried-granted m made (view_of now) c.args.mode it.number some c.in_ok-one.ensures.1 gained.0 gained.1 gained.2 c.gain_fast.ensures.room))
+          rw w.result-is (tried-granted m made now c.args.mode it.number some c.in_ok-one.ensures.1 gained.0 gained.1 gained.2 gained.3 c.gain_fast.ensures.room))
       | in-Err-Obtruded w ↦ (
           let it = w.in-Err-Obtruded in
           let some = fewer (λ limit. let never = sym limit ∙ it.is ∙ ap Err it.field-0-is in cc) in
