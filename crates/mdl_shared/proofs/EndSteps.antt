@@ -23,7 +23,7 @@ use Rattle.mdl_visits.proofs.Steps.{does_then, step_before}
 use Rattle.mdl_shared.specs.Members.{IsMember}
 use Rattle.mdl_shared.specs.SessionViews.{SessionView, lists_seen, session_at, settled_of, space_of}
 use Rattle.mdl_shared.specs.Showings.{MeetsOwnWait, Shows}
-use Rattle.mdl_shared.specs.TicketLists.{Room}
+use Rattle.mdl_shared.specs.TicketLists.{KeepsRoom, Room}
 use Rattle.mdl_shared.specs.Waitings.{wait_fault}
 use Rattle.mdl_shared.proofs.EndCalls.{HasEnded, lost-joins, unsettled-joins, won-joins}
 use Rattle.mdl_shared.proofs.Faults.{if-clear}
@@ -57,6 +57,7 @@ module _ {s mid : SessionView} (is : IsMember s) (a : Ask) (asks : s.me.0.asks �
           told = tt;
           steps = tt;
           met = inr (refl, shown.met);
+          room = shown.room;
         },
       )
 
@@ -84,9 +85,9 @@ module _ {s mid : SessionView} (is : IsMember s) (a : Ask) (asks : s.me.0.asks �
     -- ---- it was lost
 
     pub lost-end : {s′ : SessionView} → Does [] mid.me s′.me → is_answer_of (End_wait s.me.0.number) (Lost one) ≡ true → HasEnded s.me.0.slow s s′
-        → HasRescheduled mid.table a.place (without_wait mid.me) s′.me
+        → HasRescheduled mid.table a.place (without_wait mid.me) s′.me → KeepsRoom 0 s.room s′.room
         → Joins (space_of s) (End_wait s.me.0.number) (Lost one) (space_of s′) × Shows (End_wait s.me.0.number) (Lost one) s s′
-    lost-end {s′} ends fits ended rescheduled =
+    lost-end {s′} ends fits ended rescheduled keeps =
         let shown = polled.1 in (
           lost-joins is a asks one fits agreed ended,
           record {
@@ -107,14 +108,15 @@ module _ {s mid : SessionView} (is : IsMember s) (a : Ask) (asks : s.me.0.asks �
                     (subst (λ (id : TableId). HasRescheduled id a.place (without_wait mid.me) s′.me) shown.table rescheduled),
               ),
             );
+            room = keeps;
           },
         )
 
     -- ---- it was granted
 
     pub won-end : one ≡ settled_as.Granted → {s′ : SessionView} → Does [] mid.me s′.me → (ended : HasEnded (owned a.place (Gain a.number a.mode) s.me.0.slow) s s′) → ended.settles ≡ s.me.0.settles
-        → Joins (space_of s) (End_wait s.me.0.number) (Granted a.number) (space_of s′) × Shows (End_wait s.me.0.number) (Granted a.number) s s′
-    won-end granted {s′} ends ended settles = (
+        → KeepsRoom 1 s.room s′.room → Joins (space_of s) (End_wait s.me.0.number) (Granted a.number) (space_of s′) × Shows (End_wait s.me.0.number) (Granted a.number) s s′
+    won-end granted {s′} ends ended settles keeps = (
       won-joins is a asks (λ how knows. sym granted ∙ agreed how knows) ended,
       record {
         table = ap (λ (x : SessionView). x.table) ended.now;
@@ -125,6 +127,7 @@ module _ {s mid : SessionView} (is : IsMember s) (a : Ask) (asks : s.me.0.asks �
         told = tt;
         steps = tt;
         met = subst (λ (how : Settled). MeetsOwnWait (state_of how) (lists_seen s.me.0) s s′) granted (met s′ ends);
+        room = keeps;
       },
     )
 

@@ -38,7 +38,7 @@ use Rattle.mdl_shared.specs.OwnLists.{key_known}
 use Rattle.mdl_shared.specs.Passes.{view_of}
 use Rattle.mdl_shared.specs.SessionViews.{Lists, SessionView, lists_seen, session_at, space_of}
 use Rattle.mdl_shared.specs.Showings.{Shows}
-use Rattle.mdl_shared.specs.TicketLists.{Room}
+use Rattle.mdl_shared.specs.TicketLists.{KeepsRoom, Room}
 use Rattle.mdl_shared.proofs.KnownKeys.{all_learnt, apart_and, new_place}
 use Rattle.mdl_shared.proofs.MemberFacts.{keys-apart, speaks}
 use Rattle.mdl_shared.proofs.Members.{HasDone, StaysInOrder, visited}
@@ -258,9 +258,9 @@ module _ (seat mid seat′ : SeatState) (sessions : ℕ) {room : Room} (schema :
   all-apart = apart_and schema k seat.me.0 tables took.1.recorded.known are (keys-apart is)
 
   pub told-tables : {room′ : Room} (places : List ℕ) → StaysQuiet mid.me seat′.me → HasAsked mid.me.0.number tables places mid.me seat′.me
-      → Joins (space_of (session_at seat sessions room)) (Tables_of seat.me.0.number schema) (Tables places) (space_of (session_at seat′ sessions room′))
+      → KeepsRoom 0 room room′ → Joins (space_of (session_at seat sessions room)) (Tables_of seat.me.0.number schema) (Tables places) (space_of (session_at seat′ sessions room′))
       × Shows (Tables_of seat.me.0.number schema) (Tables places) (session_at seat sessions room) (session_at seat′ sessions room′)
-  told-tables {room′} places quiet asked =
+  told-tables {room′} places quiet asked keeps =
       let old : Mine = seat.me in
       let new : Mine = seat′.me in
       let learnt = learnt-all {room′ = room′} in
@@ -283,5 +283,6 @@ module _ (seat mid seat′ : SeatState) (sessions : ℕ) {room : Room} (schema :
             took_earlier seat.table.slots k k old mid.me new took.1 quiet none,
             (tables, are, has, ap (λ (x : SessionView). x.me.0.known) learnt.now, subst (AreLearnt tables) (sym (ap (λ (x : SessionView). x.me.0.known) learnt.now)) known),
           );
+          room = keeps;
         },
       )

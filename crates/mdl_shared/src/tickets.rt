@@ -398,6 +398,7 @@ fn reach(places: &mut Vec<OfPlace>, count: usize) -> Result<(), AllocError>
     ensures length { length places.old.items ≤ length places.new.items }
     ensures narrow { count ≤ 65536 → length places.old.items ≤ 65536 → length places.new.items ≤ 65536 }
     ensures reach { OnOk result (count ≤ length places.new.items) }
+    ensures lacked { OnErr result (length places.old.items < count) }
     ensures same { (q : ℕ) → AreAt q places.old.items places.new.items }
 {
     if count <= places.len() {

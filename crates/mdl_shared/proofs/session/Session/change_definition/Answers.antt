@@ -10,6 +10,7 @@ use Rattle.mdl_shared.proofs.MemberFacts.{may-visit, slow-apart, ticket-known}
 use Rattle.mdl_shared.proofs.Members.{done-nothing, done-order, held-seen, kept, lists-done, lists-visited, room-kept, visited}
 use Rattle.mdl_shared.proofs.Props.{member}
 use Rattle.mdl_shared.proofs.ReadCalls.{change-joins, lists-noted, noted-by, noted-order, unchanged-joins, unchanged-shows, unfit-joins}
+use Rattle.mdl_shared.proofs.Rooms.{keeps-same}
 use Rattle.mdl_shared.proofs.SlowOrFast.{exclusive-slow}
 use Rattle.mdl_shared.proofs.session.Session.change_definition.Goals as goal
 
@@ -62,7 +63,7 @@ returns-in-Err g c =
     let done = visited m.seat c.change_definition.new.seat m.sessions refl did.unchanged in
     rw (c.from.ensures, ← c.self.view_is) (record {
       joined = unchanged-joins is c.args.id t its s′ c.args.change.now exclusive (done-nothing done) c.in-Err.why did.refused;
-      shown = unchanged-shows is c.args.id t its s′ c.args.change.now exclusive did.unchanged.0 refl did.unchanged.1 c.in-Err.why did.refused;
+      shown = unchanged-shows is c.args.id t its s′ c.args.change.now exclusive did.unchanged.0 refl did.unchanged.1 c.in-Err.why did.refused (keeps-same m.tickets.room);
     })
 
 pub invariant_of-member-2 : goal.invariant_of-member-2

@@ -13,6 +13,7 @@ use Rattle.mdl_shared.proofs.Members.{done-nothing, done-order, kept}
 use Rattle.mdl_shared.proofs.Membership.{place_within}
 use Rattle.mdl_shared.proofs.Props.{member}
 use Rattle.mdl_shared.proofs.Refusals.{does-nothing}
+use Rattle.mdl_shared.proofs.Rooms.{keeps-same}
 use Rattle.mdl_shared.proofs.SameSpace.{refused, same-stays}
 use Rattle.mdl_shared.proofs.session.Session.resolve.Goals as goal
 use Rattle.mdl_shared.proofs.session.Session.resolve.Goals.{in-NoPlace, in-OutOfMemory}
@@ -48,6 +49,7 @@ returns-in-Some g c =
         told = refl;
         steps = tt;
         met = (within.0, within.1, (λ known its. refl), λ none. let e = sym none ∙ found in cc);
+        room = keeps-same m.tickets.room;
       };
     })
 
