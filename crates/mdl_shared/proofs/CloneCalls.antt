@@ -20,7 +20,7 @@ use Rattle.mdl_shared.specs.FastWishes.{BecomesSlow, GainsFast}
 use Rattle.mdl_shared.specs.Members.{IsMember}
 use Rattle.mdl_shared.specs.Modes.{clone_fault}
 use Rattle.mdl_shared.specs.OwnLists.{told_of}
-use Rattle.mdl_shared.specs.SessionViews.{SessionView, lists_seen, space_of, tickets_seen}
+use Rattle.mdl_shared.specs.SessionViews.{SessionView, space_of, tickets_seen}
 use Rattle.mdl_shared.specs.Showings.{FullForFast, IsClosed, IsCloned, LacksMemory, LacksRoomForWish, MeetsTicket, Shows, ShowsStep}
 use Rattle.mdl_shared.specs.TicketLists.{KeepsRoom}
 use Rattle.mdl_shared.proofs.FastWishing.{by-latch, number-slow}
@@ -88,15 +88,16 @@ module _ {s : SessionView} (is : IsMember s) (id : ℕ) (mode : Mode) where
       -- by the latch of the place, once all fast tickets are slow ones
       module _ {b c : SessionView} (slow : BecomesSlow s b) (closed : IsClosed t.place mode s b) where
         pub cloned-slow : (next : ℕ) → next ≡ s.me.0.next → (result : Result ℕ SpaceError)
-            → IfOk result (λ new. (new ≡ next) × DoesQuietly t.place (Gain new mode ∷ []) b c × MeetsTicket t.number (Gain new mode ∷ []) b c t × KeepsRoom 1 b.room c.room)
-            → OnErr result (DoesQuietly t.place [] b c × KeepsRoom 0 b.room c.room) → IfErr result (λ why. (why ≡ OutOfMemory) ⊎ ((why ≡ Full) × ShowsStep b c (MeetsFull t.place)))
+            → IfOk result (λ new. (new ≡ next) × DoesQuietly t.place (Gain new mode ∷ []) b c × MeetsTicket t.number (Gain new mode ∷ []) b c t
+            × KeepsRoom 1 b.room c.room)
+            → OnErr result (DoesQuietly t.place [] b c × KeepsRoom 0 b.room c.room)
+            → IfErr result (λ why. (why ≡ OutOfMemory) ⊎ ((why ≡ Full) × ShowsStep b c (MeetsFull t.place)))
             → Joins (space_of s) (Clone_ticket s.me.0.number id mode) (cloned result) (space_of c)
             × Shows (Clone_ticket s.me.0.number id mode) (cloned result) s c
         cloned-slow next first (Ok new) made still causes =
             let quiet = quiet-then slow.quiet made.1 in
             let met = made.2 in
-            let own = subst₂ (λ (who n : ℕ). MeetsOwn t.place who n met.0) (number-slow slow) (has_number id t (tickets_seen s.me.0) its) met.2.0 in
-            (
+            let own = subst₂ (λ (who n : ℕ). MeetsOwn t.place who n met.0) (number-slow slow) (has_number id t (tickets_seen s.me.0) its) met.2.0 in (
               clone-joins (made.0 ∙ first) quiet.done,
               clone-shows quiet (inr (by-latch slow t.place mode closed (met.0, met.1, (own, met.2.1)))) (keeps-before 1 s.room b.room c.room slow.room made.3),
             )

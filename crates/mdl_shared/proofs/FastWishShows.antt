@@ -49,7 +49,8 @@ module _ (place : ℕ) (mode : Mode) (a b : SessionView) {why : SpaceError} wher
   wish-lack (inr full) = inr full.0
 
   -- there was none for the fast tickets that it had, as a wish's answer tells it
-  pub full-fast : ((why ≡ OutOfMemory) × LacksMemory place mode a b) ⊎ ((why ≡ Full) × IsClosed place mode a b × FullForFast a b) → LacksRoomForWish place mode why a b
+  pub full-fast : ((why ≡ OutOfMemory) × LacksMemory place mode a b) ⊎ ((why ≡ Full) × IsClosed place mode a b × FullForFast a b)
+      → LacksRoomForWish place mode why a b
   full-fast (inl memory) = inl memory
   full-fast (inr full) = inr (full.0, inr (full.1, full.2))
 
@@ -108,14 +109,16 @@ module _ {a : SessionView} (is : IsMember a) (place : ℕ) (mode : Mode) (clear 
         → Joins (space_of a) (Try_now a.me.0.number place mode) (attempted result) (space_of c)
         × Shows (Try_now a.me.0.number place mode) (attempted result) a c
     tried-slow (Ok (attempt.Granted id)) tried still causes =
-        try-grants (tried.first ∙ next-slow slow) (quiet-then slow.quiet tried.quiet) (granted-since tried) (keeps-before 1 a.room b.room c.room slow.room tried.room)
+        try-grants (tried.first ∙ next-slow slow) (quiet-then slow.quiet tried.quiet) (granted-since tried)
+        (keeps-before 1 a.room b.room c.room slow.room tried.room)
     tried-slow (Ok attempt.WouldWait) tried still causes =
         let quiet = quiet-then slow.quiet tried.quiet in
         let met = subst (λ (n : ℕ). ShowsStep b c (MeetsBlocked place n mode)) (number-slow slow) tried.met in (
           try-blocked is place mode clear (done-nothing quiet.done),
           quiet-shows quiet refl clear (λ s. s) (λ t. t) tt (by-latch slow place mode closed met) (keeps-before 0 a.room b.room c.room slow.room tried.room),
         )
-    tried-slow (Err why) tried still causes = try-full (quiet-then slow.quiet still.0, keeps-before 0 a.room b.room c.room slow.room still.1) (full-one place mode a b slow closed still.0 causes)
+    tried-slow (Err why) tried still causes =
+        try-full (quiet-then slow.quiet still.0, keeps-before 0 a.room b.room c.room slow.room still.1) (full-one place mode a b slow closed still.0 causes)
 
     -- it waits
     waits-joins : {number : ℕ} → BeginsToWait place mode number b c → Joins (space_of a) (Begin_wait a.me.0.number place mode) (Waits number) (space_of c)
@@ -135,7 +138,8 @@ module _ {a : SessionView} (is : IsMember a) (place : ℕ) (mode : Mode) (clear 
         × MeetsOpening x.table.slots place x.me.0.number x.me.0.waits x.me.0.next mode f) slow.quiet.done.now begins.met in
         shows (begins.table ∙ ap (λ (x : SessionView). x.table) slow.quiet.done.now) (begins.sessions ∙ ap (λ (x : SessionView). x.sessions) slow.quiet.done.now) clear
         (does_then [] [] a.me b.me c.me slow.quiet.did (opens.made, log, opens.did)) (ap (λ (m : Mine). m.0.settles) opens.now ∙ slow.quiet.settled)
-        (ap (λ (m : Mine). m.0.told) opens.now ∙ sym (untold-wish is place mode clear)) tt (by-latch slow place mode closed met) (keeps-before 0 a.room b.room c.room slow.room begins.room)
+        (ap (λ (m : Mine). m.0.told) opens.now ∙ sym (untold-wish is place mode clear)) tt (by-latch slow place mode closed met)
+        (keeps-before 0 a.room b.room c.room slow.room begins.room)
 
     pub begun-slow : (result : Result Begun SpaceError) → IfOk result (λ answer. HasBegun place mode answer b c)
         → OnErr result (DoesQuietly place [] b c × KeepsRoom 0 b.room c.room)
@@ -143,6 +147,8 @@ module _ {a : SessionView} (is : IsMember a) (place : ℕ) (mode : Mode) (clear 
         → Joins (space_of a) (Begin_wait a.me.0.number place mode) (begun result) (space_of c)
         × Shows (Begin_wait a.me.0.number place mode) (begun result) a c
     begun-slow (Ok (begin.Granted id)) asked still causes =
-        begin-grants (asked.first ∙ next-slow slow) (quiet-then slow.quiet asked.quiet) (granted-since asked) (keeps-before 1 a.room b.room c.room slow.room asked.room)
+        begin-grants (asked.first ∙ next-slow slow) (quiet-then slow.quiet asked.quiet) (granted-since asked)
+        (keeps-before 1 a.room b.room c.room slow.room asked.room)
     begun-slow (Ok (begin.Waiting number)) asked still causes = (waits-joins asked, waits-shows asked)
-    begun-slow (Err why) asked still causes = begin-full (quiet-then slow.quiet still.0, keeps-before 0 a.room b.room c.room slow.room still.1) (full-one place mode a b slow closed still.0 causes)
+    begun-slow (Err why) asked still causes =
+        begin-full (quiet-then slow.quiet still.0, keeps-before 0 a.room b.room c.room slow.room still.1) (full-one place mode a b slow closed still.0 causes)

@@ -19,7 +19,8 @@ returns-in_err-one-clause-unchanged c =
     rw none (quiet-none (view_of c.args.self.now), refl)
 
 -- why no fast ticket was granted
-closed-by : (place : ℕ) (mode : Mode) (a b : SessionView) (tried : Result ℕ NotFast) → IfErr tried (λ why. HasNoFast why place a b) → IfNone (result_ok tried) (IsClosed place mode a b)
+closed-by : (place : ℕ) (mode : Mode) (a b : SessionView) (tried : Result ℕ NotFast) → IfErr tried (λ why. HasNoFast why place a b)
+    → IfNone (result_ok tried) (IsClosed place mode a b)
 closed-by place mode a b (Ok id) none = tt
 closed-by place mode a b (Err (Obtruded word)) found = inr (inr (word.0, b.me, inl found, goes_none b.me))
 closed-by place mode a b (Err (Contended word)) missed = inr (inr (word.0, b.me, inr missed, goes_none b.me))
@@ -30,4 +31,4 @@ returns-clause-closed c =
     let m = c.args.self.now in
     let tried = c.gain_fast in
     subst (λ (o : Option ℕ). IfNone o (IsClosed c.args.place c.args.mode (view_of m) (view_of tried.new.self))) (sym c.ok.ensures.value)
-        (closed-by c.args.place c.args.mode (view_of m) (view_of tried.new.self) tried.result tried.ensures.closed)
+    (closed-by c.args.place c.args.mode (view_of m) (view_of tried.new.self) tried.result tried.ensures.closed)
