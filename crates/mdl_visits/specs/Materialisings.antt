@@ -21,7 +21,7 @@ use Rattle.mdl_steps.specs.Lists.{Each}
 use Rattle.mdl_steps.specs.Plays.{Mine}
 use Rattle.mdl_steps.specs.SeatStates.{AtItsTable, SeatState}
 use Rattle.mdl_steps.specs.Seats.{written}
-use Rattle.mdl_visits.specs.Visits.{HasInHand, HasStep, and_made, deeds_of}
+use Rattle.mdl_visits.specs.Visits.{HasInHand, HasStep, Visits, and_made, deeds_of}
 
 -- ---- what the session has then
 
@@ -60,6 +60,10 @@ pub record MeetsFullFor (n place : ℕ) (e : Met) : Type 0 where
 -- why there was no room for so many: memory ran out, or a step shows that the book was too full for all of them
 abbrev pub LacksRoomFor : ℕ → ℕ → BookError → SeatState → SeatState → Type 0
 LacksRoomFor n place cause s s′ = (cause ≡ fault.OutOfMemory) ⊎ ((cause ≡ fault.Full) × HasStep s s′ (MeetsFullFor n place))
+
+-- the session came to a place and went with nothing done, for want of room for so many
+abbrev pub WasRefusedFor : ℕ → ℕ → BookError → SeatState → SeatState → Type 0
+WasRefusedFor n place cause s s′ = AtItsTable s s′ (Visits place []) × LacksRoomFor n place cause s s′
 
 -- ---- the book in hand
 

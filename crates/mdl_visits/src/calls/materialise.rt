@@ -1,13 +1,12 @@
 //! A session's fast tickets at a place become slow ones.
-ghost use Rattle.std.specs.Prelude.{◌≡◌, ◌≤◌, ℕ, [], length, map, false, None, OnOk, OnErr, IfErr};
+ghost use Rattle.std.specs.Prelude.{◌≡◌, ◌≤◌, ℕ, length, map, false, None, OnOk, OnErr, IfErr};
 ghost use Rattle.mdl_book.specs.declared.book_view.BookView.{BookView};
 ghost use Rattle.mdl_steps.specs.Cells.{own_at, ticket_by};
 ghost use Rattle.mdl_steps.specs.FastPlays.{moved, weight_of};
 ghost use Rattle.mdl_steps.specs.Limits.{most_fast};
 ghost use Rattle.mdl_steps.specs.Lists.{Once};
-ghost use Rattle.mdl_steps.specs.SeatStates.{AtItsTable};
-ghost use Rattle.mdl_visits.specs.Materialisings.{CanStand, LacksRoomFor, LacksRoomIn, Stand, WasMaterialised, granting_own, with_book};
-ghost use Rattle.mdl_visits.specs.Visits.{KnowsKind, MayVisit, Visits};
+ghost use Rattle.mdl_visits.specs.Materialisings.{CanStand, LacksRoomIn, Stand, WasMaterialised, WasRefusedFor, granting_own, with_book};
+ghost use Rattle.mdl_visits.specs.Visits.{KnowsKind, MayVisit};
 ghost use Rattle.mdl_word.specs.Words.{encode, one_in};
 
 use crate::enter_and_leave::lower_flags_and_put;
@@ -35,8 +34,7 @@ pub fn materialise<R: Wait>(
     requires these { fast.now ≡ own_at place seat.old.me.0.fast }
     requires once { Once (moved place seat.old.me.0) }
     ensures materialised { OnOk result (WasMaterialised place seat.old seat.new) }
-    ensures unchanged { OnErr result (AtItsTable seat.old seat.new (Visits place [])) }
-    ensures refused { IfErr result (λ cause. LacksRoomFor (length fast.now) place cause seat.old seat.new) }
+    ensures refused { IfErr result (λ cause. WasRefusedFor (length fast.now) place cause seat.old seat.new) }
 {
     if fast.is_empty() {
         return Ok(());

@@ -23,18 +23,14 @@ lower_flags_and_put-requires g c =
     let r = ready c.await_latch-latch.ensures.arrives c.args.fast.now c.raise_flags.new.self raise.made raise.keeps c.requires.these c.requires.idle in
     record { worked = rests r c.in-Err.ensures.unchanged }
 
-pub returns-in-Err-clause-unchanged : goal.returns-in-Err-clause-unchanged
-returns-in-Err-clause-unchanged g c =
-    let raise = c.raise_flags.ensures in
-    let r = ready c.await_latch-latch.ensures.arrives c.args.fast.now c.raise_flags.new.self raise.made raise.keeps c.requires.these c.requires.idle in
-    nothing_done r c.in-Err.ensures.unchanged c.lower_flags_and_put.new.seat c.lower_flags_and_put.ensures.visited
-
 pub returns-in-Err-clause-refused : goal.returns-in-Err-clause-refused
 returns-in-Err-clause-refused g c =
     let raise = c.raise_flags.ensures in
-    let r = ready c.await_latch-latch.ensures.arrives c.args.fast.now c.raise_flags.new.self raise.made raise.keeps c.requires.these c.requires.idle in
-    lacks_room r c.in-Err.ensures.unchanged (length c.args.fast.now) c.in-Err.cause c.lower_flags_and_put.new.seat c.lower_flags_and_put.ensures.step
-    (c.in-Err.ensures.refused r.found.book (can_stand r))
+    let r = ready c.await_latch-latch.ensures.arrives c.args.fast.now c.raise_flags.new.self raise.made raise.keeps c.requires.these c.requires.idle in (
+      nothing_done r c.in-Err.ensures.unchanged c.lower_flags_and_put.new.seat c.lower_flags_and_put.ensures.visited,
+      lacks_room r c.in-Err.ensures.unchanged (length c.args.fast.now) c.in-Err.cause c.lower_flags_and_put.new.seat c.lower_flags_and_put.ensures.step
+      (c.in-Err.ensures.refused r.found.book (can_stand r)),
+    )
 
 pub materialise-requires-clause-place : goal.materialise-requires-clause-place
 materialise-requires-clause-place g c =
