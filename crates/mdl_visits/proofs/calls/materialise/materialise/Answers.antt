@@ -29,7 +29,7 @@ returns-in-Err-clause-refused g c =
     let r = ready c.await_latch-latch.ensures.arrives c.args.fast.now c.raise_flags.new.self raise.made raise.keeps c.requires.these c.requires.idle in (
       nothing_done r c.in-Err.ensures.unchanged c.lower_flags_and_put.new.seat c.lower_flags_and_put.ensures.visited,
       lacks_room r c.in-Err.ensures.unchanged (length c.args.fast.now) c.in-Err.cause c.lower_flags_and_put.new.seat c.lower_flags_and_put.ensures.step
-      (c.in-Err.ensures.refused r.found.book (can_stand r)),
+          (c.in-Err.ensures.refused r.found.book (can_stand r)),
     )
 
 pub materialise-requires-clause-place : goal.materialise-requires-clause-place
