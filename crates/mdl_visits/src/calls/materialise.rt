@@ -19,7 +19,8 @@ use mdl_word::Word;
 use std::sync::Wait;
 
 /// Makes the session's fast tickets at a place, which are these, slow ones: they are granted in the book of the place, and the lock's word no
-/// longer counts them. The session waits for nothing. If there is no room for all of them, all stays as it was. After
+/// longer counts them. The session waits for nothing. It takes the latch there once, and not at all without such tickets, and leaves the fast path
+/// open. If there is no room for all of them, all stays as it was. After
 /// `MDL_context::materialize_fast_path_locks`.
 pub fn materialise<R: Wait>(
     rt: &R,
@@ -55,9 +56,8 @@ fn write_gains(seat: &mut TableSeat, latch: &Latched, tickets: &[Own]) -> Result
     requires can { (book : BookView) × CanStand latch.now.place tickets.now book seat.old }
     ensures written { (book : BookView) → CanStand latch.now.place tickets.now book seat.old
         → OnOk result (seat.new ≡ with_book latch.now.place (granting_own seat.old.me.0.number tickets.now book) seat.old) }
-    ensures unchanged { OnErr result (seat.new ≡ seat.old) }
     ensures refused { (book : BookView) → CanStand latch.now.place tickets.now book seat.old
-        → IfErr result (LacksRoomIn book (length tickets.now)) }
+        → IfErr result (λ cause. (seat.new ≡ seat.old) × LacksRoomIn book (length tickets.now) cause) }
 {
     for (at, ticket) in tickets.iter().enumerate() {
         if let Err(cause) = seat.write_gain(latch, ticket.number, ticket.mode, NO_FAST_TICKETS) {
