@@ -81,7 +81,7 @@ module _ (seat seat′ : SeatState) (sessions : ℕ) {room : Room} (is : IsMembe
   pub fast-granted : {room′ : Room} {place one : ℕ} {mode : Mode} {noted : Option ℕ} → seat.me.0.asks ≡ None → increment_at place mode seat.me.0.known ≡ Some one
       → noted ≡ noted_at place seat.me.0 → AtItsTable seat seat′ (GrantsFast place mode noted)
       → DoesQuietly place (Gain seat.me.0.next mode ∷ []) (session_at seat sessions room) (session_at seat′ sessions room′)
-  fast-granted {place} {one} {mode} {noted} idle counted it granted =
+  fast-granted {room′} {place} {one} {mode} {noted} idle counted it granted =
       let v = seat.me.0 in
       let its : noted ≡ note_at place (tickets_seen v) = it ∙ one-noted place v.slow v.fast is.alike in
       let t : Own = fast_own v.next place mode noted in
@@ -92,6 +92,7 @@ module _ (seat seat′ : SeatState) (sessions : ℕ) {room : Room} (is : IsMembe
           told = v.told;
           settles = v.settles;
           log = _;
+          room = room′;
           now = seat-changed seat seat′ sessions granted.0 _ now;
           tickets = gained-fast t v.slow v.fast (below is) ∙ ap (λ (n : Option ℕ). tickets_seen v ++ fast_own v.next place mode n ∷ []) its;
           fasts = record {
@@ -109,7 +110,7 @@ module _ (seat seat′ : SeatState) (sessions : ℕ) {room : Room} (is : IsMembe
   -- one was released
   pub fast-released : {room′ : Room} {place number : ℕ} {owes : Bool} {t : Own} → numbered number seat.me.0.fast ≡ Some t → AtItsTable seat seat′ (ReleasesFast place number owes)
       → DoesQuietly place (Lose number ∷ []) (session_at seat sessions room) (session_at seat′ sessions room′)
-  fast-released {place} {number} {owes} {t} its released =
+  fast-released {room′} {place} {number} {owes} {t} its released =
       let v = seat.me.0 in
       let now = released.1.now in record {
         done = record {
@@ -118,6 +119,7 @@ module _ (seat seat′ : SeatState) (sessions : ℕ) {room : Room} (is : IsMembe
           told = v.told;
           settles = v.settles;
           log = _;
+          room = room′;
           now = seat-changed seat seat′ sessions released.0 _ now;
           tickets = released-fast place number v.slow v.fast (rising is) (numbers-apart number t v.slow v.fast (rising is) its);
           fasts = fewer-fast v.known v.asks v.fast (λ u. not (is_own place number u));
@@ -131,7 +133,7 @@ module _ (seat seat′ : SeatState) (sessions : ℕ) {room : Room} (is : IsMembe
 
   -- those of a place became slow ones
   pub fast-materialised : {room′ : Room} {place : ℕ} → AtItsTable seat seat′ (Materialises place) → DoesQuietly 0 [] (session_at seat sessions room) (session_at seat′ sessions room′)
-  fast-materialised {place} moved =
+  fast-materialised {room′} {place} moved =
       let v = seat.me.0 in
       let now = moved.1.now in record {
         done = record {
@@ -140,6 +142,7 @@ module _ (seat seat′ : SeatState) (sessions : ℕ) {room : Room} (is : IsMembe
           told = v.told;
           settles = v.settles;
           log = _;
+          room = room′;
           now = seat-changed seat seat′ sessions moved.0 _ now;
           tickets = made-slow place v.slow v.fast (rising is);
           fasts = fewer-fast v.known v.asks v.fast (λ u. not (u.place == place));

@@ -30,7 +30,7 @@ use Rattle.mdl_steps.specs.Schemas.{unknown}
 use Rattle.mdl_steps.specs.WaitStates.{granted_state, lost_state, unsettled_state, wait_in}
 use Rattle.mdl_visits.specs.declared.resolve_error.ResolveError.{ResolveError}
 use Rattle.mdl_visits.specs.declared.resolve_error.ResolveError.TheVariants as resolve_error
-use Rattle.mdl_visits.specs.FastTries.{MeetsClear, MeetsObtrusive, Misses, ReleasesFast}
+use Rattle.mdl_visits.specs.FastTries.{FindsObtrusive, GrantsAtLast, Misses, ReleasesFast}
 use Rattle.mdl_visits.specs.Grantings.{HasRescheduled}
 use Rattle.mdl_visits.specs.Leavings.{MeetsOwn, MeetsStanding}
 use Rattle.mdl_visits.specs.Lookups.{TookDirectory, IsAnswer}
@@ -50,6 +50,7 @@ use Rattle.mdl_shared.specs.Members.{AreLearnt, holding_fault, increment_at, kin
 use Rattle.mdl_shared.specs.Modes.{clone_fault, downgrade_fault, merge_fault}
 use Rattle.mdl_shared.specs.OwnLists.{naming_fault}
 use Rattle.mdl_shared.specs.SessionViews.{Lists, SessionView, lists_seen, tickets_of}
+use Rattle.mdl_shared.specs.TicketLists.{HasRoom, KeepsRoom}
 use Rattle.mdl_shared.specs.Upgrades.{upgrade_fault}
 use Rattle.mdl_shared.specs.Waitings.{wait_fault}
 
@@ -98,33 +99,32 @@ AllMadeSlow a b = Each (λ (t : Own). ShowsStep a b (MakesSlow t.place)) a.me.0.
 abbrev pub FromUnfast : SessionView → (SessionView → Type 0) → Type 0
 FromUnfast a fact = (mid : SessionView) × MakesMoreSteps a.me mid.me × AllMadeSlow a mid × fact mid
 
--- eight fast grants at a place missed, one after the other, before anything else was done. The last one found this word
-abbrev pub MissesFirst : ℕ → ℕ → SessionView → SessionView → Type 0
-MissesFirst place word a b = (mid : Mine) × Misses place 8 word a.me mid × MakesMoreSteps mid b.me
+-- before anything else was done, the session tried for a fast ticket at a place in vain: the flag OBTRUSIVE was found up, or eight fast grants missed
+abbrev pub TriesInVain : ℕ → SessionView → SessionView → Type 0
+TriesInVain place a b =
+    (word : ℕ) × (mid : Mine) × (FindsObtrusive place word a.me mid ⊎ Misses place 8 word a.me mid) × MakesMoreSteps mid b.me
 
 -- the fast path was closed to a wish for a mode at a place: the lock's word doesn't count the mode; or the session has as many fast tickets there as it may
--- have; or a step met the flag OBTRUSIVE up; or eight fast grants missed
+-- have; or it tried in vain
 abbrev pub IsClosed : ℕ → Mode → SessionView → SessionView → Type 0
 IsClosed place mode a b =
-    (increment_at place mode a.me.0.known ≡ None)
-    ⊎ ((most_fast ≤ length (own_at place a.me.0.fast))
-    ⊎ (((word : ℕ) × ShowsStep a b (MeetsObtrusive place word)) ⊎ ((word : ℕ) × MissesFirst place word a b)))
+    (increment_at place mode a.me.0.known ≡ None) ⊎ ((most_fast ≤ length (own_at place a.me.0.fast)) ⊎ TriesInVain place a b)
 
 -- such a wish was judged under the latch of the place: this is so from a moment of the call on by which the fast path was closed to it, and each fast ticket
 -- that the session had was made slow
 abbrev pub ByLatch : ℕ → Mode → SessionView → (SessionView → Type 0) → Type 0
 ByLatch place mode a fact = FromUnfast a (λ mid. IsClosed place mode a mid × fact mid)
 
--- it was granted by this deed: by a step without the latch, while the flag OBTRUSIVE was down, or as the latch was given back, by whose record it could be
+-- it was granted by this deed: by a fast grant, after which nothing else was done, or as the latch was given back, by whose record it could be
 abbrev pub IsGranted : ℕ → Mode → Deed → SessionView → SessionView → Type 0
 IsGranted place mode deed a b =
-    ShowsStep a b (MeetsClear place deed)
+    GrantsAtLast place deed a.me b.me
     ⊎ ByLatch place mode a (λ mid. ShowsStep mid b (MeetsGrantable place a.me.0.number mode deed))
 
--- likewise a second ticket for the one of a number: without the latch, or as that stood in the granted list
+-- likewise a second ticket for the one of a number: by a fast grant, or as that stood in the granted list
 abbrev pub IsCloned : ℕ → Mode → ℕ → Deed → SessionView → SessionView → Type 0
 IsCloned place mode id deed a b =
-    ShowsStep a b (MeetsClear place deed)
+    GrantsAtLast place deed a.me b.me
     ⊎ ByLatch place mode a (λ mid. ShowsStep mid b (λ e. MeetsOwn place a.me.0.number id e × (e.deeds ≡ deed ∷ [])))
 
 -- the directory was looked at once, and so a key is answered by it
@@ -155,13 +155,19 @@ FullForFast a b =
 abbrev pub LacksRoomForFast : SpaceError → SessionView → SessionView → Type 0
 LacksRoomForFast why a b = (a.me.0.fast ≢ []) × ((why ≡ cause.OutOfMemory) ⊎ ((why ≡ cause.Full) × FullForFast a b))
 
--- the fast path was closed to a wish at a place, and a step met a book without room for the fast tickets, or that of the place without room for one more
+-- the fast path was closed to a wish at a place, and a step met a book without room for the fast tickets, or, once those were slow, that of the place
+-- without room for one more
 abbrev pub FullForWish : ℕ → Mode → SessionView → SessionView → Type 0
-FullForWish place mode a b = IsClosed place mode a b × (ShowsStep a b (MeetsFull place) ⊎ FullForFast a b)
+FullForWish place mode a b = ByLatch place mode a (λ mid. ShowsStep mid b (MeetsFull place)) ⊎ (IsClosed place mode a b × FullForFast a b)
 
--- why a wish is refused: for what the session has; or memory ran out; or a step met a book that was full
-abbrev pub RefusesWish : Option SpaceError → SpaceError → Type 0 → Type 0
-RefusesWish fault why full = (fault ≡ Some why) ⊎ ((why ≡ cause.OutOfMemory) ⊎ ((why ≡ cause.Full) × full))
+-- memory ran out for a wish at a place: the session had no room for a ticket there, or the fast path was closed to the wish
+abbrev pub LacksMemory : ℕ → Mode → SessionView → SessionView → Type 0
+LacksMemory place mode a b = (HasRoom place a.room → ⊥) ⊎ IsClosed place mode a b
+
+-- why there is no room for a wish: memory ran out, or a step met a book that was full
+abbrev pub LacksRoomForWish : ℕ → Mode → SpaceError → SessionView → SessionView → Type 0
+LacksRoomForWish place mode why a b =
+    ((why ≡ cause.OutOfMemory) × LacksMemory place mode a b) ⊎ ((why ≡ cause.Full) × FullForWish place mode a b)
 
 -- ---- by calls
 
@@ -216,6 +222,11 @@ done_by (Release who id) Done tickets = Lose id ∷ []
 done_by (Downgrade who id mode) Done tickets = Alter id mode ∷ []
 done_by _ _ tickets = []
 
+-- how many tickets were gained
+abbrev pub gained_by : Answer → ℕ
+gained_by (Granted id) = 1
+gained_by _ = 0
+
 -- which waits they settled. `HasRescheduled` tells that where a place's waits were granted, and `Searched` of a search
 abbrev pub SettlesSo : Call → Answer → Lists → SessionView → SessionView → Type 0
 SettlesSo (Search who) No_cycle l a b = Unit {0}
@@ -239,13 +250,13 @@ MeetsSo (Resolve who key) (Refused why) l a b =
 MeetsSo (Try_now who place mode) (Granted id) l a b = IsGranted place mode (Gain id mode) a b
 MeetsSo (Try_now who place mode) Would_wait l a b = ByLatch place mode a (λ mid. ShowsStep mid b (MeetsBlocked place a.me.0.number mode))
 MeetsSo (Try_now who place mode) (Refused why) l a b =
-    RefusesWish (own_fault (Try_now who place mode) l) why (FullForWish place mode a b)
+    (own_fault (Try_now who place mode) l ≡ Some why) ⊎ LacksRoomForWish place mode why a b
 MeetsSo (Begin_wait who place mode) (Granted id) l a b = IsGranted place mode (Gain id mode) a b
 MeetsSo (Begin_wait who place mode) (Waits number) l a b =
     ByLatch place mode a (λ mid. (e f : Met) × AreStepsOf mid.me b.me e f × MeetsBlocked place a.me.0.number mode e
     × MeetsOpening a.table.slots place a.me.0.number l.waits l.next mode f)
 MeetsSo (Begin_wait who place mode) (Refused why) l a b =
-    RefusesWish (own_fault (Begin_wait who place mode) l) why (FullForWish place mode a b)
+    (own_fault (Begin_wait who place mode) l ≡ Some why) ⊎ LacksRoomForWish place mode why a b
 MeetsSo (Search who) No_cycle l a b = (l.asks ≡ None → MakesNoStep a b) × (is_some l.asks ≡ true → SearchesFor found.NoCycle a b)
 MeetsSo (Search who) (Victim_is victim) l a b = (is_some l.asks ≡ true) × SearchesFor (found.Victim victim) a b
 MeetsSo (Search who) (Refused why) l a b = (is_some l.asks ≡ true) × LooksAtKeys a b
@@ -274,8 +285,7 @@ MeetsSo (Release who id) (Refused why) l a b = own_fault (Release who id) l ≡ 
 MeetsSo (Clone_ticket who id mode) (Granted new) l a b =
     OfTicket id l (λ t. IsCloned t.place mode id (Gain new mode) a b)
 MeetsSo (Clone_ticket who id mode) (Refused why) l a b =
-    RefusesWish (own_fault (Clone_ticket who id mode) l) why
-    (OfTicket id l (λ t. FullForWish t.place mode a b))
+    (own_fault (Clone_ticket who id mode) l ≡ Some why) ⊎ OfTicket id l (λ t. LacksRoomForWish t.place mode why a b)
 MeetsSo (Upgrade_now who id mode) Upgraded l a b =
     OfTicket id l (λ t. (covers t.mode mode ≡ true → MakesNoStep a b)
     × (covers t.mode mode ≡ false → FromUnfast a (λ mid. ShowsStep mid b (MeetsGrantable t.place a.me.0.number mode (Alter id mode)))))
@@ -317,7 +327,7 @@ MeetsSo _ _ l a b = Unit {0}
 -- the session, which has these lists before the call, is at the same table (`table`) of the same space (`sessions`); where it has a fault of its own, that
 -- is the answer, and no step is made (`refused`); the call's steps did these deeds, and no others (`did`), settled these waits, and no others (`settled`),
 -- let the session know no more of its own wait than they may (`told`), gave no latch back and raised no flag where the call must not (`steps`), and met
--- this (`met`)
+-- this (`met`); it has the room for tickets that it had, but for the ticket that it gained (`room`)
 pub record ShowsBy (call : Call) (answer : Answer) (l : Lists) (a b : SessionView) : Type 0 where
   pub table : b.table ≡ a.table
   pub sessions : b.sessions ≡ a.sessions
@@ -327,6 +337,7 @@ pub record ShowsBy (call : Call) (answer : Answer) (l : Lists) (a b : SessionVie
   pub told : KeepsTold call a b
   pub steps : StepsSo call a b
   pub met : MeetsSo call answer l a b
+  pub room : KeepsRoom (gained_by answer) a.room b.room
 
 -- what a call with this answer shows
 abbrev pub Shows : Call → Answer → SessionView → SessionView → Type 0
@@ -334,13 +345,14 @@ Shows call answer a b = ShowsBy call answer (lists_seen a.me.0) a b
 
 -- ---- what isn't a call of a lock space
 
--- the session has the same number, at the same table, and the same lists, and read nothing
+-- the session has the same number, at the same table, the same lists and the room that it had, and read nothing
 pub record KeepsLists (a b : SessionView) : Type 0 where
   pub number : b.me.0.number ≡ a.me.0.number
   pub table : b.table ≡ a.table
   pub sessions : b.sessions ≡ a.sessions
   pub lists : lists_seen b.me.0 ≡ lists_seen a.me.0
   pub reads : b.me.0.reads ≡ a.me.0.reads
+  pub room : KeepsRoom 0 a.room b.room
 
 -- it knows how its wait is settled where it did before, and may have learnt it
 abbrev pub RemembersWait : SessionView → SessionView → Type 0

@@ -1,5 +1,5 @@
 -- A session's own list of its tickets, as the session's calls see it.
-use Rattle.std.specs.Prelude.{ℕ, ◌<◌, ◌≤◌, List}
+use Rattle.std.specs.Prelude.{ℕ, ◌+◌, ◌<◌, ◌≤◌, List}
 use Rattle.mdl_steps.specs.declared.view.Own.{Own}
 
 -- for how many more tickets there is room, and below which place those may be

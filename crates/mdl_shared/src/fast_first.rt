@@ -7,8 +7,8 @@ ghost use Rattle.mdl_shared.specs.DeedsDone.{DoesQuietly};
 ghost use Rattle.mdl_shared.specs.FastWishes.{BecomesSlow, GainsFast};
 ghost use Rattle.mdl_shared.specs.Members.{kind_known, most_numbers};
 ghost use Rattle.mdl_shared.specs.Passes.{view_of};
-ghost use Rattle.mdl_shared.specs.Showings.{FullForFast, IsClosed};
-ghost use Rattle.mdl_shared.specs.TicketLists.{HasRoom};
+ghost use Rattle.mdl_shared.specs.Showings.{FullForFast, IsClosed, LacksMemory};
+ghost use Rattle.mdl_shared.specs.TicketLists.{HasRoom, KeepsRoom};
 
 use crate::member::Member;
 use mdl_calls::{SpaceError, TicketId};
@@ -33,8 +33,8 @@ impl Member {
         ensures slow { result ≡ Ok None → BecomesSlow (view_of self.old) (view_of self.new) × IsClosed place mode (view_of self.old) (view_of self.new)
             × (self.new.tickets.fast ≡ [])
             × HasRoom place self.new.tickets.room }
-        ensures unchanged { OnErr result (DoesQuietly 0 [] (view_of self.old) (view_of self.new)) }
-        ensures refused { IfErr result (λ why. (why ≡ OutOfMemory)
+        ensures unchanged { OnErr result (DoesQuietly 0 [] (view_of self.old) (view_of self.new) × KeepsRoom 0 self.old.tickets.room self.new.tickets.room) }
+        ensures refused { IfErr result (λ why. ((why ≡ OutOfMemory) × LacksMemory place mode (view_of self.old) (view_of self.new))
             ⊎ ((why ≡ Full) × IsClosed place mode (view_of self.old) (view_of self.new) × FullForFast (view_of self.old) (view_of self.new))) }
     {
         if self.tickets.reserve(place).is_err() {

@@ -4,17 +4,17 @@
 //!
 //! After MySQL 5.7, sql/mdl.cc: `MDL_context::try_acquire_lock_impl`, `MDL_context::release_lock` and
 //! `MDL_context::materialize_fast_path_locks`.
-ghost use Rattle.std.specs.Prelude.{◌≡◌, ◌⊎◌, Err, ◌<◌, ◌≤◌, ◌∷◌, [], None, Some, length, IfErr, IfOk, OnErr, OnOk};
+ghost use Rattle.std.specs.Prelude.{◌≡◌, ◌⊎◌, Err, ◌<◌, ◌≤◌, ◌∷◌, [], None, Some, length, true, is_some, IfErr, IfOk, OnErr, OnOk};
 ghost use Rattle.mdl_steps.specs.declared.deed.Deed.TheVariants.{Gain, Lose};
 ghost use Rattle.mdl_steps.specs.Cells.{own_at};
 ghost use Rattle.mdl_steps.specs.FastPlays.{but_at};
 ghost use Rattle.mdl_steps.specs.Limits.{most_fast};
-ghost use Rattle.mdl_visits.specs.FastTries.{MeetsClear, ReleasesFast};
+ghost use Rattle.mdl_visits.specs.FastTries.{GrantsAtLast, ReleasesFast};
 ghost use Rattle.mdl_visits.specs.Numbers.{numbered};
 ghost use Rattle.mdl_visits.specs.Visits.{StaysOn};
 ghost use Rattle.mdl_shared.specs.declared.fast_path.NotFast.TheVariants.{Limit};
 ghost use Rattle.mdl_shared.specs.DeedsDone.{DoesQuietly};
-ghost use Rattle.mdl_shared.specs.FastDeeds.{AreSameOrSlow, HasNoFast};
+ghost use Rattle.mdl_shared.specs.FastDeeds.{AreSameOrSlow, AreSlowBefore, HasNoFast};
 ghost use Rattle.mdl_shared.specs.Members.{increment_at, most_numbers};
 ghost use Rattle.mdl_shared.specs.Passes.{view_of};
 ghost use Rattle.mdl_shared.specs.Showings.{AllMadeSlow, LacksRoomForFast, MakesSlow, ShowsStep};
@@ -59,7 +59,9 @@ impl Member {
         requires room { HasRoom place self.old.tickets.room }
         ensures granted { IfOk result (λ id. (id ≡ self.old.next)
             × DoesQuietly place (Gain id mode ∷ []) (view_of self.old) (view_of self.new)
-            × ShowsStep (view_of self.old) (view_of self.new) (MeetsClear place (Gain id mode))) }
+            × GrantsAtLast place (Gain id mode) self.old.seat.me self.new.seat.me
+            × (is_some (numbered id self.new.tickets.fast) ≡ true)) }
+        ensures room { KeepsRoom 1 self.old.tickets.room self.new.tickets.room }
         ensures unchanged { OnErr result (DoesQuietly place [] (view_of self.old) (view_of self.new) × (self.new.tickets ≡ self.old.tickets)) }
         ensures closed { IfErr result (λ why. HasNoFast why place (view_of self.old) (view_of self.new)) }
         ensures fewer { (result ≡ Err Limit) ⊎ (length (own_at place self.old.tickets.fast) < most_fast) }
@@ -86,6 +88,7 @@ impl Member {
         requires held { numbered held.number self.old.tickets.fast ≡ Some held }
         ensures lost { DoesQuietly held.place (Lose held.number ∷ []) (view_of self.old) (view_of self.new) }
         ensures released { ReleasesFast held.place held.number result self.old.seat.me self.new.seat.me }
+        ensures room { (self.old.tickets.room.spare < self.new.tickets.room.spare) × (self.old.tickets.room.reach ≤ self.new.tickets.room.reach) }
         ensures stays { StaysOn self.old.seat.me self.new.seat.me }
     {
         let one = self.increment(held);
@@ -102,6 +105,7 @@ impl Member {
         ensures slow { OnOk result ((self.new.tickets.fast ≡ []) × AllMadeSlow (view_of self.old) (view_of self.new)) }
         ensures refused { IfErr result (λ why. LacksRoomForFast why (view_of self.old) (view_of self.new)) }
         ensures partly { OnErr result (AreSameOrSlow (view_of self.old) (view_of self.new)) }
+        ensures order { OnErr result (AreSlowBefore (view_of self.old) (view_of self.new)) }
         ensures room { KeepsRoom 0 self.old.tickets.room self.new.tickets.room }
     {
         while let Some(place) = self.tickets.some_fast() {

@@ -13,7 +13,7 @@ impl<R> Session<R> {
     pub fn reserve_tickets(&mut self, count: usize) -> Result<(), SpaceError>
         ensures same { StaysSame self.old self.new }
         ensures room { OnOk result (HasRoomFor count self.old.table.slots self.new.room) }
-        ensures refused { IfErr result (λ why. why ≡ OutOfMemory) }
+        ensures refused { IfErr result (λ why. (why ≡ OutOfMemory) × (HasRoomFor count self.old.table.slots self.old.room → ⊥)) }
     {
         let places = self.member.seat.slot_count();
         if self.member.tickets.reserve_many(count, places).is_err() {

@@ -4,6 +4,7 @@ ghost use Rattle.std.specs.List.{list_all};
 ghost use Rattle.std.specs.Vec.{vec_capacity, vec_len};
 ghost use Rattle.mdl_calls.specs.declared.answers.Held.{Held};
 ghost use Rattle.mdl_steps.specs.Cells.{note_at, own_at};
+ghost use Rattle.mdl_steps.specs.declared.view.Own.{Own};
 ghost use Rattle.mdl_steps.specs.Deeds.{is_own};
 ghost use Rattle.mdl_steps.specs.FastPlays.{but_at, fast_own, first_note};
 ghost use Rattle.mdl_steps.specs.Interleavings.{interleaved};
@@ -120,9 +121,10 @@ impl Tickets {
         note_counted(&self.places, place)
     }
 
-    /// A place with a fast ticket.
+    /// The first place with a fast ticket.
     pub(crate) fn some_fast(&self) -> Option<usize>
-        ensures { MatchOption result (self.now.fast ≡ []) (λ place. 0 < length (own_at place self.now.fast)) }
+        ensures { MatchOption result (self.now.fast ≡ [])
+            (λ place. (0 < length (own_at place self.now.fast)) × ((q : ℕ) → q < place → own_at q self.now.fast ≡ [])) }
     {
         if self.fast == 0 {
             return None;
@@ -149,6 +151,7 @@ impl Tickets {
         ensures same { (self.new.slow ≡ self.old.slow) × (self.new.fast ≡ self.old.fast) }
         ensures kept { KeepsRoom 0 self.old.room self.new.room }
         ensures room { OnOk result (HasRoom place self.new.room) }
+        ensures lacked { OnErr result (HasRoom place self.old.room → ⊥) }
     {
         self.reserve_many(1, place + 1)
     }
@@ -159,6 +162,7 @@ impl Tickets {
         ensures same { (self.new.slow ≡ self.old.slow) × (self.new.fast ≡ self.old.fast) }
         ensures kept { KeepsRoom 0 self.old.room self.new.room }
         ensures room { OnOk result (HasRoomFor count places self.new.room) }
+        ensures lacked { OnErr result (HasRoomFor count places self.old.room → ⊥) }
     {
         reach(&mut self.places, places)?;
         self.gained.reserve(count)
@@ -196,6 +200,7 @@ impl Tickets {
     /// Strikes the ticket of a number at a place, if there is one.
     pub(crate) fn strike(&mut self, place: usize, id: TicketId)
         ensures struck { (self.new.slow ≡ without_at place id self.old.slow) × (self.new.fast ≡ without_at place id self.old.fast) }
+        ensures freed { (t : Own) → numbered id self.old.fast ≡ Some t → t.place ≡ place → self.old.room.spare < self.new.room.spare }
         ensures room { KeepsRoom 0 self.old.room self.new.room }
     {
         if let Some(at) = index_at(&self.gained, place, id) {
@@ -394,6 +399,7 @@ fn reach(places: &mut Vec<OfPlace>, count: usize) -> Result<(), AllocError>
     ensures length { length places.old.items ≤ length places.new.items }
     ensures narrow { count ≤ 65536 → length places.old.items ≤ 65536 → length places.new.items ≤ 65536 }
     ensures reach { OnOk result (count ≤ length places.new.items) }
+    ensures lacked { OnErr result (length places.old.items < count) }
     ensures same { (q : ℕ) → AreAt q places.old.items places.new.items }
 {
     if count <= places.len() {
