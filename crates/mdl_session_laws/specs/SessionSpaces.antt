@@ -147,6 +147,6 @@ HasSeen a who place version = was_read place version a.reads ≡ true
 abbrev pub Pins : Space → ℕ → ℕ → Type 0
 Pins a who place = is_known place a.known ≡ true
 
--- between its calls it owes no waiter anything
+-- no call of a lock space leaves a debt to the waits of a place
 abbrev pub Owes : Space → ℕ → ℕ → Type 0
 Owes a who place = ⊥

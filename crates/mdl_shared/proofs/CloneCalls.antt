@@ -16,18 +16,19 @@ use Rattle.mdl_visits.specs.Numbers.{numbered}
 use Rattle.mdl_visits.specs.Visits.{MeetsFull}
 use Rattle.mdl_visits.proofs.Numbers.{has_number}
 use Rattle.mdl_shared.specs.DeedsDone.{DoesQuietly}
-use Rattle.mdl_shared.specs.FastDeeds.{LacksRoomForFast}
 use Rattle.mdl_shared.specs.FastWishes.{BecomesSlow, GainsFast}
 use Rattle.mdl_shared.specs.Members.{IsMember}
 use Rattle.mdl_shared.specs.Modes.{clone_fault}
 use Rattle.mdl_shared.specs.OwnLists.{told_of}
-use Rattle.mdl_shared.specs.SessionViews.{SessionView, lists_seen, space_of, tickets_seen}
-use Rattle.mdl_shared.specs.Showings.{FullForOne, MeetsClone, MeetsTicket, OfTicket, Shows, ShowsStep}
-use Rattle.mdl_shared.proofs.FastWishing.{number-slow, shows-slow}
-use Rattle.mdl_shared.proofs.FastWishShows.{lack-cause}
+use Rattle.mdl_shared.specs.SessionViews.{SessionView, space_of, tickets_seen}
+use Rattle.mdl_shared.specs.Showings.{FullForFast, IsClosed, IsCloned, LacksMemory, LacksRoomForWish, MeetsTicket, Shows, ShowsStep}
+use Rattle.mdl_shared.specs.TicketLists.{KeepsRoom}
+use Rattle.mdl_shared.proofs.FastWishing.{by-latch, number-slow}
+use Rattle.mdl_shared.proofs.FastWishShows.{full-fast, full-one, wish-lack}
 use Rattle.mdl_shared.proofs.MemberFacts.{speaks}
 use Rattle.mdl_shared.proofs.Members.{HasDone, done-nothing}
 use Rattle.mdl_shared.proofs.QuietDeeds.{quiet-shows, quiet-then}
+use Rattle.mdl_shared.proofs.Rooms.{keeps-before}
 use Rattle.mdl_shared.proofs.SameSpace.{Stays, refused, same-stays, waits-asks}
 use Rattle.mdl_shared.proofs.SpaceLists.{ticket-told}
 use Rattle.mdl_shared.proofs.WishCalls.{by-cause, gain-joins}
@@ -47,19 +48,13 @@ module _ {s : SessionView} (is : IsMember s) (id : ℕ) (mode : Mode) where
     may-clone = let h = clone-clear s id mode (numbered id (tickets_seen s.me.0)) refl clear in (waits-asks s.me.0.asks s.me.0.waits ∙ h.0, h.1)
 
     -- refused, as memory ran out or the book is full
-    pub clone-refused : {s′ : SessionView} → Stays s s′ → {why : SpaceError} → (why ≡ OutOfMemory) ⊎ (why ≡ Full)
+    clone-refused : {s′ : SessionView} → Stays s s′ → {why : SpaceError} → (why ≡ OutOfMemory) ⊎ (why ≡ Full)
         → Joins (space_of s) (Clone_ticket s.me.0.number id mode) (Refused why) (space_of s′)
     clone-refused {s′} stays {why} causes =
         refused s s′ (Clone_ticket s.me.0.number id mode) why stays (speaks is) refl refl
         (by-cause (λ w. IsCause (Knows (space_of s) s.me.0.number) (Clone_ticket s.me.0.number id mode) w (space_of s).own) why tt may-clone causes)
         (λ state how is. cc) tt
 
-    pub refused-shows : {s′ : SessionView} {place : ℕ} {why : SpaceError} → DoesQuietly place [] s s′
-        → (why ≡ OutOfMemory) ⊎ ((why ≡ Full) × OfTicket id (lists_seen s.me.0) (λ t. FullForOne t.place s s′))
-        → Shows (Clone_ticket s.me.0.number id mode) (Refused why) s s′
-    refused-shows quiet met = quiet-shows quiet refl clear (λ e. e) (λ e. e) tt (inr met)
-
-    -- made
     module _ (t : Own) (its : numbered id (tickets_seen s.me.0) ≡ Some t) where
       pub clone-joins : {s′ : SessionView} {new : ℕ} → new ≡ s.me.0.next → HasDone t.place (Gain new mode ∷ []) s s′
           → Joins (space_of s) (Clone_ticket s.me.0.number id mode) (Granted new) (space_of s′)
@@ -68,49 +63,43 @@ module _ {s : SessionView} (is : IsMember s) (id : ℕ) (mode : Mode) where
           (ap (λ o. cloning new mode o (space_of s).own) (ticket-told id (tickets_seen s.me.0) ∙ ap (option_map told_of) its)) (λ d. d)
           may-clone tt refl (λ state how is. cc) (λ how is. cc) refl (λ r. r) tt
 
-      pub clone-shows : {s′ : SessionView} {new : ℕ} → DoesQuietly t.place (Gain new mode ∷ []) s s′
-          → ShowsStep s s′ (MeetsClone t.place s.me.0.number id (Gain new mode)) → Shows (Clone_ticket s.me.0.number id mode) (Granted new) s s′
-      clone-shows quiet met = quiet-shows quiet refl clear (λ e. e) (λ e. e) tt (t, its, met)
+      clone-shows : {s′ : SessionView} {new : ℕ} → DoesQuietly t.place (Gain new mode ∷ []) s s′
+          → IsCloned t.place mode id (Gain new mode) s s′ → KeepsRoom 1 s.room s′.room → Shows (Clone_ticket s.me.0.number id mode) (Granted new) s s′
+      clone-shows quiet met keeps = quiet-shows quiet refl clear (λ e. e) (λ e. e) tt (t, its, met) keeps
 
       -- by the fast path
       pub fast-cloned : {b : SessionView} {new : ℕ} → GainsFast t.place mode new s b
           → Joins (space_of s) (Clone_ticket s.me.0.number id mode) (Granted new) (space_of b) × Shows (Clone_ticket s.me.0.number id mode) (Granted new) s b
-      fast-cloned gains = (
-        clone-joins gains.first gains.quiet.done,
-        clone-shows gains.quiet (gains.met.0, gains.met.1, inr gains.met.2),
+      fast-cloned gains = (clone-joins gains.first gains.quiet.done, clone-shows gains.quiet (inl gains.met) gains.room)
+
+      -- there was no room
+      clone-full : {at : ℕ} {b : SessionView} {why : SpaceError} → DoesQuietly at [] s b × KeepsRoom 0 s.room b.room → LacksRoomForWish t.place mode why s b
+          → Joins (space_of s) (Clone_ticket s.me.0.number id mode) (Refused why) (space_of b) × Shows (Clone_ticket s.me.0.number id mode) (Refused why) s b
+      clone-full {b = b} still lacks = (
+        clone-refused (done-nothing still.0.done) (wish-lack t.place mode s b lacks),
+        quiet-shows still.0 refl clear (λ e. e) (λ e. e) tt (inr (t, its, lacks)) still.1,
       )
 
-      -- there was no room for the fast tickets
-      lacks-one : (b : SessionView) {why : SpaceError} → LacksRoomForFast why s b
-          → (why ≡ OutOfMemory) ⊎ ((why ≡ Full) × OfTicket id (lists_seen s.me.0) (λ u. FullForOne u.place s b))
-      lacks-one b (inl memory) = inl memory
-      lacks-one b (inr full) = inr (full.0, (t, its, inr full.1))
-
-      pub clone-full : {b : SessionView} {why : SpaceError} → DoesQuietly 0 [] s b → LacksRoomForFast why s b
+      pub full-cloned : {b : SessionView} {why : SpaceError} → DoesQuietly 0 [] s b × KeepsRoom 0 s.room b.room
+          → ((why ≡ OutOfMemory) × LacksMemory t.place mode s b) ⊎ ((why ≡ Full) × IsClosed t.place mode s b × FullForFast s b)
           → Joins (space_of s) (Clone_ticket s.me.0.number id mode) (Refused why) (space_of b) × Shows (Clone_ticket s.me.0.number id mode) (Refused why) s b
-      clone-full {b} quiet lacks = (clone-refused (done-nothing quiet.done) (lack-cause s b lacks), refused-shows quiet (lacks-one b lacks))
+      full-cloned {b} still causes = clone-full still (full-fast t.place mode s b causes)
 
-      -- by the latch of the place, once they are slow ones
-      module _ {b c : SessionView} (slow : BecomesSlow s b) where
+      -- by the latch of the place, once all fast tickets are slow ones
+      module _ {b c : SessionView} (slow : BecomesSlow s b) (closed : IsClosed t.place mode s b) where
         pub cloned-slow : (next : ℕ) → next ≡ s.me.0.next → (result : Result ℕ SpaceError)
-            → IfOk result (λ new. (new ≡ next) × DoesQuietly t.place (Gain new mode ∷ []) b c × MeetsTicket t.number (Gain new mode ∷ []) b c t)
-            → OnErr result (DoesQuietly t.place [] b c) → IfErr result (λ why. (why ≡ OutOfMemory) ⊎ ((why ≡ Full) × ShowsStep b c (MeetsFull t.place)))
+            → IfOk result (λ new. (new ≡ next) × DoesQuietly t.place (Gain new mode ∷ []) b c × MeetsTicket t.number (Gain new mode ∷ []) b c t
+            × KeepsRoom 1 b.room c.room)
+            → OnErr result (DoesQuietly t.place [] b c × KeepsRoom 0 b.room c.room)
+            → IfErr result (λ why. (why ≡ OutOfMemory) ⊎ ((why ≡ Full) × ShowsStep b c (MeetsFull t.place)))
             → Joins (space_of s) (Clone_ticket s.me.0.number id mode) (cloned result) (space_of c)
             × Shows (Clone_ticket s.me.0.number id mode) (cloned result) s c
-        cloned-slow next first (Ok new) made unchanged why =
+        cloned-slow next first (Ok new) made still causes =
             let quiet = quiet-then slow.quiet made.1 in
             let met = made.2 in
-            let own = subst₂ (λ (who n : ℕ). MeetsOwn t.place who n met.0) (number-slow slow) (has_number id t (tickets_seen s.me.0) its) met.2.0 in
-            (clone-joins (made.0 ∙ first) quiet.done, clone-shows quiet (shows-slow slow c (met.0, met.1, inl (own, met.2.1))))
-        cloned-slow next first (Err why) made unchanged causes =
-            let quiet = quiet-then slow.quiet unchanged in
-            (clone-refused (done-nothing quiet.done) (either-cause causes), refused-shows quiet (full-one causes))
-          where
-            either-cause : (why ≡ OutOfMemory) ⊎ ((why ≡ Full) × ShowsStep b c (MeetsFull t.place)) → (why ≡ OutOfMemory) ⊎ (why ≡ Full)
-            either-cause (inl memory) = inl memory
-            either-cause (inr full) = inr full.0
-
-            full-one : (why ≡ OutOfMemory) ⊎ ((why ≡ Full) × ShowsStep b c (MeetsFull t.place))
-                → (why ≡ OutOfMemory) ⊎ ((why ≡ Full) × OfTicket id (lists_seen s.me.0) (λ u. FullForOne u.place s c))
-            full-one (inl memory) = inl memory
-            full-one (inr full) = inr (full.0, (t, its, inl (shows-slow slow c full.1)))
+            let own = subst₂ (λ (who n : ℕ). MeetsOwn t.place who n met.0) (number-slow slow) (has_number id t (tickets_seen s.me.0) its) met.2.0 in (
+              clone-joins (made.0 ∙ first) quiet.done,
+              clone-shows quiet (inr (by-latch slow t.place mode closed (met.0, met.1, (own, met.2.1)))) (keeps-before 1 s.room b.room c.room slow.room made.3),
+            )
+        cloned-slow next first (Err why) made still causes =
+            clone-full (quiet-then slow.quiet still.0, keeps-before 0 s.room b.room c.room slow.room still.1) (full-one t.place mode s b slow closed still.0 causes)

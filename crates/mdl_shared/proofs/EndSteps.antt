@@ -23,6 +23,7 @@ use Rattle.mdl_visits.proofs.Steps.{does_then, step_before}
 use Rattle.mdl_shared.specs.Members.{IsMember}
 use Rattle.mdl_shared.specs.SessionViews.{SessionView, lists_seen, session_at, settled_of, space_of}
 use Rattle.mdl_shared.specs.Showings.{MeetsOwnWait, Shows}
+use Rattle.mdl_shared.specs.TicketLists.{KeepsRoom, Room}
 use Rattle.mdl_shared.specs.Waitings.{wait_fault}
 use Rattle.mdl_shared.proofs.EndCalls.{HasEnded, lost-joins, unsettled-joins, won-joins}
 use Rattle.mdl_shared.proofs.Faults.{if-clear}
@@ -56,6 +57,7 @@ module _ {s mid : SessionView} (is : IsMember s) (a : Ask) (asks : s.me.0.asks �
           told = tt;
           steps = tt;
           met = inr (refl, shown.met);
+          room = shown.room;
         },
       )
 
@@ -83,9 +85,9 @@ module _ {s mid : SessionView} (is : IsMember s) (a : Ask) (asks : s.me.0.asks �
     -- ---- it was lost
 
     pub lost-end : {s′ : SessionView} → Does [] mid.me s′.me → is_answer_of (End_wait s.me.0.number) (Lost one) ≡ true → HasEnded s.me.0.slow s s′
-        → HasRescheduled mid.table a.place (without_wait mid.me) s′.me
+        → HasRescheduled mid.table a.place (without_wait mid.me) s′.me → KeepsRoom 0 s.room s′.room
         → Joins (space_of s) (End_wait s.me.0.number) (Lost one) (space_of s′) × Shows (End_wait s.me.0.number) (Lost one) s s′
-    lost-end {s′} ends fits ended rescheduled =
+    lost-end {s′} ends fits ended rescheduled keeps =
         let shown = polled.1 in (
           lost-joins is a asks one fits agreed ended,
           record {
@@ -106,14 +108,15 @@ module _ {s mid : SessionView} (is : IsMember s) (a : Ask) (asks : s.me.0.asks �
                     (subst (λ (id : TableId). HasRescheduled id a.place (without_wait mid.me) s′.me) shown.table rescheduled),
               ),
             );
+            room = keeps;
           },
         )
 
     -- ---- it was granted
 
     pub won-end : one ≡ settled_as.Granted → {s′ : SessionView} → Does [] mid.me s′.me → (ended : HasEnded (owned a.place (Gain a.number a.mode) s.me.0.slow) s s′) → ended.settles ≡ s.me.0.settles
-        → Joins (space_of s) (End_wait s.me.0.number) (Granted a.number) (space_of s′) × Shows (End_wait s.me.0.number) (Granted a.number) s s′
-    won-end granted {s′} ends ended settles = (
+        → KeepsRoom 1 s.room s′.room → Joins (space_of s) (End_wait s.me.0.number) (Granted a.number) (space_of s′) × Shows (End_wait s.me.0.number) (Granted a.number) s s′
+    won-end granted {s′} ends ended settles keeps = (
       won-joins is a asks (λ how knows. sym granted ∙ agreed how knows) ended,
       record {
         table = ap (λ (x : SessionView). x.table) ended.now;
@@ -124,16 +127,18 @@ module _ {s mid : SessionView} (is : IsMember s) (a : Ask) (asks : s.me.0.asks �
         told = tt;
         steps = tt;
         met = subst (λ (how : Settled). MeetsOwnWait (state_of how) (lists_seen s.me.0) s s′) granted (met s′ ends);
+        room = keeps;
       },
     )
 
 -- ---- the steps that end it
 
-module _ {seat mid seat′ : SeatState} (sessions session found : ℕ)
-    (now : session_at mid sessions ≡ word-step ReadWait session found found seat.me.0.settles (session_at seat sessions)) where
+module _ {seat mid seat′ : SeatState} (sessions session found : ℕ) {room : Room}
+    (now : session_at mid sessions room ≡ word-step ReadWait session found found seat.me.0.settles (session_at seat sessions room)) where
   -- as lost
-  pub ended-lost : {place : ℕ} → AtItsTable mid seat′ (EndsLost mid.table place) → HasEnded seat.me.0.slow (session_at seat sessions) (session_at seat′ sessions)
-  ended-lost ends =
+  pub ended-lost : {room′ : Room} {place : ℕ} → AtItsTable mid seat′ (EndsLost mid.table place)
+      → HasEnded seat.me.0.slow (session_at seat sessions room) (session_at seat′ sessions room′)
+  ended-lost {room′} ends =
       let went = ends.1 in
       let table : seat′.table ≡ seat.table = ends.0 ∙ ap (λ (x : SessionView). x.table) now in
       let told : went.told ≡ None = sym (ap (λ (m : Mine). m.0.told) went.now) ∙ went.way.unasked refl in
@@ -144,21 +149,23 @@ module _ {seat mid seat′ : SeatState} (sessions session found : ℕ)
       record {
         settles = went.settles;
         log = mid.me.0.log ++ went.made;
-        now = λ i. record { table = table i; sessions = sessions; me = me i };
+        room = room′;
+        now = λ i. record { table = table i; sessions = sessions; me = me i; room = room′ };
       }
 
   -- as granted, without settling any wait
-  pub ended-won : (a : Ask) → seat.me.0.asks ≡ Some a → seat′ ≡ record mid { me = ended_granted mid.table.slots mid.me }
-      → (ended : HasEnded (owned a.place (Gain a.number a.mode) seat.me.0.slow) (session_at seat sessions) (session_at seat′ sessions)) × (ended.settles ≡ seat.me.0.settles)
-  ended-won a asks made =
+  pub ended-won : {room′ : Room} (a : Ask) → seat.me.0.asks ≡ Some a → seat′ ≡ record mid { me = ended_granted mid.table.slots mid.me }
+      → (ended : HasEnded (owned a.place (Gain a.number a.mode) seat.me.0.slow) (session_at seat sessions room) (session_at seat′ sessions room′)) × (ended.settles ≡ seat.me.0.settles)
+  ended-won {room′} a asks made =
       let log = (ended_granted mid.table.slots mid.me).0.log in (
         record {
           settles = seat.me.0.settles;
           log = log;
+          room = room′;
           now =
-              ap (λ (x : SeatState). session_at x sessions) made
-              ∙ ap (λ (x : SessionView). record x { me = (record x.me.0 { slow = x.me.0.slow ++ taken_over x.me.0.asks x.me.0.slow; asks = None; told = None; log = log }, x.me.1) }) now
-              ∙ ap (λ (o : Option Ask). record (session_at seat sessions) { me = (record seat.me.0 { slow = seat.me.0.slow ++ taken_over o seat.me.0.slow; asks = None; told = None; log = log }, seat.me.1) }) asks;
+              ap (λ (x : SeatState). session_at x sessions room′) made
+              ∙ ap (λ (x : SessionView). record x { me = (record x.me.0 { slow = x.me.0.slow ++ taken_over x.me.0.asks x.me.0.slow; asks = None; told = None; log = log }, x.me.1); room = room′ }) now
+              ∙ ap (λ (o : Option Ask). record (session_at seat sessions room) { me = (record seat.me.0 { slow = seat.me.0.slow ++ taken_over o seat.me.0.slow; asks = None; told = None; log = log }, seat.me.1); room = room′ }) asks;
         },
         refl,
       )

@@ -1,5 +1,5 @@
 -- Calls that try for a fast ticket and give one up: what they tell and do.
-use Rattle.std.proofs.Common.{◌≡◌, ◌⊎◌, inl, inr, ℕ, ◌<◌, Bool, true, List, [], ◌∷◌, length, is_some, Option, Some, None, Result, Err, refl, sym, ap, subst, ◌∙◌}
+use Rattle.std.proofs.Common.{◌≡◌, ◌⊎◌, inl, inr, ℕ, ◌<◌, ◌≤◌, Bool, true, List, [], ◌∷◌, length, is_some, Option, Some, None, Result, Err, refl, sym, ap, subst, ◌∙◌}
 use Rattle.mdl_key.specs.declared.mode.Mode.{Mode}
 use Rattle.mdl_steps.specs.declared.deed.Deed.TheVariants.{Gain, Lose}
 use Rattle.mdl_steps.specs.declared.view.Ask.{Ask}
@@ -7,7 +7,7 @@ use Rattle.mdl_steps.specs.declared.view.Own.{Own}
 use Rattle.mdl_steps.specs.Cells.{own_at}
 use Rattle.mdl_steps.specs.Limits.{most_fast}
 use Rattle.mdl_steps.specs.Lists.{Each}
-use Rattle.mdl_visits.specs.FastTries.{MeetsClear, ReleasesFast}
+use Rattle.mdl_visits.specs.FastTries.{GrantsAtLast, ReleasesFast}
 use Rattle.mdl_visits.specs.Numbers.{numbered}
 use Rattle.mdl_visits.proofs.Numbers.{has_number}
 use Rattle.mdl_shared.specs.declared.fast_path.NotFast.{NotFast}
@@ -18,56 +18,79 @@ use Rattle.mdl_shared.specs.DeedsDone.{DoesQuietly}
 use Rattle.mdl_shared.specs.FastCalls.{GaveUpFast, GetsNothing, HasFewerFast, HasTriedFast}
 use Rattle.mdl_shared.specs.Members.{kind_known, wish_fault}
 use Rattle.mdl_shared.specs.Passes.{view_of}
-use Rattle.mdl_shared.specs.SessionViews.{Lists, SessionView, lists_seen}
+use Rattle.mdl_shared.specs.SessionViews.{Lists, SessionView, StaysSame, lists_seen}
 use Rattle.mdl_shared.specs.Showings.{AllMadeSlow, MakesSlow, ShowsStep}
-use Rattle.mdl_shared.specs.TicketLists.{TicketList}
+use Rattle.mdl_shared.specs.TicketLists.{KeepsRoom, Room, TicketList}
+use Rattle.mdl_shared.proofs.FastWishing.{quiet-room}
 use Rattle.mdl_shared.proofs.MemberFacts.{fast-held}
 use Rattle.mdl_shared.proofs.Props.{member}
+use Rattle.mdl_shared.proofs.Rooms.{keeps-before}
 use Rattle.mdl_shared.proofs.TicketCalls.{release-joins}
 use Rattle.mdl_shared.proofs.WishCalls.{try-granted}
 
 -- ---- a try
 
 -- who wasn't told of the limit has fewer
-pub fewer-seen : (m : Member) (room : TicketList) (place : ℕ) {result : Result ℕ NotFast} → room.fast ≡ m.tickets.fast
-    → (result ≡ Err Limit) ⊎ (length (own_at place room.fast) < most_fast) → (result ≡ Err Limit → HasFewerFast place (view_of m)) → HasFewerFast place (view_of m)
-fewer-seen m room place same (inl limit) never = never limit
-fewer-seen m room place same (inr fewer) never =
+pub fewer-seen : (m : Member) (list : TicketList) (place : ℕ) {result : Result ℕ NotFast} → list.fast ≡ m.tickets.fast
+    → (result ≡ Err Limit) ⊎ (length (own_at place list.fast) < most_fast) → (result ≡ Err Limit → HasFewerFast place (view_of m)) → HasFewerFast place (view_of m)
+fewer-seen m list place same (inl limit) never = never limit
+fewer-seen m list place same (inr fewer) never =
     subst (λ (fast : List Own). length (own_at place fast) < most_fast) (same ∙ ap (λ (l : Lists). l.fast) m.lists) fewer
 
--- a ticket was granted
-pub tried-granted : (m : Member) (b : SessionView) (place : ℕ) (mode : Mode) (id : ℕ) → HasFewerFast place (view_of m)
-    → wish_fault (kind_known place m.known.known) m.asks mode m.next ≡ None → id ≡ m.next
-    → DoesQuietly place (Gain id mode ∷ []) (view_of m) b → ShowsStep (view_of m) b (MeetsClear place (Gain id mode))
-    → HasTriedFast place mode (Granted id) (view_of m) b
-tried-granted m b place mode id fewer clear first quiet shown =
-    let seen : wish_fault (kind_known place m.seat.me.0.known) m.seat.me.0.asks mode m.seat.me.0.next ≡ None =
-    ap (λ (l : Lists). wish_fault (kind_known place l.known) l.asks mode l.next) (sym m.lists) ∙ clear in
-    (fewer, try-granted (member m) place mode seen (first ∙ ap (λ (l : Lists). l.next) m.lists) quiet.done, quiet, shown)
+-- before it, room is made in the session's own list, which is this then and tells the tickets that it told
+pub record HasMadeRoom (m : Member) (list : TicketList) : Type 0 where
+  pub slow : list.slow ≡ m.tickets.slow
+  pub fast : list.fast ≡ m.tickets.fast
+  pub more : KeepsRoom 0 m.tickets.room list.room
 
--- none was: the session's own list tells the tickets that it told before, when room had been made there
-pub tried-nothing : (m m′ : Member) {place : ℕ} (room : TicketList) → (room.slow ≡ m.tickets.slow) × (room.fast ≡ m.tickets.fast)
-    → HasFewerFast place (view_of m) → DoesQuietly place [] (view_of m) (view_of m′) × (m′.tickets ≡ room) → GetsNothing place (view_of m) (view_of m′)
-tried-nothing m m′ {place} room same fewer missed =
-    let quiet = missed.0 in
-    let slow = ap (λ (l : TicketList). l.slow) missed.1 ∙ same.0 in
-    let fast = ap (λ (l : TicketList). l.fast) missed.1 ∙ same.1 in
-    let now = quiet.done.now in
-    let me = m.seat.me.0 in
-    let lists : lists_seen m′.seat.me.0 ≡ record (lists_seen me) { slow = quiet.done.slow; fast = quiet.done.fast } =
-    ap (λ (x : SessionView). lists_seen x.me.0) now in
-    let slows : quiet.done.slow ≡ me.slow = sym (ap (λ (l : Lists). l.slow) (m′.lists ∙ lists)) ∙ slow ∙ ap (λ (l : Lists). l.slow) m.lists in
-    let fasts : quiet.done.fast ≡ me.fast = sym (ap (λ (l : Lists). l.fast) (m′.lists ∙ lists)) ∙ fast ∙ ap (λ (l : Lists). l.fast) m.lists in (
-      fewer,
-      record {
-        number = ap (λ (x : SessionView). x.me.0.number) now;
-        table = ap (λ (x : SessionView). x.table) now;
-        sessions = ap (λ (x : SessionView). x.sessions) now;
-        lists = lists ∙ (λ i. record (lists_seen me) { slow = slows i; fast = fasts i });
-        reads = ap (λ (x : SessionView). x.me.0.reads) now;
-      },
-      quiet,
-    )
+module _ (m : Member) {list : TicketList} (made : HasMadeRoom m list) {place : ℕ} where
+  -- a ticket was granted
+  pub tried-granted : (m′ : Member) (mode : Mode) (id : ℕ) → HasFewerFast place (view_of m)
+      → wish_fault (kind_known place m.known.known) m.asks mode m.next ≡ None → id ≡ m.next
+      → DoesQuietly place (Gain id mode ∷ []) (record (view_of m) { room = list.room }) (view_of m′) → GrantsAtLast place (Gain id mode) m.seat.me m′.seat.me
+      → is_some (numbered id m′.tickets.fast) ≡ true → KeepsRoom 1 list.room m′.tickets.room → HasTriedFast place mode (Granted id) (view_of m) (view_of m′)
+  tried-granted m′ mode id fewer clear first then last held room =
+      let seen : wish_fault (kind_known place m.seat.me.0.known) m.seat.me.0.asks mode m.seat.me.0.next ≡ None =
+      ap (λ (l : Lists). wish_fault (kind_known place l.known) l.asks mode l.next) (sym m.lists) ∙ clear in
+      let quiet = quiet-room (view_of m) list.room then in (
+        fewer,
+        try-granted (member m) place mode seen (first ∙ ap (λ (l : Lists). l.next) m.lists) quiet.done,
+        quiet,
+        last,
+        ap (λ (l : Lists). is_some (numbered id l.fast)) (sym m′.lists) ∙ held,
+        keeps-before 1 m.tickets.room list.room m′.tickets.room made.more room,
+      )
+
+  -- none was
+  pub tried-nothing : (m′ : Member) → HasFewerFast place (view_of m)
+      → DoesQuietly place [] (record (view_of m) { room = list.room }) (view_of m′) × (m′.tickets ≡ list) → GetsNothing place (view_of m) (view_of m′)
+  tried-nothing m′ fewer missed =
+      let quiet = quiet-room (view_of m) list.room missed.0 in
+      let slow = ap (λ (l : TicketList). l.slow) missed.1 ∙ made.slow in
+      let fast = ap (λ (l : TicketList). l.fast) missed.1 ∙ made.fast in
+      let now = quiet.done.now in
+      let me = m.seat.me.0 in
+      let lists : lists_seen m′.seat.me.0 ≡ record (lists_seen me) { slow = quiet.done.slow; fast = quiet.done.fast } =
+      ap (λ (x : SessionView). lists_seen x.me.0) now in
+      let slows : quiet.done.slow ≡ me.slow = sym (ap (λ (l : Lists). l.slow) (m′.lists ∙ lists)) ∙ slow ∙ ap (λ (l : Lists). l.slow) m.lists in
+      let fasts : quiet.done.fast ≡ me.fast = sym (ap (λ (l : Lists). l.fast) (m′.lists ∙ lists)) ∙ fast ∙ ap (λ (l : Lists). l.fast) m.lists in (
+        fewer,
+        record {
+          number = ap (λ (x : SessionView). x.me.0.number) now;
+          table = ap (λ (x : SessionView). x.table) now;
+          sessions = ap (λ (x : SessionView). x.sessions) now;
+          lists = lists ∙ (λ i. record (lists_seen me) { slow = slows i; fast = fasts i });
+          reads = ap (λ (x : SessionView). x.me.0.reads) now;
+          room = subst (λ (r : Room). KeepsRoom 0 m.tickets.room r) (sym (ap (λ (l : TicketList). l.room) missed.1)) made.more;
+        },
+        quiet,
+      )
+
+-- none was, and no step was made
+pub tried-limit : (m m′ : Member) {list : TicketList} → HasMadeRoom m list → view_of m′ ≡ record (view_of m) { room = list.room } → StaysSame (view_of m) (view_of m′)
+tried-limit m m′ {list} made same =
+    let room : list.room ≡ m′.tickets.room = sym (ap (λ (x : SessionView). x.room) same) in
+    (same ∙ ap (λ (r : Room). record (view_of m) { room = r }) room, subst (λ (r : Room). KeepsRoom 0 m.tickets.room r) room made.more)
 
 -- ---- a release
 
@@ -78,14 +101,14 @@ its-number m id t held = subst (λ (n : ℕ). numbered n m.tickets.fast ≡ Some
 -- it was given up
 pub gave-up-fast : (m : Member) (b : SessionView) (id : ℕ) (t : Own) {owes : Bool} → numbered id m.tickets.fast ≡ Some t
     → DoesQuietly t.place (Lose t.number ∷ []) (view_of m) b → ReleasesFast t.place t.number owes m.seat.me b.me
-    → GaveUpFast id owes (view_of m) b
-gave-up-fast m b id t {owes} held quiet released =
+    → (m.tickets.room.spare < b.room.spare) × (m.tickets.room.reach ≤ b.room.reach) → GaveUpFast id owes (view_of m) b
+gave-up-fast m b id t {owes} held quiet released room =
     let is : t.number ≡ id = has_number id t m.tickets.fast held in
     let its : numbered id m.seat.me.0.fast ≡ Some t = ap (λ (l : Lists). numbered id l.fast) (sym m.lists) ∙ held in
     let gone : DoesQuietly t.place (Lose id ∷ []) (view_of m) b =
     subst (λ (n : ℕ). DoesQuietly t.place (Lose n ∷ []) (view_of m) b) is quiet in
     let by : ReleasesFast t.place id owes m.seat.me b.me = subst (λ (n : ℕ). ReleasesFast t.place n owes m.seat.me b.me) is released in
-    (release-joins (member m) id t (fast-held (member m) id t its) gone.done, (t, its, gone, by))
+    (release-joins (member m) id t (fast-held (member m) id t its) gone.done, (t, its, gone, by), room.0, room.1)
 
 -- ---- fast tickets become slow
 

@@ -25,6 +25,7 @@ use Rattle.mdl_shared.specs.DeedsDone.{DoesQuietly, StaysFast}
 use Rattle.mdl_shared.specs.Members.{IsMember, increment_at}
 use Rattle.mdl_shared.specs.Rememberings.{AreAlike}
 use Rattle.mdl_shared.specs.SessionViews.{Lists, lists_seen, session_at, tickets_seen}
+use Rattle.mdl_shared.specs.TicketLists.{Room}
 use Rattle.mdl_shared.proofs.Alike.{all_noted}
 use Rattle.mdl_shared.proofs.MemberFacts.{below, rising}
 use Rattle.mdl_shared.proofs.Members.{seat-changed}
@@ -75,12 +76,12 @@ fewer-fast known asks fast keep = record {
   plain = counted-kept keep known fast;
 }
 
-module _ (seat seat′ : SeatState) (sessions : ℕ) (is : IsMember (session_at seat sessions)) where
+module _ (seat seat′ : SeatState) (sessions : ℕ) {room : Room} (is : IsMember (session_at seat sessions room)) where
   -- a fast ticket was granted
-  pub fast-granted : {place one : ℕ} {mode : Mode} {noted : Option ℕ} → seat.me.0.asks ≡ None → increment_at place mode seat.me.0.known ≡ Some one
+  pub fast-granted : {room′ : Room} {place one : ℕ} {mode : Mode} {noted : Option ℕ} → seat.me.0.asks ≡ None → increment_at place mode seat.me.0.known ≡ Some one
       → noted ≡ noted_at place seat.me.0 → AtItsTable seat seat′ (GrantsFast place mode noted)
-      → DoesQuietly place (Gain seat.me.0.next mode ∷ []) (session_at seat sessions) (session_at seat′ sessions)
-  fast-granted {place} {one} {mode} {noted} idle counted it granted =
+      → DoesQuietly place (Gain seat.me.0.next mode ∷ []) (session_at seat sessions room) (session_at seat′ sessions room′)
+  fast-granted {room′} {place} {one} {mode} {noted} idle counted it granted =
       let v = seat.me.0 in
       let its : noted ≡ note_at place (tickets_seen v) = it ∙ one-noted place v.slow v.fast is.alike in
       let t : Own = fast_own v.next place mode noted in
@@ -91,6 +92,7 @@ module _ (seat seat′ : SeatState) (sessions : ℕ) (is : IsMember (session_at 
           told = v.told;
           settles = v.settles;
           log = _;
+          room = room′;
           now = seat-changed seat seat′ sessions granted.0 _ now;
           tickets = gained-fast t v.slow v.fast (below is) ∙ ap (λ (n : Option ℕ). tickets_seen v ++ fast_own v.next place mode n ∷ []) its;
           fasts = record {
@@ -106,9 +108,9 @@ module _ (seat seat′ : SeatState) (sessions : ℕ) (is : IsMember (session_at 
       }
 
   -- one was released
-  pub fast-released : {place number : ℕ} {owes : Bool} {t : Own} → numbered number seat.me.0.fast ≡ Some t → AtItsTable seat seat′ (ReleasesFast place number owes)
-      → DoesQuietly place (Lose number ∷ []) (session_at seat sessions) (session_at seat′ sessions)
-  fast-released {place} {number} {owes} {t} its released =
+  pub fast-released : {room′ : Room} {place number : ℕ} {owes : Bool} {t : Own} → numbered number seat.me.0.fast ≡ Some t → AtItsTable seat seat′ (ReleasesFast place number owes)
+      → DoesQuietly place (Lose number ∷ []) (session_at seat sessions room) (session_at seat′ sessions room′)
+  fast-released {room′} {place} {number} {owes} {t} its released =
       let v = seat.me.0 in
       let now = released.1.now in record {
         done = record {
@@ -117,6 +119,7 @@ module _ (seat seat′ : SeatState) (sessions : ℕ) (is : IsMember (session_at 
           told = v.told;
           settles = v.settles;
           log = _;
+          room = room′;
           now = seat-changed seat seat′ sessions released.0 _ now;
           tickets = released-fast place number v.slow v.fast (rising is) (numbers-apart number t v.slow v.fast (rising is) its);
           fasts = fewer-fast v.known v.asks v.fast (λ u. not (is_own place number u));
@@ -129,8 +132,8 @@ module _ (seat seat′ : SeatState) (sessions : ℕ) (is : IsMember (session_at 
       }
 
   -- those of a place became slow ones
-  pub fast-materialised : {place : ℕ} → AtItsTable seat seat′ (Materialises place) → DoesQuietly 0 [] (session_at seat sessions) (session_at seat′ sessions)
-  fast-materialised {place} moved =
+  pub fast-materialised : {room′ : Room} {place : ℕ} → AtItsTable seat seat′ (Materialises place) → DoesQuietly 0 [] (session_at seat sessions room) (session_at seat′ sessions room′)
+  fast-materialised {room′} {place} moved =
       let v = seat.me.0 in
       let now = moved.1.now in record {
         done = record {
@@ -139,6 +142,7 @@ module _ (seat seat′ : SeatState) (sessions : ℕ) (is : IsMember (session_at 
           told = v.told;
           settles = v.settles;
           log = _;
+          room = room′;
           now = seat-changed seat seat′ sessions moved.0 _ now;
           tickets = made-slow place v.slow v.fast (rising is);
           fasts = fewer-fast v.known v.asks v.fast (λ u. not (u.place == place));

@@ -87,7 +87,7 @@ counted-found known id (f ∷ fs) t its all =
     (λ hit. let found = rw hit at its in let is : f ≡ t = cc in ap (λ (u : Own). is_some (increment_at u.place u.mode known)) (sym is) ∙ parts.0)
     (λ miss. counted-found known id fs t (rw miss at its) parts.1)
 
-pub kind-fast : (known : List Known) (place : ℕ) (fast : List Own) → 0 < length (own_at place fast) → are_counted known fast ≡ true → is_some (kind_known place known) ≡ true
+kind-fast : (known : List Known) (place : ℕ) (fast : List Own) → 0 < length (own_at place fast) → are_counted known fast ≡ true → is_some (kind_known place known) ≡ true
 kind-fast known place [] some all = absurd (omega (arith, some))
 kind-fast known place (f ∷ fs) some all =
     let parts = and_parts (is_some (increment_at f.place f.mode known)) (are_counted known fs) all in

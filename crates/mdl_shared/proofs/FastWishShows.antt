@@ -1,5 +1,6 @@
 -- What wishes tell and show that were tried on the fast path first.
-use Rattle.std.proofs.Common.{◌≡◌, ◌⊎◌, inl, inr, ℕ, [], None, Result, Ok, Err, refl, sym, ap, subst, ◌∙◌}
+use Rattle.std.proofs.Common.{◌≡◌, ◌⊎◌, inl, inr, ℕ, [], ◌∷◌, ◌++◌, None, Result, Ok, Err, refl, sym, ap, subst, ◌∙◌}
+use Rattle.std.specs.Prelude.{IfErr, IfOk, OnErr}
 use Rattle.mdl_key.specs.declared.mode.Mode.{Mode}
 use Rattle.mdl_calls.specs.declared.answers.Attempt.{Attempt}
 use Rattle.mdl_calls.specs.declared.answers.Attempt.TheVariants as attempt
@@ -7,123 +8,147 @@ use Rattle.mdl_calls.specs.declared.answers.Begun.{Begun}
 use Rattle.mdl_calls.specs.declared.answers.Begun.TheVariants as begin
 use Rattle.mdl_calls.specs.declared.space_error.SpaceError.{SpaceError}
 use Rattle.mdl_calls.specs.declared.space_error.SpaceError.TheVariants.{Full, OutOfMemory}
-use Rattle.mdl_calls.specs.Words.{Answer, Begin_wait, Call, Granted, Refused, Try_now, attempted, begun}
+use Rattle.mdl_calls.specs.Words.{Begin_wait, Granted, Refused, Try_now, Waits, attempted, begun}
 use Rattle.mdl_steps.specs.declared.deed.Deed.TheVariants.{Gain}
 use Rattle.mdl_steps.specs.declared.view.Met.{Met}
+use Rattle.mdl_steps.specs.Plays.{Mine}
 use Rattle.mdl_session_laws.specs.SessionJoins.{Joins}
 use Rattle.mdl_session_laws.specs.SessionSpaces.{Space}
-use Rattle.mdl_visits.specs.Visits.{AreStepsOf, MeetsBlocked}
-use Rattle.mdl_visits.specs.WaitOpenings.{MeetsOpening}
+use Rattle.mdl_visits.specs.Visits.{AreStepsOf, MeetsBlocked, MeetsFull, MeetsGrantable}
+use Rattle.mdl_visits.specs.WaitOpenings.{MeetsOpening, awaiting}
+use Rattle.mdl_visits.proofs.Steps.{does_then}
 use Rattle.mdl_shared.specs.DeedsDone.{DoesQuietly}
-use Rattle.mdl_shared.specs.FastDeeds.{LacksRoomForFast}
-use Rattle.mdl_shared.specs.FastWishes.{BecomesSlow, GainsFast}
-use Rattle.mdl_shared.specs.Members.{kind_known, wish_fault}
-use Rattle.mdl_shared.specs.SessionViews.{SessionView, lists_seen, space_of, tickets_seen}
-use Rattle.mdl_shared.specs.Showings.{FromUnfast, FullForOne, MeetsGrant, MeetsSo, RefusesWish, Shows, ShowsStep, done_by}
-use Rattle.mdl_shared.proofs.FastWishing.{from-slow, full-one_slow, number-slow, same-space, shows-since, shows-slow}
-use Rattle.mdl_shared.proofs.QuietDeeds.{quiet-shows}
+use Rattle.mdl_shared.specs.FastWishes.{BecomesSlow, BeginsToWait, GainsFast, GainsSlow, HasBegun, HasTried}
+use Rattle.mdl_shared.specs.Members.{IsMember, kind_known, wish_fault}
+use Rattle.mdl_shared.specs.SessionViews.{SessionView, space_of}
+use Rattle.mdl_shared.specs.Showings.{FullForFast, IsClosed, IsGranted, LacksMemory, LacksRoomForFast, LacksRoomForWish, Shows, ShowsStep}
+use Rattle.mdl_shared.specs.TicketLists.{KeepsRoom}
+use Rattle.mdl_shared.proofs.FastWishing.{by-latch, closed-then, next-slow, number-slow, same-space}
+use Rattle.mdl_shared.proofs.Members.{done-nothing}
+use Rattle.mdl_shared.proofs.QuietDeeds.{quiet-shows, quiet-steps, quiet-then}
+use Rattle.mdl_shared.proofs.Rooms.{keeps-before}
+use Rattle.mdl_shared.proofs.WaitSteps.{still-member}
+use Rattle.mdl_shared.proofs.WishCalls.{begin-granted, begin-refused, begun-joins, try-blocked, try-granted, try-refused, untold-wish}
+use Rattle.mdl_shared.proofs.WishShows.{shows}
 
--- ---- at once
-
--- there was no room for the fast tickets that the session had
-lacks-room : (place : ℕ) (a b : SessionView) {why : SpaceError} → LacksRoomForFast why a b → (why ≡ OutOfMemory) ⊎ ((why ≡ Full) × FullForOne place a b)
-lacks-room place a b (inl memory) = inl memory
-lacks-room place a b (inr full) = inr (full.0, inr full.1)
+-- ---- why it is refused
 
 -- as a lock space tells it
+cause-told : {X : Type 0} {why : SpaceError} → (why ≡ OutOfMemory) ⊎ ((why ≡ Full) × X) → (why ≡ OutOfMemory) ⊎ (why ≡ Full)
+cause-told (inl memory) = inl memory
+cause-told (inr full) = inr full.0
+
+-- there was no room for the fast tickets that the session had
 pub lack-cause : (a b : SessionView) {why : SpaceError} → LacksRoomForFast why a b → (why ≡ OutOfMemory) ⊎ (why ≡ Full)
-lack-cause a b (inl memory) = inl memory
-lack-cause a b (inr full) = inr full.0
+lack-cause a b lacks = cause-told lacks.1
 
-module _ {a b : SessionView} {place : ℕ} {mode : Mode} (clear : wish_fault (kind_known place a.me.0.known) a.me.0.asks mode a.me.0.next ≡ None) where
-  -- a fast ticket was granted
-  pub try-fast-shows : {id : ℕ} → GainsFast place mode id a b → Shows (Try_now a.me.0.number place mode) (Granted id) a b
-  try-fast-shows gains = quiet-shows gains.quiet refl clear (λ s. s) (λ t. t) tt (gains.met.0, gains.met.1, inr gains.met.2)
+module _ (place : ℕ) (mode : Mode) (a b : SessionView) {why : SpaceError} where
+  -- there was none for a wish
+  pub wish-lack : LacksRoomForWish place mode why a b → (why ≡ OutOfMemory) ⊎ (why ≡ Full)
+  wish-lack (inl memory) = inl memory.0
+  wish-lack (inr full) = inr full.0
 
-  pub begin-fast-shows : {id : ℕ} → GainsFast place mode id a b → Shows (Begin_wait a.me.0.number place mode) (Granted id) a b
-  begin-fast-shows gains = quiet-shows gains.quiet refl clear (λ s. s) (λ t. t) tt (gains.met.0, gains.met.1, inr gains.met.2)
+  -- there was none for the fast tickets that it had, as a wish's answer tells it
+  pub full-fast : ((why ≡ OutOfMemory) × LacksMemory place mode a b) ⊎ ((why ≡ Full) × IsClosed place mode a b × FullForFast a b)
+      → LacksRoomForWish place mode why a b
+  full-fast (inl memory) = inl memory
+  full-fast (inr full) = inr (full.0, inr (full.1, full.2))
 
-  -- there was no room
-  pub try-full-shows : {why : SpaceError} → DoesQuietly 0 [] a b → LacksRoomForFast why a b
-      → Shows (Try_now a.me.0.number place mode) (Refused why) a b
-  try-full-shows quiet lacks = quiet-shows quiet refl clear (λ s. s) (λ t. t) tt (inr (lacks-room place a b lacks))
+  -- there was none for one ticket more
+  pub full-one : {at : ℕ} {c : SessionView} → BecomesSlow a b → IsClosed place mode a b → DoesQuietly at [] b c
+      → (why ≡ OutOfMemory) ⊎ ((why ≡ Full) × ShowsStep b c (MeetsFull place)) → LacksRoomForWish place mode why a c
+  full-one {c = c} slow closed quiet (inl memory) = inl (memory, inr (closed-then place mode a b c (quiet-steps quiet) closed))
+  full-one slow closed quiet (inr full) = inr (full.0, inl (by-latch slow place mode closed full.1))
 
-  pub begin-full-shows : {why : SpaceError} → DoesQuietly 0 [] a b → LacksRoomForFast why a b
-      → Shows (Begin_wait a.me.0.number place mode) (Refused why) a b
-  begin-full-shows quiet lacks = quiet-shows quiet refl clear (λ s. s) (λ t. t) tt (inr (lacks-room place a b lacks))
+module _ {a : SessionView} (is : IsMember a) (place : ℕ) (mode : Mode) (clear : wish_fault (kind_known place a.me.0.known) a.me.0.asks mode a.me.0.next ≡ None) where
+  -- ---- refused
 
--- ---- by the latch of the place, once all fast tickets are slow ones
+  pub try-full : {at : ℕ} {b : SessionView} {why : SpaceError} → DoesQuietly at [] a b × KeepsRoom 0 a.room b.room → LacksRoomForWish place mode why a b
+      → Joins (space_of a) (Try_now a.me.0.number place mode) (Refused why) (space_of b) × Shows (Try_now a.me.0.number place mode) (Refused why) a b
+  try-full {b = b} still lacks = (
+    try-refused is place mode clear (done-nothing still.0.done) (wish-lack place mode a b lacks),
+    quiet-shows still.0 refl clear (λ s. s) (λ t. t) tt (inr lacks) still.1,
+  )
 
--- the space is the same then
-joins-since : {a b : SessionView} {call : Call} {answer : Answer} {space : Space} → BecomesSlow a b → Joins (space_of b) call answer space
-    → Joins (space_of a) call answer space
-joins-since {call = call} {answer = answer} {space = space} slow joins =
-    subst (λ (s : Space). Joins s call answer space) (same-space slow.quiet) joins
+  pub begin-full : {at : ℕ} {b : SessionView} {why : SpaceError} → DoesQuietly at [] a b × KeepsRoom 0 a.room b.room → LacksRoomForWish place mode why a b
+      → Joins (space_of a) (Begin_wait a.me.0.number place mode) (Refused why) (space_of b) × Shows (Begin_wait a.me.0.number place mode) (Refused why) a b
+  begin-full {b = b} still lacks = (
+    begin-refused is place mode clear (done-nothing still.0.done) (wish-lack place mode a b lacks),
+    quiet-shows still.0 refl clear (λ s. s) (λ t. t) tt (inr lacks) still.1,
+  )
 
-module _ {a b : SessionView} (slow : BecomesSlow a b) (c : SessionView) (place : ℕ) (mode : Mode) where
-  -- refused there for what the session has, or for want of room
-  refuses-since : {why : SpaceError} → RefusesWish (wish_fault (kind_known place b.me.0.known) b.me.0.asks mode b.me.0.next) why (FullForOne place b c)
-      → RefusesWish (wish_fault (kind_known place a.me.0.known) a.me.0.asks mode a.me.0.next) why (FullForOne place a c)
-  refuses-since (inl fault) =
-      inl (sym (ap (λ (x : SessionView). wish_fault (kind_known place x.me.0.known) x.me.0.asks mode x.me.0.next) slow.quiet.done.now) ∙ fault)
-  refuses-since (inr (inl memory)) = inr (inl memory)
-  refuses-since (inr (inr full)) = inr (inr (full.0, full-one_slow slow place c full.1))
+  -- ---- granted
 
-  -- granted there
-  grants-since : {id : ℕ} → ShowsStep b c (MeetsGrant place b.me.0.number mode (Gain id mode))
-      → ShowsStep a c (MeetsGrant place a.me.0.number mode (Gain id mode))
-  grants-since {id} met =
-      shows-slow slow c (subst (λ (n : ℕ). ShowsStep b c (MeetsGrant place n mode (Gain id mode))) (number-slow slow) met)
+  module _ {b : SessionView} {id : ℕ} (first : id ≡ a.me.0.next) (quiet : DoesQuietly place (Gain id mode ∷ []) a b) (met : IsGranted place mode (Gain id mode) a b)
+      (keeps : KeepsRoom 1 a.room b.room) where
+    pub try-grants : Joins (space_of a) (Try_now a.me.0.number place mode) (Granted id) (space_of b) × Shows (Try_now a.me.0.number place mode) (Granted id) a b
+    try-grants = (try-granted is place mode clear first quiet.done, quiet-shows quiet refl clear (λ s. s) (λ t. t) tt met keeps)
 
-  try-met : (who : ℕ) (result : Result Attempt SpaceError) → MeetsSo (Try_now who place mode) (attempted result) (lists_seen b.me.0) b c
-      → MeetsSo (Try_now who place mode) (attempted result) (lists_seen a.me.0) a c
-  try-met who (Ok (attempt.Granted id)) met = grants-since met
-  try-met who (Ok attempt.WouldWait) met =
-      from-slow slow c (subst (λ (n : ℕ). FromUnfast b c (λ mid. ShowsStep mid c (MeetsBlocked place n mode))) (number-slow slow) met)
-  try-met who (Err why) met = refuses-since met
+    pub begin-grants : Joins (space_of a) (Begin_wait a.me.0.number place mode) (Granted id) (space_of b) × Shows (Begin_wait a.me.0.number place mode) (Granted id) a b
+    begin-grants = (begin-granted is place mode clear first quiet.done, quiet-shows quiet refl clear (λ s. s) (λ t. t) tt met keeps)
 
-  begin-met : (who : ℕ) (result : Result Begun SpaceError) → MeetsSo (Begin_wait who place mode) (begun result) (lists_seen b.me.0) b c
-      → MeetsSo (Begin_wait who place mode) (begun result) (lists_seen a.me.0) a c
-  begin-met who (Ok (begin.Granted id)) met = grants-since met
-  begin-met who (Ok (begin.Waiting number)) met =
-      from-slow slow c (subst (λ (x : SessionView). FromUnfast b c (λ mid. (e f : Met) × AreStepsOf mid.me c.me e f × MeetsBlocked place x.me.0.number mode e
-      × MeetsOpening x.table.slots place x.me.0.number x.me.0.waits x.me.0.next mode f)) slow.quiet.done.now met)
-  begin-met who (Err why) met = refuses-since met
+  -- by the fast path
+  pub try-fast : {b : SessionView} {id : ℕ} → GainsFast place mode id a b
+      → Joins (space_of a) (Try_now a.me.0.number place mode) (Granted id) (space_of b) × Shows (Try_now a.me.0.number place mode) (Granted id) a b
+  try-fast gains = try-grants gains.first gains.quiet (inl gains.met) gains.room
 
-  pub try-joins-since : (result : Result Attempt SpaceError) → Joins (space_of b) (Try_now b.me.0.number place mode) (attempted result) (space_of c)
-      → Joins (space_of a) (Try_now a.me.0.number place mode) (attempted result) (space_of c)
-  try-joins-since result joins =
-      joins-since slow (subst (λ (n : ℕ). Joins (space_of b) (Try_now n place mode) (attempted result) (space_of c)) (number-slow slow) joins)
+  pub begin-fast : {b : SessionView} {id : ℕ} → GainsFast place mode id a b
+      → Joins (space_of a) (Begin_wait a.me.0.number place mode) (Granted id) (space_of b) × Shows (Begin_wait a.me.0.number place mode) (Granted id) a b
+  begin-fast gains = begin-grants gains.first gains.quiet (inl gains.met) gains.room
 
-  pub begin-joins-since : (result : Result Begun SpaceError) → Joins (space_of b) (Begin_wait b.me.0.number place mode) (begun result) (space_of c)
-      → Joins (space_of a) (Begin_wait a.me.0.number place mode) (begun result) (space_of c)
-  begin-joins-since result joins =
-      joins-since slow (subst (λ (n : ℕ). Joins (space_of b) (Begin_wait n place mode) (begun result) (space_of c)) (number-slow slow) joins)
+  -- ---- by the latch of the place, once all fast tickets are slow ones
 
-  -- and the call shows by the whole what it does by the rest
-  try-did : (who : ℕ) (result : Result Attempt SpaceError)
-      → done_by (Try_now who place mode) (attempted result) (tickets_seen b.me.0) ≡ done_by (Try_now who place mode) (attempted result) (tickets_seen a.me.0)
-  try-did who (Ok (attempt.Granted id)) = refl
-  try-did who (Ok attempt.WouldWait) = refl
-  try-did who (Err why) = refl
+  module _ {b c : SessionView} (slow : BecomesSlow a b) (closed : IsClosed place mode a b) where
+    granted-since : {id : ℕ} → GainsSlow place mode id b c → IsGranted place mode (Gain id mode) a c
+    granted-since {id} gains =
+        inr (by-latch slow place mode closed (subst (λ (n : ℕ). ShowsStep b c (MeetsGrantable place n mode (Gain id mode))) (number-slow slow) gains.met))
 
-  begin-did : (who : ℕ) (result : Result Begun SpaceError)
-      → done_by (Begin_wait who place mode) (begun result) (tickets_seen b.me.0) ≡ done_by (Begin_wait who place mode) (begun result) (tickets_seen a.me.0)
-  begin-did who (Ok (begin.Granted id)) = refl
-  begin-did who (Ok (begin.Waiting number)) = refl
-  begin-did who (Err why) = refl
+    pub tried-slow : (result : Result Attempt SpaceError) → IfOk result (λ answer. HasTried place mode answer b c)
+        → OnErr result (DoesQuietly place [] b c × KeepsRoom 0 b.room c.room)
+        → IfErr result (λ why. (why ≡ OutOfMemory) ⊎ ((why ≡ Full) × ShowsStep b c (MeetsFull place)))
+        → Joins (space_of a) (Try_now a.me.0.number place mode) (attempted result) (space_of c)
+        × Shows (Try_now a.me.0.number place mode) (attempted result) a c
+    tried-slow (Ok (attempt.Granted id)) tried still causes =
+        try-grants (tried.first ∙ next-slow slow) (quiet-then slow.quiet tried.quiet) (granted-since tried)
+        (keeps-before 1 a.room b.room c.room slow.room tried.room)
+    tried-slow (Ok attempt.WouldWait) tried still causes =
+        let quiet = quiet-then slow.quiet tried.quiet in
+        let met = subst (λ (n : ℕ). ShowsStep b c (MeetsBlocked place n mode)) (number-slow slow) tried.met in (
+          try-blocked is place mode clear (done-nothing quiet.done),
+          quiet-shows quiet refl clear (λ s. s) (λ t. t) tt (by-latch slow place mode closed met) (keeps-before 0 a.room b.room c.room slow.room tried.room),
+        )
+    tried-slow (Err why) tried still causes =
+        try-full (quiet-then slow.quiet still.0, keeps-before 0 a.room b.room c.room slow.room still.1) (full-one place mode a b slow closed still.0 causes)
 
-  module _ (clear : wish_fault (kind_known place a.me.0.known) a.me.0.asks mode a.me.0.next ≡ None) where
-    pub try-shows-since : (result : Result Attempt SpaceError) → Shows (Try_now b.me.0.number place mode) (attempted result) b c
-        → Shows (Try_now a.me.0.number place mode) (attempted result) a c
-    try-shows-since result shown =
-        let who = a.me.0.number in
-        shows-since slow clear (try-did who result) (λ s. s ∙ slow.quiet.settled) (λ t. t ∙ slow.quiet.told) (λ s. s) (try-met who result)
-        (subst (λ (n : ℕ). Shows (Try_now n place mode) (attempted result) b c) (number-slow slow) shown)
+    -- it waits
+    waits-joins : {number : ℕ} → BeginsToWait place mode number b c → Joins (space_of a) (Begin_wait a.me.0.number place mode) (Waits number) (space_of c)
+    waits-joins {number} begins =
+        let still = ap (λ (x : SessionView). wish_fault (kind_known place x.me.0.known) x.me.0.asks mode x.me.0.next) slow.quiet.done.now ∙ clear in
+        let now : c ≡ record b { me = (record (awaiting place mode b.me.0) { log = b.me.0.log ++ begins.opens.made }, b.me.1); room = c.room }
+        = λ i. record { table = begins.table i; sessions = begins.sessions i; me = begins.opens.now i; room = c.room } in
+        let joins = begun-joins (still-member slow.quiet.done is) still now begins.next in
+        let by = subst (λ (n : ℕ). Joins (space_of b) (Begin_wait n place mode) (Waits number) (space_of c)) (number-slow slow) joins in
+        subst (λ (s : Space). Joins s (Begin_wait a.me.0.number place mode) (Waits number) (space_of c)) (same-space slow.quiet) by
 
-    pub begin-shows-since : (result : Result Begun SpaceError) → Shows (Begin_wait b.me.0.number place mode) (begun result) b c
-        → Shows (Begin_wait a.me.0.number place mode) (begun result) a c
-    begin-shows-since result shown =
-        let who = a.me.0.number in
-        shows-since slow clear (begin-did who result) (λ s. s ∙ slow.quiet.settled) (λ t. t ∙ slow.quiet.told) (λ s. s) (begin-met who result)
-        (subst (λ (n : ℕ). Shows (Begin_wait n place mode) (begun result) b c) (number-slow slow) shown)
+    waits-shows : {number : ℕ} → BeginsToWait place mode number b c → Shows (Begin_wait a.me.0.number place mode) (Waits number) a c
+    waits-shows begins =
+        let opens = begins.opens in
+        let log = ap (λ (m : Mine). m.0.log) opens.now in
+        let met = subst (λ (x : SessionView). (e f : Met) × AreStepsOf b.me c.me e f × MeetsBlocked place x.me.0.number mode e
+        × MeetsOpening x.table.slots place x.me.0.number x.me.0.waits x.me.0.next mode f) slow.quiet.done.now begins.met in
+        shows (begins.table ∙ ap (λ (x : SessionView). x.table) slow.quiet.done.now) (begins.sessions ∙ ap (λ (x : SessionView). x.sessions) slow.quiet.done.now) clear
+        (does_then [] [] a.me b.me c.me slow.quiet.did (opens.made, log, opens.did)) (ap (λ (m : Mine). m.0.settles) opens.now ∙ slow.quiet.settled)
+        (ap (λ (m : Mine). m.0.told) opens.now ∙ sym (untold-wish is place mode clear)) tt (by-latch slow place mode closed met)
+        (keeps-before 0 a.room b.room c.room slow.room begins.room)
+
+    pub begun-slow : (result : Result Begun SpaceError) → IfOk result (λ answer. HasBegun place mode answer b c)
+        → OnErr result (DoesQuietly place [] b c × KeepsRoom 0 b.room c.room)
+        → IfErr result (λ why. (why ≡ OutOfMemory) ⊎ ((why ≡ Full) × ShowsStep b c (MeetsFull place)))
+        → Joins (space_of a) (Begin_wait a.me.0.number place mode) (begun result) (space_of c)
+        × Shows (Begin_wait a.me.0.number place mode) (begun result) a c
+    begun-slow (Ok (begin.Granted id)) asked still causes =
+        begin-grants (asked.first ∙ next-slow slow) (quiet-then slow.quiet asked.quiet) (granted-since asked)
+        (keeps-before 1 a.room b.room c.room slow.room asked.room)
+    begun-slow (Ok (begin.Waiting number)) asked still causes = (waits-joins asked, waits-shows asked)
+    begun-slow (Err why) asked still causes =
+        begin-full (quiet-then slow.quiet still.0, keeps-before 0 a.room b.room c.room slow.room still.1) (full-one place mode a b slow closed still.0 causes)

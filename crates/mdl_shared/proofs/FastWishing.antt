@@ -1,25 +1,24 @@
--- Calls that go by the latch of a place once all fast tickets of their session have become slow ones: what they tell and show as a whole.
-use Rattle.std.proofs.Common.{◌≡◌, inl, inr, ℕ, List, [], map, Option, None, length, sym, ap, subst, ◌∙◌, arith}
+-- Calls whose session goes by the latch of a place once its fast tickets have become slow ones: what is so of the whole call by what is so of a part.
+use Rattle.std.proofs.Common.{◌≡◌, ◌⊎◌, inl, inr, ℕ, ◌<◌, List, [], map, Option, length, sym, ap, subst, ◌∙◌}
 use Rattle.std.specs.Prelude.{filter_map}
+use Rattle.mdl_key.specs.declared.mode.Mode.{Mode}
 use Rattle.mdl_calls.specs.declared.space_error.SpaceError.{SpaceError}
-use Rattle.mdl_calls.specs.Words.{Answer, Call}
+use Rattle.mdl_calls.specs.declared.space_error.SpaceError.TheVariants.{Full, OutOfMemory}
 use Rattle.mdl_steps.specs.declared.deed.Deed.{Deed}
-use Rattle.mdl_steps.specs.declared.view.Met.{Met}
 use Rattle.mdl_steps.specs.declared.view.Own.{Own}
 use Rattle.mdl_steps.specs.Cells.{own_at}
 use Rattle.mdl_steps.specs.Lists.{Each}
 use Rattle.mdl_session_laws.specs.SessionSpaces.{Space}
 use Rattle.mdl_visits.specs.Materialisings.{MeetsFullFor}
-use Rattle.mdl_visits.specs.Visits.{Does, MakesMoreSteps}
-use Rattle.mdl_visits.proofs.Steps.{does_then, each_map, goes_none, goes_on}
+use Rattle.mdl_visits.specs.Visits.{MakesMoreSteps}
+use Rattle.mdl_visits.proofs.Steps.{each_map, goes_on}
 use Rattle.mdl_shared.specs.declared.member.Member.{Member}
 use Rattle.mdl_shared.specs.DeedsDone.{DoesQuietly}
-use Rattle.mdl_shared.specs.FastDeeds.{LacksRoomForFast}
 use Rattle.mdl_shared.specs.FastWishes.{BecomesSlow}
-use Rattle.mdl_shared.specs.SessionViews.{Lists, SessionView, lists_seen, note_of, settled_told, space_of, tickets_seen}
-use Rattle.mdl_shared.specs.Showings.{AllMadeSlow, FromUnfast, FullForFast, FullForOne, KeepsTold, MakesSlow, MeetsSo, SettlesSo, Shows, ShowsStep, StepsSo, done_by, own_fault}
-use Rattle.mdl_shared.proofs.Faults.{if-clear}
-use Rattle.mdl_shared.proofs.QuietDeeds.{quiet-steps, shows-first, shows-later}
+use Rattle.mdl_shared.specs.SessionViews.{Lists, SessionView, note_of, settled_told, space_of}
+use Rattle.mdl_shared.specs.Showings.{AllMadeSlow, ByLatch, FromUnfast, FullForFast, IsClosed, LacksMemory, LacksRoomForFast, MakesSlow, ShowsStep}
+use Rattle.mdl_shared.specs.TicketLists.{Room}
+use Rattle.mdl_shared.proofs.QuietDeeds.{quiet-steps, shows-later}
 use Rattle.mdl_shared.proofs.SameSpace.{numbers_by, own_by, reading_of}
 use Rattle.mdl_shared.proofs.SpaceLists.{known_of}
 
@@ -40,66 +39,55 @@ same-space {a = a} quiet =
     } in
     ap space_of quiet.done.now ∙ (λ i. space (quiet.done.tickets i) (told i))
 
+-- ---- after room was made
+
+-- what a session did that had more room then
+pub quiet-room : {place : ℕ} {ds : List Deed} {b : SessionView} (a : SessionView) (room : Room) → DoesQuietly place ds (record a { room = room }) b → DoesQuietly place ds a b
+quiet-room a room quiet =
+    let done = quiet.done in record {
+      done = record {
+        slow = done.slow;
+        fast = done.fast;
+        told = done.told;
+        settles = done.settles;
+        log = done.log;
+        room = done.room;
+        now = done.now;
+        tickets = done.tickets;
+        fasts = done.fasts;
+        stays = done.stays;
+        unasked = done.unasked;
+      };
+      did = quiet.did;
+      settled = quiet.settled;
+      told = quiet.told;
+    }
+
+-- ---- the fast path was closed
+
+-- steps only grow, so it was at the whole call where it was at a part
+pub closed-then : (place : ℕ) (mode : Mode) (a b c : SessionView) → MakesMoreSteps b.me c.me → IsClosed place mode a b → IsClosed place mode a c
+closed-then place mode a b c more (inl uncounted) = inl uncounted
+closed-then place mode a b c more (inr (inl many)) = inr (inl many)
+closed-then place mode a b c more (inr (inr vain)) = inr (inr (vain.0, vain.1, vain.2, goes_on vain.1 b.me c.me vain.3 more))
+
 -- ---- from a moment on at which the session has no fast ticket
-
--- from the start, where it had none
-pub from-here : (a b : SessionView) {fact : SessionView → Type 0} → a.me.0.fast ≡ [] → fact a → FromUnfast a b fact
-from-here a b none is =
-    (a, goes_none a.me, subst (λ (fast : List Own). Each (λ (t : Own). ShowsStep a a (MakesSlow t.place)) fast) (sym none) tt, is)
-
--- by the tickets that became slow at a part of the call they did at the whole
-made-first : (a b c : SessionView) → MakesMoreSteps b.me c.me → AllMadeSlow a b → AllMadeSlow a c
-made-first a b c more made =
-    each_map (λ (t : Own). ShowsStep a b (MakesSlow t.place)) (λ (t : Own). ShowsStep a c (MakesSlow t.place))
-    (λ t shown. shows-first a b c more shown) a.me.0.fast made
 
 module _ {a b : SessionView} (slow : BecomesSlow a b) where
   -- it is the session that it was
   pub number-slow : b.me.0.number ≡ a.me.0.number
   number-slow = ap (λ (x : SessionView). x.me.0.number) slow.quiet.done.now
 
-  -- what is so from a later moment on
-  pub from-slow : (c : SessionView) {fact : SessionView → Type 0} → FromUnfast b c fact → FromUnfast a c fact
-  from-slow c from =
-      let mid = from.0 in
-      (mid, goes_on a.me b.me mid.me (quiet-steps slow.quiet) from.1, made-first a b mid from.1 slow.made, from.3)
+  pub next-slow : b.me.0.next ≡ a.me.0.next
+  next-slow = ap (λ (x : SessionView). x.me.0.next) slow.quiet.done.now
 
-  -- steps that it made then
-  pub shows-slow : (c : SessionView) {fact : Met → Type 0} → ShowsStep b c fact → ShowsStep a c fact
-  shows-slow c shown = shows-later a b c (quiet-steps slow.quiet) shown
+  -- this is so from that moment on
+  pub from-slow : {fact : SessionView → Type 0} → fact b → FromUnfast a fact
+  from-slow is = (b, quiet-steps slow.quiet, slow.made, is)
 
-  -- a book that was full then
-  fuller : (n place : ℕ) (e : Met) → MeetsFullFor 0 place e → MeetsFullFor n place e
-  fuller n place e met = let full = met.full in record { word = met.word; latch = met.latch; held = met.held; full = omega arith }
-
-  full-slow : (c : SessionView) → FullForFast b c → FullForFast a c
-  full-slow c full =
-      let none : length (own_at full.0 b.me.0.fast) ≡ 0 = ap (λ (fast : List Own). length (own_at full.0 fast)) slow.unfast in
-      let shown = shows-slow c full.1 in
-      let met = subst (λ (n : ℕ). MeetsFullFor n full.0 shown.0) none shown.2 in
-      (full.0, (shown.0, shown.1, fuller (length (own_at full.0 a.me.0.fast)) full.0 shown.0 met))
-
-  pub full-one_slow : (place : ℕ) (c : SessionView) → FullForOne place b c → FullForOne place a c
-  full-one_slow place c (inl full) = inl (shows-slow c full)
-  full-one_slow place c (inr full) = inr (full-slow c full)
-
-  -- what the whole call shows, by what the rest of it does
-  pub shows-since : {c : SessionView} {call : Call} {answer : Answer} → own_fault call (lists_seen a.me.0) ≡ None
-      → done_by call answer (tickets_seen b.me.0) ≡ done_by call answer (tickets_seen a.me.0)
-      → (SettlesSo call answer (lists_seen b.me.0) b c → SettlesSo call answer (lists_seen a.me.0) a c) → (KeepsTold call b c → KeepsTold call a c)
-      → (StepsSo call b c → StepsSo call a c)
-      → (MeetsSo call answer (lists_seen b.me.0) b c → MeetsSo call answer (lists_seen a.me.0) a c) → Shows call answer b c → Shows call answer a c
-  shows-since {c} {call} {answer} clear same settled told steps met shown = record {
-    table = shown.table ∙ ap (λ (x : SessionView). x.table) slow.quiet.done.now;
-    sessions = shown.sessions ∙ ap (λ (x : SessionView). x.sessions) slow.quiet.done.now;
-    refused = if-clear _ (own_fault call (lists_seen a.me.0)) clear;
-    did = subst (λ (ds : List Deed). Does ds a.me c.me) same
-        (does_then [] (done_by call answer (tickets_seen b.me.0)) a.me b.me c.me slow.quiet.did shown.did);
-    settled = settled shown.settled;
-    told = told shown.told;
-    steps = steps shown.steps;
-    met = met shown.met;
-  }
+  -- and so by the latch, if the fast path was closed
+  pub by-latch : (place : ℕ) (mode : Mode) {fact : SessionView → Type 0} → IsClosed place mode a b → fact b → ByLatch place mode a fact
+  by-latch place mode closed is = from-slow (closed, is)
 
 -- ---- after steps that left the fast tickets as they were
 
@@ -112,13 +100,23 @@ made-later a b c more same made =
 -- there was no room for them
 full-later : (a b c : SessionView) → MakesMoreSteps a.me b.me → b.me.0.fast ≡ a.me.0.fast → FullForFast b c → FullForFast a c
 full-later a b c more same full =
-    let shown = shows-later a b c more full.1 in
-    (full.0, (shown.0, shown.1, subst (λ (fast : List Own). MeetsFullFor (length (own_at full.0 fast)) full.0 shown.0) same shown.2))
+    let q = full.0 in
+    let shown = shows-later a b c more full.3 in (
+      q,
+      subst (λ (fast : List Own). 0 < length (own_at q fast)) same full.1,
+      subst (λ (fast : List Own). own_at q c.me.0.fast ≡ own_at q fast) same full.2,
+      (shown.0, shown.1, subst (λ (fast : List Own). MeetsFullFor (length (own_at q fast)) q shown.0) same shown.2),
+    )
 
-pub lacks-later : (a b c : SessionView) {why : SpaceError} → MakesMoreSteps a.me b.me → b.me.0.fast ≡ a.me.0.fast → LacksRoomForFast why b c
-    → LacksRoomForFast why a c
-lacks-later a b c more same (inl memory) = inl memory
-lacks-later a b c more same (inr full) = inr (full.0, full-later a b c more same full.1)
+-- and the fast path was closed before
+pub lacks-later : (place : ℕ) (mode : Mode) (a b c : SessionView) {why : SpaceError} → MakesMoreSteps a.me b.me → b.me.0.fast ≡ a.me.0.fast
+    → MakesMoreSteps b.me c.me → IsClosed place mode a b → LacksRoomForFast why b c
+    → ((why ≡ OutOfMemory) × LacksMemory place mode a c) ⊎ ((why ≡ Full) × IsClosed place mode a c × FullForFast a c)
+lacks-later place mode a b c {why} first same more closed lacks = by lacks.1
+  where
+    by : (why ≡ OutOfMemory) ⊎ ((why ≡ Full) × FullForFast b c) → ((why ≡ OutOfMemory) × LacksMemory place mode a c) ⊎ ((why ≡ Full) × IsClosed place mode a c × FullForFast a c)
+    by (inl memory) = inl (memory, inr (closed-then place mode a b c more closed))
+    by (inr full) = inr (full.0, closed-then place mode a b c more closed, full-later a b c first same full.1)
 
 -- they are as they were where its own list of them is
 pub fast-still : (m m′ : Member) → m′.tickets.fast ≡ m.tickets.fast → m′.seat.me.0.fast ≡ m.seat.me.0.fast

@@ -12,6 +12,7 @@ pub mod Props
 pub mod MemberFacts
 pub mod SlowOrFast
 pub mod Members
+pub mod Rooms
 pub mod FastReleases
 pub mod HeldTickets
 pub mod Refusals

@@ -14,7 +14,6 @@ use Rattle.mdl_steps.specs.declared.view.LatchRecord.{LatchRecord}
 use Rattle.mdl_steps.specs.declared.view.Own.{Own}
 use Rattle.mdl_steps.specs.Cells.{own_at}
 use Rattle.mdl_steps.specs.Deeds.{KnowsPlace, NotWaited}
-use Rattle.mdl_steps.specs.Interleavings.{interleaved}
 use Rattle.mdl_steps.specs.Lists.{Each}
 use Rattle.mdl_steps.specs.Seats.{IsPlace, IsRising}
 use Rattle.mdl_steps.proofs.Interleaving.{Differ, Rising, numbered-interleaved, rising-uninterleaved}
@@ -171,13 +170,9 @@ module _ {s : SessionView} (is : IsMember s) where
   pub ticket-known : (id : ℕ) (t : Own) → numbered id (tickets_seen s.me.0) ≡ Some t → is_known_place s.me.0.known t.place ≡ true
   ticket-known id t its = placed_at s.me.0.known (tickets_seen s.me.0) t.place id placed (ticket-there id t its)
 
-  -- ---- while none of its tickets is fast
+  -- ---- while it has no fast ticket
 
-  -- each that it has is slow
-  pub held-slow : s.me.0.fast ≡ [] → (id : ℕ) (t : Own) → numbered id (tickets_seen s.me.0) ≡ Some t → numbered id s.me.0.slow ≡ Some t
-  held-slow none id t its = subst (λ (ts : List Own). numbered id (interleaved s.me.0.slow ts) ≡ Some t) none its
-
-  -- no fast one is at a place
+  -- none is at a place
   pub none-there : s.me.0.fast ≡ [] → (place : ℕ) → own_at place s.me.0.fast ≡ []
   none-there none place = ap (own_at place) none
 

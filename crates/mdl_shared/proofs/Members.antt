@@ -25,7 +25,7 @@ use Rattle.mdl_shared.specs.Members.{IsMember, are_counted, are_within, most_num
 use Rattle.mdl_shared.specs.Rememberings.{AreAlike}
 use Rattle.mdl_shared.specs.SessionViews.{Lists, SessionView, lists_seen, session_at, space_of, tickets_of, tickets_seen}
 use Rattle.mdl_shared.specs.Showings.{own_fault}
-use Rattle.mdl_shared.specs.TicketLists.{HasRoom, TicketList}
+use Rattle.mdl_shared.specs.TicketLists.{HasRoom, KeepsRoom, Room, TicketList}
 use Rattle.mdl_shared.specs.Waitings.{is_ask_last, is_ask_told}
 use Rattle.mdl_shared.proofs.Alike.{alike_done}
 use Rattle.mdl_shared.proofs.SameSpace.{KeepsRest, Stays}
@@ -62,6 +62,23 @@ kept {s} {s′} {call} {answer} is order joins = record {
       (is.words ∙ ap (word_count s.table.slots) (sym order.sessions));
 }
 
+-- whatever room it has
+pub member-room : {s : SessionView} → IsMember s → (r : Room) → IsMember (record s { room = r })
+member-room is r = record {
+  sound = is.sound;
+  idle = is.idle;
+  unfast = is.unfast;
+  plain = is.plain;
+  within = is.within;
+  alike = is.alike;
+  last = is.last;
+  told = is.told;
+  fewer = is.fewer;
+  counted = is.counted;
+  narrow = is.narrow;
+  words = is.words;
+}
+
 -- ---- calls that do deeds at a place, or none
 
 -- the same fast tickets
@@ -69,17 +86,19 @@ pub same-fast : (known : List Known) (asks : Option Ask) (fast : List Own) → S
 same-fast known asks fast = record { unfast = λ a waits e. e; plain = λ e. e }
 
 -- what its seat's visit tells
-pub seat-changed : (seat seat′ : SeatState) (sessions : ℕ) → seat′.table ≡ seat.table → (m : Mine) → seat′.me ≡ m → session_at seat′ sessions ≡ record (session_at seat sessions) { me = m }
-seat-changed seat seat′ sessions table m me = λ i. record { table = table i; sessions = sessions; me = me i }
+pub seat-changed : (seat seat′ : SeatState) (sessions : ℕ) {room : Room} → seat′.table ≡ seat.table → (m : Mine) → seat′.me ≡ m
+    → session_at seat′ sessions room ≡ record (session_at seat sessions room) { me = m }
+seat-changed seat seat′ sessions {room} table m me = λ i. record { table = table i; sessions = sessions; me = me i; room = room }
 
-pub visited : {place : ℕ} {ds : List Deed} (seat seat′ : SeatState) (sessions : ℕ) → DoesSlow place ds seat.me.0 → AtItsTable seat seat′ (Visits place ds)
-    → HasDone place ds (session_at seat sessions) (session_at seat′ sessions)
-visited {place} {ds} seat seat′ sessions same visits = record {
+pub visited : {place : ℕ} {ds : List Deed} (seat seat′ : SeatState) (sessions : ℕ) {room room′ : Room} → DoesSlow place ds seat.me.0 → AtItsTable seat seat′ (Visits place ds)
+    → HasDone place ds (session_at seat sessions room) (session_at seat′ sessions room′)
+visited {place} {ds} seat seat′ sessions {room} {room′} same visits = record {
   slow = all_owned place ds seat.me.0.slow;
   fast = seat.me.0.fast;
   told = seat.me.0.told;
   settles = seat.me.0.settles;
   log = _;
+  room = room′;
   now = seat-changed seat seat′ sessions visits.0 _ visits.1.now;
   tickets = same;
   fasts = same-fast seat.me.0.known seat.me.0.asks seat.me.0.fast;
@@ -87,9 +106,9 @@ visited {place} {ds} seat seat′ sessions same visits = record {
   unasked = λ none. refl;
 }
 
-pub rescheduled : {place : ℕ} {ds : List Deed} (seat seat′ : SeatState) (sessions : ℕ) → DoesSlow place ds seat.me.0 → AtItsTable seat seat′ (VisitsAndReschedules seat.table place ds)
-    → HasDone place ds (session_at seat sessions) (session_at seat′ sessions)
-rescheduled {place} {ds} seat seat′ sessions same visits =
+pub rescheduled : {place : ℕ} {ds : List Deed} (seat seat′ : SeatState) (sessions : ℕ) {room room′ : Room} → DoesSlow place ds seat.me.0 → AtItsTable seat seat′ (VisitsAndReschedules seat.table place ds)
+    → HasDone place ds (session_at seat sessions room) (session_at seat′ sessions room′)
+rescheduled {place} {ds} seat seat′ sessions {room} {room′} same visits =
     let told : seat′.me.0.told ≡ visits.1.told = ap (λ (m : Mine). m.0.told) visits.1.now in
     record {
       slow = all_owned place ds seat.me.0.slow;
@@ -97,6 +116,7 @@ rescheduled {place} {ds} seat seat′ sessions same visits =
       told = visits.1.told;
       settles = visits.1.settles;
       log = _;
+      room = room′;
       now = seat-changed seat seat′ sessions visits.0 _ visits.1.now;
       tickets = same;
       fasts = same-fast seat.me.0.known seat.me.0.asks seat.me.0.fast;
@@ -177,11 +197,13 @@ done-then {at} {place} {ds} {a} {b} {c} first later =
       told = later.told;
       settles = later.settles;
       log = later.log;
+      room = later.room;
       now = later.now ∙ ap (λ (x : SessionView). record x {
         me = (
           record x.me.0 { slow = later.slow; fast = later.fast; next = all_next ds x.me.0.next; told = later.told; settles = later.settles; log = later.log },
           x.me.1,
         );
+        room = later.room;
       }) b-is;
       tickets = later.tickets ∙ ap (all_owned place ds) (done-tickets first);
       fasts = fast-then (subst (λ (x : SessionView). StaysFast x.me.0.known x.me.0.asks x.me.0.fast later.fast) b-is later.fasts);
@@ -227,11 +249,8 @@ pub fast-struck : (m : Member) (place id : ℕ) {fast : List Own} → is_no_numb
 fast-struck m place id none same = same ∙ none-struck place id m.tickets.fast (ap (λ (l : Lists). is_no_number id l.fast) m.lists ∙ none)
 
 -- and have the room that they had
-pub room-kept : {place : ℕ} (list list′ : TicketList) → (list.spare ≤ list′.spare) × (list′.reach ≡ list.reach) → HasRoom place list → HasRoom place list′
-room-kept {place} list list′ more room =
-    let some = more.0 in
-    let same = more.1 in
-    (omega (arith, some, room.0), subst (λ (n : ℕ). place < n) (sym same) room.1)
+pub room-kept : {place : ℕ} (list list′ : TicketList) → KeepsRoom 0 list.room list′.room → HasRoom place list.room → HasRoom place list′.room
+room-kept {place} list list′ more room = (omega (arith, more.0, room.0), omega (arith, more.1, room.1))
 
 -- a ticket of its own list is one of its view
 pub held-seen : (m : Member) (id : ℕ) (o : Option Own) → o ≡ numbered id (interleaved m.tickets.slow m.tickets.fast) → numbered id (tickets_seen m.seat.me.0) ≡ o

@@ -12,7 +12,8 @@ use Rattle.mdl_shared.specs.declared.member.Member.{Member}
 use Rattle.mdl_shared.specs.DeedsDone.{DoesQuietly, HasDone}
 use Rattle.mdl_shared.specs.Passes.{view_of}
 use Rattle.mdl_shared.specs.SessionViews.{Lists, SessionView, lists_seen, session_at, tickets_of, tickets_seen}
-use Rattle.mdl_shared.specs.Showings.{KeepsTold, MeetsSo, SettlesSo, ShowsStep, Shows, StepsSo, done_by, own_fault}
+use Rattle.mdl_shared.specs.Showings.{KeepsTold, MeetsSo, SettlesSo, ShowsStep, Shows, StepsSo, done_by, gained_by, own_fault}
+use Rattle.mdl_shared.specs.TicketLists.{KeepsRoom, Room}
 use Rattle.mdl_shared.proofs.Faults.{if-clear}
 use Rattle.mdl_shared.proofs.Members.{done-then, same-fast, seat-changed}
 
@@ -49,6 +50,7 @@ quiet-none s = record {
     told = s.me.0.told;
     settles = s.me.0.settles;
     log = s.me.0.log;
+    room = s.room;
     now = refl;
     tickets = refl;
     fasts = same-fast s.me.0.known s.me.0.asks s.me.0.fast;
@@ -61,14 +63,16 @@ quiet-none s = record {
 }
 
 -- steps and nothing else
-pub quiet-made : {place : ℕ} (seat seat′ : SeatState) (sessions : ℕ) → AtItsTable seat seat′ MakesSteps → DoesQuietly place [] (session_at seat sessions) (session_at seat′ sessions)
-quiet-made seat seat′ sessions made = record {
+pub quiet-made : {place : ℕ} (seat seat′ : SeatState) (sessions : ℕ) {room room′ : Room} → AtItsTable seat seat′ MakesSteps
+    → DoesQuietly place [] (session_at seat sessions room) (session_at seat′ sessions room′)
+quiet-made seat seat′ sessions {room} {room′} made = record {
   done = record {
     slow = seat.me.0.slow;
     fast = seat.me.0.fast;
     told = seat.me.0.told;
     settles = seat.me.0.settles;
     log = _;
+    room = room′;
     now = seat-changed seat seat′ sessions made.0 _ made.1.1;
     tickets = refl;
     fasts = same-fast seat.me.0.known seat.me.0.asks seat.me.0.fast;
@@ -96,8 +100,9 @@ quiet-visit done went = record {
 -- what a call shows by it
 pub quiet-shows : {place : ℕ} {ds : List Deed} {s s′ : SessionView} {call : Call} {answer : Answer} → DoesQuietly place ds s s′ → ds ≡ done_by call answer (tickets_seen s.me.0)
     → own_fault call (lists_seen s.me.0) ≡ None → (SettlesNothing s.me s′.me → SettlesSo call answer (lists_seen s.me.0) s s′)
-    → (s′.me.0.told ≡ s.me.0.told → KeepsTold call s s′) → StepsSo call s s′ → MeetsSo call answer (lists_seen s.me.0) s s′ → Shows call answer s s′
-quiet-shows {ds = ds} {s = s} {s′ = s′} {call = call} quiet is clear settled told steps met = record {
+    → (s′.me.0.told ≡ s.me.0.told → KeepsTold call s s′) → StepsSo call s s′ → MeetsSo call answer (lists_seen s.me.0) s s′
+    → KeepsRoom (gained_by answer) s.room s′.room → Shows call answer s s′
+quiet-shows {ds = ds} {s = s} {s′ = s′} {call = call} quiet is clear settled told steps met keeps = record {
   table = ap (λ (x : SessionView). x.table) quiet.done.now;
   sessions = ap (λ (x : SessionView). x.sessions) quiet.done.now;
   refused = if-clear _ (own_fault call (lists_seen s.me.0)) clear;
@@ -106,6 +111,7 @@ quiet-shows {ds = ds} {s = s} {s′ = s′} {call = call} quiet is clear settled
   told = told quiet.told;
   steps = steps;
   met = met;
+  room = keeps;
 }
 
 -- ---- a session's own lists after a part without deeds

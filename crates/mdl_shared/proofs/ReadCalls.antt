@@ -35,6 +35,7 @@ use Rattle.mdl_shared.specs.Passes.{view_of}
 use Rattle.mdl_shared.specs.Rememberings.{AreAlike}
 use Rattle.mdl_shared.specs.SessionViews.{Lists, SessionView, lists_seen, session_at, space_of, tickets_seen}
 use Rattle.mdl_shared.specs.Showings.{ShowsStep, Shows}
+use Rattle.mdl_shared.specs.TicketLists.{KeepsRoom, Room}
 use Rattle.mdl_shared.proofs.Alike.{alike_noting}
 use Rattle.mdl_shared.proofs.Faults.{if-clear, test-failed}
 use Rattle.mdl_shared.proofs.MemberFacts.{speaks}
@@ -51,6 +52,7 @@ use Rattle.mdl_shared.proofs.TicketOrder.{counted-noted, noted-both}
 -- it has read this, and noted it under each ticket that it has there, and made steps; nothing else changed
 pub record HasNoted (place : ℕ) (standing : Standing) (s s′ : SessionView) : Type 0 where
   pub log : List Met
+  pub room : Room
   pub now : s′ ≡ record s {
     me = (
       record s.me.0 {
@@ -61,14 +63,16 @@ pub record HasNoted (place : ℕ) (standing : Standing) (s s′ : SessionView) :
       },
       s.me.1,
     );
+    room = room;
   }
 
 -- what its seat's visit tells
-pub noted-by : {place : ℕ} {standing : Standing} (seat seat′ : SeatState) (sessions : ℕ) → seat′.table ≡ seat.table → Learns place standing seat.me seat′.me
-    → HasNoted place standing (session_at seat sessions) (session_at seat′ sessions)
-noted-by seat seat′ sessions table learns = record {
+pub noted-by : {place : ℕ} {standing : Standing} (seat seat′ : SeatState) (sessions : ℕ) {room room′ : Room} → seat′.table ≡ seat.table → Learns place standing seat.me seat′.me
+    → HasNoted place standing (session_at seat sessions room) (session_at seat′ sessions room′)
+noted-by seat seat′ sessions {room′ = room′} table learns = record {
   log = seat.me.0.log ++ learns.0;
-  now = λ i. record { table = table i; sessions = sessions; me = learns.1 i };
+  room = room′;
+  now = λ i. record { table = table i; sessions = sessions; me = learns.1 i; room = room′ };
 }
 
 module _ {place : ℕ} {standing : Standing} {s s′ : SessionView} (noted : HasNoted place standing s s′) where
@@ -147,8 +151,8 @@ module _ {s : SessionView} (is : IsMember s) (id : ℕ) (t : Own) (its : numbere
 
   pub read-shows : {s′ : SessionView} (standing : Standing) → HasNoted t.place standing s s′ → Follows t.place standing s.me → Does [] s.me s′.me → StaysQuiet s.me s′.me
       → ShowsStep s s′ (λ e. MeetsStanding t.place s.me.0.number standing e × (numbered id s.me.0.slow ≡ Some t → WasHeld t.place s.me.0.number id e))
-      → Shows (Read_definition s.me.0.number id) (Reads standing.version standing.definition) s s′
-  read-shows {s′} standing noted follows did quiet met = record {
+      → KeepsRoom 0 s.room s′.room → Shows (Read_definition s.me.0.number id) (Reads standing.version standing.definition) s s′
+  read-shows {s′} standing noted follows did quiet met keeps = record {
     table = ap (λ (x : SessionView). x.table) noted.now;
     sessions = ap (λ (x : SessionView). x.sessions) noted.now;
     refused = if-clear _ (holding_fault id (tickets_seen s.me.0)) (ap (λ (o : Option Own). if is_some o then None else Some NotHeld) its);
@@ -157,14 +161,15 @@ module _ {s : SessionView} (is : IsMember s) (id : ℕ) (t : Own) (its : numbere
     told = ap (λ (x : SessionView). x.me.0.told) noted.now;
     steps = quiet;
     met = (t, its, (follows, ap (λ (x : SessionView). x.me.0.reads) noted.now, met));
+    room = keeps;
   }
 
   pub unread-joins : {s′ : SessionView} → Stays s s′ → Joins (space_of s) (Read_definition s.me.0.number id) (Refused OutOfMemory) (space_of s′)
   unread-joins {s′} stays = refused s s′ (Read_definition s.me.0.number id) OutOfMemory stays (speaks is) refl refl tt (λ state how met. cc) tt
 
   pub unread-shows : {s′ : SessionView} → s′.table ≡ s.table → s′.sessions ≡ s.sessions → Visits t.place [] s.me s′.me → StaysQuiet s.me s′.me
-      → Shows (Read_definition s.me.0.number id) (Refused OutOfMemory) s s′
-  unread-shows table sessions visit quiet = record {
+      → KeepsRoom 0 s.room s′.room → Shows (Read_definition s.me.0.number id) (Refused OutOfMemory) s s′
+  unread-shows table sessions visit quiet keeps = record {
     table = table;
     sessions = sessions;
     refused = if-clear _ (holding_fault id (tickets_seen s.me.0)) (ap (λ (o : Option Own). if is_some o then None else Some NotHeld) its);
@@ -173,6 +178,7 @@ module _ {s : SessionView} (is : IsMember s) (id : ℕ) (t : Own) (its : numbere
     told = ap (λ (m : Mine). m.0.told) visit.now;
     steps = quiet;
     met = inr (refl, (t, its, visit));
+    room = keeps;
   }
 
   -- the key that the session knows at a place is that of the book which it met
@@ -259,8 +265,8 @@ module _ {s : SessionView} (is : IsMember s) (id : ℕ) (t : Own) (its : numbere
         refused s s′ (Change_definition s.me.0.number id change) (cause_of w) stays (speaks is) refl refl told.0 (λ state how met. cc) told.1
 
     pub unchanged-shows : s′.table ≡ s.table → s′.sessions ≡ s.sessions → Visits t.place [] s.me s′.me → (w : ChangeError) → IsRefusedFor t.place s.me.0.number change w s.me s′.me
-        → Shows (Change_definition s.me.0.number id change) (Refused (cause_of w)) s s′
-    unchanged-shows table sessions visit w why = record {
+        → KeepsRoom 0 s.room s′.room → Shows (Change_definition s.me.0.number id change) (Refused (cause_of w)) s s′
+    unchanged-shows table sessions visit w why keeps = record {
       table = table;
       sessions = sessions;
       refused = if-clear _ (exclusive_fault (numbered id (tickets_seen s.me.0))) (ap exclusive_fault its ∙ ap (λ (b : Bool). if b then None else Some NotExclusive) exclusive);
@@ -269,4 +275,5 @@ module _ {s : SessionView} (is : IsMember s) (id : ℕ) (t : Own) (its : numbere
       told = ap (λ (m : Mine). m.0.told) visit.now;
       steps = tt;
       met = inr (t, its, (w, refl, why));
+      room = keeps;
     }

@@ -8,12 +8,13 @@ use Rattle.mdl_steps.specs.Plays.{Mine}
 use Rattle.mdl_visits.specs.Visits.{Does, StaysOn}
 use Rattle.mdl_shared.specs.SessionViews.{Lists, SessionView, lists_seen, tickets_seen}
 use Rattle.mdl_shared.specs.Showings.{KeepsTold, MakesNoStep, MeetsSo, SettlesSo, Shows, StepsSo, done_by, own_fault}
+use Rattle.mdl_shared.proofs.Rooms.{keeps-same}
 
 -- without a step nothing is done, and the session stays
 pub does-nothing : (m : Mine) → Does [] m m
 does-nothing m = ([], sym (append-nil m.0.log), refl)
 
-pub stays-on : (m : Mine) → StaysOn m m
+stays-on : (m : Mine) → StaysOn m m
 stays-on m = ([], sym (append-nil m.0.log), tt)
 
 -- a refusal does no deed, and settles no wait
@@ -75,4 +76,5 @@ own-shows call why s fault = record {
   told = told-same call s;
   steps = steps-none call s;
   met = own-met call why (lists_seen s.me.0) s fault;
+  room = keeps-same s.room;
 }

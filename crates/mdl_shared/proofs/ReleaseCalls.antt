@@ -16,17 +16,18 @@ use Rattle.mdl_shared.specs.DeedsDone.{HasDone}
 use Rattle.mdl_shared.specs.Members.{IsMember, holding_fault}
 use Rattle.mdl_shared.specs.SessionViews.{SessionView, session_at, space_of, tickets_seen}
 use Rattle.mdl_shared.specs.Showings.{GivesUpFast, GivesUpSlow, Shows}
+use Rattle.mdl_shared.specs.TicketLists.{KeepsRoom, Room}
 use Rattle.mdl_shared.proofs.Faults.{if-clear}
-use Rattle.mdl_shared.proofs.MemberFacts.{loses-slow}
+use Rattle.mdl_shared.proofs.MemberFacts.{fast-held, loses-slow}
 use Rattle.mdl_shared.proofs.Members.{rescheduled}
-use Rattle.mdl_shared.proofs.SlowOrFast.{fast-held, fast-only}
+use Rattle.mdl_shared.proofs.SlowOrFast.{fast-only}
 use Rattle.mdl_shared.proofs.TicketCalls.{release-joins}
 
 -- what the call comes to, by which of its tickets it gives up
 release-shows : {a b : SessionView} (id : ℕ) (t : Own) → numbered id (tickets_seen a.me.0) ≡ Some t → HasDone t.place (Lose id ∷ []) a b → Does (Lose id ∷ []) a.me b.me
     → (numbered id a.me.0.slow ≡ Some t → GivesUpSlow id a b t) × (numbered id a.me.0.fast ≡ Some t → GivesUpFast id a b t)
-    → Shows (Release a.me.0.number id) Done a b
-release-shows {a} {b} id t its done did met = record {
+    → KeepsRoom 0 a.room b.room → Shows (Release a.me.0.number id) Done a b
+release-shows {a} {b} id t its done did met keeps = record {
   table = ap (λ (s : SessionView). s.table) done.now;
   sessions = ap (λ (s : SessionView). s.sessions) done.now;
   refused = if-clear _ (holding_fault id (tickets_seen a.me.0)) (ap (λ (o : Option Own). if is_some o then None else Some NotHeld) its);
@@ -35,33 +36,34 @@ release-shows {a} {b} id t its done did met = record {
   told = tt;
   steps = tt;
   met = (t, its, met);
+  room = keeps;
 }
 
 -- a slow one, by a visit of its place
-pub released-slow : (seat seat′ : SeatState) (sessions id : ℕ) (t : Own) → IsMember (session_at seat sessions) → numbered id (tickets_seen seat.me.0) ≡ Some t
+pub released-slow : (seat seat′ : SeatState) (sessions id : ℕ) {room room′ : Room} (t : Own) → IsMember (session_at seat sessions room) → numbered id (tickets_seen seat.me.0) ≡ Some t
     → numbered id seat.me.0.slow ≡ Some t → numbered id seat.me.0.fast ≡ None → AtItsTable seat seat′ (VisitsAndReschedules seat.table t.place (Lose id ∷ []))
-    → DoesToOwn t.place id (Lose id ∷ []) seat seat′
-    → Joins (space_of (session_at seat sessions)) (Release seat.me.0.number id) Done (space_of (session_at seat′ sessions))
-    × Shows (Release seat.me.0.number id) Done (session_at seat sessions) (session_at seat′ sessions)
-released-slow seat seat′ sessions id t is its slow none visit step =
-    let done = rescheduled seat seat′ sessions (loses-slow is t.place id t slow) visit in (
+    → DoesToOwn t.place id (Lose id ∷ []) seat seat′ → KeepsRoom 0 room room′
+    → Joins (space_of (session_at seat sessions room)) (Release seat.me.0.number id) Done (space_of (session_at seat′ sessions room′))
+    × Shows (Release seat.me.0.number id) Done (session_at seat sessions room) (session_at seat′ sessions room′)
+released-slow seat seat′ sessions id {room} {room′} t is its slow none visit step keeps =
+    let done = rescheduled seat seat′ sessions {room = room} {room′ = room′} (loses-slow is t.place id t slow) visit in (
       release-joins is id t its done,
       release-shows id t its done (does_reschedule seat.me seat′.me seat.table t.place (Lose id ∷ []) visit.1) (
         (λ its_slow. ((step.0, step.1, (step.2, step.3)), visit.1.way)),
         (λ its_fast. let never : ◌≡◌ {A = Option Own} None (Some t) = sym none ∙ its_fast in absurd (cc)),
-      ),
+      ) keeps,
     )
 
 -- a fast one
 pub released-fast : {a b : SessionView} (id : ℕ) (t : Own) → IsMember a → numbered id a.me.0.fast ≡ Some t → HasDone t.place (Lose t.number ∷ []) a b
-    → Does (Lose t.number ∷ []) a.me b.me → GivesUpFast t.number a b t
+    → Does (Lose t.number ∷ []) a.me b.me → GivesUpFast t.number a b t → KeepsRoom 0 a.room b.room
     → Joins (space_of a) (Release a.me.0.number id) Done (space_of b) × Shows (Release a.me.0.number id) Done a b
-released-fast {a} {b} id t is fast done did way =
+released-fast {a} {b} id t is fast done did way keeps =
     let number = has_number id t a.me.0.fast fast in
     let its = fast-held is id t fast in
     let never : numbered id a.me.0.slow ≡ Some t → ⊥ = λ slow. (let no : ◌≡◌ {A = Option Own} None (Some t) = sym (fast-only is id t fast) ∙ slow in absurd (cc)) in
     let done : HasDone t.place (Lose id ∷ []) a b = subst (λ (n : ℕ). HasDone t.place (Lose n ∷ []) a b) number done in (
       release-joins is id t its done,
       release-shows id t its done (subst (λ (n : ℕ). Does (Lose n ∷ []) a.me b.me) number did)
-          ((λ its_slow. absurd (never its_slow)), (λ its_fast. subst (λ (n : ℕ). GivesUpFast n a b t) number way)),
+          ((λ its_slow. absurd (never its_slow)), (λ its_fast. subst (λ (n : ℕ). GivesUpFast n a b t) number way)) keeps,
     )

@@ -20,19 +20,20 @@ use Rattle.mdl_visits.proofs.Numbers.{has_number}
 use Rattle.mdl_shared.specs.declared.member.Member.{Member}
 use Rattle.mdl_shared.specs.DeedsDone.{DoesQuietly, HasDone}
 use Rattle.mdl_shared.specs.Doings.{merge_deeds, rise_deeds, upgrade_deeds}
-use Rattle.mdl_shared.specs.FastDeeds.{LacksRoomForFast}
 use Rattle.mdl_shared.specs.FastWishes.{BecomesSlow}
 use Rattle.mdl_shared.specs.Members.{IsMember}
 use Rattle.mdl_shared.specs.Modes.{merge_fault}
 use Rattle.mdl_shared.specs.Passes.{view_of}
 use Rattle.mdl_shared.specs.SessionViews.{SessionView, space_of, tickets_seen}
-use Rattle.mdl_shared.specs.Showings.{AllMadeSlow, Shows, ShowsStep}
+use Rattle.mdl_shared.specs.Showings.{AllMadeSlow, LacksRoomForFast, Shows, ShowsStep}
+use Rattle.mdl_shared.specs.TicketLists.{KeepsRoom}
 use Rattle.mdl_shared.specs.Upgrades.{upgrade_fault}
-use Rattle.mdl_shared.proofs.FastWishing.{number-slow, shows-slow}
+use Rattle.mdl_shared.proofs.FastWishing.{from-slow, number-slow}
 use Rattle.mdl_shared.proofs.FastWishShows.{lack-cause}
 use Rattle.mdl_shared.proofs.MemberFacts.{speaks}
 use Rattle.mdl_shared.proofs.Members.{done-nothing}
-use Rattle.mdl_shared.proofs.QuietDeeds.{quiet-shows, quiet-steps, quiet-then, same-lists}
+use Rattle.mdl_shared.proofs.QuietDeeds.{quiet-shows, quiet-then, same-lists}
+use Rattle.mdl_shared.proofs.Rooms.{keeps-before}
 use Rattle.mdl_shared.proofs.SameSpace.{refused}
 use Rattle.mdl_shared.proofs.TicketCalls.{blocked-joins, may-rise, merge-joins, upgrade-joins}
 use Rattle.mdl_shared.proofs.TicketFaults.{merge-clear}
@@ -43,8 +44,8 @@ use Rattle.mdl_shared.proofs.Wishing.{unfast-seen}
 
 -- they became slow ones
 pub becomes-slow : (m m′ : Member) → DoesQuietly 0 [] (view_of m) (view_of m′) → (m′.tickets.fast ≡ []) × AllMadeSlow (view_of m) (view_of m′)
-    → BecomesSlow (view_of m) (view_of m′)
-becomes-slow m m′ quiet made = record { quiet = quiet; unfast = unfast-seen m′ made.0; made = made.1 }
+    → KeepsRoom 0 m.tickets.room m′.tickets.room → BecomesSlow (view_of m) (view_of m′)
+becomes-slow m m′ quiet made keeps = record { quiet = quiet; unfast = unfast-seen m′ made.0; made = made.1; room = keeps }
 
 -- so each ticket that the session had is a slow one
 pub slow-then : {place : ℕ} (m m′ : Member) → HasDone place [] (view_of m) (view_of m′) → m′.tickets.fast ≡ [] → (id : ℕ) (t : Own)
@@ -59,20 +60,20 @@ slow-then m m′ done none id t found =
 module _ {a : SessionView} (is : IsMember a) (id : ℕ) (t : Own) (its : numbered id (tickets_seen a.me.0) ≡ Some t) (mode : Mode)
     (clear : upgrade_fault mode a.me.0.known a.me.0.asks (numbered id (tickets_seen a.me.0)) ≡ None) where
   -- there was no room for the fast tickets
-  pub upgrade-refused : {b : SessionView} {why : SpaceError} → DoesQuietly 0 [] a b → LacksRoomForFast why a b
+  pub upgrade-refused : {b : SessionView} {why : SpaceError} → covers t.mode mode ≡ false → DoesQuietly 0 [] a b → LacksRoomForFast why a b → KeepsRoom 0 a.room b.room
       → Joins (space_of a) (Upgrade_now a.me.0.number id mode) (Refused why) (space_of b) × Shows (Upgrade_now a.me.0.number id mode) (Refused why) a b
-  upgrade-refused {b} {why} quiet lacks = (
+  upgrade-refused {b} {why} short quiet lacks keeps = (
     refused a b (Upgrade_now a.me.0.number id mode) why (done-nothing quiet.done) (speaks is) refl refl
         (by-cause (λ w. IsCause (Knows (space_of a) a.me.0.number) (Upgrade_now a.me.0.number id mode) w (space_of a).own) why tt
         (may-rise is id t its mode clear) (lack-cause a b lacks))
         (λ state how is. cc) tt,
-    quiet-shows quiet refl clear (λ e. e) (λ e. e) tt (inr lacks),
+    quiet-shows quiet refl clear (λ e. e) (λ e. e) tt (inr ((t, its, short), lacks)) keeps,
   )
 
   deeds : (answer : Upgrade) → covers t.mode mode ≡ false → rise_deeds id mode answer ≡ upgrade_deeds id mode (Ok answer) (numbered id (tickets_seen a.me.0))
   deeds answer short = sym (ap (upgrade_deeds id mode (Ok answer)) its ∙ ap (λ b. if b then [] else rise_deeds id mode answer) short)
 
-  module _ (short : covers t.mode mode ≡ false) {b c : SessionView} (slow : BecomesSlow a b) where
+  module _ (short : covers t.mode mode ≡ false) {b c : SessionView} (slow : BecomesSlow a b) (keeps : KeepsRoom 0 b.room c.room) where
     -- it has the mode
     upgraded-slow : DoesQuietly t.place (Alter t.number mode ∷ []) b c × ShowsStep b c (MeetsGrantable t.place b.me.0.number mode (Alter t.number mode))
         → Joins (space_of a) (Upgrade_now a.me.0.number id mode) Upgraded (space_of c) × Shows (Upgrade_now a.me.0.number id mode) Upgraded a c
@@ -83,7 +84,7 @@ module _ {a : SessionView} (is : IsMember a) (id : ℕ) (t : Own) (its : numbere
         let by = subst (λ (who : ℕ). ShowsStep b c (MeetsGrantable t.place who mode (Alter id mode))) (number-slow slow) met in (
           upgrade-joins is id t its mode clear short quiet.done,
           quiet-shows quiet (deeds upgrade.Upgraded short) clear (λ e. e) (λ e. e) tt
-              (t, its, ((λ has. let no = sym has ∙ short in cc), (λ less. shows-slow slow c by))),
+              (t, its, ((λ has. let no = sym has ∙ short in cc), (λ less. from-slow slow by))) (keeps-before 0 a.room b.room c.room slow.room keeps),
         )
 
     -- it would have to wait
@@ -93,7 +94,7 @@ module _ {a : SessionView} (is : IsMember a) (id : ℕ) (t : Own) (its : numbere
         let quiet = quiet-then slow.quiet went.0 in
         let by = subst (λ (who : ℕ). ShowsStep b c (MeetsBlocked t.place who mode)) (number-slow slow) went.1 in (
           blocked-joins is id t its mode clear short quiet.done,
-          quiet-shows quiet (deeds upgrade.WouldWait short) clear (λ e. e) (λ e. e) tt (t, its, (short, (b, quiet-steps slow.quiet, slow.made, by))),
+          quiet-shows quiet (deeds upgrade.WouldWait short) clear (λ e. e) (λ e. e) tt (t, its, (short, from-slow slow by)) (keeps-before 0 a.room b.room c.room slow.room keeps),
         )
 
     -- either
@@ -115,22 +116,22 @@ module _ {a : SessionView} (is : IsMember a) (old new : ℕ) (kept gone : Own) (
   free = sym (λ i. merge_fault (its i) (other i) a.me.0.asks) ∙ clear
 
   -- there was no room for the fast tickets
-  pub merge-refused : {b : SessionView} {why : SpaceError} → DoesQuietly 0 [] a b → LacksRoomForFast why a b
+  pub merge-refused : {b : SessionView} {why : SpaceError} → DoesQuietly 0 [] a b → LacksRoomForFast why a b → KeepsRoom 0 a.room b.room
       → Joins (space_of a) (Merge a.me.0.number old new) (Refused why) (space_of b) × Shows (Merge a.me.0.number old new) (Refused why) a b
-  merge-refused {b} {why} quiet lacks = (
+  merge-refused {b} {why} quiet lacks keeps = (
     refused a b (Merge a.me.0.number old new) why (done-nothing quiet.done) (speaks is) refl refl
         (by-cause (λ w. IsCause (Knows (space_of a) a.me.0.number) (Merge a.me.0.number old new) w (space_of a).own) why tt
         (merge-clear a old new kept gone its other free) (lack-cause a b lacks))
         (λ state how is. cc) tt,
-    quiet-shows quiet refl clear (λ e. e) (λ e. e) tt (inr lacks),
+    quiet-shows quiet refl clear (λ e. e) (λ e. e) tt (inr lacks) keeps,
   )
 
   -- the tickets are one
-  pub merged-slow : {b c : SessionView} → BecomesSlow a b → DoesQuietly kept.place (Alter kept.number gone.mode ∷ Lose gone.number ∷ []) b c
+  pub merged-slow : {b c : SessionView} → BecomesSlow a b → KeepsRoom 0 b.room c.room → DoesQuietly kept.place (Alter kept.number gone.mode ∷ Lose gone.number ∷ []) b c
       → ((e : Met) × IsStepOf b.me c.me e × MeetsOwn kept.place b.me.0.number kept.number e × MeetsOwn kept.place b.me.0.number gone.number e
       × (e.deeds ≡ Alter kept.number gone.mode ∷ Lose gone.number ∷ []))
       → Joins (space_of a) (Merge a.me.0.number old new) Done (space_of c) × Shows (Merge a.me.0.number old new) Done a c
-  merged-slow {b} {c} slow went step =
+  merged-slow {b} {c} slow keeps went step =
       let one = has_number old kept (tickets_seen a.me.0) its in
       let two = has_number new gone (tickets_seen a.me.0) other in
       let quiet = quiet-then slow.quiet (subst₂ (λ (n p : ℕ). DoesQuietly kept.place (Alter n gone.mode ∷ Lose p ∷ []) b c) one two went) in
@@ -138,5 +139,5 @@ module _ {a : SessionView} (is : IsMember a) (old new : ℕ) (kept gone : Own) (
       (number-slow slow) one two (step.2, step.3, step.4) in (
         merge-joins is old kept its new gone other free quiet.done,
         quiet-shows quiet (sym (ap (merge_deeds old new (Ok tt)) other)) clear (λ e. e) (λ e. e) tt
-            (kept, its, (gone, other, shows-slow slow c (step.0, step.1, met))),
+            (kept, its, (gone, other, from-slow slow (step.0, step.1, met))) (keeps-before 0 a.room b.room c.room slow.room keeps),
       )

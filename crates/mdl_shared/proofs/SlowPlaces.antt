@@ -1,8 +1,9 @@
 -- A session's fast tickets become slow ones, one place after the other.
 use Rattle.std.proofs.Common.{◌≡◌, ◌≢◌, ◌⊎◌, inl, inr, ℕ, ◌+◌, ◌<◌, ◌≤◌, ◌==◌, false, List, [], ◌∷◌, ◌++◌, length, refl, sym, ap, subst, ◌∙◌, arith, append_assoc}
 use Rattle.std.proofs.lemmas.Bool.{eq-eqb, eqb-true, false≢true}
+use Rattle.std.proofs.lemmas.Bool.Decides.{nat_tests}
+use Rattle.std.specs.Prelude.{nat_lt}
 use Rattle.mdl_calls.specs.declared.space_error.SpaceError.{SpaceError}
-use Rattle.mdl_steps.specs.declared.view.Met.{Met}
 use Rattle.mdl_steps.specs.declared.view.Own.{Own}
 use Rattle.mdl_steps.specs.Cells.{own_at}
 use Rattle.mdl_steps.specs.FastPlays.{but_at}
@@ -10,9 +11,9 @@ use Rattle.mdl_steps.specs.Lists.{Each}
 use Rattle.mdl_steps.proofs.Views.{by_bool}
 use Rattle.mdl_visits.specs.Materialisings.{MeetsFullFor}
 use Rattle.mdl_visits.specs.Visits.{MakesMoreSteps}
-use Rattle.mdl_shared.specs.FastDeeds.{AreSameOrSlow, LacksRoomForFast}
+use Rattle.mdl_shared.specs.FastDeeds.{AreSameOrSlow, AreSlowBefore}
 use Rattle.mdl_shared.specs.SessionViews.{SessionView}
-use Rattle.mdl_shared.specs.Showings.{AllMadeSlow, FullForFast, MakesSlow, ShowsStep}
+use Rattle.mdl_shared.specs.Showings.{AllMadeSlow, FullForFast, LacksRoomForFast, MakesSlow, ShowsStep}
 use Rattle.mdl_shared.proofs.QuietDeeds.{shows-first, shows-later}
 
 -- ---- the tickets of one place, without those of another
@@ -52,6 +53,13 @@ fewer-left place tickets some = let all = parted place tickets in omega arith
 
 -- ---- one place more
 
+-- where those of a place stay as they were
+same-still : (a b c : SessionView) (q : ℕ) → MakesMoreSteps b.me c.me → own_at q c.me.0.fast ≡ own_at q b.me.0.fast
+    → (own_at q b.me.0.fast ≡ own_at q a.me.0.fast) ⊎ ((own_at q b.me.0.fast ≡ []) × ShowsStep a b (MakesSlow q))
+    → (own_at q c.me.0.fast ≡ own_at q a.me.0.fast) ⊎ ((own_at q c.me.0.fast ≡ []) × ShowsStep a c (MakesSlow q))
+same-still a b c q later same (inl is) = inl (same ∙ is)
+same-still a b c q later same (inr made) = inr (same ∙ made.0, shows-first a b c later made.1)
+
 pub slow-more : (a b c : SessionView) (place : ℕ) → MakesMoreSteps a.me b.me → MakesMoreSteps b.me c.me → AreSameOrSlow a b → c.me.0.fast ≡ but_at place b.me.0.fast
     → ShowsStep b c (MakesSlow place) → AreSameOrSlow a c
 slow-more a b c place first later so fast shown q =
@@ -62,12 +70,11 @@ slow-more a b c place first later so fast shown q =
       ap (own_at q) fast ∙ ap (λ (p : ℕ). own_at p (but_at place b.me.0.fast)) is ∙ none-left place b.me.0.fast,
       subst (λ (p : ℕ). ShowsStep a c (MakesSlow p)) (sym is) (shows-later a b c first shown),
     ))
-    (λ there. still (ap (own_at q) fast ∙ all-left place q b.me.0.fast there) (so q))
-  where
-    still : own_at q c.me.0.fast ≡ own_at q b.me.0.fast → (own_at q b.me.0.fast ≡ own_at q a.me.0.fast) ⊎ ((own_at q b.me.0.fast ≡ []) × ShowsStep a b (MakesSlow q))
-        → (own_at q c.me.0.fast ≡ own_at q a.me.0.fast) ⊎ ((own_at q c.me.0.fast ≡ []) × ShowsStep a c (MakesSlow q))
-    still same (inl is) = inl (same ∙ is)
-    still same (inr made) = inr (same ∙ made.0, shows-first a b c later made.1)
+    (λ there. same-still a b c q later (ap (own_at q) fast ∙ all-left place q b.me.0.fast there) (so q))
+
+-- where all stay
+pub slow-still : (a b c : SessionView) → MakesMoreSteps b.me c.me → AreSameOrSlow a b → c.me.0.fast ≡ b.me.0.fast → AreSameOrSlow a c
+slow-still a b c later so fast q = same-still a b c q later (ap (own_at q) fast) (so q)
 
 -- ---- all places
 
@@ -97,30 +104,70 @@ all-slow a b so unfast = go [] a.me.0.fast (λ q. each q (so q))
 
 -- ---- there was no room
 
--- where there is none for some tickets, there is none for more
-full-more : (n more place : ℕ) (e : Met) → n ≤ more → MeetsFullFor n place e → MeetsFullFor more place e
-full-more n more place e less full = record {
-  word = full.word;
-  latch = full.latch;
-  held = full.held;
-  full = (let some = full.full in omega (arith, less));
-}
+-- the session has none where it has none at any place
+none-anywhere : (fast : List Own) → ((q : ℕ) → own_at q fast ≡ []) → fast ≡ []
+none-anywhere [] none = refl
+none-anywhere (t ∷ ts) none = absurd (filled t [] ts (none t.place))
+
+-- so it had some where it has some left
+had-some : (a b : SessionView) → AreSameOrSlow a b → b.me.0.fast ≢ [] → a.me.0.fast ≢ []
+had-some a b so some none = some (none-anywhere b.me.0.fast (λ q. there q (so q)))
+  where
+    there : (q : ℕ) → (own_at q b.me.0.fast ≡ own_at q a.me.0.fast) ⊎ ((own_at q b.me.0.fast ≡ []) × ShowsStep a b (MakesSlow q)) → own_at q b.me.0.fast ≡ []
+    there q (inl same) = same ∙ ap (own_at q) none
+    there q (inr made) = made.0
+
+-- those of a place where it has some left are as they were
+same-some : (a b : SessionView) (q : ℕ) → 0 < length (own_at q b.me.0.fast)
+    → (own_at q b.me.0.fast ≡ own_at q a.me.0.fast) ⊎ ((own_at q b.me.0.fast ≡ []) × ShowsStep a b (MakesSlow q)) → own_at q b.me.0.fast ≡ own_at q a.me.0.fast
+same-some a b q some (inl same) = same
+same-some a b q some (inr made) = (let none : ◌≡◌ {A = ℕ} (length (own_at q b.me.0.fast)) 0 = ap length made.0 in absurd (omega (arith, some)))
+
+full-after : (a b c : SessionView) → MakesMoreSteps a.me b.me → AreSameOrSlow a b → FullForFast b c → FullForFast a c
+full-after a b c first so (q, some, still, shown) =
+    let same = same-some a b q some (so q) in (
+      q,
+      subst (λ (ts : List Own). 0 < length ts) same some,
+      still ∙ same,
+      subst (λ (ts : List Own). ShowsStep a c (MeetsFullFor (length ts) q)) same (shows-later a b c first shown),
+    )
 
 pub lacks-after : (a b c : SessionView) (why : SpaceError) → MakesMoreSteps a.me b.me → AreSameOrSlow a b → LacksRoomForFast why b c → LacksRoomForFast why a c
-lacks-after a b c why first so (inl memory) = inl memory
-lacks-after a b c why first so (inr full) = inr (full.0, from full.1)
-  where
-    fewer : (q : ℕ) → (own_at q b.me.0.fast ≡ own_at q a.me.0.fast) ⊎ ((own_at q b.me.0.fast ≡ []) × ShowsStep a b (MakesSlow q))
-        → length (own_at q b.me.0.fast) ≤ length (own_at q a.me.0.fast)
-    fewer q (inl same) = (let is = ap length same in omega arith)
-    fewer q (inr made) = (let is : ◌≡◌ {A = ℕ} (length (own_at q b.me.0.fast)) 0 = ap length made.0 in omega arith)
+lacks-after a b c why first so lacks = (
+  had-some a b so lacks.0,
+  elim lacks.1 [
+    | inl memory ↦ inl memory
+    | inr full ↦ inr (full.0, full-after a b c first so full.1)
+  ],
+)
 
-    from : FullForFast b c → FullForFast a c
-    from (q, shown) =
-        let later = shows-later a b c first shown in
-        (q, (later.0, later.1, full-more (length (own_at q b.me.0.fast)) (length (own_at q a.me.0.fast)) q later.0 (fewer q (so q)) later.2))
+-- ---- in the order of places
+
+-- one place more
+pub before-more : (a b c : SessionView) (place : ℕ) → AreSlowBefore a b → 0 < length (own_at place b.me.0.fast) → ((q : ℕ) → q < place → own_at q b.me.0.fast ≡ [])
+    → c.me.0.fast ≡ but_at place b.me.0.fast → AreSlowBefore a c
+before-more a b c place so some first fast =
+    let past : so.0 ≤ place = by_bool (nat_lt place so.0)
+    (λ less. absurd (let none = ap (λ (us : List Own). length us) ((so.1 place).0 (grind (arith, nat_tests, less))) in omega (arith, some, none)))
+    (λ greater. grind (arith, nat_tests, greater))
+    in (
+      place + 1,
+      λ q. (
+        λ before. ap (own_at q) fast ∙ by_bool (q == place)
+            (λ here. let is = eqb-true q place here in ap (λ (p : ℕ). own_at p (but_at place b.me.0.fast)) is ∙ none-left place b.me.0.fast)
+            (λ there. all-left place q b.me.0.fast there ∙ first q (grind (arith, nat_tests, before, there))),
+        λ after. ap (own_at q) fast ∙ all-left place q b.me.0.fast (grind (arith, nat_tests, after)) ∙ (so.1 q).1 (omega (arith, past, after)),
+      ),
+    )
+
+-- where all stay
+pub before-still : (a b c : SessionView) → AreSlowBefore a b → c.me.0.fast ≡ b.me.0.fast → AreSlowBefore a c
+before-still a b c so fast = (so.0, λ q. (λ before. ap (own_at q) fast ∙ (so.1 q).0 before, λ after. ap (own_at q) fast ∙ (so.1 q).1 after))
 
 -- ---- at first
+
+pub none-before : (a : SessionView) → AreSlowBefore a a
+none-before a = (0, λ q. (λ before. absurd (omega (arith, before)), λ after. refl))
 
 pub same-at-first : (a : SessionView) → AreSameOrSlow a a
 same-at-first a q = inl refl

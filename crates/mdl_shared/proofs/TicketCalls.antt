@@ -26,6 +26,7 @@ use Rattle.mdl_shared.specs.Modes.{downgrade_fault, merge_fault}
 use Rattle.mdl_shared.specs.OwnLists.{told_of}
 use Rattle.mdl_shared.specs.SessionViews.{SessionView, session_at, space_of, tickets_seen}
 use Rattle.mdl_shared.specs.Showings.{Shows}
+use Rattle.mdl_shared.specs.TicketLists.{KeepsRoom, Room}
 use Rattle.mdl_shared.specs.Upgrades.{upgrade_fault}
 use Rattle.mdl_shared.proofs.Faults.{if-clear}
 use Rattle.mdl_shared.proofs.HeldTickets.{HoldsTicket}
@@ -33,12 +34,12 @@ use Rattle.mdl_shared.proofs.MemberFacts.{alters-slow, speaks}
 use Rattle.mdl_shared.proofs.Members.{HasDone, done-next, done-nothing, done-reads, done-rest, done-tickets, rescheduled}
 use Rattle.mdl_shared.proofs.NotedOnce.{one-note, one-note_done}
 use Rattle.mdl_shared.proofs.Refusals.{does-nothing}
+use Rattle.mdl_shared.proofs.Rooms.{keeps-same}
 use Rattle.mdl_shared.proofs.SameSpace.{joins-held, joins-still, numbers-same, refused, same-rest, same-stays}
 use Rattle.mdl_shared.proofs.SpaceLists.{ticket-told}
 use Rattle.mdl_shared.proofs.SpaceNotes.{AllNoted, noted-less, noted-moded, nothing-read, noted_under}
 use Rattle.mdl_shared.proofs.SpaceTickets.{all_of, given-up, holds-told, in-mode, in_mode_told, is_here, merged-told, of-held, only-one, same-mode}
 use Rattle.mdl_shared.proofs.TicketFaults.{downgrade-cause, downgrade-clear, knows, merge-cause, merge-clear, merge-here, upgrade-cause, upgrade-clear}
-use Rattle.mdl_shared.proofs.WishShows.{shows}
 
 -- ---- a call with one deed
 
@@ -88,8 +89,17 @@ module _ {m : SessionView} (is : IsMember m) (id : ℕ) (t : Own) (its : numbere
     covered-shows has =
         let none : upgrade_deeds id mode (Ok upgrade.Upgraded) (numbered id (tickets_seen m.me.0)) ≡ [] =
         ap (upgrade_deeds id mode (Ok upgrade.Upgraded)) its ∙ ap (λ b. if b then [] else rise_deeds id mode upgrade.Upgraded) has in
-        shows refl refl clear (subst (λ (ds : List Deed). Does ds m.me m.me) (sym none) (does-nothing m.me)) refl refl tt
-        (t, its, (λ covered. refl, λ short. let never = sym has ∙ short in cc))
+        record {
+          table = refl;
+          sessions = refl;
+          refused = if-clear _ (upgrade_fault mode m.me.0.known m.me.0.asks (numbered id (tickets_seen m.me.0))) clear;
+          did = subst (λ (ds : List Deed). Does ds m.me m.me) (sym none) (does-nothing m.me);
+          settled = refl;
+          told = refl;
+          steps = tt;
+          met = (t, its, (λ covered. refl, λ short. let never = sym has ∙ short in cc));
+          room = keeps-same m.room;
+        }
 
     -- to another
     pub upgrade-joins : {m′ : SessionView} → covers t.mode mode ≡ false → HasDone t.place (Alter id mode ∷ []) m m′ → Joins (space_of m) (Upgrade_now m.me.0.number id mode) Upgraded (space_of m′)
@@ -148,17 +158,18 @@ module _ {s : SessionView} (is : IsMember s) (why : SpaceError) where
 
 -- ---- what a downgrade comes to
 
-pub downgraded : (seat seat′ : SeatState) (sessions id : ℕ) (mode : Mode) (t : Own) → IsMember (session_at seat sessions) → HoldsTicket id t (session_at seat sessions)
+pub downgraded : (seat seat′ : SeatState) (sessions id : ℕ) {room room′ : Room} (mode : Mode) (t : Own) → IsMember (session_at seat sessions room)
+    → HoldsTicket id t (session_at seat sessions room)
     → numbered t.number seat.me.0.slow ≡ Some t → downgrade_fault (numbered id (tickets_seen seat.me.0)) mode seat.me.0.known ≡ None
     → AtItsTable seat seat′ (VisitsAndReschedules seat.table t.place (Alter t.number mode ∷ []))
     → ((e : Met) × IsStepOf seat.me seat′.me e × MeetsOwn t.place seat.me.0.number t.number e × (e.deeds ≡ Alter t.number mode ∷ []))
-    → Joins (space_of (session_at seat sessions)) (Downgrade seat.me.0.number id mode) Done (space_of (session_at seat′ sessions))
-    × Shows (Downgrade seat.me.0.number id mode) Done (session_at seat sessions) (session_at seat′ sessions)
-downgraded seat seat′ sessions id mode t is held slow clear visit step =
+    → KeepsRoom 0 room room′ → Joins (space_of (session_at seat sessions room)) (Downgrade seat.me.0.number id mode) Done (space_of (session_at seat′ sessions room′))
+    × Shows (Downgrade seat.me.0.number id mode) Done (session_at seat sessions room) (session_at seat′ sessions room′)
+downgraded seat seat′ sessions id {room} {room′} mode t is held slow clear visit step keeps =
     let free = ap (λ o. downgrade_fault o mode seat.me.0.known) (held.own ∙ sym held.its) ∙ clear in
-    subst (λ (n : ℕ). Joins (space_of (session_at seat sessions)) (Downgrade seat.me.0.number n mode) Done (space_of (session_at seat′ sessions))
-    × Shows (Downgrade seat.me.0.number n mode) Done (session_at seat sessions) (session_at seat′ sessions)) held.number (
-      downgrade-joins is t.number t held.own mode free (rescheduled seat seat′ sessions (alters-slow is t.place t.number mode t slow) visit),
+    subst (λ (n : ℕ). Joins (space_of (session_at seat sessions room)) (Downgrade seat.me.0.number n mode) Done (space_of (session_at seat′ sessions room′))
+    × Shows (Downgrade seat.me.0.number n mode) Done (session_at seat sessions room) (session_at seat′ sessions room′)) held.number (
+      downgrade-joins is t.number t held.own mode free (rescheduled seat seat′ sessions {room′ = room′} (alters-slow is t.place t.number mode t slow) visit),
       record {
         table = visit.0;
         sessions = refl;
@@ -168,5 +179,6 @@ downgraded seat seat′ sessions id mode t is held slow clear visit step =
         told = tt;
         steps = tt;
         met = ((t, held.own, (step.0, step.1, (step.2, step.3))), (t, held.own, visit.1.way));
+        room = keeps;
       },
     )

@@ -2,6 +2,7 @@
 use Rattle.std.proofs.Common.{◌≡◌, ℕ, zero, suc, ◌+◌, ◌-◌, ◌<◌, ◌≤◌, Bool, true, false, cond, List, [], ◌∷◌, ◌++◌, length, get_or, set, map, Option, Some, None, refl, sym, ap, subst, ltb, ◌∙◌, append-nil, arith}
 use Rattle.std.specs.Prelude.{not, ◌==◌, ◌&&◌, count_by, remove, if◌then◌else◌}
 use Rattle.std.specs.List.{filter, list_all}
+use Rattle.std.specs.Option.{option_map_or}
 use Rattle.std.proofs.lemmas.Bool.Decides.{nat_tests}
 use Rattle.std.proofs.lemmas.List.Sums.{sum_by-append, sum_by-remove, sum_by-set}
 use Rattle.std.proofs.lemmas.List.{length-map, length-set, length_push, get_or_append_left, get_or_push, map_push}
@@ -90,6 +91,20 @@ strike_none place id ps p (x ∷ xs) none =
     by_bool (p x)
     (λ kept. rw kept (grind (arith, nat_tests, later)))
     (λ left. rw left later)
+
+-- then none of that number is found at the place
+pub strikes_some : (place id : ℕ) (ps : List OfPlace) (p : Gained → Bool) (xs : List Gained) (u : Own)
+    → list_all (λ t. not (is_own place id (own_of [] t))) xs ≡ true → numbered id (some_of ps p xs) ≡ Some u → u.place ≡ place → ⊥
+strikes_some place id ps p [] u none is here = cc
+strikes_some place id ps p (x ∷ xs) u none is here =
+    let later = strikes_some place id ps p xs u (rest (λ t. not (is_own place id (own_of [] t))) x xs none) in
+    by_bool (p x)
+    (λ kept. by_bool (x.id == id)
+    (λ its. let first : Some (own_of ps x) ≡ Some u = rw (kept, its) at is in
+    let there : x.place ≡ place = ap (λ (o : Option Own). option_map_or (λ (t : Own). t.place) o 0) first ∙ here in
+    grind (arith, nat_tests, none, its, there))
+    (λ other. later (rw (kept, other) at is) here))
+    (λ left. later (rw left at is) here)
 
 pub strike_at : (place id : ℕ) (ps : List OfPlace) (p : Gained → Bool) (xs : List Gained) (at : ℕ) → AreRising xs → StandsAt id at xs → ((d : Gained) → (get_or xs at d).place ≡ place)
     → some_of ps p (remove xs at) ≡ without_at place id (some_of ps p xs)

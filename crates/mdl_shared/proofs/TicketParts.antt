@@ -230,8 +230,25 @@ first_counted ps place first = elim (slice_get_cases ps place).1 [
   | inr beyond ↦ absurd (let inside = (position-Some has_fast ps place no_place first).0 in let past = beyond.0 in omega arith)
 ]
 
--- so a place is told, where there is a fast ticket
+-- and at none before it
+before_counted : (ps : List OfPlace) (place : ℕ) → position has_fast ps ≡ Some place → (q : ℕ) → q < place → fast_counted_at q ps ≡ 0
+before_counted ps place first q before = elim (slice_get_cases ps q).1 [
+  | inl within ↦
+      let fails = (position-Some has_fast ps place within.0 first).2 q before in
+      let none_here = rw within.3 at fails in
+      rw within.2 (grind (arith, nat_tests))
+  | inr beyond ↦ rw beyond.1 refl
+]
+
+none_of_them : (us : List Own) → length us ≡ 0 → us ≡ []
+none_of_them [] none = refl
+none_of_them (u ∷ us) none = absurd (omega (arith, none))
+
+-- so the first place is told, where there is a fast ticket
 pub first_fast : (ps : List OfPlace) (xs : List Gained) (fast : ℕ) (found : Option ℕ) → AreKept xs ps fast → found ≡ position has_fast ps
-    → MatchOption found (fast_of ps xs ≡ []) (λ place. 0 < length (own_at place (fast_of ps xs)))
+    → MatchOption found (fast_of ps xs ≡ []) (λ place. (0 < length (own_at place (fast_of ps xs))) × ((q : ℕ) → q < place → own_at q (fast_of ps xs) ≡ []))
 first_fast ps xs fast None kept is = none_anywhere ps xs (λ q. sym (kept.fast_counted q) ∙ none_counted ps (sym is) q)
-first_fast ps xs fast (Some place) kept is = rw (fast_there place ps xs, ← kept.fast_counted place) (first_counted ps place (sym is))
+first_fast ps xs fast (Some place) kept is = (
+  rw (fast_there place ps xs, ← kept.fast_counted place) (first_counted ps place (sym is)),
+  λ q before. none_of_them (own_at q (fast_of ps xs)) (rw (fast_there q ps xs, ← kept.fast_counted q) (before_counted ps place (sym is) q before)),
+)

@@ -20,22 +20,25 @@ use Rattle.mdl_visits.proofs.Steps.{does_then, each_append}
 use Rattle.mdl_shared.specs.declared.member.Member.{Member}
 use Rattle.mdl_shared.specs.Members.{IsMember}
 use Rattle.mdl_shared.specs.SessionViews.{Lists, SessionView, lists_seen, session_at, tickets_seen}
-use Rattle.mdl_shared.specs.Showings.{KeepsTold, MakesNoStep, MeetsSo, SettlesSo, Shows, StepsSo, done_by, own_fault}
+use Rattle.mdl_shared.specs.Showings.{KeepsTold, MakesNoStep, MeetsSo, SettlesSo, Shows, StepsSo, done_by, gained_by, own_fault}
+use Rattle.mdl_shared.specs.TicketLists.{KeepsRoom, Room}
 use Rattle.mdl_shared.proofs.MemberFacts.{speaks}
 use Rattle.mdl_shared.proofs.Members.{HasDone, done-nothing, done-order, done-then, kept, same-fast}
+use Rattle.mdl_shared.proofs.Rooms.{keeps-before, keeps-equal, keeps-more}
 use Rattle.mdl_shared.proofs.SameSpace.{joins-still}
 
 -- a visit without a deed
-pub quietly : {seat seat′ : SeatState} {log : List Met} {told : Option ℕ} {settles : List Settlement} (sessions : ℕ) → seat′.table ≡ seat.table
+pub quietly : {seat seat′ : SeatState} {log : List Met} {told : Option ℕ} {settles : List Settlement} (sessions : ℕ) {room room′ : Room} → seat′.table ≡ seat.table
     → seat′.me ≡ (record seat.me.0 { told = told; settles = settles; log = log }, seat.me.1) → StaysTold seat.me.0.told told
-    → (seat.me.0.asks ≡ None → told ≡ seat.me.0.told) → HasDone 0 [] (session_at seat sessions) (session_at seat′ sessions)
-quietly {seat = seat} {log = log} {told = told} {settles = settles} sessions table me stays unasked = record {
+    → (seat.me.0.asks ≡ None → told ≡ seat.me.0.told) → HasDone 0 [] (session_at seat sessions room) (session_at seat′ sessions room′)
+quietly {seat = seat} {log = log} {told = told} {settles = settles} sessions {room′ = room′} table me stays unasked = record {
   slow = seat.me.0.slow;
   fast = seat.me.0.fast;
   told = told;
   settles = settles;
   log = log;
-  now = λ i. record { table = table i; sessions = sessions; me = me i };
+  room = room′;
+  now = λ i. record { table = table i; sessions = sessions; me = me i; room = room′ };
   tickets = refl;
   fasts = same-fast seat.me.0.known seat.me.0.asks seat.me.0.fast;
   stays = stays;
@@ -68,12 +71,13 @@ pub record Watches (s s′ : SessionView) : Type 0 where
   pub lists : lists_seen s′.me.0 ≡ lists_seen s.me.0
   pub did : Does [] s.me s′.me
   pub stayed : StaysOn s.me s′.me
+  pub keeps : KeepsRoom 0 s.room s′.room
 
 -- a call shows what its steps show
 pub shows : {call : Call} {answer : Answer} {s s′ : SessionView} → Watches s s′ → IfSome (own_fault call (lists_seen s.me.0)) (λ why. (answer ≡ Refused why) × MakesNoStep s s′)
     → Does (done_by call answer (tickets_seen s.me.0)) s.me s′.me → SettlesSo call answer (lists_seen s.me.0) s s′ → KeepsTold call s s′ → StepsSo call s s′
     → MeetsSo call answer (lists_seen s.me.0) s s′ → Shows call answer s s′
-shows watches refused did settled told steps met = record {
+shows {answer = answer} {s = s} {s′ = s′} watches refused did settled told steps met = record {
   table = ap (λ (x : SessionView). x.table) watches.done.now;
   sessions = ap (λ (x : SessionView). x.sessions) watches.done.now;
   refused = refused;
@@ -82,6 +86,7 @@ shows watches refused did settled told steps met = record {
   told = told;
   steps = steps;
   met = met;
+  room = keeps-more (gained_by answer) s.room s′.room watches.keeps;
 }
 
 pub watches-then : (a b c : SessionView) → Watches a b → Watches b c → Watches a c
@@ -94,6 +99,7 @@ watches-then a b c first later = record {
     later.stayed.1 ∙ ap (λ (log : List Met). log ++ later.stayed.0) first.stayed.1 ∙ append_assoc a.me.0.log first.stayed.0 later.stayed.0,
     each_append StaysThere first.stayed.0 later.stayed.0 first.stayed.2 later.stayed.2,
   );
+  keeps = keeps-before 0 a.room b.room c.room first.keeps later.keeps;
 }
 
 -- ---- a step on the word of a session's wait, which was found so and left so
@@ -157,6 +163,7 @@ module _ (kind : StepKind) (session found left : ℕ) (settles : List Settlement
             told = (meeting session left s.me.0).told;
             settles = settles;
             log = s.me.0.log ++ e ∷ [];
+            room = s.room;
             now = now;
             tickets = refl;
             fasts = same-fast s.me.0.known s.me.0.asks s.me.0.fast;
@@ -166,4 +173,5 @@ module _ (kind : StepKind) (session found left : ℕ) (settles : List Settlement
           lists = ap (λ (x : SessionView). lists_seen x.me.0) now;
           did = (e ∷ [], log, refl);
           stayed = (e ∷ [], log, ((keeps, quiet), tt));
+          keeps = keeps-equal s.room s′.room (ap (λ (x : SessionView). x.room) now);
         }

@@ -2,8 +2,6 @@
 use Rattle.std.proofs.Common.{◌≡◌, ◌⊎◌, inl, inr, ℕ, ◌+◌, ◌-◌, ◌<◌, true, false, Option, Some, None, IfSome, List, [], ◌∷◌, ◌++◌, map, refl, sym, ap, subst, ◌∙◌, arith}
 use Rattle.std.proofs.lemmas.Bool.{eq-eqb}
 use Rattle.mdl_key.specs.declared.mode.Mode.{Mode}
-use Rattle.mdl_book.specs.declared.book_error.BookError.{BookError}
-use Rattle.mdl_book.specs.declared.book_error.BookError.TheVariants as fault
 use Rattle.mdl_calls.specs.declared.answers.Settled.{Settled}
 use Rattle.mdl_calls.specs.declared.space_error.SpaceError.{SpaceError}
 use Rattle.mdl_calls.specs.declared.space_error.SpaceError.TheVariants.{Full, OutOfMemory}
@@ -21,6 +19,7 @@ use Rattle.mdl_visits.specs.WaitOpenings.{Opens, awaiting}
 use Rattle.mdl_shared.specs.Members.{IsMember, kind_known, wish_fault}
 use Rattle.mdl_shared.specs.OwnLists.{told_of}
 use Rattle.mdl_shared.specs.SessionViews.{SessionView, session_at, settled_told, space_of, tickets_seen}
+use Rattle.mdl_shared.specs.TicketLists.{Room}
 use Rattle.mdl_shared.proofs.MemberFacts.{next-some, nothing-told, speaks}
 use Rattle.mdl_shared.proofs.Members.{HasDone, StaysInOrder, done-next, done-rest, done-tickets}
 use Rattle.mdl_shared.proofs.SameSpace.{Stays, joins-held, joins-still, no-asks, numbers_by, own_by, refused, same-stays, waits-asks}
@@ -70,12 +69,6 @@ gain-joins {s} {s′} is {place} {id} {mode} first done call mine has fits own d
 pub by-cause : (P : SpaceError → Type 0) (why : SpaceError) → P OutOfMemory → P Full → (why ≡ OutOfMemory) ⊎ (why ≡ Full) → P why
 by-cause P why memory full (inl is) = subst P (sym is) memory
 by-cause P why memory full (inr is) = subst P (sym is) full
-
--- by that of the visit
-pub refusal-causes : {X : Type 0} (cause : BookError) (why : SpaceError) → (cause ≡ fault.Full → why ≡ Full) → (cause ≡ fault.OutOfMemory → why ≡ OutOfMemory)
-    → (cause ≡ fault.OutOfMemory) ⊎ ((cause ≡ fault.Full) × X) → (why ≡ OutOfMemory) ⊎ (why ≡ Full)
-refusal-causes cause why full memory (inl is) = inl (memory is)
-refusal-causes cause why full memory (inr is) = inr (full is.0)
 
 module _ {s : SessionView} (is : IsMember s) (place : ℕ) (mode : Mode) where
   -- refused for what the session has
@@ -135,12 +128,12 @@ module _ {s : SessionView} (is : IsMember s) (place : ℕ) (mode : Mode) where
 -- ---- waits that begin
 
 -- what the visit tells
-pub begun : {place : ℕ} {mode : Mode} (seat seat′ : SeatState) (sessions : ℕ) (opens : AtItsTable seat seat′ (Opens place mode))
-    → session_at seat′ sessions ≡ record (session_at seat sessions) { me = (record (awaiting place mode seat.me.0) { log = seat.me.0.log ++ opens.1.made }, seat.me.1) }
-begun seat seat′ sessions opens = λ i. record { table = opens.0 i; sessions = sessions; me = opens.1.now i }
+pub begun : {place : ℕ} {mode : Mode} (seat seat′ : SeatState) (sessions : ℕ) {room : Room} (opens : AtItsTable seat seat′ (Opens place mode))
+    → session_at seat′ sessions room ≡ record (session_at seat sessions room) { me = (record (awaiting place mode seat.me.0) { log = seat.me.0.log ++ opens.1.made }, seat.me.1) }
+begun seat seat′ sessions {room} opens = λ i. record { table = opens.0 i; sessions = sessions; me = opens.1.now i; room = room }
 
 module _ {s s′ : SessionView} (is : IsMember s) {place : ℕ} {mode : Mode} (clear : wish_fault (kind_known place s.me.0.known) s.me.0.asks mode s.me.0.next ≡ None)
-    {log : List Met} (now : s′ ≡ record s { me = (record (awaiting place mode s.me.0) { log = log }, s.me.1) }) where
+    {log : List Met} {room : Room} (now : s′ ≡ record s { me = (record (awaiting place mode s.me.0) { log = log }, s.me.1); room = room }) where
   -- without a fast ticket
   pub begun-order : s.me.0.fast ≡ [] → StaysInOrder s s′
   begun-order none =

@@ -15,6 +15,7 @@ use Rattle.mdl_shared.specs.declared.member.Member.{Member}
 use Rattle.mdl_shared.specs.Members.{kind_known, most_numbers, wish_fault}
 use Rattle.mdl_shared.specs.Passes.{view_of}
 use Rattle.mdl_shared.specs.SessionViews.{Lists, SessionView, lists_seen, session_at, tickets_of}
+use Rattle.mdl_shared.specs.TicketLists.{Room}
 use Rattle.mdl_shared.specs.Waitings.{are_below}
 use Rattle.mdl_shared.proofs.MemberFacts.{below, gains-slow, may-visit, none-there}
 use Rattle.mdl_shared.proofs.Membership.{kind_place, kind_there}
@@ -65,8 +66,8 @@ pub unasked : (m : Member) → m.seat.me.0.asks ≡ None → (P : Ask → Type 0
 unasked m idle P ask asks = let no = sym asks ∙ ap (λ (l : Lists). l.asks) m.lists ∙ idle in cc
 
 -- a visit that gained the next ticket did that
-pub gained-by : (m : Member) (seat′ : SeatState) (place : ℕ) (mode : Mode) → m.tickets.fast ≡ [] → AtItsTable m.seat seat′ (Visits place (Gain m.next mode ∷ []))
-    → HasDone place (Gain m.next mode ∷ []) (view_of m) (session_at seat′ m.sessions)
+pub gained-by : (m : Member) (seat′ : SeatState) {room : Room} (place : ℕ) (mode : Mode) → m.tickets.fast ≡ []
+    → AtItsTable m.seat seat′ (Visits place (Gain m.next mode ∷ [])) → HasDone place (Gain m.next mode ∷ []) (view_of m) (session_at seat′ m.sessions room)
 gained-by m seat′ place mode none visit =
     visited m.seat seat′ m.sessions (gains-slow (member m) place m.next mode (ap (λ (l : Lists). l.next) m.lists) (none-there (member m) (unfast-seen m none) place)) visit
 

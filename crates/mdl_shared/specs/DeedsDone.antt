@@ -13,6 +13,7 @@ use Rattle.mdl_visits.specs.Polls.{SettlesNothing}
 use Rattle.mdl_visits.specs.Visits.{Does}
 use Rattle.mdl_shared.specs.Members.{are_counted}
 use Rattle.mdl_shared.specs.SessionViews.{SessionView, tickets_seen}
+use Rattle.mdl_shared.specs.TicketLists.{Room}
 
 -- the fast tickets of a session that knows these keys and has this wait, or none, are now others: each is counted as before, and where it waits there is
 -- none as before
@@ -21,13 +22,14 @@ pub record StaysFast (known : List Known) (asks : Option Ask) (fast fast′ : Li
   pub plain : are_counted known fast ≡ true → are_counted known fast′ ≡ true
 
 -- the session did these deeds at a place, to slow tickets or to fast ones, and made steps; it may have been told of its wait; nothing else changed, but
--- perhaps which tickets are fast
+-- perhaps which tickets are fast, and the room for more
 pub record HasDone (place : ℕ) (ds : List Deed) (s s′ : SessionView) : Type 0 where
   pub slow : List Own
   pub fast : List Own
   pub told : Option ℕ
   pub settles : List Settlement
   pub log : List Met
+  pub room : Room
   pub now : s′ ≡ record s {
     me = (
       record s.me.0 {
@@ -40,6 +42,7 @@ pub record HasDone (place : ℕ) (ds : List Deed) (s s′ : SessionView) : Type 
       },
       s.me.1,
     );
+    room = room;
   }
   pub tickets : interleaved slow fast ≡ all_owned place ds (tickets_seen s.me.0)
   pub fasts : StaysFast s.me.0.known s.me.0.asks s.me.0.fast fast

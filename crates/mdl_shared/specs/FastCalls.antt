@@ -1,5 +1,5 @@
 -- What comes of a session's calls that try for a fast ticket and give one up, which aren't calls of a lock space.
-use Rattle.std.specs.Prelude.{◌≡◌, ◌⊎◌, ℕ, ◌<◌, ◌≤◌, Bool, [], ◌∷◌, length, Option, Some, None, is_some, if◌then◌else◌}
+use Rattle.std.specs.Prelude.{◌≡◌, ◌⊎◌, ℕ, ◌<◌, ◌≤◌, Bool, true, [], ◌∷◌, length, Option, Some, None, is_some, if◌then◌else◌}
 use Rattle.mdl_calls.specs.declared.space_error.SpaceError.{SpaceError}
 use Rattle.mdl_calls.specs.declared.space_error.SpaceError.TheVariants.{BadMode, OutOfMemory}
 use Rattle.mdl_calls.specs.Words.{Done, Release, Try_now}
@@ -10,14 +10,15 @@ use Rattle.mdl_steps.specs.declared.view.Own.{Own}
 use Rattle.mdl_steps.specs.Cells.{own_at}
 use Rattle.mdl_steps.specs.Limits.{most_fast}
 use Rattle.mdl_session_laws.specs.SessionJoins.{Joins}
-use Rattle.mdl_visits.specs.FastTries.{MeetsClear, MeetsObtrusive, Misses, ReleasesFast}
+use Rattle.mdl_visits.specs.FastTries.{FindsObtrusive, GrantsAtLast, Misses, ReleasesFast}
 use Rattle.mdl_visits.specs.Numbers.{numbered}
 use Rattle.mdl_shared.specs.declared.try_fast.Fast.{Fast}
 use Rattle.mdl_shared.specs.declared.try_fast.Fast.TheVariants.{Granted, Obtruded, Contended, Limit}
 use Rattle.mdl_shared.specs.DeedsDone.{DoesQuietly}
 use Rattle.mdl_shared.specs.Members.{increment_at, kind_known, wish_fault}
-use Rattle.mdl_shared.specs.SessionViews.{Lists, SessionView, lists_seen, space_of}
-use Rattle.mdl_shared.specs.Showings.{KeepsLists, ShowsStep}
+use Rattle.mdl_shared.specs.SessionViews.{Lists, SessionView, StaysSame, lists_seen, space_of}
+use Rattle.mdl_shared.specs.Showings.{KeepsLists}
+use Rattle.mdl_shared.specs.TicketLists.{HasRoom, KeepsRoom}
 
 -- why a fast ticket isn't even tried for: as a wish isn't (`wish_fault`), or since the word of the place doesn't count the mode
 abbrev pub fast_fault : ℕ → Mode → Lists → Option SpaceError
@@ -33,23 +34,26 @@ HasFewerFast place s = length (own_at place s.me.0.fast) < most_fast
 abbrev pub GetsNothing : ℕ → SessionView → SessionView → Type 0
 GetsNothing place a b = HasFewerFast place a × KeepsLists a b × DoesQuietly place [] a b
 
--- what a try for a fast ticket does, by its answer: it was granted as the flag OBTRUSIVE was down; or a step met the flag up; or eight tries each met
--- another word than the step before; or the session has as many fast tickets there as it may have, and made no step
+-- what a try for a fast ticket does, by its answer: it was granted; or the flag OBTRUSIVE was found up; or eight fast grants missed; or the session has as
+-- many fast tickets there as it may have, and made no step
 abbrev pub HasTriedFast : ℕ → Mode → Fast → SessionView → SessionView → Type 0
 HasTriedFast place mode (Granted id) a b =
     HasFewerFast place a
     × Joins (space_of a) (Try_now a.me.0.number place mode) (calls.Granted id) (space_of b)
     × DoesQuietly place (Gain id mode ∷ []) a b
-    × ShowsStep a b (MeetsClear place (Gain id mode))
-HasTriedFast place mode (Obtruded word) a b = GetsNothing place a b × ShowsStep a b (MeetsObtrusive place word.0)
+    × GrantsAtLast place (Gain id mode) a.me b.me
+    × (is_some (numbered id b.me.0.fast) ≡ true)
+    × KeepsRoom 1 a.room b.room
+HasTriedFast place mode (Obtruded word) a b = GetsNothing place a b × FindsObtrusive place word.0 a.me b.me
 HasTriedFast place mode (Contended word) a b = GetsNothing place a b × Misses place 8 word.0 a.me b.me
-HasTriedFast place mode Limit a b = (b ≡ a) × (most_fast ≤ length (own_at place a.me.0.fast))
+HasTriedFast place mode Limit a b = StaysSame a b × (most_fast ≤ length (own_at place a.me.0.fast))
 
--- why it's refused: for what the session has of its own, or as memory ran out. No step was made
+-- why it's refused: for what the session has of its own, or as it had no room for the ticket, and memory ran out. No step was made
 abbrev pub RefusesFast : ℕ → Mode → SpaceError → SessionView → SessionView → Type 0
 RefusesFast place mode why a b =
-    (b ≡ a)
-    × ((fast_fault place mode (lists_seen a.me.0) ≡ Some why) ⊎ ((fast_fault place mode (lists_seen a.me.0) ≡ None) × (why ≡ OutOfMemory)))
+    StaysSame a b
+    × ((fast_fault place mode (lists_seen a.me.0) ≡ Some why)
+    ⊎ ((fast_fault place mode (lists_seen a.me.0) ≡ None) × (why ≡ OutOfMemory) × (HasRoom place a.room → ⊥)))
 
 -- the fast ticket of a number was given up by one step. The session owes its place a reschedule where the flag SLOW of the word that the step found was
 -- up
@@ -57,3 +61,4 @@ abbrev pub GaveUpFast : ℕ → Bool → SessionView → SessionView → Type 0
 GaveUpFast id owes a b =
     Joins (space_of a) (Release a.me.0.number id) Done (space_of b)
     × ((t : Own) × (numbered id a.me.0.fast ≡ Some t) × DoesQuietly t.place (Lose id ∷ []) a b × ReleasesFast t.place id owes a.me b.me)
+    × (a.room.spare < b.room.spare) × (a.room.reach ≤ b.room.reach)

@@ -1,19 +1,17 @@
 -- What a session does with its fast tickets: it tries for one, gives one up, and makes slow ones of them.
-use Rattle.std.specs.Prelude.{◌≡◌, ◌⊎◌, ℕ, ◌≤◌, [], length}
-use Rattle.mdl_calls.specs.declared.space_error.SpaceError.{SpaceError}
-use Rattle.mdl_calls.specs.declared.space_error.SpaceError.TheVariants.{Full, OutOfMemory}
+use Rattle.std.specs.Prelude.{◌≡◌, ◌⊎◌, ℕ, ◌<◌, ◌≤◌, [], length}
 use Rattle.mdl_steps.specs.Cells.{own_at}
 use Rattle.mdl_steps.specs.Limits.{most_fast}
-use Rattle.mdl_visits.specs.FastTries.{MeetsObtrusive, Misses}
+use Rattle.mdl_visits.specs.FastTries.{FindsObtrusive, Misses}
 use Rattle.mdl_shared.specs.declared.fast_path.NotFast.{NotFast}
 use Rattle.mdl_shared.specs.declared.fast_path.NotFast.TheVariants.{Obtruded, Contended, Limit}
 use Rattle.mdl_shared.specs.SessionViews.{SessionView}
-use Rattle.mdl_shared.specs.Showings.{FullForFast, MakesSlow, ShowsStep}
+use Rattle.mdl_shared.specs.Showings.{MakesSlow, ShowsStep}
 
--- why the session got no fast ticket at a place: a step met the flag OBTRUSIVE up; or eight tries each met another word than the step before; or it has as
--- many there as a session may have, and made no step
+-- why the session got no fast ticket at a place: the flag OBTRUSIVE was found up; or eight fast grants missed; or it has as many there as a session may
+-- have, and made no step
 abbrev pub HasNoFast : NotFast → ℕ → SessionView → SessionView → Type 0
-HasNoFast (Obtruded word) place a b = ShowsStep a b (MeetsObtrusive place word.0)
+HasNoFast (Obtruded word) place a b = FindsObtrusive place word.0 a.me b.me
 HasNoFast (Contended word) place a b = Misses place 8 word.0 a.me b.me
 HasNoFast Limit place a b = (b ≡ a) × (most_fast ≤ length (own_at place a.me.0.fast))
 
@@ -22,6 +20,7 @@ abbrev pub AreSameOrSlow : SessionView → SessionView → Type 0
 AreSameOrSlow a b =
     (q : ℕ) → (own_at q b.me.0.fast ≡ own_at q a.me.0.fast) ⊎ ((own_at q b.me.0.fast ≡ []) × ShowsStep a b (MakesSlow q))
 
--- why there is no room for them in the books: memory ran out, or a step met one that was too full
-abbrev pub LacksRoomForFast : SpaceError → SessionView → SessionView → Type 0
-LacksRoomForFast why a b = (why ≡ OutOfMemory) ⊎ ((why ≡ Full) × FullForFast a b)
+-- before a place it has none, and from there on those that it had
+abbrev pub AreSlowBefore : SessionView → SessionView → Type 0
+AreSlowBefore a b =
+    (place : ℕ) × ((q : ℕ) → (q < place → own_at q b.me.0.fast ≡ []) × (place ≤ q → own_at q b.me.0.fast ≡ own_at q a.me.0.fast))

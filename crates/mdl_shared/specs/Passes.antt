@@ -15,7 +15,7 @@ table_of manager = (arc_value manager.table).shared.table_id
 
 -- what a session, open or not, is at the table
 abbrev pub view_of : Member → SessionView
-view_of m = session_at m.seat m.sessions
+view_of m = session_at m.seat m.sessions m.tickets.room
 
 -- the session of a pass, as it is once it is opened
 abbrev pub pass_view : Pass → SessionView

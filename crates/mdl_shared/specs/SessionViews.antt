@@ -1,5 +1,5 @@
 -- What a session of a shared space is to those that stand on lock spaces, by what it keeps of its own between two calls.
-use Rattle.std.specs.Prelude.{ℕ, ◌-◌, ◌==◌, List, map, filter_map, Option, Some, None, if◌then◌else◌}
+use Rattle.std.specs.Prelude.{◌≡◌, ℕ, ◌-◌, ◌==◌, List, map, filter_map, Option, Some, None, if◌then◌else◌}
 use Rattle.std.specs.Option.{option_map}
 use Rattle.atomic_table.specs.Seated.{TableId}
 use Rattle.mdl_calls.specs.declared.answers.Settled.{Settled}
@@ -16,6 +16,7 @@ use Rattle.mdl_steps.specs.declared.wait_word.Loss.TheVariants as loss
 use Rattle.mdl_steps.specs.WaitStates.{granted_state, lost_state}
 use Rattle.mdl_session_laws.specs.SessionSpaces.{Space, Note}
 use Rattle.mdl_shared.specs.OwnLists.{told_of}
+use Rattle.mdl_shared.specs.TicketLists.{KeepsRoom, Room}
 
 -- how a wait is settled whose word is in this state
 abbrev pub settled_of : ℕ → Option Settled
@@ -35,15 +36,21 @@ note_of t = option_map (λ version. record { place = t.place; version = version 
 
 -- ---- a session
 
--- a session: the table at which it has its seat, how many sessions the space has, and what it knows and has there, with its steps
+-- a session: the table at which it has its seat, how many sessions the space has, what it knows and has there, with its steps, and the room of its own
+-- list of tickets
 pub record SessionView : Type 0 where
   pub table : TableId
   pub sessions : ℕ
   pub me : Mine
+  pub room : Room
 
--- the session of a seat, in a space of so many sessions
-abbrev pub session_at : SeatState → ℕ → SessionView
-session_at seat sessions = record { table = seat.table; sessions = sessions; me = seat.me }
+-- the session of a seat, in a space of so many sessions, with this room
+abbrev pub session_at : SeatState → ℕ → Room → SessionView
+session_at seat sessions room = record { table = seat.table; sessions = sessions; me = seat.me; room = room }
+
+-- nothing of it changed, but that it may have more room
+abbrev pub StaysSame : SessionView → SessionView → Type 0
+StaysSame a b = (b ≡ record a { room = b.room }) × KeepsRoom 0 a.room b.room
 
 -- ---- its lists
 

@@ -1,10 +1,9 @@
 -- What the steps of a session's call show, by the call and its answer: what the calls of `Session` promise of them, for those that make the calls by the
 -- trait of lock spaces. What the call leaves the session with is told beside this, as plain data.
-use Rattle.std.specs.Prelude.{◌≡◌, ◌⊎◌, ℕ, ◌<◌, true, false, List, [], ◌∷◌, ◌++◌, length, Option, Some, None, IfSome, Result, Ok, Err, is_some}
+use Rattle.std.specs.Prelude.{◌≡◌, ◌≢◌, ◌⊎◌, ℕ, ◌<◌, ◌≤◌, Bool, true, false, List, [], ◌∷◌, ◌++◌, length, Option, Some, None, IfSome, Result, Ok, Err, is_some}
 use Rattle.mdl_key.specs.declared.mode.Mode.{Mode}
 use Rattle.mdl_key.specs.declared.mode.Mode.TheVariants.{X}
 use Rattle.mdl_key.specs.Words.{KeyName}
-use Rattle.mdl_word.specs.Words.{slow_flag}
 use Rattle.mdl_system.specs.Strength.{covers}
 use Rattle.mdl_calls.specs.declared.answers.Search.{Search as Found}
 use Rattle.mdl_calls.specs.declared.answers.Search.TheVariants as found
@@ -15,7 +14,7 @@ use Rattle.mdl_calls.specs.declared.space_error.SpaceError.TheVariants as cause
 use Rattle.mdl_calls.specs.Words.{Answer, Refused, Done, At_place, Granted, Would_wait, Waits, No_cycle, Victim_is, Pending, Is_settled, Timed_out, Lost, Has_wait, Has_killed, Upgraded, Reads, Changed, Tables, Call, Resolve, Try_now, Begin_wait, Search, Poll_wait, Settle_timeout, End_wait, Wait_of, Kill, Release, Clone_ticket, Upgrade_now, Merge, Downgrade, Read_definition, Change_definition, Tables_of, Key_of, List_held}
 use Rattle.mdl_steps.specs.declared.deed.Deed.{Deed}
 use Rattle.mdl_steps.specs.declared.deed.Deed.TheVariants.{Gain, Alter, Lose}
-use Rattle.mdl_steps.specs.declared.step_kind.StepKind.TheVariants.{Materialise, ReleaseFast}
+use Rattle.mdl_steps.specs.declared.step_kind.StepKind.TheVariants.{Materialise}
 use Rattle.mdl_steps.specs.declared.view.Ask.{Ask}
 use Rattle.mdl_steps.specs.declared.view.Keys.{Keys}
 use Rattle.mdl_steps.specs.declared.view.Known.{Known}
@@ -24,12 +23,14 @@ use Rattle.mdl_steps.specs.declared.view.Own.{Own}
 use Rattle.mdl_steps.specs.declared.wait_word.Loss.TheVariants as loss
 use Rattle.mdl_steps.specs.Cells.{own_at}
 use Rattle.mdl_steps.specs.Layout.{lock_word}
+use Rattle.mdl_steps.specs.Limits.{most_fast}
 use Rattle.mdl_steps.specs.Lists.{Each}
+use Rattle.mdl_steps.specs.Plays.{Mine}
 use Rattle.mdl_steps.specs.Schemas.{unknown}
 use Rattle.mdl_steps.specs.WaitStates.{granted_state, lost_state, unsettled_state, wait_in}
 use Rattle.mdl_visits.specs.declared.resolve_error.ResolveError.{ResolveError}
 use Rattle.mdl_visits.specs.declared.resolve_error.ResolveError.TheVariants as resolve_error
-use Rattle.mdl_visits.specs.FastTries.{MeetsClear}
+use Rattle.mdl_visits.specs.FastTries.{FindsObtrusive, GrantsAtLast, Misses, ReleasesFast}
 use Rattle.mdl_visits.specs.Grantings.{HasRescheduled}
 use Rattle.mdl_visits.specs.Leavings.{MeetsOwn, MeetsStanding}
 use Rattle.mdl_visits.specs.Lookups.{TookDirectory, IsAnswer}
@@ -45,10 +46,11 @@ use Rattle.mdl_visits.specs.WaitEndings.{without_wait}
 use Rattle.mdl_visits.specs.WaitOpenings.{MeetsOpening}
 use Rattle.mdl_shared.specs.Doings.{merge_deeds, upgrade_deeds}
 use Rattle.mdl_calls.specs.Limits.{is_within}
-use Rattle.mdl_shared.specs.Members.{AreLearnt, holding_fault, kind_known, place_known, wish_fault}
+use Rattle.mdl_shared.specs.Members.{AreLearnt, holding_fault, increment_at, kind_known, place_known, wish_fault}
 use Rattle.mdl_shared.specs.Modes.{clone_fault, downgrade_fault, merge_fault}
 use Rattle.mdl_shared.specs.OwnLists.{naming_fault}
 use Rattle.mdl_shared.specs.SessionViews.{Lists, SessionView, lists_seen, tickets_of}
+use Rattle.mdl_shared.specs.TicketLists.{HasRoom, KeepsRoom}
 use Rattle.mdl_shared.specs.Upgrades.{upgrade_fault}
 use Rattle.mdl_shared.specs.Waitings.{wait_fault}
 
@@ -74,33 +76,16 @@ MeetsTicket id ds a b t = ShowsStep a b (λ e. MeetsOwn t.place a.me.0.number id
 abbrev pub Reschedules : SessionView → SessionView → Own → Type 0
 Reschedules a b t = HasRescheduled a.table t.place a.me b.me
 
--- no wait was, and the session knows of its own what it knew
-abbrev pub LeavesWaits : SessionView → SessionView → Type 0
-LeavesWaits a b = SettlesNothing a.me b.me × (b.me.0.told ≡ a.me.0.told)
-
--- a step granted the session's wish for a mode by this deed: as it gave the latch back, by whose record the wish could be granted, or without the latch,
--- while the flag OBTRUSIVE was down
-abbrev pub MeetsGrant : ℕ → ℕ → Mode → Deed → Met → Type 0
-MeetsGrant place who mode deed e = MeetsGrantable place who mode deed e ⊎ MeetsClear place deed e
-
--- likewise a second ticket for the one of a number: as that stood in the granted list, or without the latch
-abbrev pub MeetsClone : ℕ → ℕ → ℕ → Deed → Met → Type 0
-MeetsClone place who id deed e = (MeetsOwn place who id e × (e.deeds ≡ deed ∷ [])) ⊎ MeetsClear place deed e
-
 -- the ticket of a number, a slow one, was given up under the latch, and the waits were granted that could be
 abbrev pub GivesUpSlow : ℕ → SessionView → SessionView → Own → Type 0
 GivesUpSlow id a b t = MeetsTicket id (Lose id ∷ []) a b t × Reschedules a b t
 
--- a step on the word of a place that no longer counts the session's fast ticket of a number
-abbrev pub MeetsFastRelease : ℕ → ℕ → Met → Type 0
-MeetsFastRelease place id e = (e.kind ≡ ReleaseFast) × (e.word ≡ lock_word place) × (e.deeds ≡ Lose id ∷ [])
-
--- a fast one was given up by such a step. Where that found the flag SLOW up, the waits were granted that could be, and otherwise none was
+-- a fast one was given up by one step on the word of its place. Where that found the flag SLOW up, the waits were granted that could be then, and otherwise
+-- nothing else was done
 abbrev pub GivesUpFast : ℕ → SessionView → SessionView → Own → Type 0
 GivesUpFast id a b t =
-    ShowsStep a b (λ e. MeetsFastRelease t.place id e
-    × (slow_flag e.found ≡ true → Reschedules a b t)
-    × (slow_flag e.found ≡ false → LeavesWaits a b))
+    (mid : Mine) × (owes : Bool) × ReleasesFast t.place id owes a.me mid
+    × (owes ≡ true → HasRescheduled a.table t.place mid b.me) × (owes ≡ false → b.me ≡ mid)
 
 -- a step by which the session's fast tickets at a place became slow ones
 abbrev pub MakesSlow : ℕ → Met → Type 0
@@ -111,8 +96,36 @@ abbrev pub AllMadeSlow : SessionView → SessionView → Type 0
 AllMadeSlow a b = Each (λ (t : Own). ShowsStep a b (MakesSlow t.place)) a.me.0.fast
 
 -- this is so from a moment of the call on by which each fast ticket that the session had was made slow. So no word that it met then counted its own
-abbrev pub FromUnfast : SessionView → SessionView → (SessionView → Type 0) → Type 0
-FromUnfast a b fact = (mid : SessionView) × MakesMoreSteps a.me mid.me × AllMadeSlow a mid × fact mid
+abbrev pub FromUnfast : SessionView → (SessionView → Type 0) → Type 0
+FromUnfast a fact = (mid : SessionView) × MakesMoreSteps a.me mid.me × AllMadeSlow a mid × fact mid
+
+-- before anything else was done, the session tried for a fast ticket at a place in vain: the flag OBTRUSIVE was found up, or eight fast grants missed
+abbrev pub TriesInVain : ℕ → SessionView → SessionView → Type 0
+TriesInVain place a b =
+    (word : ℕ) × (mid : Mine) × (FindsObtrusive place word a.me mid ⊎ Misses place 8 word a.me mid) × MakesMoreSteps mid b.me
+
+-- the fast path was closed to a wish for a mode at a place: the lock's word doesn't count the mode; or the session has as many fast tickets there as it may
+-- have; or it tried in vain
+abbrev pub IsClosed : ℕ → Mode → SessionView → SessionView → Type 0
+IsClosed place mode a b =
+    (increment_at place mode a.me.0.known ≡ None) ⊎ ((most_fast ≤ length (own_at place a.me.0.fast)) ⊎ TriesInVain place a b)
+
+-- such a wish was judged under the latch of the place: this is so from a moment of the call on by which the fast path was closed to it, and each fast ticket
+-- that the session had was made slow
+abbrev pub ByLatch : ℕ → Mode → SessionView → (SessionView → Type 0) → Type 0
+ByLatch place mode a fact = FromUnfast a (λ mid. IsClosed place mode a mid × fact mid)
+
+-- it was granted by this deed: by a fast grant, after which nothing else was done, or as the latch was given back, by whose record it could be
+abbrev pub IsGranted : ℕ → Mode → Deed → SessionView → SessionView → Type 0
+IsGranted place mode deed a b =
+    GrantsAtLast place deed a.me b.me
+    ⊎ ByLatch place mode a (λ mid. ShowsStep mid b (MeetsGrantable place a.me.0.number mode deed))
+
+-- likewise a second ticket for the one of a number: by a fast grant, or as that stood in the granted list
+abbrev pub IsCloned : ℕ → Mode → ℕ → Deed → SessionView → SessionView → Type 0
+IsCloned place mode id deed a b =
+    GrantsAtLast place deed a.me b.me
+    ⊎ ByLatch place mode a (λ mid. ShowsStep mid b (λ e. MeetsOwn place a.me.0.number id e × (e.deeds ≡ deed ∷ [])))
 
 -- the directory was looked at once, and so a key is answered by it
 abbrev pub LooksUp : KeyName → Result ℕ ResolveError → SessionView → SessionView → Type 0
@@ -132,17 +145,29 @@ SearchesFor found a b =
 abbrev pub MeetsOwnWait : ℕ → Lists → SessionView → SessionView → Type 0
 MeetsOwnWait state l a b = ShowsStep a b (MeetsWait a.table.slots a.me.0.number l.waits state)
 
--- a step met the book of a place without room for all fast tickets that the session had there, which were to become slow ones
+-- a step met the book of a place without room for all fast tickets that the session had there, which were to become slow ones and stayed fast
 abbrev pub FullForFast : SessionView → SessionView → Type 0
-FullForFast a b = (q : ℕ) × ShowsStep a b (MeetsFullFor (length (own_at q a.me.0.fast)) q)
+FullForFast a b =
+    (q : ℕ) × (0 < length (own_at q a.me.0.fast)) × (own_at q b.me.0.fast ≡ own_at q a.me.0.fast)
+    × ShowsStep a b (MeetsFullFor (length (own_at q a.me.0.fast)) q)
 
--- likewise, or without room for one ticket more at this place
-abbrev pub FullForOne : ℕ → SessionView → SessionView → Type 0
-FullForOne place a b = ShowsStep a b (MeetsFull place) ⊎ FullForFast a b
+-- why the session's fast tickets, of which it has some, couldn't all become slow ones: memory ran out, or a book was full
+abbrev pub LacksRoomForFast : SpaceError → SessionView → SessionView → Type 0
+LacksRoomForFast why a b = (a.me.0.fast ≢ []) × ((why ≡ cause.OutOfMemory) ⊎ ((why ≡ cause.Full) × FullForFast a b))
 
--- why a call that needs room is refused: for what the session has; or memory ran out; or a step met a book that was full
-abbrev pub RefusesWish : Option SpaceError → SpaceError → Type 0 → Type 0
-RefusesWish fault why full = (fault ≡ Some why) ⊎ ((why ≡ cause.OutOfMemory) ⊎ ((why ≡ cause.Full) × full))
+-- the fast path was closed to a wish at a place, and a step met a book without room for the fast tickets, or, once those were slow, that of the place
+-- without room for one more
+abbrev pub FullForWish : ℕ → Mode → SessionView → SessionView → Type 0
+FullForWish place mode a b = ByLatch place mode a (λ mid. ShowsStep mid b (MeetsFull place)) ⊎ (IsClosed place mode a b × FullForFast a b)
+
+-- memory ran out for a wish at a place: the session had no room for a ticket there, or the fast path was closed to the wish
+abbrev pub LacksMemory : ℕ → Mode → SessionView → SessionView → Type 0
+LacksMemory place mode a b = (HasRoom place a.room → ⊥) ⊎ IsClosed place mode a b
+
+-- why there is no room for a wish: memory ran out, or a step met a book that was full
+abbrev pub LacksRoomForWish : ℕ → Mode → SpaceError → SessionView → SessionView → Type 0
+LacksRoomForWish place mode why a b =
+    ((why ≡ cause.OutOfMemory) × LacksMemory place mode a b) ⊎ ((why ≡ cause.Full) × FullForWish place mode a b)
 
 -- ---- by calls
 
@@ -197,6 +222,11 @@ done_by (Release who id) Done tickets = Lose id ∷ []
 done_by (Downgrade who id mode) Done tickets = Alter id mode ∷ []
 done_by _ _ tickets = []
 
+-- how many tickets were gained
+abbrev pub gained_by : Answer → ℕ
+gained_by (Granted id) = 1
+gained_by _ = 0
+
 -- which waits they settled. `HasRescheduled` tells that where a place's waits were granted, and `Searched` of a search
 abbrev pub SettlesSo : Call → Answer → Lists → SessionView → SessionView → Type 0
 SettlesSo (Search who) No_cycle l a b = Unit {0}
@@ -217,16 +247,16 @@ MeetsSo (Resolve who key) (At_place place) l a b =
 MeetsSo (Resolve who key) (Refused why) l a b =
     (place_known key l.known ≡ None)
     × (((why ≡ cause.NoPlace) × LooksUp key (Err resolve_error.NoPlace) a b) ⊎ ((why ≡ cause.OutOfMemory) × (MakesNoStep a b ⊎ LooksAtKeys a b)))
-MeetsSo (Try_now who place mode) (Granted id) l a b = ShowsStep a b (MeetsGrant place a.me.0.number mode (Gain id mode))
-MeetsSo (Try_now who place mode) Would_wait l a b = FromUnfast a b (λ mid. ShowsStep mid b (MeetsBlocked place a.me.0.number mode))
+MeetsSo (Try_now who place mode) (Granted id) l a b = IsGranted place mode (Gain id mode) a b
+MeetsSo (Try_now who place mode) Would_wait l a b = ByLatch place mode a (λ mid. ShowsStep mid b (MeetsBlocked place a.me.0.number mode))
 MeetsSo (Try_now who place mode) (Refused why) l a b =
-    RefusesWish (own_fault (Try_now who place mode) l) why (FullForOne place a b)
-MeetsSo (Begin_wait who place mode) (Granted id) l a b = ShowsStep a b (MeetsGrant place a.me.0.number mode (Gain id mode))
+    (own_fault (Try_now who place mode) l ≡ Some why) ⊎ LacksRoomForWish place mode why a b
+MeetsSo (Begin_wait who place mode) (Granted id) l a b = IsGranted place mode (Gain id mode) a b
 MeetsSo (Begin_wait who place mode) (Waits number) l a b =
-    FromUnfast a b (λ mid. (e f : Met) × AreStepsOf mid.me b.me e f × MeetsBlocked place a.me.0.number mode e
+    ByLatch place mode a (λ mid. (e f : Met) × AreStepsOf mid.me b.me e f × MeetsBlocked place a.me.0.number mode e
     × MeetsOpening a.table.slots place a.me.0.number l.waits l.next mode f)
 MeetsSo (Begin_wait who place mode) (Refused why) l a b =
-    RefusesWish (own_fault (Begin_wait who place mode) l) why (FullForOne place a b)
+    (own_fault (Begin_wait who place mode) l ≡ Some why) ⊎ LacksRoomForWish place mode why a b
 MeetsSo (Search who) No_cycle l a b = (l.asks ≡ None → MakesNoStep a b) × (is_some l.asks ≡ true → SearchesFor found.NoCycle a b)
 MeetsSo (Search who) (Victim_is victim) l a b = (is_some l.asks ≡ true) × SearchesFor (found.Victim victim) a b
 MeetsSo (Search who) (Refused why) l a b = (is_some l.asks ≡ true) × LooksAtKeys a b
@@ -253,21 +283,22 @@ MeetsSo (Release who id) Done l a b =
     OfTicket id l (λ t. (numbered id l.slow ≡ Some t → GivesUpSlow id a b t) × (numbered id l.fast ≡ Some t → GivesUpFast id a b t))
 MeetsSo (Release who id) (Refused why) l a b = own_fault (Release who id) l ≡ Some why
 MeetsSo (Clone_ticket who id mode) (Granted new) l a b =
-    OfTicket id l (λ t. ShowsStep a b (MeetsClone t.place a.me.0.number id (Gain new mode)))
+    OfTicket id l (λ t. IsCloned t.place mode id (Gain new mode) a b)
 MeetsSo (Clone_ticket who id mode) (Refused why) l a b =
-    RefusesWish (own_fault (Clone_ticket who id mode) l) why
-    (OfTicket id l (λ t. FullForOne t.place a b))
+    (own_fault (Clone_ticket who id mode) l ≡ Some why) ⊎ OfTicket id l (λ t. LacksRoomForWish t.place mode why a b)
 MeetsSo (Upgrade_now who id mode) Upgraded l a b =
     OfTicket id l (λ t. (covers t.mode mode ≡ true → MakesNoStep a b)
-    × (covers t.mode mode ≡ false → ShowsStep a b (MeetsGrantable t.place a.me.0.number mode (Alter id mode))))
+    × (covers t.mode mode ≡ false → FromUnfast a (λ mid. ShowsStep mid b (MeetsGrantable t.place a.me.0.number mode (Alter id mode)))))
 MeetsSo (Upgrade_now who id mode) Would_wait l a b =
     OfTicket id l (λ t. (covers t.mode mode ≡ false)
-    × FromUnfast a b (λ mid. ShowsStep mid b (MeetsBlocked t.place a.me.0.number mode)))
-MeetsSo (Upgrade_now who id mode) (Refused why) l a b = RefusesWish (own_fault (Upgrade_now who id mode) l) why (FullForFast a b)
+    × FromUnfast a (λ mid. ShowsStep mid b (MeetsBlocked t.place a.me.0.number mode)))
+MeetsSo (Upgrade_now who id mode) (Refused why) l a b =
+    (own_fault (Upgrade_now who id mode) l ≡ Some why)
+    ⊎ (OfTicket id l (λ t. covers t.mode mode ≡ false) × LacksRoomForFast why a b)
 MeetsSo (Merge who old new) Done l a b =
-    OfTicket old l (λ kept. OfTicket new l (λ gone. ShowsStep a b (λ e.
-    MeetsOwn kept.place a.me.0.number old e × MeetsOwn kept.place a.me.0.number new e × (e.deeds ≡ Alter old gone.mode ∷ Lose new ∷ []))))
-MeetsSo (Merge who old new) (Refused why) l a b = RefusesWish (own_fault (Merge who old new) l) why (FullForFast a b)
+    OfTicket old l (λ kept. OfTicket new l (λ gone. FromUnfast a (λ mid. ShowsStep mid b (λ e.
+    MeetsOwn kept.place a.me.0.number old e × MeetsOwn kept.place a.me.0.number new e × (e.deeds ≡ Alter old gone.mode ∷ Lose new ∷ [])))))
+MeetsSo (Merge who old new) (Refused why) l a b = (own_fault (Merge who old new) l ≡ Some why) ⊎ LacksRoomForFast why a b
 MeetsSo (Downgrade who id mode) Done l a b = OfTicket id l (MeetsTicket id (Alter id mode ∷ []) a b) × OfTicket id l (Reschedules a b)
 MeetsSo (Downgrade who id mode) (Refused why) l a b = own_fault (Downgrade who id mode) l ≡ Some why
 MeetsSo (Read_definition who id) (Reads version definition) l a b =
@@ -296,7 +327,7 @@ MeetsSo _ _ l a b = Unit {0}
 -- the session, which has these lists before the call, is at the same table (`table`) of the same space (`sessions`); where it has a fault of its own, that
 -- is the answer, and no step is made (`refused`); the call's steps did these deeds, and no others (`did`), settled these waits, and no others (`settled`),
 -- let the session know no more of its own wait than they may (`told`), gave no latch back and raised no flag where the call must not (`steps`), and met
--- this (`met`)
+-- this (`met`); it has the room for tickets that it had, but for the ticket that it gained (`room`)
 pub record ShowsBy (call : Call) (answer : Answer) (l : Lists) (a b : SessionView) : Type 0 where
   pub table : b.table ≡ a.table
   pub sessions : b.sessions ≡ a.sessions
@@ -306,6 +337,7 @@ pub record ShowsBy (call : Call) (answer : Answer) (l : Lists) (a b : SessionVie
   pub told : KeepsTold call a b
   pub steps : StepsSo call a b
   pub met : MeetsSo call answer l a b
+  pub room : KeepsRoom (gained_by answer) a.room b.room
 
 -- what a call with this answer shows
 abbrev pub Shows : Call → Answer → SessionView → SessionView → Type 0
@@ -313,13 +345,14 @@ Shows call answer a b = ShowsBy call answer (lists_seen a.me.0) a b
 
 -- ---- what isn't a call of a lock space
 
--- the session has the same number, at the same table, and the same lists, and read nothing
+-- the session has the same number, at the same table, the same lists and the room that it had, and read nothing
 pub record KeepsLists (a b : SessionView) : Type 0 where
   pub number : b.me.0.number ≡ a.me.0.number
   pub table : b.table ≡ a.table
   pub sessions : b.sessions ≡ a.sessions
   pub lists : lists_seen b.me.0 ≡ lists_seen a.me.0
   pub reads : b.me.0.reads ≡ a.me.0.reads
+  pub room : KeepsRoom 0 a.room b.room
 
 -- it knows how its wait is settled where it did before, and may have learnt it
 abbrev pub RemembersWait : SessionView → SessionView → Type 0

@@ -1,18 +1,26 @@
 -- A session's own list of its tickets, as the session's calls see it.
-use Rattle.std.specs.Prelude.{ℕ, ◌<◌, ◌≤◌, List}
+use Rattle.std.specs.Prelude.{ℕ, ◌+◌, ◌<◌, ◌≤◌, List}
 use Rattle.mdl_steps.specs.declared.view.Own.{Own}
 
--- the slow tickets and the fast ones, each in order of gain, for how many more there is room, and below which place those may be
-pub record TicketList : Type 0 where
-  pub slow : List Own
-  pub fast : List Own
+-- for how many more tickets there is room, and below which place those may be
+pub record Room : Type 0 where
   pub spare : ℕ
   pub reach : ℕ
 
 -- there is room for one more ticket at a place
-abbrev pub HasRoom : ℕ → TicketList → Type 0
-HasRoom place list = (0 < list.spare) × (place < list.reach)
+abbrev pub HasRoom : ℕ → Room → Type 0
+HasRoom place room = (0 < room.spare) × (place < room.reach)
 
 -- there is room for so many more tickets, at places below this one
-abbrev pub HasRoomFor : ℕ → ℕ → TicketList → Type 0
-HasRoomFor count places list = (count ≤ list.spare) × (places ≤ list.reach)
+abbrev pub HasRoomFor : ℕ → ℕ → Room → Type 0
+HasRoomFor count places room = (count ≤ room.spare) × (places ≤ room.reach)
+
+-- there is as much room as there was, but for so many tickets
+abbrev pub KeepsRoom : ℕ → Room → Room → Type 0
+KeepsRoom gained room room′ = (room.spare ≤ room′.spare + gained) × (room.reach ≤ room′.reach)
+
+-- the slow tickets and the fast ones, each in order of gain, and the room for more
+pub record TicketList : Type 0 where
+  pub slow : List Own
+  pub fast : List Own
+  pub room : Room

@@ -1,12 +1,16 @@
 //! A lock is asked for, and waited for where it can't be had now.
-ghost use Rattle.std.specs.Prelude.{◌≡◌, None, Some, []};
+ghost use Rattle.std.specs.Prelude.{◌≡◌, ◌⊎◌, [], None, Some, IfErr, IfOk, OnErr};
+ghost use Rattle.mdl_calls.specs.declared.space_error.SpaceError.TheVariants.{Full, OutOfMemory};
 ghost use Rattle.mdl_calls.specs.Words.{Begin_wait, begun};
 ghost use Rattle.mdl_session_laws.specs.SessionJoins.{Joins};
+ghost use Rattle.mdl_visits.specs.Visits.{MeetsFull};
+ghost use Rattle.mdl_shared.specs.DeedsDone.{DoesQuietly};
+ghost use Rattle.mdl_shared.specs.FastWishes.{HasBegun};
 ghost use Rattle.mdl_shared.specs.Members.{kind_known, wish_fault};
 ghost use Rattle.mdl_shared.specs.Passes.{view_of};
 ghost use Rattle.mdl_shared.specs.SessionViews.{space_of};
-ghost use Rattle.mdl_shared.specs.Showings.{Shows};
-ghost use Rattle.mdl_shared.specs.TicketLists.{HasRoom};
+ghost use Rattle.mdl_shared.specs.Showings.{Shows, ShowsStep};
+ghost use Rattle.mdl_shared.specs.TicketLists.{HasRoom, KeepsRoom};
 
 use crate::Session;
 use crate::member::Member;
@@ -46,10 +50,10 @@ impl Member {
         requires known { kind_known place self.old.known.known ≡ Some kind }
         requires clear { wish_fault (Some kind) self.old.asks mode self.old.next ≡ None }
         requires unfast { self.old.tickets.fast ≡ [] }
-        requires room { HasRoom place self.old.tickets }
-        ensures joined { Joins (space_of (view_of self.old)) (Begin_wait self.old.seat.me.0.number place mode) (begun result)
-            (space_of (view_of self.new)) }
-        ensures shown { Shows (Begin_wait self.old.seat.me.0.number place mode) (begun result) (view_of self.old) (view_of self.new) }
+        requires room { HasRoom place self.old.tickets.room }
+        ensures begun { IfOk result (λ answer. HasBegun place mode answer (view_of self.old) (view_of self.new)) }
+        ensures unchanged { OnErr result (DoesQuietly place [] (view_of self.old) (view_of self.new) × KeepsRoom 0 self.old.tickets.room self.new.tickets.room) }
+        ensures refused { IfErr result (λ why. (why ≡ OutOfMemory) ⊎ ((why ≡ Full) × ShowsStep (view_of self.old) (view_of self.new) (MeetsFull place))) }
     {
         let number = self.next;
         let wait = self.waits + 1;

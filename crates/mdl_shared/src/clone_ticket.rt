@@ -14,7 +14,7 @@ ghost use Rattle.mdl_shared.specs.Modes.{clone_fault};
 ghost use Rattle.mdl_shared.specs.Passes.{view_of};
 ghost use Rattle.mdl_shared.specs.SessionViews.{space_of};
 ghost use Rattle.mdl_shared.specs.Showings.{MeetsTicket, Shows, ShowsStep};
-ghost use Rattle.mdl_shared.specs.TicketLists.{HasRoom};
+ghost use Rattle.mdl_shared.specs.TicketLists.{HasRoom, KeepsRoom};
 
 use crate::Session;
 use crate::holdings::MOST_NUMBERS;
@@ -76,11 +76,12 @@ impl Member {
         requires held { numbered held.number self.old.tickets.slow ≡ Some held }
         requires clear { clone_fault (Some held) self.old.asks mode self.old.known.known self.old.next ≡ None }
         requires unfast { self.old.tickets.fast ≡ [] }
-        requires room { HasRoom held.place self.old.tickets }
+        requires room { HasRoom held.place self.old.tickets.room }
         ensures cloned { IfOk result (λ new. (new ≡ self.old.next)
             × DoesQuietly held.place (Gain new mode ∷ []) (view_of self.old) (view_of self.new)
-            × MeetsTicket held.number (Gain new mode ∷ []) (view_of self.old) (view_of self.new) held) }
-        ensures unchanged { OnErr result (DoesQuietly held.place [] (view_of self.old) (view_of self.new)) }
+            × MeetsTicket held.number (Gain new mode ∷ []) (view_of self.old) (view_of self.new) held
+            × KeepsRoom 1 self.old.tickets.room self.new.tickets.room) }
+        ensures unchanged { OnErr result (DoesQuietly held.place [] (view_of self.old) (view_of self.new) × KeepsRoom 0 self.old.tickets.room self.new.tickets.room) }
         ensures refused { IfErr result (λ why. (why ≡ OutOfMemory) ⊎ ((why ≡ Full) × ShowsStep (view_of self.old) (view_of self.new) (MeetsFull held.place))) }
     {
         let number = self.next;

@@ -1,24 +1,24 @@
-//! The fast path: a ticket in an unobtrusive mode is granted, and released, without the latch of its place, as long as the lock has no ticket in
-//! an obtrusive mode. The lock's word counts it, and no book has it. Before the session asks for a ticket or a mode under the latch of a place,
+//! The fast path: a ticket in an unobtrusive mode is granted, and released, without the latch of its place, as long as the flag OBTRUSIVE of the
+//! lock's word is down. The lock's word counts it, and no book has it. Before the session asks for a ticket or a mode under the latch of a place,
 //! its fast tickets become slow ones, which stand in the books.
 //!
 //! After MySQL 5.7, sql/mdl.cc: `MDL_context::try_acquire_lock_impl`, `MDL_context::release_lock` and
 //! `MDL_context::materialize_fast_path_locks`.
-ghost use Rattle.std.specs.Prelude.{◌≡◌, ◌⊎◌, Err, ◌<◌, ◌≤◌, ◌∷◌, [], None, Some, length, IfErr, IfOk, OnErr, OnOk};
+ghost use Rattle.std.specs.Prelude.{◌≡◌, ◌⊎◌, Err, ◌<◌, ◌≤◌, ◌∷◌, [], None, Some, length, true, is_some, IfErr, IfOk, OnErr, OnOk};
 ghost use Rattle.mdl_steps.specs.declared.deed.Deed.TheVariants.{Gain, Lose};
 ghost use Rattle.mdl_steps.specs.Cells.{own_at};
 ghost use Rattle.mdl_steps.specs.FastPlays.{but_at};
 ghost use Rattle.mdl_steps.specs.Limits.{most_fast};
-ghost use Rattle.mdl_visits.specs.FastTries.{MeetsClear, ReleasesFast};
+ghost use Rattle.mdl_visits.specs.FastTries.{GrantsAtLast, ReleasesFast};
 ghost use Rattle.mdl_visits.specs.Numbers.{numbered};
 ghost use Rattle.mdl_visits.specs.Visits.{StaysOn};
 ghost use Rattle.mdl_shared.specs.declared.fast_path.NotFast.TheVariants.{Limit};
 ghost use Rattle.mdl_shared.specs.DeedsDone.{DoesQuietly};
-ghost use Rattle.mdl_shared.specs.FastDeeds.{HasNoFast, LacksRoomForFast};
+ghost use Rattle.mdl_shared.specs.FastDeeds.{AreSameOrSlow, AreSlowBefore, HasNoFast};
 ghost use Rattle.mdl_shared.specs.Members.{increment_at, most_numbers};
 ghost use Rattle.mdl_shared.specs.Passes.{view_of};
-ghost use Rattle.mdl_shared.specs.Showings.{AllMadeSlow, MakesSlow, ShowsStep};
-ghost use Rattle.mdl_shared.specs.TicketLists.{HasRoom};
+ghost use Rattle.mdl_shared.specs.Showings.{AllMadeSlow, LacksRoomForFast, MakesSlow, ShowsStep};
+ghost use Rattle.mdl_shared.specs.TicketLists.{HasRoom, KeepsRoom};
 
 use crate::member::Member;
 use crate::wishes::refusal;
@@ -32,11 +32,11 @@ use std::sync::Wait;
 /// Why the session got no fast ticket. Nothing has changed.
 #[derive(Clone, Copy, Debug, PartialEq, Eq)]
 pub(crate) enum NotFast {
-    /// The lock has a ticket in an obtrusive mode, as its word says, which is this one.
+    /// The flag OBTRUSIVE of the lock's word, which is this one, is up.
     Obtruded(Word),
     /// Each try found another word than the one that it was to replace. This is the last word found.
     Contended(Word),
-    /// The session has as many fast tickets there as the word can count.
+    /// The session has as many fast tickets there as it may have.
     Limit,
 }
 
@@ -56,10 +56,12 @@ impl Member {
         requires idle { self.old.asks ≡ None }
         requires counted { increment_at place mode self.old.known.known ≡ Some one }
         requires number { self.old.next < most_numbers }
-        requires room { HasRoom place self.old.tickets }
+        requires room { HasRoom place self.old.tickets.room }
         ensures granted { IfOk result (λ id. (id ≡ self.old.next)
             × DoesQuietly place (Gain id mode ∷ []) (view_of self.old) (view_of self.new)
-            × ShowsStep (view_of self.old) (view_of self.new) (MeetsClear place (Gain id mode))) }
+            × GrantsAtLast place (Gain id mode) self.old.seat.me self.new.seat.me
+            × (is_some (numbered id self.new.tickets.fast) ≡ true)) }
+        ensures room { KeepsRoom 1 self.old.tickets.room self.new.tickets.room }
         ensures unchanged { OnErr result (DoesQuietly place [] (view_of self.old) (view_of self.new) × (self.new.tickets ≡ self.old.tickets)) }
         ensures closed { IfErr result (λ why. HasNoFast why place (view_of self.old) (view_of self.new)) }
         ensures fewer { (result ≡ Err Limit) ⊎ (length (own_at place self.old.tickets.fast) < most_fast) }
@@ -86,6 +88,7 @@ impl Member {
         requires held { numbered held.number self.old.tickets.fast ≡ Some held }
         ensures lost { DoesQuietly held.place (Lose held.number ∷ []) (view_of self.old) (view_of self.new) }
         ensures released { ReleasesFast held.place held.number result self.old.seat.me self.new.seat.me }
+        ensures room { (self.old.tickets.room.spare < self.new.tickets.room.spare) × (self.old.tickets.room.reach ≤ self.new.tickets.room.reach) }
         ensures stays { StaysOn self.old.seat.me self.new.seat.me }
     {
         let one = self.increment(held);
@@ -101,7 +104,9 @@ impl Member {
         ensures done { DoesQuietly 0 [] (view_of self.old) (view_of self.new) }
         ensures slow { OnOk result ((self.new.tickets.fast ≡ []) × AllMadeSlow (view_of self.old) (view_of self.new)) }
         ensures refused { IfErr result (λ why. LacksRoomForFast why (view_of self.old) (view_of self.new)) }
-        ensures room { (self.old.tickets.spare ≤ self.new.tickets.spare) × (self.new.tickets.reach ≡ self.old.tickets.reach) }
+        ensures partly { OnErr result (AreSameOrSlow (view_of self.old) (view_of self.new)) }
+        ensures order { OnErr result (AreSlowBefore (view_of self.old) (view_of self.new)) }
+        ensures room { KeepsRoom 0 self.old.tickets.room self.new.tickets.room }
     {
         while let Some(place) = self.tickets.some_fast() {
             self.materialise_at(rt, place)?;
@@ -117,7 +122,7 @@ impl Member {
         ensures slow { OnOk result ((self.new.tickets.fast ≡ but_at place self.old.tickets.fast) × ShowsStep (view_of self.old) (view_of self.new) (MakesSlow place)) }
         ensures fast { OnErr result (self.new.tickets.fast ≡ self.old.tickets.fast) }
         ensures refused { IfErr result (λ why. LacksRoomForFast why (view_of self.old) (view_of self.new)) }
-        ensures room { (self.old.tickets.spare ≤ self.new.tickets.spare) × (self.new.tickets.reach ≡ self.old.tickets.reach) }
+        ensures room { KeepsRoom 0 self.old.tickets.room self.new.tickets.room }
     {
         let Some(kind) = self.known.kind_at(place) else {
             return Ok(());

@@ -1,11 +1,12 @@
 //! A session's fast tickets become slow ones.
 //!
 //! After MySQL 5.7, sql/mdl.cc: `MDL_context::materialize_fast_path_locks`.
-ghost use Rattle.std.specs.Prelude.{◌≡◌, [], IfErr, OnOk};
+ghost use Rattle.std.specs.Prelude.{◌≡◌, [], IfErr, OnErr, OnOk};
 ghost use Rattle.mdl_shared.specs.DeedsDone.{DoesQuietly};
-ghost use Rattle.mdl_shared.specs.FastDeeds.{LacksRoomForFast};
+ghost use Rattle.mdl_shared.specs.FastDeeds.{AreSameOrSlow, AreSlowBefore};
 ghost use Rattle.mdl_shared.specs.SessionViews.{space_of};
-ghost use Rattle.mdl_shared.specs.Showings.{AllMadeSlow};
+ghost use Rattle.mdl_shared.specs.Showings.{AllMadeSlow, LacksRoomForFast};
+ghost use Rattle.mdl_shared.specs.TicketLists.{KeepsRoom};
 
 use crate::Session;
 use mdl_calls::SpaceError;
@@ -13,7 +14,7 @@ use std::sync::Wait;
 
 impl<R: Wait> Session<R> {
     /// Makes slow ones of the session's fast tickets, one place after the other, so that they stand in the books. It has the same tickets as
-    /// before. If there is no room for those of a place, they stay fast, as those of the places after it.
+    /// before. If there is no room for those of a place, they stay fast, as those at places of greater numbers.
     ///
     /// A session that waits has no fast ticket.
     pub fn materialise(&mut self) -> Result<(), SpaceError>
@@ -21,6 +22,9 @@ impl<R: Wait> Session<R> {
         ensures quiet { DoesQuietly 0 [] self.old self.new }
         ensures slow { OnOk result ((self.new.me.0.fast ≡ []) × AllMadeSlow self.old self.new) }
         ensures refused { IfErr result (λ why. LacksRoomForFast why self.old self.new) }
+        ensures partly { OnErr result (AreSameOrSlow self.old self.new) }
+        ensures order { OnErr result (AreSlowBefore self.old self.new) }
+        ensures room { KeepsRoom 0 self.old.room self.new.room }
     {
         if self.member.asks.is_some() {
             return Ok(());

@@ -30,9 +30,9 @@ pub(crate) struct Member {
     pub(crate) waits: u64,
     /// How many sessions the space has.
     pub(crate) sessions: usize,
-    ghost lawful: { ∥ IsMember (session_at seat sessions) ∥₁ },
+    ghost lawful: { ∥ IsMember (session_at seat sessions tickets.room) ∥₁ },
     ghost lists: { record { slow = tickets.slow; fast = tickets.fast; known = known.known; next = next; asks = asks; waits = waits } ≡ lists_seen seat.me.0 },
-    ghost room: { ForSome asks (λ ask. HasRoom ask.place tickets) },
+    ghost room: { ForSome asks (λ ask. HasRoom ask.place tickets.room) },
 }
 
 impl Member {

@@ -12,6 +12,7 @@ ghost use Rattle.mdl_shared.specs.Modes.{may_merge, merge_fault};
 ghost use Rattle.mdl_shared.specs.Passes.{view_of};
 ghost use Rattle.mdl_shared.specs.SessionViews.{space_of};
 ghost use Rattle.mdl_shared.specs.Showings.{Shows};
+ghost use Rattle.mdl_shared.specs.TicketLists.{KeepsRoom};
 
 use crate::Session;
 use crate::member::Member;
@@ -65,6 +66,7 @@ impl Member {
         requires unfast { self.old.tickets.fast ≡ [] }
         ensures merged { DoesQuietly kept.place (Alter kept.number gone.mode ∷ Lose gone.number ∷ []) (view_of self.old) (view_of self.new) }
         ensures met { MergesOwn kept gone self.old.seat self.new.seat }
+        ensures room { KeepsRoom 0 self.old.tickets.room self.new.tickets.room }
     {
         merge(rt, &mut self.seat, kept, gone);
         self.tickets.set_mode(kept.place, kept.number, gone.mode);

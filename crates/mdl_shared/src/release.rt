@@ -9,6 +9,7 @@ ghost use Rattle.mdl_shared.specs.DeedsDone.{HasDone};
 ghost use Rattle.mdl_shared.specs.Passes.{view_of};
 ghost use Rattle.mdl_shared.specs.SessionViews.{space_of};
 ghost use Rattle.mdl_shared.specs.Showings.{GivesUpFast, Shows};
+ghost use Rattle.mdl_shared.specs.TicketLists.{KeepsRoom};
 
 use crate::Session;
 use crate::member::Member;
@@ -45,6 +46,7 @@ impl Member {
         ensures lost { HasDone held.place (Lose held.number ∷ []) (view_of self.old) (view_of self.new) }
         ensures did { Does (Lose held.number ∷ []) self.old.seat.me self.new.seat.me }
         ensures given_up { GivesUpFast held.number (view_of self.old) (view_of self.new) held }
+        ensures room { KeepsRoom 0 self.old.tickets.room self.new.tickets.room }
     {
         if self.lose_fast(held) {
             reschedule(rt, &mut self.seat, held.place);

@@ -1,6 +1,8 @@
 //! Room is made for tickets ahead.
-ghost use Rattle.std.specs.Prelude.{◌≡◌, IfErr};
+ghost use Rattle.std.specs.Prelude.{◌≡◌, IfErr, OnOk};
 ghost use Rattle.mdl_calls.specs.declared.space_error.SpaceError.TheVariants.{OutOfMemory};
+ghost use Rattle.mdl_shared.specs.SessionViews.{StaysSame};
+ghost use Rattle.mdl_shared.specs.TicketLists.{HasRoomFor};
 
 use crate::Session;
 use mdl_calls::SpaceError;
@@ -9,8 +11,9 @@ impl<R> Session<R> {
     /// Makes room for so many more tickets, at whichever places. The next as many that the session gains take no memory of its own for them; for
     /// fast tickets that is all that they take.
     pub fn reserve_tickets(&mut self, count: usize) -> Result<(), SpaceError>
-        ensures same { self.new ≡ self.old }
-        ensures refused { IfErr result (λ why. why ≡ OutOfMemory) }
+        ensures same { StaysSame self.old self.new }
+        ensures room { OnOk result (HasRoomFor count self.old.table.slots self.new.room) }
+        ensures refused { IfErr result (λ why. (why ≡ OutOfMemory) × (HasRoomFor count self.old.table.slots self.old.room → ⊥)) }
     {
         let places = self.member.seat.slot_count();
         if self.member.tickets.reserve_many(count, places).is_err() {

@@ -4,6 +4,7 @@ ghost use Rattle.std.specs.List.{list_all};
 ghost use Rattle.std.specs.Vec.{vec_capacity, vec_len};
 ghost use Rattle.mdl_calls.specs.declared.answers.Held.{Held};
 ghost use Rattle.mdl_steps.specs.Cells.{note_at, own_at};
+ghost use Rattle.mdl_steps.specs.declared.view.Own.{Own};
 ghost use Rattle.mdl_steps.specs.Deeds.{is_own};
 ghost use Rattle.mdl_steps.specs.FastPlays.{but_at, fast_own, first_note};
 ghost use Rattle.mdl_steps.specs.Interleavings.{interleaved};
@@ -13,7 +14,7 @@ ghost use Rattle.mdl_shared.specs.Members.{without_at};
 ghost use Rattle.mdl_shared.specs.Modes.{in_mode_at};
 ghost use Rattle.mdl_shared.specs.OwnLists.{told_of};
 ghost use Rattle.mdl_shared.specs.Waitings.{are_below};
-ghost use Rattle.mdl_shared.specs.TicketLists.{HasRoom, HasRoomFor};
+ghost use Rattle.mdl_shared.specs.TicketLists.{HasRoom, HasRoomFor, KeepsRoom};
 ghost use Rattle.mdl_shared.specs.OwnTickets.{StandsAt, counted_at, fast_counted_at, noted_in, own_of, AreRising, AreAt, has_fast, slowed};
 
 use mdl_calls::{Held, Place, TicketId};
@@ -60,8 +61,7 @@ impl Model for Tickets {
     ghost view = { λ s. record {
       slow = slow_of s.places.items s.gained.items;
       fast = fast_of s.places.items s.gained.items;
-      spare = vec_capacity s.gained - length s.gained.items;
-      reach = length s.places.items;
+      room = record { spare = vec_capacity s.gained - length s.gained.items; reach = length s.places.items };
     } };
 
     ghost invariant = { λ s. AreKept s.gained.items s.places.items s.fast };
@@ -121,9 +121,10 @@ impl Tickets {
         note_counted(&self.places, place)
     }
 
-    /// A place with a fast ticket.
+    /// The first place with a fast ticket.
     pub(crate) fn some_fast(&self) -> Option<usize>
-        ensures { MatchOption result (self.now.fast ≡ []) (λ place. 0 < length (own_at place self.now.fast)) }
+        ensures { MatchOption result (self.now.fast ≡ [])
+            (λ place. (0 < length (own_at place self.now.fast)) × ((q : ℕ) → q < place → own_at q self.now.fast ≡ [])) }
     {
         if self.fast == 0 {
             return None;
@@ -148,8 +149,9 @@ impl Tickets {
     pub(crate) fn reserve(&mut self, place: usize) -> Result<(), AllocError>
         requires { place < 65536 }
         ensures same { (self.new.slow ≡ self.old.slow) × (self.new.fast ≡ self.old.fast) }
-        ensures kept { (self.old.spare ≤ self.new.spare) × (self.old.reach ≤ self.new.reach) }
-        ensures room { OnOk result (HasRoom place self.new) }
+        ensures kept { KeepsRoom 0 self.old.room self.new.room }
+        ensures room { OnOk result (HasRoom place self.new.room) }
+        ensures lacked { OnErr result (HasRoom place self.old.room → ⊥) }
     {
         self.reserve_many(1, place + 1)
     }
@@ -158,8 +160,9 @@ impl Tickets {
     pub(crate) fn reserve_many(&mut self, count: usize, places: usize) -> Result<(), AllocError>
         requires { places ≤ 65536 }
         ensures same { (self.new.slow ≡ self.old.slow) × (self.new.fast ≡ self.old.fast) }
-        ensures kept { (self.old.spare ≤ self.new.spare) × (self.old.reach ≤ self.new.reach) }
-        ensures room { OnOk result (HasRoomFor count places self.new) }
+        ensures kept { KeepsRoom 0 self.old.room self.new.room }
+        ensures room { OnOk result (HasRoomFor count places self.new.room) }
+        ensures lacked { OnErr result (HasRoomFor count places self.old.room → ⊥) }
     {
         reach(&mut self.places, places)?;
         self.gained.reserve(count)
@@ -167,13 +170,12 @@ impl Tickets {
 
     /// Puts a new slow ticket last, with the note of those at its place. It takes no memory.
     pub(crate) fn push_reserved(&mut self, number: TicketId, place: usize, mode: Mode)
-        requires room { HasRoom place self.old }
+        requires room { HasRoom place self.old.room }
         requires below { are_below number (interleaved self.old.slow self.old.fast) ≡ true }
         requires slow { own_at place self.old.fast ≡ [] }
         ensures gained { self.new.slow ≡ self.old.slow ++ record { number = number; place = place; mode = mode; noted = note_at place self.old.slow } ∷ [] }
         ensures same { self.new.fast ≡ self.old.fast }
-        ensures spare { self.new.spare + 1 ≡ self.old.spare }
-        ensures reach { self.new.reach ≡ self.old.reach }
+        ensures room { KeepsRoom 1 self.old.room self.new.room }
     {
         count_one(&mut self.places, place);
         self.gained
@@ -182,12 +184,11 @@ impl Tickets {
 
     /// Puts a new fast ticket last, with the note of those at its place. It takes no memory.
     pub(crate) fn push_fast(&mut self, number: TicketId, place: usize, mode: Mode)
-        requires room { HasRoom place self.old }
+        requires room { HasRoom place self.old.room }
         requires below { are_below number (interleaved self.old.slow self.old.fast) ≡ true }
         ensures gained { self.new.fast ≡ self.old.fast ++ fast_own number place mode (first_note (own_at place self.old.fast ++ own_at place self.old.slow)) ∷ [] }
         ensures same { self.new.slow ≡ self.old.slow }
-        ensures spare { self.new.spare + 1 ≡ self.old.spare }
-        ensures reach { self.new.reach ≡ self.old.reach }
+        ensures room { KeepsRoom 1 self.old.room self.new.room }
     {
         count_one(&mut self.places, place);
         count_fast(&mut self.places, place);
@@ -199,7 +200,8 @@ impl Tickets {
     /// Strikes the ticket of a number at a place, if there is one.
     pub(crate) fn strike(&mut self, place: usize, id: TicketId)
         ensures struck { (self.new.slow ≡ without_at place id self.old.slow) × (self.new.fast ≡ without_at place id self.old.fast) }
-        ensures room { (self.old.spare ≤ self.new.spare) × (self.new.reach ≡ self.old.reach) }
+        ensures freed { (t : Own) → numbered id self.old.fast ≡ Some t → t.place ≡ place → self.old.room.spare < self.new.room.spare }
+        ensures room { KeepsRoom 0 self.old.room self.new.room }
     {
         if let Some(at) = index_at(&self.gained, place, id) {
             let fast = self.gained[at].fast;
@@ -216,7 +218,7 @@ impl Tickets {
     pub(crate) fn set_mode(&mut self, place: usize, id: TicketId, mode: Mode)
         requires slow { numbered id self.old.fast ≡ None }
         ensures changed { (self.new.slow ≡ in_mode_at place id mode self.old.slow) × (self.new.fast ≡ self.old.fast) }
-        ensures room { (self.old.spare ≤ self.new.spare) × (self.new.reach ≡ self.old.reach) }
+        ensures room { KeepsRoom 0 self.old.room self.new.room }
     {
         if let Some(at) = index_at(&self.gained, place, id) {
             self.gained[at].mode = mode;
@@ -227,7 +229,7 @@ impl Tickets {
     pub(crate) fn make_slow(&mut self, place: usize)
         ensures slow { self.new.slow ≡ interleaved self.old.slow (own_at place self.old.fast) }
         ensures fast { self.new.fast ≡ but_at place self.old.fast }
-        ensures room { (self.old.spare ≤ self.new.spare) × (self.new.reach ≡ self.old.reach) }
+        ensures room { KeepsRoom 0 self.old.room self.new.room }
     {
         self.fast -= clear_fast(&mut self.places, place);
         slow_down(&mut self.gained, place);
@@ -236,7 +238,7 @@ impl Tickets {
     /// Notes a version under each ticket at a place.
     pub(crate) fn note_all(&mut self, place: usize, version: u64)
         ensures noted { (self.new.slow ≡ noting_version place version self.old.slow) × (self.new.fast ≡ noting_version place version self.old.fast) }
-        ensures room { (self.old.spare ≤ self.new.spare) × (self.new.reach ≡ self.old.reach) }
+        ensures room { KeepsRoom 0 self.old.room self.new.room }
     {
         note(&mut self.places, place, version);
     }
@@ -397,6 +399,7 @@ fn reach(places: &mut Vec<OfPlace>, count: usize) -> Result<(), AllocError>
     ensures length { length places.old.items ≤ length places.new.items }
     ensures narrow { count ≤ 65536 → length places.old.items ≤ 65536 → length places.new.items ≤ 65536 }
     ensures reach { OnOk result (count ≤ length places.new.items) }
+    ensures lacked { OnErr result (length places.old.items < count) }
     ensures same { (q : ℕ) → AreAt q places.old.items places.new.items }
 {
     if count <= places.len() {

@@ -1,12 +1,16 @@
 //! A lock is asked for, without waiting.
-ghost use Rattle.std.specs.Prelude.{◌≡◌, None, Some, []};
+ghost use Rattle.std.specs.Prelude.{◌≡◌, ◌⊎◌, [], None, Some, IfErr, IfOk, OnErr};
+ghost use Rattle.mdl_calls.specs.declared.space_error.SpaceError.TheVariants.{Full, OutOfMemory};
 ghost use Rattle.mdl_calls.specs.Words.{Try_now, attempted};
 ghost use Rattle.mdl_session_laws.specs.SessionJoins.{Joins};
+ghost use Rattle.mdl_visits.specs.Visits.{MeetsFull};
+ghost use Rattle.mdl_shared.specs.DeedsDone.{DoesQuietly};
+ghost use Rattle.mdl_shared.specs.FastWishes.{HasTried};
 ghost use Rattle.mdl_shared.specs.Members.{kind_known, wish_fault};
 ghost use Rattle.mdl_shared.specs.Passes.{view_of};
 ghost use Rattle.mdl_shared.specs.SessionViews.{space_of};
-ghost use Rattle.mdl_shared.specs.Showings.{Shows};
-ghost use Rattle.mdl_shared.specs.TicketLists.{HasRoom};
+ghost use Rattle.mdl_shared.specs.Showings.{Shows, ShowsStep};
+ghost use Rattle.mdl_shared.specs.TicketLists.{HasRoom, KeepsRoom};
 
 use crate::Session;
 use crate::member::Member;
@@ -44,10 +48,10 @@ impl Member {
         requires known { kind_known place self.old.known.known ≡ Some kind }
         requires clear { wish_fault (Some kind) self.old.asks mode self.old.next ≡ None }
         requires unfast { self.old.tickets.fast ≡ [] }
-        requires room { HasRoom place self.old.tickets }
-        ensures joined { Joins (space_of (view_of self.old)) (Try_now self.old.seat.me.0.number place mode) (attempted result)
-            (space_of (view_of self.new)) }
-        ensures shown { Shows (Try_now self.old.seat.me.0.number place mode) (attempted result) (view_of self.old) (view_of self.new) }
+        requires room { HasRoom place self.old.tickets.room }
+        ensures tried { IfOk result (λ answer. HasTried place mode answer (view_of self.old) (view_of self.new)) }
+        ensures unchanged { OnErr result (DoesQuietly place [] (view_of self.old) (view_of self.new) × KeepsRoom 0 self.old.tickets.room self.new.tickets.room) }
+        ensures refused { IfErr result (λ why. (why ≡ OutOfMemory) ⊎ ((why ≡ Full) × ShowsStep (view_of self.old) (view_of self.new) (MeetsFull place))) }
     {
         let number = self.next;
         match try_now(rt, &mut self.seat, place, kind, number, mode) {

@@ -14,6 +14,7 @@ ghost use Rattle.mdl_shared.specs.Members.{kind_known};
 ghost use Rattle.mdl_shared.specs.Passes.{view_of};
 ghost use Rattle.mdl_shared.specs.SessionViews.{space_of};
 ghost use Rattle.mdl_shared.specs.Showings.{Shows, ShowsStep};
+ghost use Rattle.mdl_shared.specs.TicketLists.{KeepsRoom};
 ghost use Rattle.mdl_shared.specs.Upgrades.{can_have, upgrade_fault};
 
 use crate::Session;
@@ -70,6 +71,7 @@ impl Member {
             × ShowsStep (view_of self.old) (view_of self.new) (MeetsGrantable held.place self.old.seat.me.0.number mode (Alter held.number mode)) }
         ensures blocked { result ≡ WouldWait → DoesQuietly held.place [] (view_of self.old) (view_of self.new)
             × ShowsStep (view_of self.old) (view_of self.new) (MeetsBlocked held.place self.old.seat.me.0.number mode) }
+        ensures room { KeepsRoom 0 self.old.tickets.room self.new.tickets.room }
     {
         match upgrade_now(rt, &mut self.seat, held.place, held.number, mode) {
             Tried::Granted => {}

@@ -1,4 +1,4 @@
-//! The tickets of some locks, copied into one piece of memory.
+//! The tickets of some locks, copied into one list. A second list says where those of each lock are.
 ghost use Rattle.std.specs.Prelude.{◌≡◌, [], ◌∷◌, ◌++◌, ◌<◌, length, get_or, OnOk, OnErr};
 ghost use Rattle.mdl_steps.specs.Copies.{no_queues, queues_of};
 

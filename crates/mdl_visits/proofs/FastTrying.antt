@@ -1,5 +1,5 @@
 -- What comes of a try for a fast ticket.
-use Rattle.std.proofs.Common.{◌≡◌, ◌≢◌, ℕ, ◌+◌, true, false, List, [], ◌∷◌, ◌++◌, refl, sym, ap, ◌∙◌, subst, append_assoc, append-nil, length-append, arith}
+use Rattle.std.proofs.Common.{◌≡◌, ◌≢◌, ◌<◌, ℕ, ◌+◌, false, List, [], ◌∷◌, ◌++◌, refl, sym, ap, ◌∙◌, subst, append_assoc, length-append, arith}
 use Rattle.std.specs.Prelude.{Option}
 use Rattle.mdl_key.specs.declared.mode.Mode.{Mode}
 use Rattle.mdl_word.specs.Words.{obtrusive_flag}
@@ -12,8 +12,8 @@ use Rattle.mdl_steps.specs.FastPlays.{MayGrantFast, granted_fast, met_word, miss
 use Rattle.mdl_steps.specs.Layout.{lock_word}
 use Rattle.mdl_steps.specs.Lists.{Each}
 use Rattle.mdl_steps.specs.Plays.{Mine}
-use Rattle.mdl_visits.specs.FastTries.{AllMiss, GrantsFast, MeetsClear, MeetsObtrusive, Misses, last_found, with_fast}
-use Rattle.mdl_visits.specs.Visits.{IsStepOf, MakesSteps, StaysOn, StaysThere, and_made, gives_back, raises_flags}
+use Rattle.mdl_visits.specs.FastTries.{AllMiss, GrantsAtLast, GrantsFast, Misses, last_found, with_fast}
+use Rattle.mdl_visits.specs.Visits.{StaysOn, StaysThere, and_made, gives_back, raises_flags}
 use Rattle.mdl_visits.proofs.Steps.{each_append, none_then}
 
 -- the step that a session with these latches made at a place
@@ -34,19 +34,6 @@ last_push before (x ∷ xs) e = last_push x.found xs e
 all_stay : (place before : ℕ) (tries : List Met) → AllMiss place before tries → Each StaysThere tries
 all_stay place before [] all = tt
 all_stay place before (x ∷ xs) all = ((ap gives_back all.0.kind, ap raises_flags all.0.kind), all_stay place x.found xs all.1)
-
--- the last word that was found was found by a step
-last_step : (place : ℕ) (log : List Met) (read : Met) (tries : List Met) → read.word ≡ lock_word place → AllMiss place read.found tries
-    → (e : Met) × (before : List Met) × (log ++ read ∷ tries ≡ (log ++ before) ++ e ∷ []) × (e.word ≡ lock_word place) × (e.found ≡ last_found read.found tries)
-last_step place log read [] word all = (read, [], ap (λ (xs : List Met). xs ++ read ∷ []) (sym (append-nil log)), word, refl)
-last_step place log read (x ∷ xs) word all =
-    let later = last_step place (log ++ read ∷ []) x xs all.0.word all.1 in (
-      later.0,
-      read ∷ later.1,
-      sym (append_assoc log (read ∷ []) (x ∷ xs)) ∙ later.2 ∙ ap (λ (ys : List Met). ys ++ later.0 ∷ []) (append_assoc log (read ∷ []) later.1),
-      later.3,
-      later.4,
-    )
 
 -- ---- after so many of them
 
@@ -87,20 +74,11 @@ module _ {place count word : ℕ} {m m′ : Mine} (missed : Misses place count w
         last = last_push missed.read.found missed.tries e;
       }
 
-  pub only_steps : MakesSteps m m′
-  only_steps = (missed.read ∷ missed.tries, missed.now, missed.did)
-
   stay_there : Each StaysThere (missed.read ∷ missed.tries)
   stay_there = ((ap gives_back missed.reads.0, ap raises_flags missed.reads.0), all_stay place missed.read.found missed.tries missed.miss)
 
   pub stays_missed : StaysOn m m′
   stays_missed = (missed.read ∷ missed.tries, ap (λ (x : Mine). x.0.log) missed.now, stay_there)
-
-  -- the last step found the flag OBTRUSIVE up
-  pub met_obtrusive : obtrusive_flag word ≡ true → (e : Met) × IsStepOf m m′ e × MeetsObtrusive place word e
-  met_obtrusive up =
-      let e = last_step place m.0.log missed.read missed.tries missed.reads.1 missed.miss in
-      (e.0, (e.1, [], ap (λ (x : Mine). x.0.log) missed.now ∙ e.2), record { word = e.3; same = e.4 ∙ missed.last; up = up })
 
   -- the next one granted the ticket
   module _ (mode : Mode) (noted : Option ℕ) (found : ℕ) (m″ : Mine) (is : m″ ≡ granted_fast place mode noted found m′) where
@@ -122,9 +100,18 @@ module _ {place count word : ℕ} {m m′ : Mine} (missed : Misses place count w
       did = none_then made (grant ∷ []) (Gain m.0.next mode ∷ []) missed.did refl;
     }
 
-    pub met_clear : obtrusive_flag found ≡ false → (e : Met) × IsStepOf m m″ e × MeetsClear place (Gain m.0.next mode) e
-    unfolding grant made
-    met_clear clear = (grant, (made, [], ap (λ (x : Mine). x.0.log) whole), record { kind = refl; did = refl; word = refl; clear = clear })
+    pub grants_at_last : count < 8 → found ≡ word → obtrusive_flag found ≡ false → GrantsAtLast place (Gain m.0.next mode) m m″
+    grants_at_last few same clear = (
+      word,
+      m′,
+      (count, few, missed),
+      (
+        met_at GrantFast (Gain m′.0.next mode ∷ []) place found m′,
+        ap (λ (x : Mine). x.0.log) is,
+        record { kind = refl; did = ap (λ (x : Mine). Gain x.0.next mode ∷ []) missed.now; word = refl; clear = clear },
+        same,
+      ),
+    )
 
     pub stays_granted : StaysOn m m″
     unfolding grant made

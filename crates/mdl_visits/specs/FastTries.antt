@@ -1,6 +1,6 @@
 -- What comes of a try for a fast ticket, and of its release. After MySQL 5.7, sql/mdl.cc: the fast paths of `MDL_context::try_acquire_lock_impl`
 -- and `MDL_context::release_lock`.
-use Rattle.std.specs.Prelude.{◌≡◌, ◌≢◌, ℕ, ◌+◌, Bool, true, false, List, [], ◌∷◌, ◌++◌, length, Option}
+use Rattle.std.specs.Prelude.{◌≡◌, ◌≢◌, ◌<◌, ℕ, ◌+◌, Bool, true, false, List, [], ◌∷◌, ◌++◌, length, Option}
 use Rattle.mdl_key.specs.declared.mode.Mode.{Mode}
 use Rattle.mdl_word.specs.Words.{obtrusive_flag, slow_flag}
 use Rattle.mdl_steps.specs.declared.deed.Deed.{Deed}
@@ -12,7 +12,7 @@ use Rattle.mdl_steps.specs.FastPlays.{but_own, fast_own}
 use Rattle.mdl_steps.specs.Layout.{lock_word}
 use Rattle.mdl_steps.specs.Plays.{Mine}
 use Rattle.mdl_steps.specs.SeatStates.{AtItsTable, SeatState}
-use Rattle.mdl_visits.specs.Visits.{HasStep, and_made, deeds_of}
+use Rattle.mdl_visits.specs.Visits.{and_made, deeds_of}
 
 -- ---- a fast ticket is granted
 
@@ -33,17 +33,7 @@ pub record MeetsClear (place : ℕ) (deed : Deed) (e : Met) : Type 0 where
   pub word : e.word ≡ lock_word place
   pub clear : obtrusive_flag e.found ≡ false
 
--- the session was granted a fast ticket, and a step shows that the flag OBTRUSIVE was down then
-abbrev pub WasGrantedFast : ℕ → Mode → Option ℕ → SeatState → SeatState → Type 0
-WasGrantedFast place mode noted s s′ = AtItsTable s s′ (GrantsFast place mode noted) × HasStep s s′ (MeetsClear place (Gain s.me.0.next mode))
-
 -- ---- it isn't
-
--- a step that found this word of the place, with the flag OBTRUSIVE up
-pub record MeetsObtrusive (place found : ℕ) (e : Met) : Type 0 where
-  pub word : e.word ≡ lock_word place
-  pub same : e.found ≡ found
-  pub up : obtrusive_flag found ≡ true
 
 -- a fast grant that missed: it found another word of the place than the step before it
 pub record MissesAfter (place before : ℕ) (e : Met) : Type 0 where
@@ -72,6 +62,24 @@ pub record Misses (place count word : ℕ) (m m′ : Mine) : Type 0 where
   pub miss : AllMiss place read.found tries
   pub often : length tries ≡ count
   pub last : last_found read.found tries ≡ word
+
+-- fewer than eight did, and the last step found this word
+abbrev pub MissesFew : ℕ → ℕ → Mine → Mine → Type 0
+MissesFew place word m m′ = (n : ℕ) × (n < 8) × Misses place n word m m′
+
+-- likewise, and the word has the flag OBTRUSIVE up
+abbrev pub FindsObtrusive : ℕ → ℕ → Mine → Mine → Type 0
+FindsObtrusive place word m m′ = MissesFew place word m m′ × (obtrusive_flag word ≡ true)
+
+-- fewer than eight missed, and then one did this deed, as the word that was found last was there still
+abbrev pub GrantsAtLast : ℕ → Deed → Mine → Mine → Type 0
+GrantsAtLast place deed m m′ =
+    (word : ℕ) × (mid : Mine) × MissesFew place word m mid
+    × ((e : Met) × (m′.0.log ≡ mid.0.log ++ e ∷ []) × MeetsClear place deed e × (e.found ≡ word))
+
+-- the session was granted a fast ticket so
+abbrev pub WasGrantedFast : ℕ → Mode → Option ℕ → SeatState → SeatState → Type 0
+WasGrantedFast place mode noted s s′ = AtItsTable s s′ (GrantsFast place mode noted) × GrantsAtLast place (Gain s.me.0.next mode) s.me s′.me
 
 -- ---- it is released
 

@@ -1,12 +1,12 @@
-//! A wish for a lock is granted without the latch, where the lock has no ticket in an obtrusive mode: its word counts the ticket then.
+//! A wish for a lock is granted without the latch, where the flag OBTRUSIVE of the lock's word is down: the word counts the ticket then.
 ghost use Rattle.std.specs.Prelude.{◌≡◌};
 ghost use Rattle.mdl_word.specs.declared.word.Word.{Word};
 ghost use Rattle.mdl_steps.specs.FastPlays.{MayGrantFast};
 ghost use Rattle.mdl_steps.specs.SeatStates.{AtItsTable};
 ghost use Rattle.mdl_steps.specs.Seats.{IsPlace};
 ghost use Rattle.mdl_visits.specs.declared.calls.try_fast.FastTried.TheVariants.{Granted, Obtruded, Contended};
-ghost use Rattle.mdl_visits.specs.FastTries.{MeetsObtrusive, Misses, WasGrantedFast};
-ghost use Rattle.mdl_visits.specs.Visits.{HasStep, MakesSteps, StaysOn};
+ghost use Rattle.mdl_visits.specs.FastTries.{FindsObtrusive, Misses, WasGrantedFast};
+ghost use Rattle.mdl_visits.specs.Visits.{StaysOn};
 
 use mdl_key::Mode;
 use mdl_steps::TableSeat;
@@ -17,7 +17,7 @@ use mdl_word::Word;
 pub enum FastTried {
     /// The session has the ticket.
     Granted,
-    /// The lock has a ticket in an obtrusive mode, as its word says, which is this one. Nothing has changed.
+    /// The flag OBTRUSIVE of the lock's word, which is this one, is up. Nothing has changed.
     Obtruded(Word),
     /// Each try found another word than the one that it was to replace. This is the last word found. Nothing has changed.
     Contended(Word),
@@ -26,8 +26,8 @@ pub enum FastTried {
 // How often the word is exchanged before the fast path is given up.
 const TRIES: u32 = 8;
 
-/// Grants the session, which waits for nothing, a fast ticket of its next number in this mode, where the lock has no ticket in an obtrusive mode.
-/// Otherwise nothing changes. It needs no latch and takes no memory.
+/// Grants the session, which waits for nothing, a fast ticket of its next number in this mode, where the flag OBTRUSIVE of the lock's word is down.
+/// Otherwise nothing changes. It makes nine steps at most, needs no latch and takes no memory.
 ///
 /// `one` is what [`Word::increment`] returns for the mode. `noted` is the version that the session noted under a ticket of the place, if it noted
 /// one. After the fast path of `MDL_context::try_acquire_lock_impl`.
@@ -41,8 +41,7 @@ pub fn try_fast(
     requires place { IsPlace seat.old.table place }
     requires gained { MayGrantFast place mode noted one seat.old.me }
     ensures granted { result ≡ Granted → WasGrantedFast place mode noted seat.old seat.new }
-    ensures obtruded { (word : Word) → result ≡ Obtruded word
-        → AtItsTable seat.old seat.new MakesSteps × HasStep seat.old seat.new (MeetsObtrusive place word.0) }
+    ensures obtruded { (word : Word) → result ≡ Obtruded word → AtItsTable seat.old seat.new (FindsObtrusive place word.0) }
     ensures contended { (word : Word) → result ≡ Contended word → AtItsTable seat.old seat.new (Misses place 8 word.0) }
     ensures stays { StaysOn seat.old.me seat.new.me }
 {

@@ -8,11 +8,12 @@ use Rattle.mdl_visits.specs.Visits.{AreStepsOf, MeetsBlocked}
 use Rattle.mdl_visits.specs.WaitOpenings.{MeetsOpening}
 use Rattle.mdl_shared.specs.SessionViews.{Lists, SessionView, lists_seen}
 use Rattle.mdl_shared.specs.TicketLists.{HasRoom}
-use Rattle.mdl_shared.proofs.Members.{done-nothing, done-order, kept, lists-done, lists-visited, visited}
+use Rattle.mdl_shared.proofs.Members.{done-order, kept, lists-done, lists-visited, visited}
 use Rattle.mdl_shared.proofs.Props.{member}
+use Rattle.mdl_shared.proofs.QuietDeeds.{quiet-visit}
+use Rattle.mdl_shared.proofs.Rooms.{keeps-same}
 use Rattle.mdl_shared.proofs.WaitSteps.{still-member}
-use Rattle.mdl_shared.proofs.WishCalls.{begun, begun-joins, begun-order, begin-granted, begin-refused, refusal-causes, untold-wish}
-use Rattle.mdl_shared.proofs.WishShows.{begin-granted-shows, begun-shows}
+use Rattle.mdl_shared.proofs.WishCalls.{begun, begun-joins, begun-order, begin-granted}
 use Rattle.mdl_shared.proofs.Wishing.{below-seen, gained-by, may-wish, none-seen, unasked, unfast-seen, waiting-lists}
 use Rattle.mdl_shared.proofs.member.Member.begin_by_latch.Goals as goal
 
@@ -37,20 +38,13 @@ begin_wait-requires g c =
 pub invariant_of-self-in-Err-1 : goal.invariant_of-self-in-Err-1
 invariant_of-self-in-Err-1 g c =
     let m = c.args.self.now in
-    let visit = c.in-Err.ensures.unchanged in
+    let visit = c.in-Err.ensures.refused.0 in
     let done = visited m.seat c.begin_wait.new.seat m.sessions refl visit in
     record {
       lawful = ∣ still-member done (member m) ∣₁;
       lists = lists-done m c.args.place [] (lists-visited visit) refl refl;
       room = m.room;
     }
-
-pub returns-in-Err-clause-joined : goal.returns-in-Err-clause-joined
-returns-in-Err-clause-joined g c =
-    let m = c.args.self.now in
-    let may = may-wish m c.args.place c.args.kind c.args.mode (c.requires.known, c.requires.clear) in
-    begin-refused (member m) c.args.place c.args.mode may.clear (done-nothing (visited m.seat c.begin_wait.new.seat m.sessions refl c.in-Err.ensures.unchanged))
-    (refusal-causes c.in-Err.cause c.refusal.result c.refusal.ensures.full c.refusal.ensures.memory c.in-Err.ensures.refused)
 
 -- ---- the ticket was granted
 
@@ -81,10 +75,15 @@ invariant_of-self g c =
 pub returns-in-Ok-Granted : goal.returns-in-Ok-Granted
 returns-in-Ok-Granted g c =
     let m = c.args.self.now in
-    let may = may-wish m c.args.place c.args.kind c.args.mode (c.requires.known, c.requires.clear) in
     let went = c.begin_wait.ensures.granted (c.in-Ok-Granted.is ∙ ap Ok c.in-Ok-Granted.field-0-is) in record {
-      joined = begin-granted (member m) c.args.place c.args.mode may.clear (ap (λ (l : Lists). l.next) m.lists) (gained-by m c.begin_wait.new.seat c.args.place c.args.mode c.requires.unfast went.0);
-      shown = begin-granted-shows went.0.0 refl may.clear went.0.1 went.1;
+      begun = record {
+        first = ap (λ (l : Lists). l.next) m.lists;
+        quiet = quiet-visit (gained-by m c.begin_wait.new.seat c.args.place c.args.mode c.requires.unfast went.0) went.0.1;
+        met = went.1;
+        room = c.push_reserved.ensures.room;
+      };
+      unchanged = tt;
+      refused = tt;
     }
 
 -- ---- the session waits for it
@@ -93,21 +92,26 @@ pub invariant_of-self-2 : goal.invariant_of-self-2
 invariant_of-self-2 g c =
     let m = c.args.self.now in
     let may = may-wish m c.args.place c.args.kind c.args.mode (c.requires.known, c.requires.clear) in
-    let now = begun m.seat c.begin_wait.new.seat m.sessions (c.begin_wait.ensures.waiting (c.in-Ok-Waiting.is ∙ ap Ok c.in-Ok-Waiting.field-0-is)).0 in
+    let now = begun m.seat c.begin_wait.new.seat m.sessions {room = m.tickets.room} (c.begin_wait.ensures.waiting (c.in-Ok-Waiting.is ∙ ap Ok c.in-Ok-Waiting.field-0-is)).0 in
     record {
       lawful = ∣ kept (member m) (begun-order (member m) may.clear now (unfast-seen m c.requires.unfast)) (begun-joins (member m) may.clear now refl) ∣₁;
       lists = waiting-lists m c.args.place c.args.mode ∙ sym (ap (λ (x : SessionView). lists_seen x.me.0) now);
-      room = λ ask asks. let place : c.args.place ≡ ask.place = ap (λ (o : Option Ask). option_map_or (λ (a : Ask). a.place) o 0) asks in subst (λ (p : ℕ). HasRoom p m.tickets) place c.requires.room;
+      room = λ ask asks. let place : c.args.place ≡ ask.place = ap (λ (o : Option Ask). option_map_or (λ (a : Ask). a.place) o 0) asks in subst (λ (p : ℕ). HasRoom p m.tickets.room) place c.requires.room;
     }
 
 pub returns : goal.returns
 returns g c =
     let m = c.args.self.now in
-    let may = may-wish m c.args.place c.args.kind c.args.mode (c.requires.known, c.requires.clear) in
-    let went = c.begin_wait.ensures.waiting (c.in-Ok-Waiting.is ∙ ap Ok c.in-Ok-Waiting.field-0-is) in
-    let number = ap (λ (l : Lists). l.next) m.lists in record {
-      joined = begun-joins (member m) may.clear (begun m.seat c.begin_wait.new.seat m.sessions went.0) (ap (λ (l : Lists). l.waits + 1) m.lists);
-      shown = begun-shows went.0.0 refl may.clear (unfast-seen m c.requires.unfast) (untold-wish (member m) c.args.place c.args.mode may.clear) went.0.1
-          (subst (λ (n : ℕ). (e f : Met) × AreStepsOf m.seat.me c.begin_wait.new.seat.me e f × MeetsBlocked c.args.place m.seat.me.0.number c.args.mode e
-          × MeetsOpening m.seat.table.slots c.args.place m.seat.me.0.number m.seat.me.0.waits n c.args.mode f) number went.1);
+    let went = c.begin_wait.ensures.waiting (c.in-Ok-Waiting.is ∙ ap Ok c.in-Ok-Waiting.field-0-is) in record {
+      begun = record {
+        next = ap (λ (l : Lists). l.waits + 1) m.lists;
+        table = went.0.0;
+        sessions = refl;
+        opens = went.0.1;
+        met = subst (λ (n : ℕ). (e f : Met) × AreStepsOf m.seat.me c.begin_wait.new.seat.me e f × MeetsBlocked c.args.place m.seat.me.0.number c.args.mode e
+            × MeetsOpening m.seat.table.slots c.args.place m.seat.me.0.number m.seat.me.0.waits n c.args.mode f) (ap (λ (l : Lists). l.next) m.lists) went.1;
+        room = keeps-same m.tickets.room;
+      };
+      unchanged = tt;
+      refused = tt;
     }

@@ -1,16 +1,18 @@
 -- The session has one fast ticket more, or made only steps.
-use Rattle.std.proofs.Common.{inl, ℕ, [], ◌∷◌, ◌++◌, length, Option, refl, sym, ap, subst, ◌∙◌, arith}
+use Rattle.std.proofs.Common.{◌≡◌, inl, ℕ, ◌==◌, true, List, [], ◌∷◌, ◌++◌, length, Option, is_some, refl, sym, ap, subst, ◌∙◌, arith}
+use Rattle.std.proofs.lemmas.Bool.{eq-eqb}
 use Rattle.mdl_steps.specs.Cells.{own_at}
 use Rattle.mdl_steps.specs.FastPlays.{fast_own, first_note}
 use Rattle.mdl_steps.specs.declared.deed.Deed.TheVariants.{Gain}
-use Rattle.mdl_steps.specs.SeatStates.{AtItsTable}
-use Rattle.mdl_visits.specs.FastTries.{MeetsClear}
+use Rattle.mdl_steps.specs.declared.view.Own.{Own}
+use Rattle.mdl_steps.specs.SeatStates.{AtItsTable, SeatState}
+use Rattle.mdl_steps.proofs.Views.{by_bool}
+use Rattle.mdl_visits.specs.FastTries.{GrantsAtLast, Misses}
+use Rattle.mdl_visits.specs.Numbers.{numbered}
 use Rattle.mdl_visits.specs.Visits.{MakesSteps}
-use Rattle.mdl_visits.proofs.FastTrying.{only_steps}
 use Rattle.mdl_shared.specs.DeedsDone.{DoesQuietly}
 use Rattle.mdl_shared.specs.Passes.{view_of}
 use Rattle.mdl_shared.specs.SessionViews.{Lists, session_at}
-use Rattle.mdl_shared.specs.Showings.{ShowsStep}
 use Rattle.mdl_shared.proofs.FastDone.{fast-granted, lists-granted}
 use Rattle.mdl_shared.proofs.FastFacts.{may-ask-fast}
 use Rattle.mdl_shared.proofs.Members.{done-order, kept}
@@ -43,10 +45,15 @@ try_fast-requires-clause-gained c =
 
 -- ---- nothing was granted
 
+-- where each try missed, steps were made and nothing else
+missed_at : {place count word : ℕ} (seat seat′ : SeatState) → AtItsTable seat seat′ (Misses place count word) → AtItsTable seat seat′ MakesSteps
+missed_at seat seat′ missed = (missed.0, (missed.1.read ∷ missed.1.tries, missed.1.now, missed.1.did))
+
 pub invariant_of-self : goal.invariant_of-self
 invariant_of-self c =
     let m = c.args.self.now in
-    let made = (c.in-Obtruded.ensures.obtruded c.in-Obtruded.word refl).0 in record {
+    let found = c.in-Obtruded.ensures.obtruded c.in-Obtruded.word refl in
+    let made = missed_at m.seat c.try_fast.new.seat (found.0, found.1.0.2) in record {
       lawful = ∣ still-member (quiet-made {place = 0} m.seat c.try_fast.new.seat m.sessions made).done (member m) ∣₁;
       lists = lists-made m c.try_fast.new.seat made;
       room = m.room;
@@ -55,20 +62,32 @@ invariant_of-self c =
 pub invariant_of-self-in-Contended-1 : goal.invariant_of-self-in-Contended-1
 invariant_of-self-in-Contended-1 c =
     let m = c.args.self.now in
-    let missed = c.in-Contended.ensures.contended c.in-Contended.word refl in
-    let made : AtItsTable m.seat c.try_fast.new.seat MakesSteps = (missed.0, only_steps missed.1) in record {
+    let made = missed_at m.seat c.try_fast.new.seat (c.in-Contended.ensures.contended c.in-Contended.word refl) in record {
       lawful = ∣ still-member (quiet-made {place = 0} m.seat c.try_fast.new.seat m.sessions made).done (member m) ∣₁;
       lists = lists-made m c.try_fast.new.seat made;
       room = m.room;
     }
 
+pub returns-in-Obtruded-clause-unchanged : goal.returns-in-Obtruded-clause-unchanged
+returns-in-Obtruded-clause-unchanged c =
+    let m = c.args.self.now in
+    let found = c.in-Obtruded.ensures.obtruded c.in-Obtruded.word refl in
+    (quiet-made m.seat c.try_fast.new.seat m.sessions (missed_at m.seat c.try_fast.new.seat (found.0, found.1.0.2)), refl)
+
+pub returns-in-Obtruded-clause-closed : goal.returns-in-Obtruded-clause-closed
+returns-in-Obtruded-clause-closed c = (c.in-Obtruded.ensures.obtruded c.in-Obtruded.word refl).1
+
 pub returns-in-Contended-clause-unchanged : goal.returns-in-Contended-clause-unchanged
 returns-in-Contended-clause-unchanged c =
     let m = c.args.self.now in
-    let missed = c.in-Contended.ensures.contended c.in-Contended.word refl in
-    (quiet-made m.seat c.try_fast.new.seat m.sessions (missed.0, only_steps missed.1), refl)
+    (quiet-made m.seat c.try_fast.new.seat m.sessions (missed_at m.seat c.try_fast.new.seat (c.in-Contended.ensures.contended c.in-Contended.word refl)), refl)
 
 -- ---- the ticket was granted
+
+-- the last ticket has its number
+last_numbered : (t : Own) (tickets : List Own) → is_some (numbered t.number (tickets ++ t ∷ [])) ≡ true
+last_numbered t [] = rw (eq-eqb t.number t.number refl) refl
+last_numbered t (u ∷ us) = by_bool (u.number == t.number) (λ hit. rw hit refl) (λ miss. rw miss (last_numbered t us))
 
 pub push_fast-requires-clause-below : goal.push_fast-requires-clause-below
 push_fast-requires-clause-below c = below-seen c.args.self.now _ _ (refl, refl)
@@ -94,8 +113,10 @@ returns-clause-granted c =
     let granted = c.in-Granted.ensures.granted refl in
     let noted = c.note_of-noted.ensures ∙ ap (λ (l : Lists). first_note (own_at c.args.place l.fast ++ own_at c.args.place l.slow)) m.lists in
     let first = ap (λ (l : Lists). l.next) m.lists in
+    let after = session_at c.try_fast.new.seat m.sessions c.push_fast.new.self.room in
     let quiet = fast-granted m.seat c.try_fast.new.seat m.sessions (member m) may.idle may.counted noted granted.0 in (
       refl,
-      subst (λ (n : ℕ). DoesQuietly c.args.place (Gain n c.args.mode ∷ []) (view_of m) (session_at c.try_fast.new.seat m.sessions)) (sym first) quiet,
-      subst (λ (n : ℕ). ShowsStep (view_of m) (session_at c.try_fast.new.seat m.sessions) (MeetsClear c.args.place (Gain n c.args.mode))) (sym first) granted.1,
+      subst (λ (n : ℕ). DoesQuietly c.args.place (Gain n c.args.mode ∷ []) (view_of m) after) (sym first) quiet,
+      subst (λ (n : ℕ). GrantsAtLast c.args.place (Gain n c.args.mode) m.seat.me c.try_fast.new.seat.me) (sym first) granted.1,
+      ap (λ (fast : List Own). is_some (numbered m.next fast)) c.push_fast.ensures.gained ∙ last_numbered _ m.tickets.fast,
     )

@@ -1,21 +1,24 @@
 -- All places are done, or one has no room.
-use Rattle.std.proofs.Common.{rules, ◌≡◌, ◌<◌, ℕ, length, Err, sym, ap, subst, ◌∙◌}
+use Rattle.std.proofs.Common.{rules, ◌≡◌, ◌<◌, ℕ, List, length, Err, sym, ap, subst, ◌∙◌}
+use Rattle.mdl_steps.specs.declared.view.Own.{Own}
+use Rattle.mdl_steps.specs.Cells.{own_at}
 use Rattle.mdl_steps.specs.FastPlays.{but_at}
 use Rattle.mdl_shared.specs.Passes.{view_of}
 use Rattle.mdl_shared.specs.SessionViews.{Lists}
 use Rattle.mdl_shared.proofs.QuietDeeds.{quiet-none, quiet-steps, quiet-then, same-lists}
-use Rattle.mdl_shared.proofs.SlowPlaces.{all-slow, fewer-left, lacks-after, same-at-first, slow-more}
+use Rattle.mdl_shared.proofs.Rooms.{keeps-before, keeps-same}
+use Rattle.mdl_shared.proofs.SlowPlaces.{all-slow, before-more, before-still, fewer-left, lacks-after, none-before, same-at-first, slow-more, slow-still}
 use Rattle.mdl_shared.proofs.member.Member.materialise.Goals as goal
 
 pub loop-place-init : goal.loop-place-init
 loop-place-init g c =
     let s = view_of c.args.self.now in
-    record { idle = c.requires.idle; done = quiet-none s; slow = same-at-first s; room = search rules }
+    record { idle = c.requires.idle; done = quiet-none s; slow = same-at-first s; order = none-before s; room = keeps-same c.args.self.now.tickets.room }
 
 pub loop-place-smaller : goal.loop-place-smaller
 loop-place-smaller g c =
     let fast = c.in_ok-materialise_at.ensures.slow.0 in
-    subst (λ (n : ℕ). n < length c.loop-place.self.tickets.fast) (sym (ap length fast)) (fewer-left c.in-Some.place c.loop-place.self.tickets.fast c.in-Some.ensures)
+    subst (λ (n : ℕ). n < length c.loop-place.self.tickets.fast) (sym (ap length fast)) (fewer-left c.in-Some.place c.loop-place.self.tickets.fast c.in-Some.ensures.0)
 
 pub loop-place-preserved : goal.loop-place-preserved
 loop-place-preserved g c =
@@ -24,12 +27,15 @@ loop-place-preserved g c =
     let place = c.in-Some.place in
     let done = c.materialise_at.ensures.done in
     let made = c.in_ok-materialise_at.ensures.slow in
+    let fast = sym (ap (λ (l : Lists). l.fast) n.lists) ∙ made.0 ∙ ap (λ (l : Lists). but_at place l.fast) m.lists in
     record {
       idle = (same-lists m n done.done).asks ∙ c.loop-place.invariant.idle;
       done = quiet-then c.loop-place.invariant.done done;
       slow = slow-more (view_of c.args.self.now) (view_of m) (view_of n) place (quiet-steps c.loop-place.invariant.done) (quiet-steps done) c.loop-place.invariant.slow
-          (sym (ap (λ (l : Lists). l.fast) n.lists) ∙ made.0 ∙ ap (λ (l : Lists). but_at place l.fast) m.lists) made.1;
-      room = search rules;
+          fast made.1;
+      order = before-more (view_of c.args.self.now) (view_of m) (view_of n) place c.loop-place.invariant.order
+          (subst (λ (us : List Own). 0 < length (own_at place us)) (ap (λ (l : Lists). l.fast) m.lists) c.in-Some.ensures.0) (λ q before. ap (λ (l : Lists). own_at q l.fast) (sym m.lists) ∙ c.in-Some.ensures.1 q before) fast;
+      room = keeps-before 0 c.args.self.now.tickets.room m.tickets.room n.tickets.room c.loop-place.invariant.room c.materialise_at.ensures.room;
     }
 
 pub returns-in_err-materialise_at-clause-done : goal.returns-in_err-materialise_at-clause-done
@@ -41,6 +47,26 @@ returns-in_err-materialise_at-clause-refused g c =
     let refused : c.from_residual.result ≡ Err why = search rules in
     rw refused (lacks-after (view_of c.args.self.now) (view_of c.loop-place.self) (view_of c.materialise_at.new.self) why (quiet-steps c.loop-place.invariant.done)
     c.loop-place.invariant.slow c.in_err-materialise_at.ensures.refused)
+
+pub returns-in_err-materialise_at-clause-partly : goal.returns-in_err-materialise_at-clause-partly
+returns-in_err-materialise_at-clause-partly g c =
+    let m = c.loop-place.self in
+    let n = c.materialise_at.new.self in
+    let refused : c.from_residual.result ≡ Err c.in_err-materialise_at.field-0.0 = search rules in
+    rw refused (slow-still (view_of c.args.self.now) (view_of m) (view_of n) (quiet-steps c.materialise_at.ensures.done) c.loop-place.invariant.slow
+    (sym (ap (λ (l : Lists). l.fast) n.lists) ∙ c.in_err-materialise_at.ensures.fast ∙ ap (λ (l : Lists). l.fast) m.lists))
+
+pub returns-in_err-materialise_at-clause-order : goal.returns-in_err-materialise_at-clause-order
+returns-in_err-materialise_at-clause-order g c =
+    let m = c.loop-place.self in
+    let n = c.materialise_at.new.self in
+    let refused : c.from_residual.result ≡ Err c.in_err-materialise_at.field-0.0 = search rules in
+    rw refused (before-still (view_of c.args.self.now) (view_of m) (view_of n) c.loop-place.invariant.order
+    (sym (ap (λ (l : Lists). l.fast) n.lists) ∙ c.in_err-materialise_at.ensures.fast ∙ ap (λ (l : Lists). l.fast) m.lists))
+
+pub returns-in_err-materialise_at-clause-room : goal.returns-in_err-materialise_at-clause-room
+returns-in_err-materialise_at-clause-room g c =
+    keeps-before 0 c.args.self.now.tickets.room c.loop-place.self.tickets.room c.materialise_at.new.self.tickets.room c.loop-place.invariant.room c.materialise_at.ensures.room
 
 pub returns-clause-slow : goal.returns-clause-slow
 returns-clause-slow g c =

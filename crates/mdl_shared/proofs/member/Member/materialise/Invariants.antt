@@ -1,8 +1,9 @@
 -- Some places' fast tickets are slow ones so far.
-use Rattle.std.proofs.Common.{◌≡◌, ◌≤◌, None, [], length}
+use Rattle.std.proofs.Common.{◌≡◌, None, [], length}
 use Rattle.mdl_shared.specs.DeedsDone.{DoesQuietly}
-use Rattle.mdl_shared.specs.FastDeeds.{AreSameOrSlow}
+use Rattle.mdl_shared.specs.FastDeeds.{AreSameOrSlow, AreSlowBefore}
 use Rattle.mdl_shared.specs.Passes.{view_of}
+use Rattle.mdl_shared.specs.TicketLists.{KeepsRoom}
 use Rattle.mdl_shared.proofs.member.Member.materialise.Given as goal
 
 abbrev pub invariant-loop-place : goal.invariant-loop-place
@@ -10,7 +11,8 @@ invariant-loop-place g l = record {
   idle : l.self.asks ≡ None;
   done : DoesQuietly 0 [] (view_of l.fn.self) (view_of l.self);
   slow : AreSameOrSlow (view_of l.fn.self) (view_of l.self);
-  room : (l.fn.self.tickets.spare ≤ l.self.tickets.spare) × (l.self.tickets.reach ≡ l.fn.self.tickets.reach);
+  order : AreSlowBefore (view_of l.fn.self) (view_of l.self);
+  room : KeepsRoom 0 l.fn.self.tickets.room l.self.tickets.room;
 }
 
 abbrev pub decreases-loop-place : goal.decreases-loop-place

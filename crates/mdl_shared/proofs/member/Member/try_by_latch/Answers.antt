@@ -2,12 +2,13 @@
 use Rattle.std.proofs.Common.{Ok, [], ap, arith, inl, refl, ◌∙◌, ◌∷◌}
 use Rattle.mdl_shared.specs.SessionViews.{Lists}
 use Rattle.mdl_steps.specs.declared.deed.Deed.TheVariants.{Gain}
-use Rattle.mdl_shared.proofs.Members.{done-nothing, done-order, kept, lists-done, lists-visited, visited}
+use Rattle.mdl_shared.proofs.Members.{done-order, kept, lists-done, lists-visited, visited}
 use Rattle.mdl_shared.proofs.Props.{member}
+use Rattle.mdl_shared.proofs.QuietDeeds.{quiet-visit}
+use Rattle.mdl_shared.proofs.Rooms.{keeps-same}
 use Rattle.mdl_shared.proofs.WaitSteps.{still-member}
-use Rattle.mdl_shared.proofs.WishCalls.{refusal-causes, try-blocked, try-granted, try-refused}
-use Rattle.mdl_shared.proofs.WishShows.{try-blocked-shows, try-granted-shows}
-use Rattle.mdl_shared.proofs.Wishing.{below-seen, gained-by, may-wish, none-seen, unasked, unfast-seen}
+use Rattle.mdl_shared.proofs.WishCalls.{try-granted}
+use Rattle.mdl_shared.proofs.Wishing.{below-seen, gained-by, may-wish, none-seen, unasked}
 use Rattle.mdl_shared.proofs.member.Member.try_by_latch.Goals as goal
 
 pub try_now-requires : goal.try_now-requires
@@ -45,29 +46,26 @@ invariant_of-self g c =
 pub returns-in-Ok-Blocked : goal.returns-in-Ok-Blocked
 returns-in-Ok-Blocked g c =
     let m = c.args.self.now in
-    let may = may-wish m c.args.place c.args.kind c.args.mode (c.requires.known, c.requires.clear) in
     let went = c.try_now.ensures.blocked (c.in-Ok-Blocked.is ∙ ap Ok c.in-Ok-Blocked.field-0-is) in record {
-      joined = try-blocked (member m) c.args.place c.args.mode may.clear (done-nothing (visited m.seat c.try_now.new.seat m.sessions refl went.0));
-      shown = try-blocked-shows went.0.0 refl may.clear (unfast-seen m c.requires.unfast) went.0.1 went.1;
+      tried = record {
+        quiet = quiet-visit (visited m.seat c.try_now.new.seat m.sessions refl went.0) went.0.1;
+        met = went.1;
+        room = keeps-same m.tickets.room;
+      };
+      unchanged = tt;
+      refused = tt;
     }
 
 pub invariant_of-self-in-Err-1 : goal.invariant_of-self-in-Err-1
 invariant_of-self-in-Err-1 g c =
     let m = c.args.self.now in
-    let visit = c.in-Err.ensures.unchanged in
+    let visit = c.in-Err.ensures.refused.0 in
     let done = visited m.seat c.try_now.new.seat m.sessions refl visit in
     record {
       lawful = ∣ still-member done (member m) ∣₁;
       lists = lists-done m c.args.place [] (lists-visited visit) refl refl;
       room = m.room;
     }
-
-pub returns-in-Err-clause-joined : goal.returns-in-Err-clause-joined
-returns-in-Err-clause-joined g c =
-    let m = c.args.self.now in
-    let may = may-wish m c.args.place c.args.kind c.args.mode (c.requires.known, c.requires.clear) in
-    try-refused (member m) c.args.place c.args.mode may.clear (done-nothing (visited m.seat c.try_now.new.seat m.sessions refl c.in-Err.ensures.unchanged))
-    (refusal-causes c.in-Err.cause c.refusal.result c.refusal.ensures.full c.refusal.ensures.memory c.in-Err.ensures.refused)
 
 pub invariant_of-self-2 : goal.invariant_of-self-2
 invariant_of-self-2 g c =
@@ -84,8 +82,13 @@ invariant_of-self-2 g c =
 pub returns : goal.returns
 returns g c =
     let m = c.args.self.now in
-    let may = may-wish m c.args.place c.args.kind c.args.mode (c.requires.known, c.requires.clear) in
     let went = c.try_now.ensures.granted (c.in-Ok-Granted.is ∙ ap Ok c.in-Ok-Granted.field-0-is) in record {
-      joined = try-granted (member m) c.args.place c.args.mode may.clear (ap (λ (l : Lists). l.next) m.lists) (gained-by m c.try_now.new.seat c.args.place c.args.mode c.requires.unfast went.0);
-      shown = try-granted-shows went.0.0 refl may.clear went.0.1 went.1;
+      tried = record {
+        first = ap (λ (l : Lists). l.next) m.lists;
+        quiet = quiet-visit (gained-by m c.try_now.new.seat c.args.place c.args.mode c.requires.unfast went.0) went.0.1;
+        met = went.1;
+        room = c.push_reserved.ensures.room;
+      };
+      unchanged = tt;
+      refused = tt;
     }

@@ -1,15 +1,16 @@
 -- The session knows the place. Where no fast ticket is granted its own become slow ones.
-use Rattle.std.proofs.Common.{Err, ap, arith, rules, subst, sym, ◌∙◌, ◌≡◌, ◌≤◌}
+use Rattle.std.proofs.Common.{Err, [], ap, arith, refl, rules, subst, sym, ◌∙◌, ◌≡◌}
 use Rattle.mdl_shared.specs.Members.{kind_known}
 use Rattle.mdl_shared.specs.Passes.{view_of}
 use Rattle.mdl_shared.specs.SessionViews.{Lists}
-use Rattle.mdl_shared.specs.TicketLists.{TicketList}
-use Rattle.mdl_shared.proofs.FastWishing.{fast-still, lacks-later, made-later}
+use Rattle.mdl_shared.specs.TicketLists.{KeepsRoom, TicketList}
+use Rattle.mdl_shared.proofs.FastWishing.{closed-then, fast-still, lacks-later, made-later, quiet-room}
 use Rattle.mdl_shared.proofs.MemberFacts.{place-within}
 use Rattle.mdl_shared.proofs.Membership.{kind_place}
-use Rattle.mdl_shared.proofs.Members.{room-kept}
+use Rattle.mdl_shared.proofs.Members.{lists-done, member-room, room-kept}
 use Rattle.mdl_shared.proofs.Props.{member}
-use Rattle.mdl_shared.proofs.QuietDeeds.{quiet-none, quiet-steps, quiet-then}
+use Rattle.mdl_shared.proofs.QuietDeeds.{quiet-steps, quiet-then}
+use Rattle.mdl_shared.proofs.Rooms.{keeps-before}
 use Rattle.mdl_shared.proofs.Wishing.{unfast-seen}
 use Rattle.mdl_shared.proofs.member.Member.try_fast_first.Goals as goal
 
@@ -20,8 +21,16 @@ reserve-requires g c =
     let at = place-within (member m) c.args.place (kind_place c.args.place c.args.kind m.seat.me.0.known known) in
     omega (arith, at.1, (member m).narrow.1)
 
-pub returns-then-is_err-clause-unchanged : goal.returns-then-is_err-clause-unchanged
-returns-then-is_err-clause-unchanged g c = quiet-none (view_of c.args.self.now)
+-- with more room it is the session that it was
+pub invariant_of-self : goal.invariant_of-self
+invariant_of-self g c =
+    let m = c.args.self.now in
+    let same = c.reserve.ensures.same in
+    record {
+      lawful = ∣ member-room (member m) c.reserve.new.self.room ∣₁;
+      lists = lists-done m c.args.place [] refl same.0 same.1;
+      room = λ ask asks. (let no = sym asks ∙ c.requires.idle in cc);
+    }
 
 pub returns-in_err-materialise : goal.returns-in_err-materialise
 returns-in_err-materialise g c =
@@ -31,12 +40,16 @@ returns-in_err-materialise g c =
     let why = c.in_err-materialise.field-0.0 in
     let refused : c.from_residual.result ≡ Err why = search rules in
     let missed = c.in_default.ensures.unchanged in
+    let quiet = quiet-room (view_of m) c.reserve.new.self.room missed.0 in
     let same = fast-still m tried (ap (λ (l : TicketList). l.fast) missed.1 ∙ c.reserve.ensures.same.1) in
+    let later = c.materialise.ensures.done in
+    let room = subst (λ (l : TicketList). KeepsRoom 0 l.room now.tickets.room) missed.1 c.materialise.ensures.room in
     rw refused (record {
       granted = tt;
       slow = λ is. cc;
-      unchanged = quiet-then missed.0 c.materialise.ensures.done;
-      refused = lacks-later (view_of m) (view_of tried) (view_of now) (quiet-steps missed.0) same c.in_err-materialise.ensures.refused;
+      unchanged = (quiet-then quiet later, keeps-before 0 m.tickets.room c.reserve.new.self.room now.tickets.room c.reserve.ensures.kept room);
+      refused = lacks-later c.args.place c.args.mode (view_of m) (view_of tried) (view_of now) (quiet-steps quiet) same (quiet-steps later) c.in_default.ensures.closed
+          c.in_err-materialise.ensures.refused;
     })
 
 pub returns-clause-slow : goal.returns-clause-slow
@@ -45,15 +58,19 @@ returns-clause-slow g c =
     let tried = c.gain_unobtrusive.new.self in
     let now = c.materialise.new.self in
     let missed = c.in_default.ensures.unchanged in
+    let quiet = quiet-room (view_of m) c.reserve.new.self.room missed.0 in
     let same = fast-still m tried (ap (λ (l : TicketList). l.fast) missed.1 ∙ c.reserve.ensures.same.1) in
     let slow = c.in_ok-materialise.ensures.slow in
-    let room = subst (λ (l : TicketList). (l.spare ≤ now.tickets.spare) × (now.tickets.reach ≡ l.reach)) missed.1 c.materialise.ensures.room in
+    let later = c.materialise.ensures.done in
+    let room = subst (λ (l : TicketList). KeepsRoom 0 l.room now.tickets.room) missed.1 c.materialise.ensures.room in
     λ is. (
       record {
-        quiet = quiet-then missed.0 c.materialise.ensures.done;
+        quiet = quiet-then quiet later;
         unfast = unfast-seen now slow.0;
-        made = made-later (view_of m) (view_of tried) (view_of now) (quiet-steps missed.0) same slow.1;
+        made = made-later (view_of m) (view_of tried) (view_of now) (quiet-steps quiet) same slow.1;
+        room = keeps-before 0 m.tickets.room c.reserve.new.self.room now.tickets.room c.reserve.ensures.kept room;
       },
+      closed-then c.args.place c.args.mode (view_of m) (view_of tried) (view_of now) (quiet-steps later) c.in_default.ensures.closed,
       slow.0,
       room-kept c.reserve.new.self now.tickets room (search rules),
     )

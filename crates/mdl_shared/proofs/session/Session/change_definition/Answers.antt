@@ -10,6 +10,7 @@ use Rattle.mdl_shared.proofs.MemberFacts.{may-visit, slow-apart, ticket-known}
 use Rattle.mdl_shared.proofs.Members.{done-nothing, done-order, held-seen, kept, lists-done, lists-visited, room-kept, visited}
 use Rattle.mdl_shared.proofs.Props.{member}
 use Rattle.mdl_shared.proofs.ReadCalls.{change-joins, lists-noted, noted-by, noted-order, unchanged-joins, unchanged-shows, unfit-joins}
+use Rattle.mdl_shared.proofs.Rooms.{keeps-same}
 use Rattle.mdl_shared.proofs.SlowOrFast.{exclusive-slow}
 use Rattle.mdl_shared.proofs.session.Session.change_definition.Goals as goal
 
@@ -46,7 +47,7 @@ invariant_of-member g c =
     let did = c.in-Err.ensures in
     let visit = did.unchanged in
     let done = visited m.seat c.change_definition.new.seat m.sessions refl visit in
-    let joins = unchanged-joins is c.args.id t its (session_at c.change_definition.new.seat m.sessions) c.args.change.now (ap (λ (mode : Mode). same_mode mode X) own) (done-nothing done) c.in-Err.why did.refused in
+    let joins = unchanged-joins is c.args.id t its (session_at c.change_definition.new.seat m.sessions m.tickets.room) c.args.change.now (ap (λ (mode : Mode). same_mode mode X) own) (done-nothing done) c.in-Err.why did.refused in
     record { lawful = ∣ kept is (done-order done is (inr refl)) joins ∣₁; lists = lists-done m t.place [] (lists-visited visit) refl refl; room = m.room }
 
 pub returns-in-Err : goal.returns-in-Err
@@ -58,11 +59,11 @@ returns-in-Err g c =
     let own : t.mode ≡ X = search (rules, c.ne.ensures, c.if-ne.false) in
     let exclusive = ap (λ (mode : Mode). same_mode mode X) own in
     let did = c.in-Err.ensures in
-    let s′ = session_at c.change_definition.new.seat m.sessions in
+    let s′ = session_at c.change_definition.new.seat m.sessions m.tickets.room in
     let done = visited m.seat c.change_definition.new.seat m.sessions refl did.unchanged in
     rw (c.from.ensures, ← c.self.view_is) (record {
       joined = unchanged-joins is c.args.id t its s′ c.args.change.now exclusive (done-nothing done) c.in-Err.why did.refused;
-      shown = unchanged-shows is c.args.id t its s′ c.args.change.now exclusive did.unchanged.0 refl did.unchanged.1 c.in-Err.why did.refused;
+      shown = unchanged-shows is c.args.id t its s′ c.args.change.now exclusive did.unchanged.0 refl did.unchanged.1 c.in-Err.why did.refused (keeps-same m.tickets.room);
     })
 
 pub invariant_of-member-2 : goal.invariant_of-member-2
@@ -74,7 +75,7 @@ invariant_of-member-2 g c =
     let own : t.mode ≡ X = search (rules, c.ne.ensures, c.if-ne.false) in
     let changed = c.in-Ok.ensures.changed in
     let noted = noted-by m.seat c.change_definition.new.seat m.sessions changed.0.0 changed.1.2 in
-    let joins = change-joins is c.args.id t its (session_at c.change_definition.new.seat m.sessions) c.args.change.now (ap (λ (mode : Mode). same_mode mode X) own) changed.1.0 c.in-Ok.version noted changed.1.1 changed.0.1 in
+    let joins = change-joins is c.args.id t its (session_at c.change_definition.new.seat m.sessions c.note_all.new.self.room) c.args.change.now (ap (λ (mode : Mode). same_mode mode X) own) changed.1.0 c.in-Ok.version noted changed.1.1 changed.0.1 in
     record {
       lawful = ∣ kept is (noted-order noted is) joins ∣₁;
       lists = lists-noted m noted changed.1.1 c.note_all.ensures.noted;
@@ -90,4 +91,4 @@ returns-clause-joined g c =
     let changed = c.in-Ok.ensures.changed in
     let noted = noted-by m.seat c.change_definition.new.seat m.sessions changed.0.0 changed.1.2 in
     rw (← c.self.view_is)
-    (change-joins (member m) c.args.id t its (session_at c.change_definition.new.seat m.sessions) c.args.change.now (ap (λ (mode : Mode). same_mode mode X) own) changed.1.0 c.in-Ok.version noted changed.1.1 changed.0.1)
+    (change-joins (member m) c.args.id t its (session_at c.change_definition.new.seat m.sessions c.note_all.new.self.room) c.args.change.now (ap (λ (mode : Mode). same_mode mode X) own) changed.1.0 c.in-Ok.version noted changed.1.1 changed.0.1)

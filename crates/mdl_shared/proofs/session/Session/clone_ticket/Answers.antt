@@ -2,10 +2,12 @@
 use Rattle.std.proofs.Common.{Err, None, Ok, Option, Some, ap, rules, subst, sym, ℕ, ◌∙◌, ◌≡◌}
 use Rattle.std.specs.Option.{IfSome}
 use Rattle.mdl_calls.specs.Words.{Clone_ticket}
+use Rattle.mdl_steps.specs.declared.view.Own.{Own}
 use Rattle.mdl_shared.specs.FastWishes.{GainsFast}
+use Rattle.mdl_shared.specs.Modes.{clone_fault}
 use Rattle.mdl_shared.specs.Passes.{view_of}
 use Rattle.mdl_shared.specs.SessionViews.{Lists}
-use Rattle.mdl_shared.proofs.CloneCalls.{clone-full, clone-unfit, cloned-slow, fast-cloned}
+use Rattle.mdl_shared.proofs.CloneCalls.{clone-unfit, cloned-slow, fast-cloned, full-cloned}
 use Rattle.mdl_shared.proofs.Faults.{just-done, just-refused}
 use Rattle.mdl_shared.proofs.Members.{fault-seen, held-seen}
 use Rattle.mdl_shared.proofs.Props.{member}
@@ -35,7 +37,7 @@ returns-in_err-number g c =
     let refused : c.from_residual-in_err-number.result ≡ Err why = search rules in
     let its = held-seen m c.args.id (Some c.in_ok-held.held) (sym c.in_ok-held.ensures.found.0) in
     let clear = fault-seen m (Clone_ticket m.seat.me.0.number c.args.id c.args.mode) None (just-done _ _ c.in_ok-held.ensures.just) in
-    let both = clone-full (member m) c.args.id c.args.mode clear c.in_ok-held.held its c.in_err-number.ensures.unchanged c.in_err-number.ensures.refused in
+    let both = full-cloned (member m) c.args.id c.args.mode clear c.in_ok-held.held its c.in_err-number.ensures.unchanged c.in_err-number.ensures.refused in
     rw refused (rw (← c.self.view_is) (record { joined = both.0; shown = both.1 }))
 
 pub returns-in-Some : goal.returns-in-Some
@@ -52,7 +54,15 @@ returns-in-Some g c =
 pub clone_by_latch-requires-clause-held : goal.clone_by_latch-requires-clause-held
 clone_by_latch-requires-clause-held g c =
     let slow = c.in_ok-number.ensures.slow (ap Ok c.in_default.is) in
-    slow-then c.self.inside.member c.try_fast_first.new.self slow.0.quiet.done slow.1 c.args.id c.in_ok-held.held c.in_ok-held.ensures.found.0
+    slow-then c.self.inside.member c.try_fast_first.new.self slow.0.quiet.done slow.2 c.args.id c.in_ok-held.held c.in_ok-held.ensures.found.0
+
+pub clone_by_latch-requires-clause-clear : goal.clone_by_latch-requires-clause-clear
+clone_by_latch-requires-clause-clear g c =
+    let m = c.self.inside.member in
+    let t = c.in_ok-held.held in
+    let same = same-lists m c.try_fast_first.new.self (c.in_ok-number.ensures.slow (ap Ok c.in_default.is)).0.quiet.done in
+    let found = ap (λ (o : Option Own). clone_fault o m.asks c.args.mode m.known.known m.next) c.in_ok-held.ensures.found.0 in
+    (λ i. clone_fault (Some t) (same.asks i) c.args.mode (same.known i) (same.next i)) ∙ sym found ∙ just-done _ _ c.in_ok-held.ensures.just
 
 pub returns : goal.returns
 returns g c =
@@ -60,8 +70,8 @@ returns g c =
     let n = c.try_fast_first.new.self in
     let its = held-seen m c.args.id (Some c.in_ok-held.held) (sym c.in_ok-held.ensures.found.0) in
     let clear = fault-seen m (Clone_ticket m.seat.me.0.number c.args.id c.args.mode) None (just-done _ _ c.in_ok-held.ensures.just) in
-    let slow = (c.in_ok-number.ensures.slow (ap Ok c.in_default.is)).0 in
-    let next = (same-lists m n slow.quiet.done).next ∙ ap (λ (l : Lists). l.next) m.lists in
-    let both = cloned-slow (member m) c.args.id c.args.mode clear c.in_ok-held.held its slow n.next next c.clone_by_latch.result
+    let slow = c.in_ok-number.ensures.slow (ap Ok c.in_default.is) in
+    let next = (same-lists m n slow.0.quiet.done).next ∙ ap (λ (l : Lists). l.next) m.lists in
+    let both = cloned-slow (member m) c.args.id c.args.mode clear c.in_ok-held.held its slow.0 slow.1 n.next next c.clone_by_latch.result
     c.clone_by_latch.ensures.cloned c.clone_by_latch.ensures.unchanged c.clone_by_latch.ensures.refused in
     rw (← c.self.view_is) (record { joined = both.0; shown = both.1 })

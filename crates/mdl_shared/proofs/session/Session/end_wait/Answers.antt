@@ -17,6 +17,7 @@ use Rattle.mdl_shared.proofs.MemberFacts.{awaited, may-visit}
 use Rattle.mdl_shared.proofs.Members.{kept}
 use Rattle.mdl_shared.proofs.Props.{member}
 use Rattle.mdl_shared.proofs.PollCalls.{polls}
+use Rattle.mdl_shared.proofs.Rooms.{keeps-same}
 use Rattle.mdl_shared.proofs.WaitSteps.{session-there, still-member}
 use Rattle.mdl_shared.proofs.session.Session.end_wait.Goals as goal
 
@@ -38,7 +39,7 @@ invariant_of-member g c =
     let m = c.self.inside.member in
     let did = c.read_wait.ensures in
     let asks = ap (λ (l : Lists). l.asks) (sym m.lists) ∙ c.in-Some.is in
-    let now = ap (λ (x : SeatState). session_at x m.sessions) did.made in
+    let now = ap (λ (x : SeatState). session_at x m.sessions m.tickets.room) did.made in
     let watched = (polls (member m) (ap is_some asks) c.number-session.result c.read_wait.result.0 c.number-session.ensures did.own now) in
     record {
       lawful = ∣ still-member watched.done (member m) ∣₁;
@@ -52,7 +53,7 @@ returns-in_default-settled_in g c =
     let did = c.read_wait.ensures in
     let asks = ap (λ (l : Lists). l.asks) (sym m.lists) ∙ c.in-Some.is in
     let h = unsettled-end (member m) c.in-Some.ask asks c.number-session.result c.read_wait.result.0 c.number-session.ensures did.own
-    (ap (λ (x : SeatState). session_at x m.sessions) did.made) (sym (ap settled_of c.state.ensures) ∙ sym c.settled_in.ensures ∙ c.in_default-settled_in.is) in
+    (ap (λ (x : SeatState). session_at x m.sessions m.tickets.room) did.made) (sym (ap settled_of c.state.ensures) ∙ sym c.settled_in.ensures ∙ c.in_default-settled_in.is) in
     rw (← c.self.view_is) (record { joined = h.0; shown = h.1 })
 
 -- ---- it was lost
@@ -63,7 +64,7 @@ end_lost_wait-requires g c =
     let is = member m in
     let ask = c.in-Some.ask in
     let asks = ap (λ (l : Lists). l.asks) (sym m.lists) ∙ c.in-Some.is in
-    let now = ap (λ (x : SeatState). session_at x m.sessions) c.read_wait.ensures.made in
+    let now = ap (λ (x : SeatState). session_at x m.sessions m.tickets.room) c.read_wait.ensures.made in
     let one = c.in-Some-settled_in.how in
     let some = sym (ap settled_of c.state.ensures) ∙ sym c.settled_in.ensures ∙ c.in-Some-settled_in.is in
     let waits = ap (λ (l : Lists). l.waits) m.lists in
@@ -82,13 +83,13 @@ invariant_of-member-in-Some-lost_end g c =
     let is = member m in
     let ask = c.in-Some.ask in
     let asks = ap (λ (l : Lists). l.asks) (sym m.lists) ∙ c.in-Some.is in
-    let now = ap (λ (x : SeatState). session_at x m.sessions) c.read_wait.ensures.made in
+    let now = ap (λ (x : SeatState). session_at x m.sessions m.tickets.room) c.read_wait.ensures.made in
     let one = c.in-Some-settled_in.how in
     let some = sym (ap settled_of c.state.ensures) ∙ sym c.settled_in.ensures ∙ c.in-Some-settled_in.is in
     let ends = c.end_lost_wait.ensures.ended in
     let ended = ended-lost m.sessions c.number-session.result c.read_wait.result.0 now ends in
     let so = lost-so m.seat.me.0.number one c.in-Some-lost_end.ended (sym c.lost_end.ensures ∙ c.in-Some-lost_end.is) in
-    let h = lost-end is ask asks c.number-session.result c.read_wait.result.0 c.number-session.ensures c.read_wait.ensures.own now one some (ends.1.made, ap (λ (x : Mine). x.0.log) ends.1.now, ends.1.did) so.1 ended ends.1.way in
+    let h = lost-end is ask asks c.number-session.result c.read_wait.result.0 c.number-session.ensures c.read_wait.ensures.own now one some (ends.1.made, ap (λ (x : Mine). x.0.log) ends.1.now, ends.1.did) so.1 ended ends.1.way (keeps-same m.tickets.room) in
     record {
       lawful = ∣ kept is (lost-order is ask asks ended) h.0 ∣₁;
       lists = ap (λ (l : Lists). record l { asks = None }) m.lists ∙ sym (ap (λ (x : SessionView). lists_seen x.me.0) ended.now);
@@ -101,13 +102,13 @@ returns-in-Some-lost_end g c =
     let is = member m in
     let ask = c.in-Some.ask in
     let asks = ap (λ (l : Lists). l.asks) (sym m.lists) ∙ c.in-Some.is in
-    let now = ap (λ (x : SeatState). session_at x m.sessions) c.read_wait.ensures.made in
+    let now = ap (λ (x : SeatState). session_at x m.sessions m.tickets.room) c.read_wait.ensures.made in
     let one = c.in-Some-settled_in.how in
     let some = sym (ap settled_of c.state.ensures) ∙ sym c.settled_in.ensures ∙ c.in-Some-settled_in.is in
     let ends = c.end_lost_wait.ensures.ended in
     let ended = ended-lost m.sessions c.number-session.result c.read_wait.result.0 now ends in
     let so = lost-so m.seat.me.0.number one c.in-Some-lost_end.ended (sym c.lost_end.ensures ∙ c.in-Some-lost_end.is) in
-    let h = lost-end is ask asks c.number-session.result c.read_wait.result.0 c.number-session.ensures c.read_wait.ensures.own now one some (ends.1.made, ap (λ (x : Mine). x.0.log) ends.1.now, ends.1.did) so.1 ended ends.1.way in
+    let h = lost-end is ask asks c.number-session.result c.read_wait.result.0 c.number-session.ensures c.read_wait.ensures.own now one some (ends.1.made, ap (λ (x : Mine). x.0.log) ends.1.now, ends.1.did) so.1 ended ends.1.way (keeps-same m.tickets.room) in
     rw (← c.self.view_is, so.0) (record { joined = h.0; shown = h.1 })
 
 -- ---- it was granted
@@ -118,7 +119,7 @@ end_granted-requires g c =
     let is = member m in
     let ask = c.in-Some.ask in
     let asks = ap (λ (l : Lists). l.asks) (sym m.lists) ∙ c.in-Some.is in
-    let now = ap (λ (x : SeatState). session_at x m.sessions) c.read_wait.ensures.made in
+    let now = ap (λ (x : SeatState). session_at x m.sessions m.tickets.room) c.read_wait.ensures.made in
     let one = c.in-Some-settled_in.how in
     let some = sym (ap settled_of c.state.ensures) ∙ sym c.settled_in.ensures ∙ c.in-Some-settled_in.is in
     let waits = ap (λ (l : Lists). l.waits) m.lists in
@@ -143,11 +144,11 @@ invariant_of-member-2 g c =
     let is = member m in
     let ask = c.in-Some.ask in
     let asks = ap (λ (l : Lists). l.asks) (sym m.lists) ∙ c.in-Some.is in
-    let now = ap (λ (x : SeatState). session_at x m.sessions) c.read_wait.ensures.made in
+    let now = ap (λ (x : SeatState). session_at x m.sessions m.tickets.room) c.read_wait.ensures.made in
     let one = c.in-Some-settled_in.how in
     let some = sym (ap settled_of c.state.ensures) ∙ sym c.settled_in.ensures ∙ c.in-Some-settled_in.is in
     let ended = ended-won m.sessions c.number-session.result c.read_wait.result.0 now ask asks c.end_granted.ensures.made in
-    let h = won-end is ask asks c.number-session.result c.read_wait.result.0 c.number-session.ensures c.read_wait.ensures.own now one some (granted-so one (sym c.lost_end.ensures ∙ c.in_default-lost_end.is)) (_ ∷ [], ap (λ (x : SeatState). x.me.0.log) c.end_granted.ensures.made, refl) ended.0 ended.1 in
+    let h = won-end is ask asks c.number-session.result c.read_wait.result.0 c.number-session.ensures c.read_wait.ensures.own now one some (granted-so one (sym c.lost_end.ensures ∙ c.in_default-lost_end.is)) (_ ∷ [], ap (λ (x : SeatState). x.me.0.log) c.end_granted.ensures.made, refl) ended.0 ended.1 c.push_reserved.ensures.room in
     record {
       lawful = ∣ kept is (won-order is ask asks ended.0) h.0 ∣₁;
       lists = (λ i. record { slow = c.push_reserved.ensures.gained i; fast = c.push_reserved.ensures.same i; known = m.known.known; next = m.next; asks = None; waits = m.waits })
@@ -162,9 +163,9 @@ returns g c =
     let is = member m in
     let ask = c.in-Some.ask in
     let asks = ap (λ (l : Lists). l.asks) (sym m.lists) ∙ c.in-Some.is in
-    let now = ap (λ (x : SeatState). session_at x m.sessions) c.read_wait.ensures.made in
+    let now = ap (λ (x : SeatState). session_at x m.sessions m.tickets.room) c.read_wait.ensures.made in
     let one = c.in-Some-settled_in.how in
     let some = sym (ap settled_of c.state.ensures) ∙ sym c.settled_in.ensures ∙ c.in-Some-settled_in.is in
     let ended = ended-won m.sessions c.number-session.result c.read_wait.result.0 now ask asks c.end_granted.ensures.made in
-    let h = won-end is ask asks c.number-session.result c.read_wait.result.0 c.number-session.ensures c.read_wait.ensures.own now one some (granted-so one (sym c.lost_end.ensures ∙ c.in_default-lost_end.is)) (_ ∷ [], ap (λ (x : SeatState). x.me.0.log) c.end_granted.ensures.made, refl) ended.0 ended.1 in
+    let h = won-end is ask asks c.number-session.result c.read_wait.result.0 c.number-session.ensures c.read_wait.ensures.own now one some (granted-so one (sym c.lost_end.ensures ∙ c.in_default-lost_end.is)) (_ ∷ [], ap (λ (x : SeatState). x.me.0.log) c.end_granted.ensures.made, refl) ended.0 ended.1 c.push_reserved.ensures.room in
     rw (← c.self.view_is) (record { joined = h.0; shown = h.1 })

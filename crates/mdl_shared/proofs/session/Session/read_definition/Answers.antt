@@ -13,6 +13,7 @@ use Rattle.mdl_shared.proofs.Members.{done-nothing, done-order, held-seen, kept,
 use Rattle.mdl_shared.proofs.Props.{member}
 use Rattle.mdl_shared.proofs.ReadCalls.{lists-noted, noted-by, noted-order, read-joins, read-shows, unread-joins, unread-shows}
 use Rattle.mdl_shared.proofs.Refusals.{own-shows}
+use Rattle.mdl_shared.proofs.Rooms.{keeps-same}
 use Rattle.mdl_shared.proofs.SameSpace.{refused, same-stays}
 use Rattle.mdl_shared.proofs.SpaceTickets.{holds-told}
 use Rattle.mdl_shared.proofs.session.Session.read_definition.Goals as goal
@@ -57,8 +58,8 @@ returns-in_default-read_definition g c =
     let its = held-seen m c.args.id c.get.result c.get.ensures.found ∙ c.in-Some.is in
     let did = c.in_default-read_definition.ensures in
     rw (← c.self.view_is) (record {
-      joined = unread-joins is c.args.id c.in-Some.held its (done-nothing (visited m.seat c.read_definition.new.seat m.sessions refl (did.quiet.0, did.unchanged)));
-      shown = unread-shows is c.args.id c.in-Some.held its did.quiet.0 refl did.unchanged did.quiet.1;
+      joined = unread-joins is c.args.id c.in-Some.held its (done-nothing (visited m.seat c.read_definition.new.seat m.sessions {room′ = m.tickets.room} refl (did.quiet.0, did.unchanged)));
+      shown = unread-shows is c.args.id c.in-Some.held its did.quiet.0 refl did.unchanged did.quiet.1 (keeps-same m.tickets.room);
     })
 
 pub invariant_of-member-2 : goal.invariant_of-member-2
@@ -87,5 +88,5 @@ returns g c =
     rw (← c.self.view_is) (record {
       joined = read-joins is id t its c.in-Ok.standing noted did.follows;
       shown = read-shows is id t its c.in-Ok.standing noted did.follows (does_learns m.seat.me c.read_definition.new.seat.me t.place c.in-Ok.standing did.learnt.0) did.quiet.1
-          (step.0, step.1, (step.2, λ slow. step.3 id (slow-there is id t slow) (unwaited is id (ap is_some its))));
+          (step.0, step.1, (step.2, λ slow. step.3 id (slow-there is id t slow) (unwaited is id (ap is_some its)))) c.note_all.ensures.room;
     })

@@ -33,7 +33,7 @@ returns-in-Some g c =
     let t = c.in-Some.held in
     let its = fast-seen m c.args.id (Some t) (sym c.in-Some.is ∙ c.get_fast.ensures.found) in
     let gone = c.give_up_fast.ensures in
-    let both = released-fast c.args.id t (member m) its gone.lost gone.did gone.given_up in
+    let both = released-fast c.args.id t (member m) its gone.lost gone.did gone.given_up gone.room in
     rw (← c.self.view_is) (record { joined = both.0; shown = both.1 })
 
 -- ---- none
@@ -73,8 +73,8 @@ invariant_of-member g c =
     let its = held-seen m id c.get.result c.get.ensures.found ∙ c.in-Some-get.is in
     let slow = slow-else is id t none its in
     let visit = c.release.ensures.released in
-    let done = rescheduled m.seat c.release.new.seat m.sessions (loses-slow is t.place id t slow) visit in
-    let both = released-slow m.seat c.release.new.seat m.sessions id t is its slow none visit c.release.ensures.step in record {
+    let done = rescheduled m.seat c.release.new.seat m.sessions {room′ = c.strike.new.self.room} (loses-slow is t.place id t slow) visit in
+    let both = released-slow m.seat c.release.new.seat m.sessions id {room′ = c.strike.new.self.room} t is its slow none visit c.release.ensures.step c.strike.ensures.room in record {
       lawful = ∣ kept is (done-order done is (inr refl)) both.0 ∣₁;
       lists = lists-done m t.place (Lose id ∷ []) (lists-rescheduled visit) c.strike.ensures.struck.0 (fast-struck m t.place id (spared is id t slow) c.strike.ensures.struck.1);
       room = λ ask asks. room-kept m.tickets c.strike.new.self c.strike.ensures.room (m.room ask asks);
@@ -88,5 +88,5 @@ returns g c =
     let t = c.in-Some-get.held in
     let none = fast-seen m id None (sym c.in_default.is ∙ c.get_fast.ensures.found) in
     let its = held-seen m id c.get.result c.get.ensures.found ∙ c.in-Some-get.is in
-    let both = released-slow m.seat c.release.new.seat m.sessions id t is its (slow-else is id t none its) none c.release.ensures.released c.release.ensures.step in
+    let both = released-slow m.seat c.release.new.seat m.sessions id {room′ = c.strike.new.self.room} t is its (slow-else is id t none its) none c.release.ensures.released c.release.ensures.step c.strike.ensures.room in
     rw (← c.self.view_is) (record { joined = both.0; shown = both.1 })

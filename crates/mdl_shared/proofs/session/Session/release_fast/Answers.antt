@@ -13,4 +13,4 @@ returns-clause-released g c =
     let gone = c.lose_fast-owes.ensures in
     let held = sym c.get_fast.ensures.found ∙ c.in-Some.is in
     rw (← c.self.view_is)
-    (gave-up-fast c.self.inside.member (view_of c.lose_fast-owes.new.self) c.args.id c.in-Some.held held gone.lost gone.released)
+    (gave-up-fast c.self.inside.member (view_of c.lose_fast-owes.new.self) c.args.id c.in-Some.held held gone.lost gone.released gone.room)

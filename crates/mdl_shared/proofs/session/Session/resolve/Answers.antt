@@ -13,6 +13,7 @@ use Rattle.mdl_shared.proofs.Members.{done-nothing, done-order, kept}
 use Rattle.mdl_shared.proofs.Membership.{place_within}
 use Rattle.mdl_shared.proofs.Props.{member}
 use Rattle.mdl_shared.proofs.Refusals.{does-nothing}
+use Rattle.mdl_shared.proofs.Rooms.{keeps-same}
 use Rattle.mdl_shared.proofs.SameSpace.{refused, same-stays}
 use Rattle.mdl_shared.proofs.session.Session.resolve.Goals as goal
 use Rattle.mdl_shared.proofs.session.Session.resolve.Goals.{in-NoPlace, in-OutOfMemory}
@@ -48,6 +49,7 @@ returns-in-Some g c =
         told = refl;
         steps = tt;
         met = (within.0, within.1, (λ known its. refl), λ none. let e = sym none ∙ found in cc);
+        room = keeps-same m.tickets.room;
       };
     })
 
@@ -75,7 +77,7 @@ invariant_of-member-in-Err-resolve g c =
     let s = view_of m in
     let is = member m in
     let done = stepped m.seat c.resolve.new.seat m.sessions c.in-Err.ensures.answer.2.0 c.in-Err.ensures.refused in record {
-      lawful = ∣ kept is (done-order done is (inr refl)) (refused s (session_at c.resolve.new.seat m.sessions) (Resolve s.me.0.number c.args.key.now) OutOfMemory (done-nothing done) (speaks is) refl refl tt (λ state how met. cc) tt) ∣₁;
+      lawful = ∣ kept is (done-order done is (inr refl)) (refused s (session_at c.resolve.new.seat m.sessions m.tickets.room) (Resolve s.me.0.number c.args.key.now) OutOfMemory (done-nothing done) (speaks is) refl refl tt (λ state how met. cc) tt) ∣₁;
       lists = ap (λ (ks : List Known). record { slow = m.tickets.slow; fast = m.tickets.fast; known = ks; next = m.next; asks = m.asks; waits = m.waits }) c.reserve.ensures.same ∙ m.lists ∙ sym (lists-stepped m.seat.me c.resolve.new.seat.me c.in-Err.ensures.refused);
       room = m.room;
     }
@@ -87,11 +89,11 @@ returns-in-Err-clause-joined g c =
     let is = member m in
     let key = c.args.key.now in
     let none : place_known key s.me.0.known ≡ None = ap (λ (l : Lists). place_known key l.known) (sym m.lists) ∙ sym c.place_of.ensures ∙ c.in_default.is in
-    let stays = done-nothing (stepped m.seat c.resolve.new.seat m.sessions c.in-Err.ensures.answer.2.0 c.in-Err.ensures.refused) in
+    let stays = done-nothing (stepped m.seat c.resolve.new.seat m.sessions {room′ = m.tickets.room} c.in-Err.ensures.answer.2.0 c.in-Err.ensures.refused) in
     rw (← c.self.view_is) (elim c.match-why.branch [
       | in-NoPlace w ↦ rw w.result-is (no_place-joins is key none stays)
       | in-OutOfMemory w ↦ rw w.result-is (
-          refused s (session_at c.resolve.new.seat m.sessions) (Resolve s.me.0.number key) OutOfMemory stays (speaks is) refl refl tt (λ state how met. cc) tt
+          refused s (session_at c.resolve.new.seat m.sessions m.tickets.room) (Resolve s.me.0.number key) OutOfMemory stays (speaks is) refl refl tt (λ state how met. cc) tt
           )
     ])
 
@@ -103,7 +105,7 @@ push_reserved-requires-clause-unknown g c =
     let own : place_known key m.known.known ≡ None = sym c.place_of.ensures ∙ c.in_default.is in
     let none : place_known key m.seat.me.0.known ≡ None = ap (λ (l : Lists). place_known key l.known) (sym m.lists) ∙ own in
     let same = c.reserve.ensures.same in
-    let told = resolved m.seat c.resolve.new.seat m.sessions place key none c.in-Ok-resolve.ensures.known c.in-Ok-resolve.ensures.answer in (
+    let told = resolved m.seat c.resolve.new.seat m.sessions place {room = m.tickets.room} {room′ = m.tickets.room} key none c.in-Ok-resolve.ensures.known c.in-Ok-resolve.ensures.answer in (
       ap (λ (k : KeyName). place_known k c.reserve.new.self.known) c.in-Ok.ensures.cases ∙ ap (place_known key) same ∙ own,
       ap (λ (ks : List Known). is_known_place ks place) same ∙ ap (λ (l : Lists). is_known_place l.known place) m.lists ∙ told.2,
     )
@@ -136,5 +138,5 @@ returns-clause-joined g c =
     let key = c.args.key.now in
     let place = c.in-Ok-resolve.place in
     let none : place_known key m.seat.me.0.known ≡ None = ap (λ (l : Lists). place_known key l.known) (sym m.lists) ∙ sym c.place_of.ensures ∙ c.in_default.is in
-    let told = resolved m.seat c.resolve.new.seat m.sessions place key none c.in-Ok-resolve.ensures.known c.in-Ok-resolve.ensures.answer in
+    let told = resolved m.seat c.resolve.new.seat m.sessions place {room′ = m.tickets.room} key none c.in-Ok-resolve.ensures.known c.in-Ok-resolve.ensures.answer in
     rw (← c.self.view_is) (resolve-joins (member m) key none place told.2 told.0)

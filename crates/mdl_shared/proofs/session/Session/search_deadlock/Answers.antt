@@ -34,7 +34,7 @@ returns-clause-joined g c =
     let m = c.self.inside.member in
     let waiting = waits-seen m true (c.is_none.ensures ∙ ap not c.if-is_none.false) in
     let did = c.search_deadlock.ensures.reads in
-    let stays = done-nothing (quietly m.sessions did.0 did.1.now did.1.stays (asked (view_of m) waiting)) in
+    let stays = done-nothing (quietly m.sessions {room′ = m.tickets.room} did.0 did.1.now did.1.stays (asked (view_of m) waiting)) in
     rw (← c.self.view_is) (elim c.match-search_deadlock.branch [
       | in-Ok w ↦ rw w.result-is (search-joins (member m) stays (Ok w.in-Ok.found) w.in-Ok.ensures.own tt)
       | in-Err w ↦ rw w.result-is (search-joins (member m) stays (Err OutOfMemory) tt refl)

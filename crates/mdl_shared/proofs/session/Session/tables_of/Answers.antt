@@ -12,6 +12,7 @@ use Rattle.mdl_shared.specs.SessionViews.{Lists}
 use Rattle.mdl_shared.proofs.KeyCalls.{all-apart, learnt-all, learnt-order, lists-learnt, lists-stepped, memory-joins, stepped, told-tables}
 use Rattle.mdl_shared.proofs.Members.{done-nothing, done-order, kept}
 use Rattle.mdl_shared.proofs.Props.{member}
+use Rattle.mdl_shared.proofs.Rooms.{keeps-same}
 use Rattle.mdl_shared.proofs.session.Session.tables_of.Goals as goal
 
 pub find_tables-requires : goal.find_tables-requires
@@ -35,7 +36,7 @@ pub returns-in_default-clause-joined : goal.returns-in_default-clause-joined
 returns-in_default-clause-joined g c =
     let m = c.self.inside.member in
     let did = c.in_default.ensures in
-    rw (← c.self.view_is) (memory-joins (member m) c.args.schema.now (done-nothing (stepped m.seat c.find_tables.new.seat m.sessions did.found.1.0 did.unchanged)))
+    rw (← c.self.view_is) (memory-joins (member m) c.args.schema.now (done-nothing (stepped m.seat c.find_tables.new.seat m.sessions {room′ = m.tickets.room} did.found.1.0 did.unchanged)))
 
 pub tables_defined-requires-clause-within : goal.tables_defined-requires-clause-within
 tables_defined-requires-clause-within g c =
@@ -65,7 +66,7 @@ invariant_of-member-2 g c =
     let new = c.tables_defined.new in
     let learnt = learnt-all m.seat c.find_tables.new.seat new.seat m.sessions c.args.schema.now did.found.0 tables is did.found.1 did.found.2.0 did.found.2.1 c.tables_defined.ensures.steps in
     let told = told-tables m.seat c.find_tables.new.seat new.seat m.sessions c.args.schema.now did.found.0 tables is did.found.1 did.found.2.0 did.found.2.1 c.tables_defined.ensures.steps
-    new.places.items c.tables_defined.ensures.directory (subst (λ (ts : List Known). HasAsked c.find_tables.new.seat.me.0.number ts new.places.items c.find_tables.new.seat.me new.seat.me) c.deref.ensures.value c.tables_defined.ensures.asked) in
+    {room′ = m.tickets.room} new.places.items c.tables_defined.ensures.directory (subst (λ (ts : List Known). HasAsked c.find_tables.new.seat.me.0.number ts new.places.items c.find_tables.new.seat.me new.seat.me) c.deref.ensures.value c.tables_defined.ensures.asked) (keeps-same m.tickets.room) in
     record {
       lawful = ∣ kept is (learnt-order learnt is
           (All-filter (λ (k : Known). not (is_known m.seat.me.0.known k.key)) (λ (x : Known). (0 < x.place) × (x.place < m.seat.table.slots)) tables did.within)) told.0 ∣₁;
@@ -80,5 +81,5 @@ returns g c =
     let did = c.in-Ok.ensures in
     let new = c.tables_defined.new in
     let told = told-tables m.seat c.find_tables.new.seat new.seat m.sessions c.args.schema.now did.found.0 c.in-Ok.tables.items (member m) did.found.1 did.found.2.0 did.found.2.1 c.tables_defined.ensures.steps
-    new.places.items c.tables_defined.ensures.directory (subst (λ (ts : List Known). HasAsked c.find_tables.new.seat.me.0.number ts new.places.items c.find_tables.new.seat.me new.seat.me) c.deref.ensures.value c.tables_defined.ensures.asked) in
+    new.places.items c.tables_defined.ensures.directory (subst (λ (ts : List Known). HasAsked c.find_tables.new.seat.me.0.number ts new.places.items c.find_tables.new.seat.me new.seat.me) c.deref.ensures.value c.tables_defined.ensures.asked) (keeps-same m.tickets.room) in
     rw (← c.self.view_is) (record { joined = told.0; shown = told.1 })

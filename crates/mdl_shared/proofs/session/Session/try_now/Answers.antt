@@ -2,11 +2,11 @@
 use Rattle.std.proofs.Common.{Err, Ok, Some, ap, rules, ◌∙◌, ◌≡◌}
 use Rattle.mdl_calls.specs.Words.{Try_now}
 use Rattle.mdl_shared.specs.Passes.{view_of}
-use Rattle.mdl_shared.proofs.FastWishShows.{lack-cause, try-fast-shows, try-full-shows, try-joins-since, try-shows-since}
-use Rattle.mdl_shared.proofs.Members.{done-nothing, fault-seen}
+use Rattle.mdl_shared.proofs.FastWishShows.{full-fast, tried-slow, try-fast, try-full}
+use Rattle.mdl_shared.proofs.Members.{fault-seen}
 use Rattle.mdl_shared.proofs.Props.{member}
 use Rattle.mdl_shared.proofs.Refusals.{own-shows}
-use Rattle.mdl_shared.proofs.WishCalls.{try-granted, try-refused, try-unfit}
+use Rattle.mdl_shared.proofs.WishCalls.{try-unfit}
 use Rattle.mdl_shared.proofs.Wishing.{may-wish}
 use Rattle.mdl_shared.proofs.session.Session.try_now.Goals as goal
 
@@ -24,34 +24,25 @@ returns-in_err-kind g c =
 pub returns-in_err-number : goal.returns-in_err-number
 returns-in_err-number g c =
     let m = c.self.inside.member in
-    let now = c.try_fast_first.new.self in
     let why = c.in_err-number.field-0.0 in
     let refused : c.from_residual-in_err-number.result ≡ Err why = search rules in
     let may = may-wish m c.args.place c.in_ok-kind.kind c.args.mode c.in_ok-kind.ensures in
-    let quiet = c.in_err-number.ensures.unchanged in
-    let lacks = c.in_err-number.ensures.refused in
-    rw refused (rw (← c.self.view_is) (record {
-      joined = try-refused (member m) c.args.place c.args.mode may.clear (done-nothing quiet.done) (lack-cause (view_of m) (view_of now) lacks);
-      shown = try-full-shows may.clear quiet lacks;
-    }))
+    let full = full-fast c.args.place c.args.mode (view_of m) (view_of c.try_fast_first.new.self) c.in_err-number.ensures.refused in
+    let both = try-full (member m) c.args.place c.args.mode may.clear c.in_err-number.ensures.unchanged full in
+    rw refused (rw (← c.self.view_is) (record { joined = both.0; shown = both.1 }))
 
 pub returns-in-Some : goal.returns-in-Some
 returns-in-Some g c =
     let m = c.self.inside.member in
     let may = may-wish m c.args.place c.in_ok-kind.kind c.args.mode c.in_ok-kind.ensures in
-    let gains = rw c.in-Some.is at c.in_ok-number.ensures.granted in
-    rw (← c.self.view_is) (record {
-      joined = try-granted (member m) c.args.place c.args.mode may.clear gains.first gains.quiet.done;
-      shown = try-fast-shows may.clear gains;
-    })
+    let both = try-fast (member m) c.args.place c.args.mode may.clear (rw c.in-Some.is at c.in_ok-number.ensures.granted) in
+    rw (← c.self.view_is) (record { joined = both.0; shown = both.1 })
 
 pub returns : goal.returns
 returns g c =
     let m = c.self.inside.member in
-    let slow = (c.try_fast_first.ensures.slow (c.in_ok-number.was ∙ ap Ok c.in_default.is)).0 in
     let may = may-wish m c.args.place c.in_ok-kind.kind c.args.mode c.in_ok-kind.ensures in
-    let now = view_of c.try_by_latch.new.self in
-    rw (← c.self.view_is) (record {
-      joined = try-joins-since slow now c.args.place c.args.mode c.try_by_latch.result c.try_by_latch.ensures.joined;
-      shown = try-shows-since slow now c.args.place c.args.mode may.clear c.try_by_latch.result c.try_by_latch.ensures.shown;
-    })
+    let slow = c.try_fast_first.ensures.slow (c.in_ok-number.was ∙ ap Ok c.in_default.is) in
+    let came = c.try_by_latch.ensures in
+    let both = tried-slow (member m) c.args.place c.args.mode may.clear slow.0 slow.1 c.try_by_latch.result came.tried came.unchanged came.refused in
+    rw (← c.self.view_is) (record { joined = both.0; shown = both.1 })

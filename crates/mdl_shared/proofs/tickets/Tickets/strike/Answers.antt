@@ -2,7 +2,7 @@
 use Rattle.std.proofs.Common.{ℕ, Bool, ap, sym, ◌∙◌}
 use Rattle.std.specs.Prelude.{not}
 use Rattle.mdl_shared.specs.declared.tickets.Gained.{Gained}
-use Rattle.mdl_shared.proofs.TicketEdits.{kept_strike, kept_strike_fast, strike_none, struck}
+use Rattle.mdl_shared.proofs.TicketEdits.{kept_strike, kept_strike_fast, strike_none, strikes_some, struck}
 use Rattle.mdl_shared.proofs.tickets.Tickets.strike.Goals as goal
 
 pub invariant_of-self : goal.invariant_of-self
@@ -41,3 +41,8 @@ returns-in_default-clause-struck c =
     let none = rw (c.in_default.is, c.deref.ensures.value) at c.index_at.ensures in
     let parts = λ (p : Gained → Bool). strike_none c.args.place c.args.id c.self.inside.places.items p c.self.inside.gained.items none in
     rw (← c.self.view_is) (parts (λ t. not t.fast), parts (λ t. t.fast))
+
+pub returns-in_default-clause-freed : goal.returns-in_default-clause-freed
+returns-in_default-clause-freed c = λ t is here.
+    let none = rw (c.in_default.is, c.deref.ensures.value) at c.index_at.ensures in
+    absurd (strikes_some c.args.place c.args.id c.self.inside.places.items (λ t. t.fast) c.self.inside.gained.items t none (rw (← c.self.view_is) at is) here)

@@ -3,9 +3,8 @@ use Rattle.std.proofs.Common.{◌≡◌, sym, ap, ◌∙◌, subst}
 use Rattle.mdl_word.specs.declared.word.Word.{Word}
 use Rattle.mdl_word.specs.Words.{obtrusive_flag}
 use Rattle.mdl_visits.specs.declared.calls.try_fast.FastTried.TheVariants.{Obtruded}
-use Rattle.mdl_visits.specs.FastTries.{MeetsObtrusive}
-use Rattle.mdl_visits.specs.Visits.{HasStep}
-use Rattle.mdl_visits.proofs.FastTrying.{first_read, grants_fast, may_again, met_clear, met_obtrusive, missed_again, only_steps, stays_granted, stays_missed}
+use Rattle.mdl_visits.specs.FastTries.{FindsObtrusive}
+use Rattle.mdl_visits.proofs.FastTrying.{first_read, grants_at_last, grants_fast, may_again, missed_again, stays_granted, stays_missed}
 use Rattle.mdl_visits.proofs.Seats.{mine, place_there, table_of}
 use Rattle.mdl_visits.proofs.calls.try_fast.try_fast.Goals as goal
 
@@ -39,10 +38,11 @@ one_word a b e = cc
 
 pub returns-then-obtrusive-clause-obtruded : goal.returns-then-obtrusive-clause-obtruded
 returns-then-obtrusive-clause-obtruded c = λ word is.
-    let inv = c.loop.invariant in (
-      (inv.table, only_steps inv.missed),
-      subst (λ (w : Word). HasStep c.args.seat.now c.loop.seat (MeetsObtrusive c.args.place w.0)) (one_word c.loop.word word is)
-          (met_obtrusive inv.missed (sym c.obtrusive.ensures.any_number ∙ c.if-obtrusive.true)),
+    let inv = c.loop.invariant in
+    let up = sym c.obtrusive.ensures.any_number ∙ c.if-obtrusive.true in (
+      inv.table,
+      subst (λ (w : Word). FindsObtrusive c.args.place w.0 c.args.seat.now.me c.loop.seat.me) (one_word c.loop.word word is)
+          ((c.loop.counter, c.loop-test.true, inv.missed), up),
     )
 
 pub returns-then-obtrusive-clause-stays : goal.returns-then-obtrusive-clause-stays
@@ -57,8 +57,10 @@ returns-then-found-word-clause-granted c = λ is.
     let mode = c.args.mode in
     let noted = c.args.noted in
     let found = tried.result.0 in
-    let down = ap obtrusive_flag c.if-found-word.true ∙ sym c.obtrusive.ensures.any_number ∙ c.if-obtrusive.false in
-    ((table_of granted ∙ inv.table, grants_fast inv.missed mode noted found _ now), met_clear inv.missed mode noted found _ now down)
+    let down = ap obtrusive_flag c.if-found-word.true ∙ sym c.obtrusive.ensures.any_number ∙ c.if-obtrusive.false in (
+      (table_of granted ∙ inv.table, grants_fast inv.missed mode noted found _ now),
+      grants_at_last inv.missed mode noted found _ now c.loop-test.true c.if-found-word.true down,
+    )
 
 pub returns-then-found-word-clause-stays : goal.returns-then-found-word-clause-stays
 returns-then-found-word-clause-stays c =
