@@ -228,11 +228,13 @@ fn print_goal<R: Print>(rt: &R, row: &[Timed], goal: Goal) -> Result<(), Failure
     let least = times(figure.least(), beside.least());
     let median = times(figure.median(), beside.median());
     println!(rt;
-        "{} takes {}.{:02} times {}, {}.{:02} in the median; at most {}.{} are wanted",
+        "{} shared {} takes {}.{:02} times {} shared {}, {}.{:02} in the median; at most {}.{} are wanted",
         figure.figure.name,
+        figure.figure.threads,
         least / 100,
         least % 100,
         beside.figure.name,
+        beside.figure.threads,
         median / 100,
         median % 100,
         goal.most / 10,
