@@ -108,11 +108,14 @@ pub const HOT_GOALS: [Goal; 2] = [
 ];
 
 /// Pairs of each thread at a place of its own.
-pub fn own() -> [Race; 3] {
+pub fn own() -> [Race; 4] {
+    let by_clock = Work::Play(OWN_PLACES);
+    let by_processor = Work::PlayOfProcessors(OWN_PLACES);
     [
-        in_pairs("c_own", 1, 400_000, Work::Play(OWN_PLACES)),
-        in_pairs("c_own", 4, 400_000, Work::Play(OWN_PLACES)),
-        in_pairs("c_own_cpu", 4, 400_000, Work::PlayOfProcessors(OWN_PLACES)),
+        in_pairs("c_own", 1, 400_000, by_clock),
+        in_pairs("c_own", 4, 400_000, by_clock),
+        in_pairs("c_own_cpu", 1, 400_000, by_processor),
+        in_pairs("c_own_cpu", 4, 400_000, by_processor),
     ]
 }
 
@@ -123,8 +126,8 @@ pub const OWN_GOALS: [Goal; 2] = [
         most: 12,
     },
     Goal {
-        figure: 2,
-        beside: 0,
+        figure: 3,
+        beside: 2,
         most: 12,
     },
 ];
