@@ -69,6 +69,6 @@ returns-in-Err g c =
       refused = (
         subst (λ (p : ℕ). AtItsTable s n (Visits p [])) a.at (c.lower_flags_and_put-in-Err.ensures.visited s (came.0, came.1)),
         met_full held.place s q w n a.at came.1 a.latch (ap (held_at q) latches ∙ a.holds.recorded) [] c.lower_flags_and_put-in-Err.ensures.step c.in-Err.cause
-        (no_room held a unwaited r.may.held c.args.mode r.may.fits r.may.covered _ c.args.number c.in-Err.cause (c.in-Err.ensures.refused a.latch.book a.holds.carried)),
+            (no_room held a unwaited r.may.held c.args.mode r.may.fits r.may.covered _ c.args.number c.in-Err.cause (c.in-Err.ensures.refused a.latch.book a.holds.carried)),
       );
     }
