@@ -20,6 +20,7 @@ PROGRAM = crates/mdlsim/out/mdlsim
 FIRST_RUN = crates/mdlsim/out/first_run
 
 BENCH = crates/mdl_bench/out/mdl_bench
+FAST_BENCH = crates/mdl_fast_bench/out/mdl_fast_bench
 
 .PHONY: help run try script test layout docs bench examples commands growths wrong build install dist dist-check dist-libraries \
     dist-libraries-check clean kit
@@ -77,12 +78,17 @@ docs: kit
 	@sh make/check_version.sh
 
 # Lines a second and peak memory of scripts of three sizes, of one lock and of statements; what calls cost on books of four sizes, chains
-# of grants, and sessions on one thread and on four.
+# of grants, and sessions on one thread and on four; and the rows of the fast path, each beside what it is held against, what instructions it
+# takes, and what the locks of C and Rust take.
 bench: build
 	@sh bench/lock.sh $(PROGRAM)
 	@sh bench/replay.sh $(PROGRAM)
 	@sh make/build.sh mdl_bench quick
 	@$(BENCH)
+	@sh make/build.sh mdl_fast_bench quick
+	@$(FAST_BENCH)
+	@sh bench/instructions.sh $(FAST_BENCH)
+	@sh bench/peers.sh
 
 # Each example gives the answers that lie beside it.
 examples: kit
@@ -123,7 +129,7 @@ dist-libraries-check: kit
 	@sh make/dist_libraries.sh check $(PROGRAMS)
 
 clean:
-	@rm -rf crates/*/out dist
+	@rm -rf crates/*/out bench/peers/out dist
 
 kit:
 	@sh make/needs.sh rt python3

@@ -1,6 +1,6 @@
 -- Why calls on held tickets are refused, in the words of a lock space.
-use Rattle.std.proofs.Common.{rules, ◌≡◌, ℕ, Bool, true, false, not, ◌==◌, ◌&&◌, ◌||◌, is_some, Option, Some, None, List, if◌then◌else◌, refl, sym, ap, subst, ◌∙◌}
-use Rattle.std.proofs.lemmas.Bool.{and_from, and_left, and_parts, and_right, eq-eqb, eqb-true}
+use Rattle.std.proofs.Common.{rules, ◌≡◌, ◌≢◌, ℕ, Bool, true, false, not, ◌==◌, ◌&&◌, ◌||◌, is_some, Option, Some, None, List, if◌then◌else◌, refl, sym, ap, subst, ◌∙◌}
+use Rattle.std.proofs.lemmas.Bool.{and_from, and_left, and_parts, and_right, eq-eqb, eqb-true, false≢true}
 use Rattle.mdl_key.specs.declared.mode.Mode.{Mode}
 use Rattle.mdl_key.specs.declared.namespace.Kind.{Kind}
 use Rattle.mdl_key.specs.Words.{is_mode_of, is_obtrusive, kind_of}
@@ -73,17 +73,23 @@ downgrade-passed mode known o t its e =
     and_parts (may_downgrade t.mode mode) (is_fit t.place mode known)
     (test-passed (may_downgrade t.mode mode && is_fit t.place mode known) NotUpgradable (sym (ap (λ x. downgrade_fault x mode known) its) ∙ e))
 
--- two tickets that are merged are at one place
-pub merge-here : (kept gone : Own) (asks : Option Ask) → merge_fault (Some kept) (Some gone) asks ≡ None → is_here kept.place gone ≡ true
-merge-here kept gone asks e = by (is_some asks) e
+-- tickets that are merged are two, of one place, and the mode of the one that goes covers that of the other
+pub merge-passed : (kept gone : Own) (asks : Option Ask) → merge_fault (Some kept) (Some gone) asks ≡ None
+    → (kept.number ≢ gone.number) × (kept.place ≡ gone.place) × (covers gone.mode kept.mode ≡ true)
+merge-passed kept gone asks e = by (is_some asks) e
   where
-    by : (waits : Bool) → (if waits then Some AlreadyWaiting else (if may_merge kept gone then None else Some BadMode)) ≡ None → is_here kept.place gone ≡ true
+    by : (waits : Bool) → (if waits then Some AlreadyWaiting else (if may_merge kept gone then None else Some BadMode)) ≡ None
+        → (kept.number ≢ gone.number) × (kept.place ≡ gone.place) × (covers gone.mode kept.mode ≡ true)
     by true e = cc
     by false e =
         let may = test-passed (may_merge kept gone) BadMode e in
-        let rest = (and_parts (not (kept.number == gone.number)) (kept.place == gone.place && covers gone.mode kept.mode) may).1 in
-        let same = eqb-true kept.place gone.place (and_parts (kept.place == gone.place) (covers gone.mode kept.mode) rest).0 in
-        eq-eqb gone.place kept.place (sym same)
+        let parts = and_parts (not (kept.number == gone.number)) (kept.place == gone.place && covers gone.mode kept.mode) may in
+        let rest = and_parts (kept.place == gone.place) (covers gone.mode kept.mode) parts.1 in
+        (λ same. false≢true (ap not (sym (eq-eqb kept.number gone.number same)) ∙ parts.0), eqb-true kept.place gone.place rest.0, rest.1)
+
+-- so they are at one place
+pub merge-here : (kept gone : Own) (asks : Option Ask) → merge_fault (Some kept) (Some gone) asks ≡ None → is_here kept.place gone ≡ true
+merge-here kept gone asks e = eq-eqb gone.place kept.place (sym (merge-passed kept gone asks e).1)
 
 module _ (m : SessionView) where
   abbrev pub knows : Knowledge

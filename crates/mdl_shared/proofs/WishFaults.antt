@@ -42,13 +42,14 @@ chain-fault P false true false one two three why first second third e = cc
 pub wish-mode : (kind : Kind) (asks : Option Ask) (mode : Mode) (next : ℕ) → wish_fault (Some kind) asks mode next ≡ None → is_mode_of kind mode ≡ true
 wish-mode kind asks mode next e = (chain-clear (is_some asks) (is_mode_of kind mode) (nat_le most_numbers next) AlreadyWaiting BadMode CounterFull e).1
 
--- a session that clones a ticket waits for nothing, the mode fits the ticket's lock, and there are numbers left
+-- a session that clones a ticket waits for nothing, the mode fits the ticket's lock, there are numbers left, and the ticket's own mode covers it
 pub clone-passed : (asks : Option Ask) (mode : Mode) (known : List Known) (next : ℕ) (o : Option Own) (t : Own) → o ≡ Some t → clone_fault o asks mode known next ≡ None
-    → (asks ≡ None) × (is_fit t.place mode known ≡ true) × (next < most_numbers)
+    → (asks ≡ None) × (is_fit t.place mode known ≡ true) × (next < most_numbers) × (covers t.mode mode ≡ true)
 clone-passed asks mode known next o t its e =
     let clear = chain-clear (is_some asks) (covers t.mode mode && is_fit t.place mode known) (nat_le most_numbers next) AlreadyWaiting BadMode CounterFull
     (sym (ap (λ x. clone_fault x asks mode known next) its) ∙ e) in
-    (no-asks asks 0 (waits-asks asks 0 ∙ clear.0), (and_parts (covers t.mode mode) (is_fit t.place mode known) clear.1).1, leb-false most_numbers next clear.2)
+    let parts = and_parts (covers t.mode mode) (is_fit t.place mode known) clear.1 in
+    (no-asks asks 0 (waits-asks asks 0 ∙ clear.0), parts.1, leb-false most_numbers next clear.2, parts.0)
 
 module _ (m : SessionView) where
   abbrev knows : Knowledge

@@ -1,1 +1,2 @@
 pub mod HoldersKnow
+pub mod VainTries

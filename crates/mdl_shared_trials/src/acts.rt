@@ -140,6 +140,8 @@ pub(crate) enum Reply {
     Wait(Option<u64>),
     NoCycle,
     Victim(u16),
+    // Memory was refused to its fast ticket, for which there was no room.
+    NoRoom,
     Refused(SpaceError),
 }
 
@@ -190,7 +192,8 @@ pub(crate) fn make_at_last<R: Wait>(alloc: Global, session: &mut Session<R>, act
 pub(crate) const NO_MEMORY: Reply = Reply::Refused(SpaceError::OutOfMemory);
 
 // A release and a downgrade take none, nor what is done with a wait once it has begun, nor does it to put a schema or to drop what stands. Where no
-// ticket is fast, a merge and an upgrade take none, and where room was made before, a fast ticket takes none.
+// ticket is fast, a merge and an upgrade take none, and to a mode that a ticket covers an upgrade takes none ever. Who tries for a fast ticket or
+// makes way asks for the key of the place first, which takes some. The fast ticket itself takes none where room was made before.
 fn may_take_memory(act: Act) -> bool {
     match act {
         Act::Resolve(_)
@@ -204,6 +207,8 @@ fn may_take_memory(act: Act) -> bool {
         | Act::Names(_, _)
         | Act::Audit(_)
         | Act::Begin(_, _)
+        | Act::TryFast(_, _)
+        | Act::Reschedule(_)
         | Act::Materialise
         | Act::Reserve(_)
         | Act::Search => true,
@@ -318,6 +323,7 @@ fn tried_fast(outcome: Result<Fast, SpaceError>) -> Reply {
         Ok(Fast::Obtruded(word)) => Reply::Obtruded(word),
         Ok(Fast::Contended(word)) => Reply::Contended(word),
         Ok(Fast::Limit) => Reply::Limit,
+        Err(SpaceError::OutOfMemory) => Reply::NoRoom,
         Err(why) => Reply::Refused(why),
     }
 }

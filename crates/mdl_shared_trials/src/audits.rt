@@ -1,6 +1,6 @@
 //! An audit tells the books of all places that have a key.
 use crate::acts::{Act, Lock, Reply};
-use crate::rows::{RowOfTwo, are_right_of_two};
+use crate::rows::{NumberedRow, are_right_of_three};
 use mdl_calls::{Place, SpaceError};
 use mdl_defs::Standing;
 use mdl_key::{Key, Mode};
@@ -78,7 +78,7 @@ const FREE_BOOKS: &[Shown] = &[
     },
 ];
 
-const AUDITS: &[RowOfTwo] = &[
+const AUDITS: &[NumberedRow] = &[
     (1, Act::Audit(&[]), Reply::Is(true)),
     (1, Act::Resolve(Lock::Shop), Reply::Place(1)),
     (2, Act::Resolve(Lock::Sales), Reply::Place(2)),
@@ -91,5 +91,5 @@ const AUDITS: &[RowOfTwo] = &[
 // A place whose key nobody has looked up isn't told. Of the others each book is, in the order of the places, and it may be told again.
 #[test]
 fn an_audit_tells_each_book(rt: HostRuntime) -> Result<(), Fail> {
-    are_right_of_two(&rt, 3, AUDITS)
+    are_right_of_three(&rt, 3, AUDITS)
 }

@@ -1,12 +1,12 @@
 //! Sessions change what stands under their keys, on one thread.
 use crate::acts::{Act, Edit, Lock, Reply};
-use crate::rows::{Row, RowOfTwo, are_right, are_right_of_two};
+use crate::rows::{NumberedRow, Row, are_right, are_right_of_three};
 use mdl_calls::SpaceError;
 use mdl_defs::DefError;
 use mdl_key::Mode;
 use std::test::Fail;
 
-const CHANGES: &[RowOfTwo] = &[
+const CHANGES: &[NumberedRow] = &[
     (1, Act::Resolve(Lock::Shop), Reply::Place(1)),
     (2, Act::Resolve(Lock::Shop), Reply::Place(1)),
     (1, Act::Try(1, Mode::X), Reply::Granted(1)),
@@ -23,7 +23,7 @@ const CHANGES: &[RowOfTwo] = &[
 // Each change is one version more, and is read by all who come later.
 #[test]
 fn a_change_is_one_version_more(rt: HostRuntime) -> Result<(), Fail> {
-    are_right_of_two(&rt, 1, CHANGES)
+    are_right_of_three(&rt, 1, CHANGES)
 }
 
 const NOT_HELD: Reply = Reply::Refused(SpaceError::NotHeld);

@@ -1,32 +1,43 @@
 //! Sessions try for fast tickets, give them up and make slow ones of them, on one thread.
 use crate::acts::{Act, Lock, Reply, make};
 use crate::audits::Shown;
-use crate::rows::{
-    Row, RowOfThree, RowOfTwo, are_right, are_right_of_three, are_right_of_two, first_wrong,
-};
-use crate::sessions::closed;
+use crate::rows::{Memory, NumberedRow, Row, are_right, are_right_of_three, open_three};
 use mdl_calls::{Ended, Held, Settled, SpaceError};
 use mdl_key::Mode;
-use mdl_shared::{Manager, Session};
+use mdl_shared::Session;
 use mdl_word::Word;
 use std::alloc::Global;
 use std::sync::Wait;
 use std::test::Fail;
 
+const NOT_HELD: Reply = Reply::Refused(SpaceError::NotHeld);
+
+const BAD_MODE: Reply = Reply::Refused(SpaceError::BadMode);
+
 // How many fast tickets a session may have at a place.
 const MOST_FAST: u64 = 1023;
 
-const ROOM: &[Row] = &[
-    (Act::Resolve(Lock::Sales), Reply::Place(1)),
-    (Act::Resolve(Lock::Orders), Reply::Place(2)),
-    (Act::Reserve(1024), Reply::Done),
+const ROOM: &[NumberedRow] = &[
+    (1, Act::Resolve(Lock::Sales), Reply::Place(1)),
+    (1, Act::Resolve(Lock::Orders), Reply::Place(2)),
+    (2, Act::Resolve(Lock::Sales), Reply::Place(1)),
+    (3, Act::Resolve(Lock::Sales), Reply::Place(1)),
+    (1, Act::Reserve(1024), Reply::Done),
 ];
 
-const ONE_MORE: &[Row] = &[
-    (Act::TryFast(1, Mode::S), Reply::Limit),
-    (Act::TryFast(1, Mode::SR), Reply::Limit),
-    (Act::TryFast(2, Mode::S), Reply::Granted(1024)),
-    (Act::ReleaseFast(1024), Reply::Owes(false)),
+const ONE_MORE: &[NumberedRow] = &[
+    (1, Act::TryFast(1, Mode::S), Reply::Limit),
+    (1, Act::TryFast(1, Mode::SR), Reply::Limit),
+    (1, Act::TryFast(2, Mode::S), Reply::Granted(1024)),
+    (1, Act::ReleaseFast(1024), Reply::Owes(false)),
+    (2, Act::Begin(1, Mode::X), Reply::Waiting(1)),
+    (
+        3,
+        Act::TryFast(1, Mode::S),
+        Reply::Obtruded(Word(0x3000_0000_0000_03ff)),
+    ),
+    (2, Act::TimeOut, Reply::Done),
+    (2, Act::End, Reply::Ended(Ended::Timeout)),
 ];
 
 // Tries for as many fast tickets as there may be: how many are granted, with the numbers from 1 on.
@@ -49,20 +60,20 @@ fn given_up<R: Wait>(alloc: Global, session: &mut Session<R>) -> u64 {
     right
 }
 
-// There it gains no more, but it does elsewhere.
+// There it gains no more, but it does elsewhere. The lock's word counts each of them.
 #[test]
 fn a_session_gains_1023_fast_tickets_at_a_place(rt: HostRuntime) -> Result<(), Fail> {
-    let (manager, mut passes) = Manager::new(rt.alloc(), 2, 1)?;
-    let mut session = Session::open(&rt, &manager, passes.remove(0));
-    assert_eq!(rt; first_wrong(rt.alloc(), &mut session, ROOM), None);
-    assert_eq!(rt; gained(rt.alloc(), &mut session), MOST_FAST);
-    assert_eq!(rt; first_wrong(rt.alloc(), &mut session, ONE_MORE), None);
-    assert_eq!(rt; given_up(rt.alloc(), &mut session), MOST_FAST);
-    closed(&rt, session);
+    let alloc = rt.alloc();
+    let mut sessions = open_three(&rt, 2)?;
+    assert_eq!(rt; sessions.first_wrong(alloc, ROOM, Memory::Ample), None);
+    assert_eq!(rt; gained(alloc, sessions.session(1)), MOST_FAST);
+    assert_eq!(rt; sessions.first_wrong(alloc, ONE_MORE, Memory::Ample), None);
+    assert_eq!(rt; given_up(alloc, sessions.session(1)), MOST_FAST);
+    sessions.close(&rt);
     Ok(())
 }
 
-const OWED: &[RowOfThree] = &[
+const OWED: &[NumberedRow] = &[
     (1, Act::Resolve(Lock::Sales), Reply::Place(1)),
     (2, Act::Resolve(Lock::Sales), Reply::Place(1)),
     (3, Act::Resolve(Lock::Sales), Reply::Place(1)),
@@ -75,6 +86,11 @@ const OWED: &[RowOfThree] = &[
     ),
     (1, Act::ReleaseFast(1), Reply::Owes(true)),
     (2, Act::Poll, Reply::Pending),
+    (
+        3,
+        Act::TryFast(1, Mode::S),
+        Reply::Obtruded(Word(0x3000_0000_0000_0000)),
+    ),
     (1, Act::Reschedule(1), Reply::Done),
     (2, Act::Poll, Reply::Settled(Settled::Granted)),
     (2, Act::End, Reply::Ended(Ended::Granted(1))),
@@ -87,7 +103,7 @@ fn a_fast_release_owes_a_reschedule(rt: HostRuntime) -> Result<(), Fail> {
     are_right_of_three(&rt, 1, OWED)
 }
 
-const KILLED: &[RowOfThree] = &[
+const KILLED: &[NumberedRow] = &[
     (1, Act::Resolve(Lock::Sales), Reply::Place(1)),
     (2, Act::Resolve(Lock::Sales), Reply::Place(1)),
     (3, Act::Resolve(Lock::Sales), Reply::Place(1)),
@@ -98,6 +114,7 @@ const KILLED: &[RowOfThree] = &[
     (1, Act::Reschedule(1), Reply::Done),
     (2, Act::Poll, Reply::Settled(Settled::Killed)),
     (2, Act::End, Reply::Ended(Ended::Killed)),
+    (3, Act::Audit(&[NOBODY]), Reply::Is(true)),
     (3, Act::TryFast(1, Mode::S), Reply::Granted(1)),
     (3, Act::ReleaseFast(1), Reply::Owes(false)),
 ];
@@ -161,7 +178,7 @@ fn fast_tickets_become_slow_ones(rt: HostRuntime) -> Result<(), Fail> {
     are_right(&rt, 1, MADE_SLOW)
 }
 
-const BESIDE_READ_ONLY: &[RowOfTwo] = &[
+const BESIDE_READ_ONLY: &[NumberedRow] = &[
     (1, Act::Resolve(Lock::Sales), Reply::Place(1)),
     (2, Act::Resolve(Lock::Sales), Reply::Place(1)),
     (1, Act::TryFast(1, Mode::SW), Reply::Granted(1)),
@@ -172,6 +189,11 @@ const BESIDE_READ_ONLY: &[RowOfTwo] = &[
         Reply::Obtruded(Word(0x3000_0000_0000_0000)),
     ),
     (2, Act::Try(1, Mode::S), Reply::Granted(1)),
+    (
+        2,
+        Act::TryFast(1, Mode::S),
+        Reply::Obtruded(Word(0x3000_0000_0000_0000)),
+    ),
     (1, Act::Release(2), Reply::Done),
     (2, Act::TryFast(1, Mode::S), Reply::Granted(2)),
     (2, Act::ReleaseFast(2), Reply::Owes(true)),
@@ -182,14 +204,10 @@ const BESIDE_READ_ONLY: &[RowOfTwo] = &[
 // An obtrusive ticket makes the fast tickets of its session slow, and closes the fast path to all until it is given up.
 #[test]
 fn an_obtrusive_ticket_closes_the_fast_path(rt: HostRuntime) -> Result<(), Fail> {
-    are_right_of_two(&rt, 1, BESIDE_READ_ONLY)
+    are_right_of_three(&rt, 1, BESIDE_READ_ONLY)
 }
 
-const NOT_HELD: Reply = Reply::Refused(SpaceError::NotHeld);
-
-const BAD_MODE: Reply = Reply::Refused(SpaceError::BadMode);
-
-const REFUSED: &[RowOfTwo] = &[
+const REFUSED: &[NumberedRow] = &[
     (
         1,
         Act::TryFast(1, Mode::S),
@@ -218,5 +236,102 @@ const REFUSED: &[RowOfTwo] = &[
 // Only modes that aren't obtrusive are tried for so, and only what was gained so is given up so.
 #[test]
 fn what_is_not_fast_is_refused(rt: HostRuntime) -> Result<(), Fail> {
-    are_right_of_two(&rt, 1, REFUSED)
+    are_right_of_three(&rt, 1, REFUSED)
+}
+
+const WAITED_FOR: &[NumberedRow] = &[
+    (1, Act::Resolve(Lock::Sales), Reply::Place(1)),
+    (2, Act::Resolve(Lock::Sales), Reply::Place(1)),
+    (3, Act::Resolve(Lock::Sales), Reply::Place(1)),
+    (1, Act::Try(1, Mode::SR), Reply::Granted(1)),
+    (1, Act::Begin(1, Mode::SW), Reply::Granted(2)),
+    (1, Act::Clone(2, Mode::S), Reply::Granted(3)),
+    (2, Act::Begin(1, Mode::X), Reply::Waiting(1)),
+    (
+        3,
+        Act::TryFast(1, Mode::S),
+        Reply::Obtruded(Word(0x3000_0100_0010_0001)),
+    ),
+    (1, Act::ReleaseFast(3), Reply::Owes(true)),
+    (1, Act::Release(2), Reply::Done),
+    (2, Act::Poll, Reply::Pending),
+    (
+        3,
+        Act::TryFast(1, Mode::S),
+        Reply::Obtruded(Word(0x3000_0000_0010_0000)),
+    ),
+    (1, Act::Release(1), Reply::Done),
+    (2, Act::Poll, Reply::Settled(Settled::Granted)),
+    (2, Act::End, Reply::Ended(Ended::Granted(1))),
+    (
+        3,
+        Act::TryFast(1, Mode::S),
+        Reply::Obtruded(Word(0x3000_0000_0000_0000)),
+    ),
+    (2, Act::Release(1), Reply::Done),
+    (3, Act::TryFast(1, Mode::S), Reply::Granted(1)),
+    (3, Act::ReleaseFast(1), Reply::Owes(false)),
+];
+
+// All calls that wish for an unobtrusive mode get a fast ticket, which the lock's word counts. Whoever gives up the last one that stands against a
+// wait grants that.
+#[test]
+fn unobtrusive_wishes_take_the_fast_path(rt: HostRuntime) -> Result<(), Fail> {
+    are_right_of_three(&rt, 1, WAITED_FOR)
+}
+
+const READER: Shown = Shown {
+    place: 1,
+    lock: Lock::Sales,
+    granted: &[(1, 3, Mode::SR)],
+};
+
+const UPGRADABLE: Shown = Shown {
+    place: 2,
+    lock: Lock::Orders,
+    granted: &[(1, 1, Mode::SU), (1, 2, Mode::SU)],
+};
+
+const CHANGER: Shown = Shown {
+    place: 2,
+    lock: Lock::Orders,
+    granted: &[(1, 1, Mode::SU), (1, 2, Mode::X)],
+};
+
+const MERGED: Shown = Shown {
+    place: 2,
+    lock: Lock::Orders,
+    granted: &[(1, 1, Mode::X)],
+};
+
+const ELSEWHERE: &[Row] = &[
+    (Act::Resolve(Lock::Sales), Reply::Place(1)),
+    (Act::Resolve(Lock::Orders), Reply::Place(2)),
+    (Act::Try(2, Mode::SU), Reply::Granted(1)),
+    (Act::Try(2, Mode::SU), Reply::Granted(2)),
+    (Act::TryFast(1, Mode::SR), Reply::Granted(3)),
+    (Act::Upgrade(2, Mode::SU), Reply::Upgraded),
+    (Act::Audit(&[NOBODY, UPGRADABLE]), Reply::Is(true)),
+    (Act::Upgrade(2, Mode::X), Reply::Upgraded),
+    (Act::ReleaseFast(3), NOT_HELD),
+    (Act::Audit(&[READER, CHANGER]), Reply::Is(true)),
+    (Act::Release(3), Reply::Done),
+    (Act::TryFast(1, Mode::SR), Reply::Granted(4)),
+    (Act::Merge(1, 2), Reply::Done),
+    (Act::ReleaseFast(4), NOT_HELD),
+    (Act::Release(4), Reply::Done),
+    (Act::Audit(&[NOBODY, MERGED]), Reply::Is(true)),
+    (Act::TryFast(1, Mode::SR), Reply::Granted(5)),
+    (Act::Clone(1, Mode::SU), Reply::Granted(6)),
+    (Act::ReleaseFast(5), NOT_HELD),
+    (Act::Release(1), Reply::Done),
+    (Act::Release(5), Reply::Done),
+    (Act::Release(6), Reply::Done),
+];
+
+// What goes by the latch of one place makes the session's fast tickets at all places slow first. An upgrade to a mode that the ticket has leaves
+// them.
+#[test]
+fn fast_tickets_elsewhere_become_slow(rt: HostRuntime) -> Result<(), Fail> {
+    are_right(&rt, 2, ELSEWHERE)
 }

@@ -25,6 +25,8 @@ mod examples;
 #[cfg(test)]
 mod fast;
 #[cfg(test)]
+mod fast_counts;
+#[cfg(test)]
 mod locks;
 #[cfg(test)]
 mod many;
@@ -38,6 +40,8 @@ mod own_lists;
 mod passes;
 #[cfg(test)]
 mod places;
+#[cfg(test)]
+mod players;
 #[cfg(test)]
 mod rows;
 #[cfg(test)]

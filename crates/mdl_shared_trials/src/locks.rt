@@ -1,6 +1,6 @@
 //! Sessions try for locks, and give them up, on one thread.
 use crate::acts::{Act, Lock, Reply};
-use crate::rows::{Row, RowOfTwo, are_right, are_right_of_two, first_wrong};
+use crate::rows::{Memory, NumberedRow, Row, are_right, are_right_of_three, first_wrong};
 use crate::sessions::closed;
 use mdl_calls::SpaceError;
 use mdl_key::Mode;
@@ -11,7 +11,7 @@ use std::test::Fail;
 
 const NOT_HELD: Reply = Reply::Refused(SpaceError::NotHeld);
 
-const WRITERS: &[RowOfTwo] = &[
+const WRITERS: &[NumberedRow] = &[
     (1, Act::Resolve(Lock::Sales), Reply::Place(1)),
     (2, Act::Resolve(Lock::Sales), Reply::Place(1)),
     (1, Act::Try(1, Mode::S), Reply::Granted(1)),
@@ -30,10 +30,10 @@ const WRITERS: &[RowOfTwo] = &[
 // Two readers stand beside each other, and a writer beside nobody. Each session counts its own tickets.
 #[test]
 fn a_writer_stands_alone(rt: HostRuntime) -> Result<(), Fail> {
-    are_right_of_two(&rt, 1, WRITERS)
+    are_right_of_three(&rt, 1, WRITERS)
 }
 
-const REFUSED: &[RowOfTwo] = &[
+const REFUSED: &[NumberedRow] = &[
     (1, Act::Resolve(Lock::Sales), Reply::Place(1)),
     (
         1,
@@ -51,7 +51,7 @@ const REFUSED: &[RowOfTwo] = &[
 // A place counts only for the session that has looked its key up. A table has no intention mode.
 #[test]
 fn what_cannot_be_tried_is_refused(rt: HostRuntime) -> Result<(), Fail> {
-    are_right_of_two(&rt, 1, REFUSED)
+    are_right_of_three(&rt, 1, REFUSED)
 }
 
 const FIRST: &[Row] = &[
@@ -72,7 +72,10 @@ pub(crate) fn led<'a, R: Wait + Abort + AllocGlobal>(
     mut session: Session<&'a R>,
     rows: &[Row],
 ) -> Session<&'a R> {
-    assert_eq!(rt; first_wrong(rt.alloc(), &mut session, rows), None);
+    assert_eq!(rt;
+        first_wrong(rt.alloc(), &mut session, rows, Memory::Ample),
+        None
+    );
     session
 }
 

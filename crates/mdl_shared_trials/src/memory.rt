@@ -7,13 +7,14 @@ ghost use Rattle.mdl_shared.specs.Passes.{ArePasses, table_of};
 use crate::acts::{Act, Edit, Lock, NO_MEMORY, Reply, make};
 use crate::audits::Shown;
 use crate::rows::{
-    Row, RowOfTwo, are_right_at_last, are_right_of_two_at_last, first_wrong_at_last,
+    Memory, NumberedRow, Row, are_right_at_last, are_right_of_three_at_last, first_wrong,
 };
 use crate::sessions::closed;
-use mdl_calls::{Ended, Held, Settled};
+use mdl_calls::{Ended, Held, Place, Settled, SpaceError};
 use mdl_key::Mode;
-use mdl_shared::{Manager, NewError, Pass, Session};
+use mdl_shared::{Fast, Manager, NewError, Pass, Session};
 use std::alloc::Global;
+use std::sync::Wait;
 use std::test::Fail;
 
 /// A space of so many places and three sessions, at the second try where memory was refused to the first.
@@ -26,7 +27,7 @@ pub(crate) fn space(alloc: Global, places: u16) -> Result<(Manager, Vec<Pass>), 
     }
 }
 
-const CALLS: &[RowOfTwo] = &[
+const CALLS: &[NumberedRow] = &[
     (1, Act::Resolve(Lock::Sales), Reply::Place(1)),
     (2, Act::Resolve(Lock::Sales), Reply::Place(1)),
     (1, Act::Try(1, Mode::SNW), Reply::Granted(1)),
@@ -39,7 +40,7 @@ const CALLS: &[RowOfTwo] = &[
     (2, Act::Release(1), Reply::Done),
 ];
 
-const WAITS: &[RowOfTwo] = &[
+const WAITS: &[NumberedRow] = &[
     (1, Act::Resolve(Lock::Sales), Reply::Place(1)),
     (2, Act::Resolve(Lock::Sales), Reply::Place(1)),
     (1, Act::Try(1, Mode::SW), Reply::Granted(1)),
@@ -55,12 +56,12 @@ const WAITS: &[RowOfTwo] = &[
 
 #[test]
 fn waits_outlive_want_of_memory(rt: HostRuntime) -> Result<(), Fail> {
-    are_right_of_two_at_last(&rt, WAITS)
+    are_right_of_three_at_last(&rt, WAITS)
 }
 
 #[test]
 fn outlives_want_of_memory(rt: HostRuntime) -> Result<(), Fail> {
-    are_right_of_two_at_last(&rt, CALLS)
+    are_right_of_three_at_last(&rt, CALLS)
 }
 
 const TICKET: Held = Held {
@@ -160,10 +161,86 @@ const KEPT: &[Row] = &[
 fn fast_tickets_outlive_want_of_memory(rt: HostRuntime) -> Result<(), Fail> {
     let (manager, mut passes) = space(rt.alloc(), 2)?;
     let mut session = Session::open(&rt, &manager, passes.remove(0));
-    assert_eq!(rt; first_wrong_at_last(rt.alloc(), &mut session, AHEAD), None);
+    assert_eq!(rt;
+        first_wrong(rt.alloc(), &mut session, AHEAD, Memory::Scarce),
+        None
+    );
     let made = make(rt.alloc(), &mut session, Act::Materialise);
     assert!(rt; made == Reply::Done || made == NO_MEMORY);
-    assert_eq!(rt; first_wrong_at_last(rt.alloc(), &mut session, KEPT), None);
+    assert_eq!(rt;
+        first_wrong(rt.alloc(), &mut session, KEPT, Memory::Scarce),
+        None
+    );
+    closed(&rt, session);
+    Ok(())
+}
+
+const COVERED: &[Row] = &[
+    (Act::Resolve(Lock::Sales), Reply::Place(1)),
+    (Act::Resolve(Lock::Orders), Reply::Place(2)),
+    (Act::Reserve(2), Reply::Done),
+    (Act::Try(2, Mode::SU), Reply::Granted(1)),
+    (Act::TryFast(1, Mode::SR), Reply::Granted(2)),
+    (Act::Upgrade(1, Mode::SR), Reply::Upgraded),
+    (Act::Upgrade(1, Mode::SU), Reply::Upgraded),
+    (Act::ReleaseFast(2), Reply::Owes(false)),
+    (Act::Release(1), Reply::Done),
+];
+
+// An upgrade to a mode that the ticket covers takes no memory, though there is a fast ticket, which stays one.
+#[test]
+fn covered_upgrades_take_no_memory(rt: HostRuntime) -> Result<(), Fail> {
+    are_right_at_last(&rt, COVERED)
+}
+
+// How many of so many fast tickets are granted at a place after room was made for them, each at the first try. The session knows the key of the
+// place.
+fn granted<R>(session: &mut Session<R>, place: Place, count: usize) -> Result<usize, SpaceError> {
+    let _key = session.key_of(place)?;
+    session.reserve_tickets(count)?;
+    let mut granted = 0usize;
+    for _ in 0..count {
+        if let Ok(Fast::Granted(_)) = session.try_fast(place, Mode::S) {
+            granted = granted.saturating_add(1);
+        }
+    }
+    Ok(granted)
+}
+
+// The same, where memory may be refused once, before room is made.
+fn granted_at_last<R>(
+    session: &mut Session<R>,
+    place: Place,
+    count: usize,
+) -> Result<usize, SpaceError> {
+    match granted(session, place, count) {
+        Err(SpaceError::OutOfMemory) => granted(session, place, count),
+        outcome => outcome,
+    }
+}
+
+// How many are given up, of those with the numbers from 1 on.
+fn given_up<R: Wait>(session: &mut Session<R>, count: u64) -> u64 {
+    let mut gone = 0u64;
+    for id in 1..=count {
+        gone = gone.saturating_add(u64::from(session.release(id) == Ok(())));
+    }
+    gone
+}
+
+const LOOKED_UP: &[Row] = &[(Act::Resolve(Lock::Sales), Reply::Place(1))];
+
+// Where room was made for some fast tickets, none of them takes memory, nor does it to give them up.
+#[test]
+fn reserved_tickets_take_no_memory(rt: HostRuntime) -> Result<(), Fail> {
+    let (manager, mut passes) = space(rt.alloc(), 1)?;
+    let mut session = Session::open(&rt, &manager, passes.remove(0));
+    assert_eq!(rt;
+        first_wrong(rt.alloc(), &mut session, LOOKED_UP, Memory::Scarce),
+        None
+    );
+    assert_eq!(rt; granted_at_last(&mut session, 1, 100), Ok(100));
+    assert_eq!(rt; given_up(&mut session, 100), 100);
     closed(&rt, session);
     Ok(())
 }

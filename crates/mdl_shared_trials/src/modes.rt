@@ -1,6 +1,6 @@
 //! Tickets get weaker modes, are cloned and merged.
 use crate::acts::{Act, Lock, Reply};
-use crate::rows::{Row, RowOfTwo, are_right, are_right_of_two};
+use crate::rows::{NumberedRow, Row, are_right, are_right_of_three};
 use mdl_calls::SpaceError;
 use mdl_key::Mode;
 use std::test::Fail;
@@ -11,7 +11,7 @@ const NOT_UPGRADABLE: Reply = Reply::Refused(SpaceError::NotUpgradable);
 
 const BAD_MODE: Reply = Reply::Refused(SpaceError::BadMode);
 
-const DOWNGRADES: &[RowOfTwo] = &[
+const DOWNGRADES: &[NumberedRow] = &[
     (1, Act::Resolve(Lock::Sales), Reply::Place(1)),
     (2, Act::Resolve(Lock::Sales), Reply::Place(1)),
     (1, Act::Try(1, Mode::X), Reply::Granted(1)),
@@ -30,7 +30,7 @@ const DOWNGRADES: &[RowOfTwo] = &[
 // What the weaker mode lets stand is had beside it at once.
 #[test]
 fn a_downgraded_ticket_lets_others_in(rt: HostRuntime) -> Result<(), Fail> {
-    are_right_of_two(&rt, 1, DOWNGRADES)
+    are_right_of_three(&rt, 1, DOWNGRADES)
 }
 
 const NO_DOWNGRADES: &[Row] = &[
@@ -53,7 +53,7 @@ fn other_modes_are_no_downgrades(rt: HostRuntime) -> Result<(), Fail> {
     are_right(&rt, 2, NO_DOWNGRADES)
 }
 
-const CLONES: &[RowOfTwo] = &[
+const CLONES: &[NumberedRow] = &[
     (1, Act::Resolve(Lock::Sales), Reply::Place(1)),
     (2, Act::Resolve(Lock::Sales), Reply::Place(1)),
     (1, Act::Try(1, Mode::SNW), Reply::Granted(1)),
@@ -75,7 +75,7 @@ const CLONES: &[RowOfTwo] = &[
 // A clone keeps the lock when the first ticket is gone. Where others hold weaker modes it is had still.
 #[test]
 fn a_clone_outlives_its_ticket(rt: HostRuntime) -> Result<(), Fail> {
-    are_right_of_two(&rt, 1, CLONES)
+    are_right_of_three(&rt, 1, CLONES)
 }
 
 const NO_CLONES: &[Row] = &[
@@ -99,7 +99,7 @@ fn no_clone_is_stronger(rt: HostRuntime) -> Result<(), Fail> {
     are_right(&rt, 2, NO_CLONES)
 }
 
-const MERGES: &[RowOfTwo] = &[
+const MERGES: &[NumberedRow] = &[
     (1, Act::Resolve(Lock::Sales), Reply::Place(1)),
     (2, Act::Resolve(Lock::Sales), Reply::Place(1)),
     (1, Act::Try(1, Mode::SU), Reply::Granted(1)),
@@ -116,7 +116,7 @@ const MERGES: &[RowOfTwo] = &[
 // The first ticket has the mode of the second then, and the second is gone.
 #[test]
 fn merged_tickets_are_one(rt: HostRuntime) -> Result<(), Fail> {
-    are_right_of_two(&rt, 1, MERGES)
+    are_right_of_three(&rt, 1, MERGES)
 }
 
 const NO_MERGES: &[Row] = &[

@@ -1,6 +1,6 @@
 //! Sessions tell their tickets, and the keys of the places that they have looked up.
 use crate::acts::{Act, Lock, Reply};
-use crate::rows::{Row, RowOfTwo, are_right, are_right_of_two};
+use crate::rows::{NumberedRow, Row, are_right, are_right_of_three};
 use mdl_calls::{Held, SpaceError};
 use mdl_key::Mode;
 use std::test::Fail;
@@ -37,7 +37,7 @@ fn tickets_are_told_in_order_of_gain(rt: HostRuntime) -> Result<(), Fail> {
     are_right(&rt, 2, GAINS)
 }
 
-const OF_OTHERS: &[RowOfTwo] = &[
+const OF_OTHERS: &[NumberedRow] = &[
     (1, Act::Resolve(Lock::Sales), Reply::Place(1)),
     (2, Act::Resolve(Lock::Sales), Reply::Place(1)),
     (1, Act::Try(1, Mode::SNW), Reply::Granted(1)),
@@ -49,10 +49,10 @@ const OF_OTHERS: &[RowOfTwo] = &[
 // What others hold isn't told.
 #[test]
 fn only_tickets_of_its_own_are_told(rt: HostRuntime) -> Result<(), Fail> {
-    are_right_of_two(&rt, 1, OF_OTHERS)
+    are_right_of_three(&rt, 1, OF_OTHERS)
 }
 
-const KEYS: &[RowOfTwo] = &[
+const KEYS: &[NumberedRow] = &[
     (1, Act::Names(1, Lock::Shop), NO_PLACE),
     (1, Act::Resolve(Lock::Shop), Reply::Place(1)),
     (1, Act::Resolve(Lock::Sales), Reply::Place(2)),
@@ -68,5 +68,5 @@ const KEYS: &[RowOfTwo] = &[
 // A key is told to the session that has looked it up, and to no other.
 #[test]
 fn a_key_is_told_to_whom_it_is_known(rt: HostRuntime) -> Result<(), Fail> {
-    are_right_of_two(&rt, 2, KEYS)
+    are_right_of_three(&rt, 2, KEYS)
 }

@@ -1,7 +1,7 @@
 //! Keys get places, one after the other, and keep them.
 use crate::acts::{Act, Lock, Reply};
 use crate::memory::space;
-use crate::rows::{RowOfTwo, are_right_of_two};
+use crate::rows::{NumberedRow, are_right_of_three};
 use crate::sessions::closed;
 use mdl_calls::{Place, SpaceError};
 use mdl_key::Key;
@@ -12,7 +12,7 @@ use std::test::Fail;
 
 const NO_PLACE: Reply = Reply::Refused(SpaceError::NoPlace);
 
-const KEYS: &[RowOfTwo] = &[
+const KEYS: &[NumberedRow] = &[
     (1, Act::Resolve(Lock::Shop), Reply::Place(1)),
     (1, Act::Resolve(Lock::Sales), Reply::Place(2)),
     (2, Act::Resolve(Lock::Sales), Reply::Place(2)),
@@ -25,7 +25,7 @@ const KEYS: &[RowOfTwo] = &[
 // One session gives two keys their places, and the other finds them there. A third key has none, as there are two.
 #[test]
 fn keys_get_places_in_turn(rt: HostRuntime) -> Result<(), Fail> {
-    are_right_of_two(&rt, 2, KEYS)
+    are_right_of_three(&rt, 2, KEYS)
 }
 
 // The place of the table of a number.

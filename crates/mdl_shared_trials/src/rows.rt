@@ -1,8 +1,8 @@
-//! Rows of calls, which one session makes or two of one space.
+//! Rows of calls, which one session makes or three of one space.
 use crate::acts::{Act, Reply, make, make_at_last};
 use crate::memory::space;
 use crate::sessions::closed;
-use mdl_shared::{Manager, Session};
+use mdl_shared::{Manager, NewError, Session};
 use std::alloc::Global;
 use std::process::Abort;
 use std::sync::Wait;
@@ -11,75 +11,53 @@ use std::test::Fail;
 /// What a session does, and what is to come of it.
 pub(crate) type Row = (Act, Reply);
 
-/// The same with the session's number, 1 or 2.
-pub(crate) type RowOfTwo = (u16, Act, Reply);
+/// The same with the session's number, 1 to 3.
+pub(crate) type NumberedRow = (u16, Act, Reply);
 
-/// The same with a number up to 3.
-pub(crate) type RowOfThree = (u16, Act, Reply);
-
-/// Two sessions of one space.
-struct Two<R> {
-    one: Session<R>,
-    two: Session<R>,
+/// Whether memory may be refused to an act.
+#[derive(Clone, Copy)]
+pub(crate) enum Memory {
+    Ample,
+    /// Once: the act is made again then, if it may take some.
+    Scarce,
 }
 
-impl<R: Wait> Two<R> {
-    // The session of a number.
-    fn session(&mut self, number: u16) -> &mut Session<R> {
+// Does it.
+fn make_by<R: Wait>(alloc: Global, session: &mut Session<R>, act: Act, memory: Memory) -> Reply {
+    match memory {
+        Memory::Ample => make(alloc, session, act),
+        Memory::Scarce => make_at_last(alloc, session, act),
+    }
+}
+
+/// Three sessions of one space, with the numbers 1 to 3.
+pub(crate) struct Three<R> {
+    one: Session<R>,
+    two: Session<R>,
+    three: Session<R>,
+}
+
+impl<R> Three<R> {
+    /// The session of a number.
+    pub(crate) fn session(&mut self, number: u16) -> &mut Session<R> {
         match number {
+            3 => &mut self.three,
             2 => &mut self.two,
             _ => &mut self.one,
         }
     }
-
-    // Which row comes to something else, if there is one.
-    fn first_wrong(&mut self, alloc: Global, rows: &[RowOfTwo]) -> Option<usize> {
-        for (at, (number, act, wanted)) in rows.iter().enumerate() {
-            if make(alloc, self.session(*number), *act) != *wanted {
-                return Some(at);
-            }
-        }
-        None
-    }
-
-    // The same, where memory may be refused once.
-    fn first_wrong_at_last(&mut self, alloc: Global, rows: &[RowOfTwo]) -> Option<usize> {
-        for (at, (number, act, wanted)) in rows.iter().enumerate() {
-            if make_at_last(alloc, self.session(*number), *act) != *wanted {
-                return Some(at);
-            }
-        }
-        None
-    }
-}
-
-impl<R: Drop> Two<R> {
-    fn close(self, rt: &impl Abort) {
-        let Two { one, two } = self;
-        closed(rt, one);
-        closed(rt, two);
-    }
-}
-
-/// Three sessions of one space.
-struct Three<R> {
-    pair: Two<R>,
-    three: Session<R>,
 }
 
 impl<R: Wait> Three<R> {
-    // The session of a number.
-    fn session(&mut self, number: u16) -> &mut Session<R> {
-        match number {
-            3 => &mut self.three,
-            _ => self.pair.session(number),
-        }
-    }
-
-    // Which row comes to something else, if there is one.
-    fn first_wrong(&mut self, alloc: Global, rows: &[RowOfThree]) -> Option<usize> {
+    /// Which row comes to something else, if there is one.
+    pub(crate) fn first_wrong(
+        &mut self,
+        alloc: Global,
+        rows: &[NumberedRow],
+        memory: Memory,
+    ) -> Option<usize> {
         for (at, (number, act, wanted)) in rows.iter().enumerate() {
-            if make(alloc, self.session(*number), *act) != *wanted {
+            if make_by(alloc, self.session(*number), *act, memory) != *wanted {
                 return Some(at);
             }
         }
@@ -88,11 +66,22 @@ impl<R: Wait> Three<R> {
 }
 
 impl<R: Drop> Three<R> {
-    fn close(self, rt: &impl Abort) {
-        let Three { pair, three } = self;
-        pair.close(rt);
+    /// None of them has a ticket: they are closed.
+    pub(crate) fn close(self, rt: &impl Abort) {
+        let Three { one, two, three } = self;
+        closed(rt, one);
+        closed(rt, two);
         closed(rt, three);
     }
+}
+
+/// The sessions of a space of so many places.
+pub(crate) fn open_three<R: AllocGlobal>(rt: &R, places: u16) -> Result<Three<&R>, NewError> {
+    let (manager, mut passes) = space(rt.alloc(), places)?;
+    let three = Session::open(rt, &manager, passes.remove(2));
+    let two = Session::open(rt, &manager, passes.remove(1));
+    let one = Session::open(rt, &manager, passes.remove(0));
+    Ok(Three { one, two, three })
 }
 
 /// Which row of one session comes to something else, if there is one.
@@ -100,23 +89,10 @@ pub(crate) fn first_wrong<R: Wait>(
     alloc: Global,
     session: &mut Session<R>,
     rows: &[Row],
+    memory: Memory,
 ) -> Option<usize> {
     for (at, (act, wanted)) in rows.iter().enumerate() {
-        if make(alloc, session, *act) != *wanted {
-            return Some(at);
-        }
-    }
-    None
-}
-
-/// The same, where memory may be refused once.
-pub(crate) fn first_wrong_at_last<R: Wait>(
-    alloc: Global,
-    session: &mut Session<R>,
-    rows: &[Row],
-) -> Option<usize> {
-    for (at, (act, wanted)) in rows.iter().enumerate() {
-        if make_at_last(alloc, session, *act) != *wanted {
+        if make_by(alloc, session, *act, memory) != *wanted {
             return Some(at);
         }
     }
@@ -131,40 +107,11 @@ pub(crate) fn are_right<R: Wait + Abort + AllocGlobal>(
 ) -> Result<(), Fail> {
     let (manager, mut passes) = Manager::new(rt.alloc(), places, 1)?;
     let mut session = Session::open(rt, &manager, passes.remove(0));
-    assert_eq!(rt; first_wrong(rt.alloc(), &mut session, rows), None);
+    assert_eq!(rt;
+        first_wrong(rt.alloc(), &mut session, rows, Memory::Ample),
+        None
+    );
     closed(rt, session);
-    Ok(())
-}
-
-/// The rows are right of the two sessions of a space of so many places.
-pub(crate) fn are_right_of_two<R: Wait + Abort + AllocGlobal>(
-    rt: &R,
-    places: u16,
-    rows: &[RowOfTwo],
-) -> Result<(), Fail> {
-    let (manager, mut passes) = Manager::new(rt.alloc(), places, 2)?;
-    let two = Session::open(rt, &manager, passes.remove(1));
-    let one = Session::open(rt, &manager, passes.remove(0));
-    let mut sessions = Two { one, two };
-    assert_eq!(rt; sessions.first_wrong(rt.alloc(), rows), None);
-    sessions.close(rt);
-    Ok(())
-}
-
-/// The rows are right of the three sessions of a space of so many places.
-pub(crate) fn are_right_of_three<R: Wait + Abort + AllocGlobal>(
-    rt: &R,
-    places: u16,
-    rows: &[RowOfThree],
-) -> Result<(), Fail> {
-    let (manager, mut passes) = Manager::new(rt.alloc(), places, 3)?;
-    let three = Session::open(rt, &manager, passes.remove(2));
-    let two = Session::open(rt, &manager, passes.remove(1));
-    let one = Session::open(rt, &manager, passes.remove(0));
-    let pair = Two { one, two };
-    let mut sessions = Three { pair, three };
-    assert_eq!(rt; sessions.first_wrong(rt.alloc(), rows), None);
-    sessions.close(rt);
     Ok(())
 }
 
@@ -175,21 +122,36 @@ pub(crate) fn are_right_at_last<R: Wait + Abort + AllocGlobal>(
 ) -> Result<(), Fail> {
     let (manager, mut passes) = space(rt.alloc(), 2)?;
     let mut session = Session::open(rt, &manager, passes.remove(0));
-    assert_eq!(rt; first_wrong_at_last(rt.alloc(), &mut session, rows), None);
+    assert_eq!(rt;
+        first_wrong(rt.alloc(), &mut session, rows, Memory::Scarce),
+        None
+    );
     closed(rt, session);
     Ok(())
 }
 
-/// The rows are right of two sessions, where memory may be refused once.
-pub(crate) fn are_right_of_two_at_last<R: Wait + Abort + AllocGlobal>(
+/// The rows are right of the three sessions of a space of so many places.
+pub(crate) fn are_right_of_three<R: Wait + Abort + AllocGlobal>(
     rt: &R,
-    rows: &[RowOfTwo],
+    places: u16,
+    rows: &[NumberedRow],
 ) -> Result<(), Fail> {
-    let (manager, mut passes) = space(rt.alloc(), 2)?;
-    let two = Session::open(rt, &manager, passes.remove(1));
-    let one = Session::open(rt, &manager, passes.remove(0));
-    let mut sessions = Two { one, two };
-    assert_eq!(rt; sessions.first_wrong_at_last(rt.alloc(), rows), None);
+    let mut sessions = open_three(rt, places)?;
+    assert_eq!(rt; sessions.first_wrong(rt.alloc(), rows, Memory::Ample), None);
+    sessions.close(rt);
+    Ok(())
+}
+
+/// The rows are right of three sessions, where memory may be refused once.
+pub(crate) fn are_right_of_three_at_last<R: Wait + Abort + AllocGlobal>(
+    rt: &R,
+    rows: &[NumberedRow],
+) -> Result<(), Fail> {
+    let mut sessions = open_three(rt, 2)?;
+    assert_eq!(rt;
+        sessions.first_wrong(rt.alloc(), rows, Memory::Scarce),
+        None
+    );
     sessions.close(rt);
     Ok(())
 }

@@ -5,6 +5,7 @@ mod holders;
 mod latches;
 mod lists;
 mod materialising;
+mod seated;
 mod threads;
 mod visitors;
 mod visits;

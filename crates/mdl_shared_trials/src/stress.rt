@@ -1,459 +1,64 @@
-//! Eight sessions on eight threads make calls of every kind by chance for some seconds, over the locks of eight tables, wait with short patience,
-//! look for deadlocks and kill each other's waits. A ninth session looks at all books each tenth of a second meanwhile, and in the end.
+//! Eight sessions play on eight threads, while a ninth one looks on. In the end each of the eight has some fast tickets, and the words of the locks
+//! count just these.
 ghost use Rattle.std.specs.Prelude.{◌≡◌, ◌+◌, ◌<◌, length};
-ghost use Rattle.std.specs.Thread.{IsSync};
-ghost use Rattle.mdl_shared.specs.Passes.{ArePasses, table_of, pass_table};
+ghost use Rattle.mdl_shared.specs.Passes.{ArePasses, pass_table, table_of};
 
-use crate::acts::{Act, Reply, changed, make};
-use crate::chance::Chance;
-use crate::clashes::{are_lawful, are_of};
+use crate::acts::{Act, Reply, make};
 use crate::counting::putting;
+use crate::fast_counts::are_counted;
+use crate::players::{Player, TABLES, Wrong, leave, look_up, play, was_answered, watch};
 use crate::sessions::closed;
-use mdl_calls::{Held, Place, SpaceError, TicketId};
+use mdl_calls::{Held, Place};
 use mdl_defs::Change;
-use mdl_key::Key;
+use mdl_key::Mode;
 use mdl_shared::{Audited, Manager, Pass, Session};
-use std::alloc::Global;
+use mdl_word::Word;
+use std::alloc::{AllocError, Global};
 use std::process::Abort;
 use std::sync::Wait;
 use std::test::Fail;
-use std::thread::Threads;
-use std::time::{Clock, Duration, Instant};
-use std::{io, thread};
+use std::thread;
+use std::time::Clock;
 
-const TABLES: [&str; 8] = [
-    "sales", "goods", "staff", "rooms", "bills", "tills", "desks", "doors",
-];
+// How many sessions play. The next one looks on.
+const PLAYERS: u16 = 8;
 
-// How many thousandths of a second the sessions make calls, and how many go by between two looks of the ninth.
-const SPAN: u64 = 3_000;
-
-const PAUSE: u64 = 100;
-
-// How many calls a session makes at most, and how many of them go by until it looks at the clock, and at all books.
-const CALLS: u32 = 10_000_000;
-
-const UNTIMED: u32 = 100;
-
-const UNWATCHED: u32 = 5_000;
-
-const MOST_HELD: usize = 4;
-
-// What goes wrong: a call is refused that must not be, or what is seen can't be so.
-#[derive(Clone, Copy, Debug, PartialEq, Eq)]
-struct Wrong;
-
-impl From<SpaceError> for Wrong {
-    fn from(_refused: SpaceError) -> Wrong {
-        Wrong
-    }
+// A session with its part, and whether anything went wrong.
+struct Part<'a, R> {
+    session: Session<&'a R>,
+    player: Player<'a>,
+    outcome: Result<(), Wrong>,
 }
 
-impl From<io::Error> for Wrong {
-    fn from(_clock: io::Error) -> Wrong {
-        Wrong
-    }
-}
-
-// A session's row of chances, the change that it makes, and of each table how often it changed that, and the last version that it saw.
-#[derive(Drop)]
-struct Player<'a> {
-    alloc: Global,
-    chance: Chance,
-    change: &'a Change,
-    changes: [u64; 8],
-    seen: [u64; 8],
-}
-
-impl Player<'_> {
-    // Notes a version that was read of a place's table. Versions don't fall.
-    fn see(&mut self, place: Place, version: u64) -> Result<(), Wrong> {
-        match self.seen.get_mut(usize::from(place).wrapping_sub(1)) {
-            Some(seen) if *seen <= version => {
-                *seen = version;
-                Ok(())
-            }
-            _ => Err(Wrong),
+impl<'a, R> Part<'a, R> {
+    // That of the session of a pass, which has done nothing yet.
+    fn open(
+        rt: &'a R,
+        alloc: Global,
+        manager: &Manager,
+        pass: Pass,
+        change: &'a Change,
+    ) -> Part<'a, R>
+        requires { pass_table pass ≡ table_of manager.now }
+    {
+        let player = Player::new(alloc, pass.number(), change);
+        let session = Session::open(rt, manager, pass);
+        Part {
+            session,
+            player,
+            outcome: Ok(()),
         }
     }
-
-    // Notes a change, which has brought a place's table to a version.
-    fn count(&mut self, place: Place, version: u64) -> Result<(), Wrong> {
-        if let Some(changes) = self.changes.get_mut(usize::from(place).wrapping_sub(1)) {
-            *changes = changes.saturating_add(1);
-        }
-        self.see(place, version)
-    }
 }
 
-// Whether a call was made, or refused for what it asked.
-fn was_answered(reply: Reply) -> Result<(), Wrong> {
-    match reply {
-        Reply::Refused(
-            SpaceError::NotUpgradable | SpaceError::NotExclusive | SpaceError::BadMode,
-        ) => Ok(()),
-        Reply::Refused(_) => Err(Wrong),
-        _ => Ok(()),
-    }
-}
-
-// One call of any kind.
-fn make_call<R: Wait>(session: &mut Session<R>, player: &mut Player<'_>) -> Result<(), Wrong> {
-    let held = session.held()?;
-    match player.chance.ticket(&held) {
-        Some(ticket) if held.len() >= MOST_HELD || player.chance.below(3) > 0 => {
-            use_ticket(session, player, ticket, &held)
-        }
-        _ => ask(session, player),
-    }
-}
-
-// A lock is asked for, or what is known of a table or of all.
-fn ask<R: Wait>(session: &mut Session<R>, player: &mut Player<'_>) -> Result<(), Wrong> {
-    let drawn = player.chance.below(TABLES.len());
-    let place = u16::try_from(drawn).unwrap_or(0).saturating_add(1);
-    let act = match player.chance.below(40) {
-        0 => Act::KeyOf(place),
-        1 => Act::Tables,
-        2 => return kill(session, player),
-        3..=9 => return wait_for(session, player, place),
-        10..=19 => Act::TryFast(place, player.chance.mode()),
-        _ => Act::Try(place, player.chance.mode()),
-    };
-    was_answered(make(player.alloc, session, act))
-}
-
-// The wait of some session is killed, if it has one.
-fn kill<R: Wait>(session: &mut Session<R>, player: &mut Player<'_>) -> Result<(), Wrong> {
-    let target = u16::try_from(player.chance.below(9)).unwrap_or(0);
-    match make(player.alloc, session, Act::WaitOf(target)) {
-        Reply::Wait(Some(wait)) => {
-            was_answered(make(player.alloc, session, Act::Kill(target, wait)))
-        }
-        Reply::Wait(None) => Ok(()),
-        _ => Err(Wrong),
-    }
-}
-
-// A lock is asked for, and waited for with some patience.
-fn wait_for<R: Wait>(
-    session: &mut Session<R>,
-    player: &mut Player<'_>,
-    place: Place,
-) -> Result<(), Wrong> {
-    let mode = player.chance.mode();
-    match make(player.alloc, session, Act::Begin(place, mode)) {
-        Reply::Waiting(_) => end_wait(session, player),
-        reply => was_answered(reply),
-    }
-}
-
-// A deadlock is looked for in half of all waits. Then the wait is looked at until it is settled or patience is lost, and ended.
-fn end_wait<R: Wait>(session: &mut Session<R>, player: &mut Player<'_>) -> Result<(), Wrong> {
-    if player.chance.below(2) == 0 {
-        was_answered(make(player.alloc, session, Act::Search))?;
-    }
-    for _ in 0..player.chance.below(100) {
-        if make(player.alloc, session, Act::Poll) != Reply::Pending {
-            break;
-        }
-    }
-    was_answered(make(player.alloc, session, Act::TimeOut))?;
-    match make(player.alloc, session, Act::End) {
-        Reply::Ended(_) => Ok(()),
-        _ => Err(Wrong),
-    }
-}
-
-// Something is done with a ticket.
-fn use_ticket<R: Wait>(
-    session: &mut Session<R>,
-    player: &mut Player<'_>,
-    ticket: Held,
-    held: &[Held],
-) -> Result<(), Wrong> {
-    let Held { id, place, .. } = ticket;
-    let mode = player.chance.mode();
-    let act = match player.chance.below(11) {
-        0 => Act::Clone(id, mode),
-        1 => Act::Upgrade(id, mode),
-        2 => Act::Downgrade(id, mode),
-        3 => merge_with(id, player.chance.ticket(held))?,
-        4 => return look(session, player, id, place),
-        5 => return put(session, player, id, place),
-        6..=8 => return release_fast(session, player, id, place),
-        _ => Act::Release(id),
-    };
-    was_answered(make(player.alloc, session, act))
-}
-
-// A ticket is given up without the latch, unless it is a slow one, and the reschedule that is owed then is made.
-fn release_fast<R: Wait>(
-    session: &mut Session<R>,
-    player: &mut Player<'_>,
-    id: TicketId,
-    place: Place,
-) -> Result<(), Wrong> {
-    match make(player.alloc, session, Act::ReleaseFast(id)) {
-        Reply::Owes(true) => was_answered(make(player.alloc, session, Act::Reschedule(place))),
-        Reply::Owes(false) | Reply::Refused(SpaceError::NotHeld) => Ok(()),
-        _ => Err(Wrong),
-    }
-}
-
-// What stands at the place of a ticket is read, which is never refused.
-fn look<R: Wait>(
-    session: &mut Session<R>,
-    player: &mut Player<'_>,
-    id: TicketId,
-    place: Place,
-) -> Result<(), Wrong> {
-    match make(player.alloc, session, Act::Read(id)) {
-        Reply::New => player.see(place, 0),
-        Reply::Other(version) => player.see(place, version),
-        _ => Err(Wrong),
-    }
-}
-
-// A ticket is merged with another one.
-fn merge_with(id: TicketId, other: Option<Held>) -> Result<Act, Wrong> {
-    match other {
-        Some(other) => Ok(Act::Merge(id, other.id)),
-        None => Err(Wrong),
-    }
-}
-
-// What stands at the place of a ticket is changed.
-fn put<R: Wait>(
-    session: &mut Session<R>,
-    player: &mut Player<'_>,
-    id: TicketId,
-    place: Place,
-) -> Result<(), Wrong> {
-    match changed(session.change_definition(id, player.change)) {
-        Reply::Version(version) => player.count(place, version),
-        reply => was_answered(reply),
-    }
-}
-
-// Looks at all books, which are lawful, and of which the session has just the tickets that it holds, once none of them is fast.
-fn audit<R: Wait>(session: &mut Session<R>) -> Result<(), Wrong> {
-    session.materialise()?;
-    let books = session.audit()?;
-    let held = session.held()?;
-    if are_lawful(&books) && are_of(&books, session.number(), &held) {
-        Ok(())
-    } else {
-        Err(Wrong)
-    }
-}
-
-// All calls of a session, which knows the tables. In the end it looks at all books, and gives all its tickets up.
-fn make_calls<R: Wait + Clock>(
-    rt: &R,
-    session: &mut Session<&R>,
-    player: &mut Player<'_>,
-) -> Result<(), Wrong> {
-    let start = Instant::now(rt)?;
-    for call in 0..CALLS {
-        if call % UNTIMED == 0 && start.elapsed(rt)? >= Duration::from_millis(SPAN) {
-            break;
-        }
-        make_call(session, player)?;
-        if call % UNWATCHED == 0 {
-            audit(session)?;
-        }
-    }
-    audit(session)?;
-    for ticket in session.held()? {
-        session.release(ticket.id)?;
-    }
-    Ok(())
-}
-
-// Looks all tables up, which get the places from 1 on in this order.
-fn look_up<R: Wait>(alloc: Global, session: &mut Session<R>) -> Result<(), Wrong> {
-    for table in TABLES {
-        let Ok(key) = Key::table(alloc, "shop", table) else {
-            return Err(Wrong);
+impl<R: Wait + Clock> Part<'_, R> {
+    fn act(&mut self, rt: &R) {
+        self.outcome = if self.session.number() <= PLAYERS {
+            play(rt, &mut self.session, &mut self.player)
+        } else {
+            watch(rt, &mut self.session)
         };
-        session.resolve(&key)?;
     }
-    Ok(())
-}
-
-// What became of a session's part: how often it changed each table.
-fn play<R: Wait + Abort + Clock>(
-    rt: &R,
-    alloc: Global,
-    manager: &Manager,
-    pass: Pass,
-    change: &Change,
-) -> Result<[u64; 8], Wrong>
-    requires { pass_table pass ≡ table_of manager.now }
-{
-    let mut player = Player {
-        alloc,
-        chance: Chance::new(pass.number()),
-        change,
-        changes: [0; 8],
-        seen: [0; 8],
-    };
-    let mut session = Session::open(rt, manager, pass);
-    let outcome = match look_up(alloc, &mut session) {
-        Ok(()) => make_calls(rt, &mut session, &mut player),
-        Err(Wrong) => Err(Wrong),
-    };
-    closed(rt, session);
-    outcome.map(|()| player.changes)
-}
-
-// The same of two passes, on two threads.
-fn play_two<R: Threads + Wait + Abort + Clock + Sync>(
-    rt: &R,
-    alloc: Global,
-    manager: &Manager,
-    one: Pass,
-    two: Pass,
-    change: &Change,
-) -> Result<[u64; 8], Wrong>
-    requires { (pass_table one ≡ table_of manager.now) × (pass_table two ≡ table_of manager.now) }
-{
-    let (early, late) = thread::join(
-        rt,
-        move || play(rt, alloc, manager, one, change),
-        move || play(rt, alloc, manager, two, change),
-    );
-    Ok(sums(early?, late?))
-}
-
-// The same of four passes, on four threads.
-fn play_four<R: Threads + Wait + Abort + Clock + Sync>(
-    rt: &R,
-    alloc: Global,
-    manager: &Manager,
-    one: Pass,
-    two: Pass,
-    three: Pass,
-    four: Pass,
-    change: &Change,
-) -> Result<[u64; 8], Wrong>
-    requires first { (pass_table one ≡ table_of manager.now) × (pass_table two ≡ table_of manager.now) }
-    requires second { (pass_table three ≡ table_of manager.now) × (pass_table four ≡ table_of manager.now) }
-{
-    let (early, late) = thread::join(
-        rt,
-        move || -> Result<[u64; 8], Wrong>
-            requires { IsSync R.row × ((pass_table one ≡ table_of manager.now) × (pass_table two ≡ table_of manager.now)) }
-        { play_two(rt, alloc, manager, one, two, change) },
-        move || -> Result<[u64; 8], Wrong>
-            requires { IsSync R.row × ((pass_table three ≡ table_of manager.now) × (pass_table four ≡ table_of manager.now)) }
-        { play_two(rt, alloc, manager, three, four, change) },
-    );
-    Ok(sums(early?, late?))
-}
-
-// Looks at all books from time to time, by the session of a pass.
-fn watch<R: Wait + Abort + Clock>(rt: &R, manager: &Manager, pass: Pass) -> Result<(), Wrong>
-    requires { pass_table pass ≡ table_of manager.now }
-{
-    let mut session = Session::open(rt, manager, pass);
-    let outcome = look_on(rt, &mut session);
-    closed(rt, session);
-    outcome
-}
-
-fn look_on<R: Wait + Clock>(rt: &R, session: &mut Session<&R>) -> Result<(), Wrong> {
-    for _ in 0..SPAN / PAUSE {
-        thread::sleep(rt, Duration::from_millis(PAUSE));
-        audit(session)?;
-    }
-    Ok(())
-}
-
-// How often two sessions together changed each table.
-fn sums(mut early: [u64; 8], late: [u64; 8]) -> [u64; 8] {
-    for (sum, more) in early.iter_mut().zip(late) {
-        *sum = sum.saturating_add(more);
-    }
-    early
-}
-
-// What is left in the end: no ticket, and of each table as many versions as changes.
-fn is_left(books: &[Audited], changes: [u64; 8]) -> bool {
-    books.len() == changes.len()
-        && books.iter().zip(changes).all(|(book, changes)| {
-            book.book.granted.is_empty()
-                && book.book.waiting.is_empty()
-                && book.book.standing.version == changes
-        })
-}
-
-// The same of four, while the session of a fifth pass looks on.
-fn play_watched<R: Threads + Wait + Abort + Clock + Sync>(
-    rt: &R,
-    alloc: Global,
-    manager: &Manager,
-    first: Pass,
-    second: Pass,
-    third: Pass,
-    fourth: Pass,
-    watcher: Pass,
-    change: &Change,
-) -> Result<[u64; 8], Wrong>
-    requires first { (pass_table first ≡ table_of manager.now) × (pass_table second ≡ table_of manager.now) }
-    requires second { (pass_table third ≡ table_of manager.now) × (pass_table fourth ≡ table_of manager.now) }
-    requires watcher { pass_table watcher ≡ table_of manager.now }
-{
-    let (played, watched) = thread::join(
-        rt,
-        move || -> Result<[u64; 8], Wrong>
-            requires { IsSync R.row × ((pass_table first ≡ table_of manager.now) × (pass_table second ≡ table_of manager.now))
-                × ((pass_table third ≡ table_of manager.now) × (pass_table fourth ≡ table_of manager.now)) }
-        { play_four(rt, alloc, manager, first, second, third, fourth, change) },
-        move || -> Result<(), Wrong>
-            requires { IsSync R.row × (pass_table watcher ≡ table_of manager.now) }
-        { watch(rt, manager, watcher) },
-    );
-    watched?;
-    played
-}
-
-// The same of eight, while the session of a ninth pass looks on.
-fn play_eight<R: Threads + Wait + Abort + Clock + Sync>(
-    rt: &R,
-    alloc: Global,
-    manager: &Manager,
-    one: Pass,
-    two: Pass,
-    three: Pass,
-    four: Pass,
-    five: Pass,
-    six: Pass,
-    seven: Pass,
-    eight: Pass,
-    watcher: Pass,
-    change: &Change,
-) -> Result<[u64; 8], Wrong>
-    requires first { (pass_table one ≡ table_of manager.now) × (pass_table two ≡ table_of manager.now) }
-    requires second { (pass_table three ≡ table_of manager.now) × (pass_table four ≡ table_of manager.now) }
-    requires third { (pass_table five ≡ table_of manager.now) × (pass_table six ≡ table_of manager.now) }
-    requires fourth { (pass_table seven ≡ table_of manager.now) × (pass_table eight ≡ table_of manager.now) }
-    requires watcher { pass_table watcher ≡ table_of manager.now }
-{
-    let (early, late) = thread::join(
-        rt,
-        move || -> Result<[u64; 8], Wrong>
-            requires { IsSync R.row × ((pass_table one ≡ table_of manager.now) × (pass_table two ≡ table_of manager.now))
-                × ((pass_table three ≡ table_of manager.now) × (pass_table four ≡ table_of manager.now)) }
-        { play_four(rt, alloc, manager, one, two, three, four, change) },
-        move || -> Result<[u64; 8], Wrong>
-            requires { IsSync R.row × ((pass_table five ≡ table_of manager.now) × (pass_table six ≡ table_of manager.now))
-                × ((pass_table seven ≡ table_of manager.now) × (pass_table eight ≡ table_of manager.now))
-                × (pass_table watcher ≡ table_of manager.now) }
-        { play_watched(rt, alloc, manager, five, six, seven, eight, watcher, change) },
-    );
-    Ok(sums(early?, late?))
 }
 
 // The pass of the last session.
@@ -467,30 +72,150 @@ fn take_last(_manager: &Manager, passes: &mut Vec<Pass>) -> Pass
     passes.remove(passes.len() - 1)
 }
 
+// The parts of the sessions of all passes.
+fn open_all<'a, R>(
+    rt: &'a R,
+    alloc: Global,
+    manager: &Manager,
+    mut passes: Vec<Pass>,
+    change: &'a Change,
+) -> Result<Vec<Part<'a, R>>, AllocError>
+    requires theirs { ArePasses (table_of manager.now) passes.items }
+{
+    let mut parts = Vec::with_capacity(alloc, passes.len())?;
+    while !passes.is_empty() {
+        let pass = take_last(manager, &mut passes);
+        parts.push_reserved(Part::open(rt, alloc, manager, pass, change));
+    }
+    Ok(parts)
+}
+
+fn close_all<R>(rt: &impl Abort, mut parts: Vec<Part<'_, R>>) {
+    while let Some(part) = parts.pop() {
+        let Part {
+            session,
+            player: _,
+            outcome: _,
+        } = part;
+        closed(rt, session);
+    }
+    parts.destroy_empty();
+}
+
+// How often they together changed each table, if nothing went wrong.
+fn changes<R>(parts: &[Part<'_, R>]) -> Result<[u64; 8], Wrong> {
+    let mut sums = [0u64; 8];
+    for part in parts {
+        part.outcome?;
+        for (sum, changes) in sums.iter_mut().zip(part.player.changes) {
+            *sum = sum.saturating_add(changes);
+        }
+    }
+    Ok(sums)
+}
+
+// All their tickets.
+fn held<R>(alloc: Global, parts: &[Part<'_, R>]) -> Result<Vec<Held>, Wrong> {
+    let mut all = Vec::new(alloc);
+    for part in parts {
+        all.append(&mut part.session.held()?)?;
+    }
+    Ok(all)
+}
+
+fn leave_all<R: Wait>(parts: &mut [Part<'_, R>]) -> Result<(), Wrong> {
+    for part in parts.iter_mut() {
+        leave(&mut part.session)?;
+    }
+    Ok(())
+}
+
+// The word of a place's lock, as a session is told it that tries for a fast ticket while another one asks for the lock for itself.
+fn read_word<R: Wait>(
+    alloc: Global,
+    asker: &mut Session<R>,
+    reader: &mut Session<R>,
+    place: Place,
+) -> Result<Word, Wrong> {
+    let asked = make(alloc, asker, Act::Begin(place, Mode::X));
+    let tried = make(alloc, reader, Act::TryFast(place, Mode::S));
+    match asked {
+        Reply::Waiting(_) => {
+            was_answered(make(alloc, asker, Act::TimeOut))?;
+            was_answered(make(alloc, asker, Act::End))?;
+        }
+        Reply::Granted(id) => was_answered(make(alloc, asker, Act::Release(id)))?,
+        _ => return Err(Wrong),
+    }
+    match tried {
+        Reply::Obtruded(word) => Ok(word),
+        _ => Err(Wrong),
+    }
+}
+
+// Sees that the word of each lock counts just these tickets, of which there are some.
+fn check_words<R: Wait>(
+    alloc: Global,
+    asker: &mut Session<R>,
+    reader: &mut Session<R>,
+    held: &[Held],
+) -> Result<(), Wrong> {
+    look_up(alloc, asker)?;
+    look_up(alloc, reader)?;
+    for (_table, place) in TABLES.iter().zip(1..) {
+        let word = read_word(alloc, asker, reader, place)?;
+        if !are_counted(word, held, place) {
+            return Err(Wrong);
+        }
+    }
+    if held.is_empty() { Err(Wrong) } else { Ok(()) }
+}
+
+// What is left in the end: no ticket, and of each table as many versions as changes.
+fn is_left(books: &[Audited], changes: [u64; 8]) -> bool {
+    books.len() == changes.len()
+        && books.iter().zip(changes).all(|(book, changes)| {
+            book.book.granted.is_empty()
+                && book.book.waiting.is_empty()
+                && book.book.standing.version == changes
+        })
+}
+
+// Sees in the end, by two more sessions, that all went well.
+fn check<'a, R: Wait>(
+    alloc: Global,
+    parts: &mut [Part<'a, R>],
+    asker: &mut Session<&'a R>,
+    reader: &mut Session<&'a R>,
+) -> Result<(), Wrong> {
+    let changes = changes(parts)?;
+    let held = held(alloc, parts)?;
+    check_words(alloc, asker, reader, &held)?;
+    leave_all(parts)?;
+    let books = reader.audit()?;
+    if is_left(&books, changes) {
+        Ok(())
+    } else {
+        Err(Wrong)
+    }
+}
+
 #[test]
 fn eight_threads_make_all_calls_beside_audits(rt: HostRuntime) -> Result<(), Fail> {
     let alloc = rt.alloc();
-    let (manager, mut passes) = Manager::new(alloc, 8, 10)?;
-    let ten = take_last(&manager, &mut passes);
-    let nine = take_last(&manager, &mut passes);
-    let eight = take_last(&manager, &mut passes);
-    let seven = take_last(&manager, &mut passes);
-    let six = take_last(&manager, &mut passes);
-    let five = take_last(&manager, &mut passes);
-    let four = take_last(&manager, &mut passes);
-    let three = take_last(&manager, &mut passes);
-    let two = take_last(&manager, &mut passes);
-    let one = take_last(&manager, &mut passes);
     let change = putting(alloc)?;
-    let played = play_eight(
-        &rt, alloc, &manager, one, two, three, four, five, six, seven, eight, nine, &change,
-    );
-    let mut last = Session::open(&rt, &manager, ten);
-    let books = last.audit();
-    closed(&rt, last);
-    match (played, books) {
-        (Ok(changes), Ok(books)) => assert!(rt; is_left(&books, changes)),
-        _ => panic!(rt; "a call went wrong"),
-    }
+    let (manager, mut passes) = Manager::new(alloc, 8, 11)?;
+    let eleven = take_last(&manager, &mut passes);
+    let ten = take_last(&manager, &mut passes);
+    let mut parts = open_all(&rt, alloc, &manager, passes, &change)?;
+    let mut reader = Session::open(&rt, &manager, eleven);
+    let mut asker = Session::open(&rt, &manager, ten);
+    let threads = parts.len().max(1);
+    thread::for_each_mut(&rt, &mut parts, threads, &|_, part| part.act(&rt));
+    let checked = check(alloc, &mut parts, &mut asker, &mut reader);
+    closed(&rt, asker);
+    closed(&rt, reader);
+    close_all(&rt, parts);
+    assert_eq!(rt; checked, Ok(()));
     Ok(())
 }

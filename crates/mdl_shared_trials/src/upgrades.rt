@@ -1,6 +1,6 @@
 //! Sessions ask for stronger modes of their tickets, on one thread.
 use crate::acts::{Act, Lock, Reply};
-use crate::rows::{Row, RowOfTwo, are_right, are_right_of_two};
+use crate::rows::{NumberedRow, Row, are_right, are_right_of_three};
 use mdl_calls::SpaceError;
 use mdl_key::Mode;
 use std::test::Fail;
@@ -9,7 +9,7 @@ const NOT_HELD: Reply = Reply::Refused(SpaceError::NotHeld);
 
 const NOT_UPGRADABLE: Reply = Reply::Refused(SpaceError::NotUpgradable);
 
-const AT_ONCE: &[RowOfTwo] = &[
+const AT_ONCE: &[NumberedRow] = &[
     (1, Act::Resolve(Lock::Sales), Reply::Place(1)),
     (2, Act::Resolve(Lock::Sales), Reply::Place(1)),
     (1, Act::Try(1, Mode::SU), Reply::Granted(1)),
@@ -32,7 +32,7 @@ const AT_ONCE: &[RowOfTwo] = &[
 // itself.
 #[test]
 fn an_upgrade_is_had_at_once_or_not_at_all(rt: HostRuntime) -> Result<(), Fail> {
-    are_right_of_two(&rt, 1, AT_ONCE)
+    are_right_of_three(&rt, 1, AT_ONCE)
 }
 
 const REFUSED: &[Row] = &[

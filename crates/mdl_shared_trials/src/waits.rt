@@ -1,7 +1,7 @@
 //! Sessions wait for locks, are granted them, and lose their waits, on one thread.
 use crate::acts::{Act, Lock, Reply};
 use crate::locks::{kept_open, led};
-use crate::rows::{Row, RowOfTwo, are_right, are_right_of_two};
+use crate::rows::{NumberedRow, Row, are_right, are_right_of_three};
 use crate::sessions::closed;
 use mdl_calls::{Ended, Settled, SpaceError};
 use mdl_key::Mode;
@@ -14,7 +14,7 @@ const WAITS_ALREADY: Reply = Reply::Refused(SpaceError::AlreadyWaiting);
 
 const BAD_MODE: Reply = Reply::Refused(SpaceError::BadMode);
 
-const CLASHING: &[RowOfTwo] = &[
+const CLASHING: &[NumberedRow] = &[
     (1, Act::Resolve(Lock::Sales), Reply::Place(1)),
     (2, Act::Resolve(Lock::Sales), Reply::Place(1)),
     (1, Act::Try(1, Mode::X), Reply::Granted(1)),
@@ -32,10 +32,10 @@ const CLASHING: &[RowOfTwo] = &[
 // What cannot be had now is waited for, and all sessions see the wait's number.
 #[test]
 fn a_wish_that_clashes_waits(rt: HostRuntime) -> Result<(), Fail> {
-    are_right_of_two(&rt, 1, CLASHING)
+    are_right_of_three(&rt, 1, CLASHING)
 }
 
-const MAKING_WAY: &[RowOfTwo] = &[
+const MAKING_WAY: &[NumberedRow] = &[
     (1, Act::Resolve(Lock::Sales), Reply::Place(1)),
     (2, Act::Resolve(Lock::Sales), Reply::Place(1)),
     (1, Act::Try(1, Mode::SR), Reply::Granted(1)),
@@ -56,10 +56,10 @@ const MAKING_WAY: &[RowOfTwo] = &[
 // Whoever gives a ticket up grants the wait that stood against it alone. A kill comes too late then.
 #[test]
 fn a_release_grants_who_waits(rt: HostRuntime) -> Result<(), Fail> {
-    are_right_of_two(&rt, 1, MAKING_WAY)
+    are_right_of_three(&rt, 1, MAKING_WAY)
 }
 
-const DOWNGRADED: &[RowOfTwo] = &[
+const DOWNGRADED: &[NumberedRow] = &[
     (1, Act::Resolve(Lock::Sales), Reply::Place(1)),
     (2, Act::Resolve(Lock::Sales), Reply::Place(1)),
     (1, Act::Try(1, Mode::X), Reply::Granted(1)),
@@ -74,10 +74,10 @@ const DOWNGRADED: &[RowOfTwo] = &[
 // So does whoever weakens one.
 #[test]
 fn a_downgrade_grants_who_waits(rt: HostRuntime) -> Result<(), Fail> {
-    are_right_of_two(&rt, 1, DOWNGRADED)
+    are_right_of_three(&rt, 1, DOWNGRADED)
 }
 
-const KILLED: &[RowOfTwo] = &[
+const KILLED: &[NumberedRow] = &[
     (1, Act::Resolve(Lock::Sales), Reply::Place(1)),
     (2, Act::Resolve(Lock::Sales), Reply::Place(1)),
     (1, Act::Try(1, Mode::X), Reply::Granted(1)),
@@ -96,10 +96,10 @@ const KILLED: &[RowOfTwo] = &[
 // A kill hits the wait of its number once, and its session learns of it. A wait that was killed isn't granted.
 #[test]
 fn a_kill_settles_a_wait(rt: HostRuntime) -> Result<(), Fail> {
-    are_right_of_two(&rt, 1, KILLED)
+    are_right_of_three(&rt, 1, KILLED)
 }
 
-const KILLED_LATE: &[RowOfTwo] = &[
+const KILLED_LATE: &[NumberedRow] = &[
     (1, Act::Resolve(Lock::Sales), Reply::Place(1)),
     (2, Act::Resolve(Lock::Sales), Reply::Place(1)),
     (1, Act::Try(1, Mode::X), Reply::Granted(1)),
@@ -117,7 +117,7 @@ const KILLED_LATE: &[RowOfTwo] = &[
 // A kill that comes late doesn't hit the session's next wait.
 #[test]
 fn a_late_kill_misses(rt: HostRuntime) -> Result<(), Fail> {
-    are_right_of_two(&rt, 1, KILLED_LATE)
+    are_right_of_three(&rt, 1, KILLED_LATE)
 }
 
 const ALONE: &[Row] = &[
@@ -143,7 +143,7 @@ fn a_wish_that_clashes_with_nothing_is_granted(rt: HostRuntime) -> Result<(), Fa
     are_right(&rt, 1, ALONE)
 }
 
-const ASKING_MORE: &[RowOfTwo] = &[
+const ASKING_MORE: &[NumberedRow] = &[
     (1, Act::Resolve(Lock::Sales), Reply::Place(1)),
     (2, Act::Resolve(Lock::Sales), Reply::Place(1)),
     (1, Act::Try(1, Mode::S), Reply::Granted(1)),
@@ -169,7 +169,7 @@ const ASKING_MORE: &[RowOfTwo] = &[
 // A session that waits asks for nothing more, but keeps its tickets, and may give them up. A cause of a lesser number is told first.
 #[test]
 fn a_session_that_waits_has_its_tickets(rt: HostRuntime) -> Result<(), Fail> {
-    are_right_of_two(&rt, 1, ASKING_MORE)
+    are_right_of_three(&rt, 1, ASKING_MORE)
 }
 
 const HOLDS: &[Row] = &[

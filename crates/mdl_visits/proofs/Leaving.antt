@@ -17,7 +17,7 @@ use Rattle.mdl_steps.specs.Deeds.{all_done}
 use Rattle.mdl_steps.specs.Seats.{elsewhere, rest}
 use Rattle.mdl_steps.proofs.Hands.{elsewhere-settled}
 use Rattle.mdl_steps.proofs.Views.{by_bool}
-use Rattle.mdl_visits.specs.Leavings.{HasTicket, Leaves}
+use Rattle.mdl_visits.specs.Leavings.{HasTicket, Leaves, PutsBack}
 use Rattle.mdl_visits.specs.Visits.{IsInside, IsStepOf, Visits, and_made}
 use Rattle.mdl_visits.proofs.Steps.{none_then}
 
@@ -51,6 +51,11 @@ module _ (place : ℕ) (ds : List Deed) (found : ℕ) (book : BookView) (slow ob
   pub first_step : (e : Met) × IsStepOf m last e × ((e.word ≡ lock_word place) × (e.held ≡ m.0.latches) × (e.deeds ≡ ds))
   unfolding lowers puts
   first_step = (lowers, ([], puts ∷ [], both ∙ ap (λ (log : List Met). log ++ lowers ∷ puts ∷ []) (sym (append-nil m.0.log))), (refl, refl, refl))
+
+  -- the second gave the latch back
+  pub puts_back : PutsBack place m last
+  unfolding lowers puts
+  puts_back = (puts, (lowers ∷ [], refl, ((refl, refl), tt)), refl, refl)
 
 -- ---- of a session that came to the place before
 

@@ -1,6 +1,6 @@
 -- A session's fast tickets at a place come to stand in the book there, under the latch, and the lock's word no longer counts them.
 use Rattle.std.proofs.Common.{◌≡◌, ℕ, ◌+◌, ◌<◌, ◌==◌, ◌||◌, Bool, true, false, cond, List, [], ◌∷◌, ◌++◌, length, map, Some, None, refl, sym, ap, ◌∙◌, subst, inl, inr, arith, append_assoc, append-nil}
-use Rattle.std.specs.Prelude.{◌⊎◌, not, nat_lt}
+use Rattle.std.specs.Prelude.{◌⊎◌, ◌≢◌, not, nat_lt}
 use Rattle.std.specs.List.{filter}
 use Rattle.std.proofs.lemmas.Bool.{lt-ltb}
 use Rattle.std.proofs.lemmas.List.{length-append}
@@ -14,6 +14,7 @@ use Rattle.mdl_book.specs.declared.ticket.Ticket.{Ticket}
 use Rattle.mdl_book.specs.Books.{any_obtrusive, lock_kind, ticket_count}
 use Rattle.mdl_book.specs.Granting.{is_compatible}
 use Rattle.mdl_book.specs.Tickets.{ticket_of}
+use Rattle.mdl_steps.specs.declared.step_kind.StepKind.{StepKind}
 use Rattle.mdl_steps.specs.declared.step_kind.StepKind.TheVariants.{Materialise, PutLatch, RaiseFlags}
 use Rattle.mdl_steps.specs.declared.view.LatchRecord.{LatchRecord}
 use Rattle.mdl_steps.specs.declared.view.Met.{Met}
@@ -32,13 +33,13 @@ use Rattle.mdl_steps.proofs.FastLists.{length_mapped}
 use Rattle.mdl_steps.proofs.Hands.{elsewhere-stepped, holds_written}
 use Rattle.mdl_steps.proofs.Unmixed.{unmixed_apart}
 use Rattle.mdl_steps.proofs.Views.{by_bool}
-use Rattle.mdl_visits.specs.Leavings.{DidUnder, HasWorked}
-use Rattle.mdl_visits.specs.Materialisings.{AreUngranted, CanStand, LacksRoomFor, Materialises, WasMaterialised, all_slow, granting_own, with_book}
-use Rattle.mdl_visits.specs.Visits.{Arrives, HasStep, IsInside, IsStepOf, KnowsKind, Visits}
+use Rattle.mdl_visits.specs.Leavings.{DidUnder, HasWorked, PutsBack}
+use Rattle.mdl_visits.specs.Materialisings.{AreUngranted, CanStand, LacksRoomFor, LeavesOpen, Materialises, VisitsOnce, WasMaterialised, all_slow, granting_own, raises_obtrusive, with_book}
+use Rattle.mdl_visits.specs.Visits.{Arrives, HasStep, IsInside, IsStepOf, KnowsKind, StaysThere, Visits, raises_flags}
 use Rattle.mdl_visits.proofs.Arriving.{met}
 use Rattle.mdl_visits.proofs.Numbers.{idle_waits_not}
 use Rattle.mdl_visits.proofs.Seats.{mine, place_there, table_of}
-use Rattle.mdl_visits.proofs.Steps.{each_map, none_then}
+use Rattle.mdl_visits.proofs.Steps.{each_append, each_map, none_then}
 use Rattle.mdl_visits.proofs.Visiting.{inside_at, inside_stepped, inside_written}
 
 -- ---- flags
@@ -95,6 +96,8 @@ nothing_fast place s none = (
         s.me.1,
       );
       did = refl;
+      once = λ some. absurd (some none);
+      none = λ _. refl;
     },
   ),
   λ some. absurd (some none),
@@ -128,11 +131,13 @@ module _ (place found : ℕ) (m m′ m″ m‴ : Mine) (inside : IsInside place 
   longer : ((m.0.log ++ inside.made) ++ materialises ∷ []) ++ gives ∷ [] ≡ m.0.log ++ (inside.made ++ materialises ∷ gives ∷ [])
   longer = both ∙ append_assoc m.0.log inside.made (materialises ∷ gives ∷ [])
 
-  pub slow_then : Materialises place m m‴
-  slow_then = record {
+  pub slow_then : own_at place m.0.fast ≢ [] → VisitsOnce place m m‴ → Materialises place m m‴
+  slow_then some once = record {
     made = inside.made ++ materialises ∷ gives ∷ [];
     now = puts ∙ ap (unlatched place []) there ∙ (λ i. (record (all_slow place m.0) { latches = others i; log = longer i }, m.1));
     did = none_then inside.made (materialises ∷ gives ∷ []) [] inside.did refl;
+    once = λ _. once;
+    none = λ none. absurd (some none);
   }
 
   -- the step shows the tickets, as the record of the latch had them then
@@ -145,6 +150,81 @@ module _ (place found : ℕ) (m m′ m″ m‴ : Mine) (inside : IsInside place 
     refl,
     ap (λ (x : Mine). held_at place x.0.latches) (sym there) ∙ recorded,
   )
+
+-- ---- one visit
+
+-- steps were made between the two that gave no latch back and closed no fast path
+abbrev pub StaysOpen : Mine → Mine → Type 0
+StaysOpen m m′ = (made : List Met) × (m′.0.log ≡ m.0.log ++ made) × Each LeavesOpen made
+
+-- who raises no flag closes none
+no_flag : (k : StepKind) → raises_flags k ≡ false → raises_obtrusive k ≡ false
+no_flag k none = (elim k as (λ k. raises_flags k ≡ false → raises_obtrusive k ≡ false) [
+  | RaiseFlags slow obtrusive ↦ λ raises. (let never : true ≡ false = raises in absurd (cc))
+  | _ ↦ λ raises. refl
+]) none
+
+open_each : (made : List Met) → Each StaysThere made → Each LeavesOpen made
+open_each made all = each_map StaysThere LeavesOpen (λ e so. (so.0, no_flag e.kind so.1)) made all
+
+module _ (a b c : Mine) where
+  open_one : StaysOpen a b → (e : Met) → c.0.log ≡ b.0.log ++ e ∷ [] → LeavesOpen e → StaysOpen a c
+  open_one more e log so = (
+    more.0 ++ e ∷ [],
+    log ∙ ap (λ (xs : List Met). xs ++ e ∷ []) more.1 ∙ append_assoc a.0.log more.0 (e ∷ []),
+    each_append LeavesOpen more.0 (e ∷ []) more.2 (so, tt),
+  )
+
+  visits_once : (place : ℕ) → StaysOpen a b → PutsBack place b c → VisitsOnce place a c
+  visits_once place more last =
+      let by = last.1 in (
+        last.0,
+        more.0 ++ by.0,
+        by.1 ∙ ap (λ (log : List Met). (log ++ by.0) ++ last.0 ∷ []) more.1 ∙ ap (λ (log : List Met). log ++ last.0 ∷ []) (append_assoc a.0.log more.0 by.0),
+        last.2,
+        last.3,
+        each_append LeavesOpen more.0 by.0 more.2 (open_each by.0 by.2),
+      )
+
+-- the session came to the place and raised the flag SLOW, and gave the latch back
+module _ {place : ℕ} {s : SeatState} {q : ℕ} {c : SeatState} (a : Arrives place s q c) (b : SeatState)
+    (raises : (met : ℕ) × (b ≡ record c { me = stepped (RaiseFlags true false) q met (raised true false) c.me })) where
+  came : StaysOpen s.me b.me
+  came =
+      let first = a.came.2 in
+      let raise : Met = record {
+        kind = RaiseFlags true false;
+        deeds = [];
+        word = lock_word q;
+        found = raises.0;
+        held = map (λ (h : LatchRecord). cond (h.place == q) (raised true false h) h) c.me.0.latches;
+        directory = c.me.0.directory;
+      } in
+      open_one s.me c.me b.me (first.0, first.1, open_each first.0 first.2) raise (ap (λ (x : SeatState). x.me.0.log) raises.1) (refl, refl)
+
+  -- with nothing done
+  pub refused_once : (w n : SeatState) → w ≡ b → PutsBack q w.me n.me → VisitsOnce place s.me n.me
+  refused_once w n same back =
+      subst (λ (p : ℕ). VisitsOnce p s.me n.me) a.at
+      (visits_once s.me w.me n.me q (subst (λ (x : SeatState). StaysOpen s.me x.me) (sym same) came) back)
+
+  -- or with its tickets made slow
+  pub done_once : (book : BookView) (w d n : SeatState) → w ≡ with_book q book b → (met : ℕ) × (d ≡ record w { me = materialised q met w.me })
+      → n ≡ record d { me = unlatched q [] d.me } → VisitsOnce q s.me n.me
+  done_once book w d n wrote makes puts =
+      let materialises : Met = record {
+        kind = Materialise;
+        deeds = [];
+        word = lock_word q;
+        found = makes.0;
+        held = map (λ (h : LatchRecord). cond (h.place == q) (with_granted (moved q w.me.0) h) h) w.me.0.latches;
+        directory = w.me.0.directory;
+      } in
+      let gives : Met = record { kind = PutLatch; deeds = []; word = latch_word q; found = d.me.0.number; held = d.me.0.latches; directory = d.me.0.directory } in
+      let there : StaysOpen s.me w.me = (came.0, ap (λ (x : SeatState). x.me.0.log) wrote ∙ came.1, came.2) in
+      let made = open_one s.me w.me d.me there materialises (ap (λ (x : SeatState). x.me.0.log) makes.1) (refl, refl) in
+      let last = ap (λ (x : SeatState). x.me.0.log) puts ∙ ap (λ (log : List Met). log ++ gives ∷ []) (sym (append-nil d.me.0.log)) in
+      visits_once s.me d.me n.me q made (gives, ([], last, tt), refl, refl)
 
 -- ---- of a session that came to the place, and raised the flag SLOW
 
@@ -294,14 +374,17 @@ module _ {place : ℕ} {s : SeatState} {q : ℕ} {fast : List Own} {b : SeatStat
                 (ap (any_obtrusive (lock_kind book)) all_moved ∙ plain),
           )
 
-      pub was_materialised : (n : SeatState) → n ≡ record d { me = unlatched q [] d.me } → WasMaterialised place s n
-      was_materialised n puts =
+      pub was_materialised : (n : SeatState) → n ≡ record d { me = unlatched q [] d.me } → own_at place s.me.0.fast ≢ [] → VisitsOnce q s.me n.me
+          → WasMaterialised place s n
+      was_materialised n puts some once =
+          let some_there = subst (λ (p : ℕ). own_at p s.me.0.fast ≢ []) (sym r.at) some in
           let step = step_then q makes.0 s.me w.me d.me n.me inside_then (mine makes.1) (mine puts) latch_then holds_last.recorded in (
             (
               table_of puts ∙ table_of makes.1 ∙ table_of wrote ∙ r.table,
-              subst (λ (p : ℕ). Materialises p s.me n.me) r.at (slow_then q makes.0 s.me w.me d.me n.me inside_then (mine makes.1) (mine puts)),
+              subst (λ (p : ℕ). Materialises p s.me n.me) r.at
+                  (slow_then q makes.0 s.me w.me d.me n.me inside_then (mine makes.1) (mine puts) some_there once),
             ),
-            λ some. (
+            λ _. (
               step.0,
               step.1,
               record {

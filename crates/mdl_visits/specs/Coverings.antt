@@ -1,12 +1,31 @@
--- A mode that fits a place.
-use Rattle.std.specs.Prelude.{◌≡◌, ℕ, true}
+-- A mode that fits a place, and one that a ticket of the session covers.
+use Rattle.std.specs.Prelude.{◌≡◌, ◌≢◌, ℕ, true, Some}
 use lib.ListN.{get_elem?}
 use mathlib.Core.Option.{some}
 use Rattle.mdl_key.specs.declared.mode.Mode.{Mode}
 use Rattle.mdl_key.specs.Words.{is_mode_of, kind_of}
 use Rattle.mdl_steps.specs.declared.view.Known.{Known}
+use Rattle.mdl_steps.specs.declared.view.Own.{Own}
 use Rattle.mdl_steps.specs.declared.view.View.{View}
+use Rattle.mdl_system.specs.Strength.{covers}
+use Rattle.mdl_visits.specs.Numbers.{numbered}
 
 -- the session has looked up a key whose place this is, and the mode is one of its kind
 abbrev pub FitsAt : View → ℕ → Mode → Type 0
 FitsAt v place mode = (i : ℕ) × (k : Known) × (get_elem? v.known i ≡ some k) × (k.place ≡ place) × (is_mode_of (kind_of k.key.namespace) mode ≡ true)
+
+-- a second ticket, of this number and in this mode, can be made of one: that is a slow one of the session, the number is the next one, the mode fits
+-- the place, and the ticket's own mode covers it
+pub record MayClone (ticket : Own) (number : ℕ) (mode : Mode) (v : View) : Type 0 where
+  pub held : numbered ticket.number v.slow ≡ Some ticket
+  pub next : number ≡ v.next
+  pub fits : FitsAt v ticket.place mode
+  pub covered : covers ticket.mode mode ≡ true
+
+-- a ticket can be kept in the mode of another one as that one goes: both are slow ones of the session, they are two, of one place, and the mode of
+-- the one that goes covers that of the other
+pub record MayMerge (kept gone : Own) (v : View) : Type 0 where
+  pub held : (numbered kept.number v.slow ≡ Some kept) × (numbered gone.number v.slow ≡ Some gone)
+  pub two : kept.number ≢ gone.number
+  pub here : kept.place ≡ gone.place
+  pub covered : covers gone.mode kept.mode ≡ true

@@ -19,12 +19,16 @@ use Rattle.mdl_steps.specs.Rule.{Flagged}
 use Rattle.mdl_steps.specs.SeatStates.{SeatState}
 use Rattle.mdl_steps.specs.Seats.{HasDone, IsPlace, elsewhere, rest}
 use Rattle.mdl_visits.specs.Grantings.{StandsOnce}
-use Rattle.mdl_visits.specs.Visits.{and_made, deeds_of, IsStepOf}
+use Rattle.mdl_visits.specs.Visits.{and_made, deeds_of, IsStepOf, LeavesBy}
 
 -- the latch of a place, which the session held, and the slot that it took last were given back after these deeds, steps were made that tell just
 -- these, and nothing else changed
 abbrev pub Leaves : ℕ → List Deed → Mine → Mine → Type 0
 Leaves place ds m m′ = (made : List Met) × (m′ ≡ and_made made (record (all_done place ds m.0) { latches = elsewhere place m }, rest m.1)) × (deeds_of made ≡ ds)
+
+-- the last step that was made gave back the latch of a place, and before it the session stayed
+abbrev pub PutsBack : ℕ → Mine → Mine → Type 0
+PutsBack place m m′ = (e : Met) × LeavesBy m m′ e × (e.kind ≡ PutLatch) × (e.word ≡ latch_word place)
 
 -- the session holds the latch of a place, and has done these deeds in its book. The flags that are up tell of each ticket in it, and each session
 -- waits there at most once

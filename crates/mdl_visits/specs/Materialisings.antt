@@ -1,6 +1,6 @@
 -- How a session's fast tickets at a place become slow ones: they are granted in the book of the place, and the lock's word no longer counts them.
 -- After MySQL 5.7: `MDL_context::materialize_fast_path_locks` of sql/mdl.cc.
-use Rattle.std.specs.Prelude.{◌≡◌, ◌≢◌, ℕ, ◌+◌, ◌<◌, true, List, [], ◌++◌, map, Some, None, ◌⊎◌}
+use Rattle.std.specs.Prelude.{◌≡◌, ◌≢◌, ℕ, ◌+◌, ◌<◌, Bool, true, false, List, [], ◌∷◌, ◌++◌, map, Some, None, ◌⊎◌}
 use Rattle.mdl_book.specs.declared.book_error.BookError.{BookError}
 use Rattle.mdl_book.specs.declared.book_error.BookError.TheVariants as fault
 use Rattle.mdl_book.specs.declared.book_view.BookView.{BookView}
@@ -8,7 +8,8 @@ use Rattle.mdl_book.specs.declared.ticket.Ticket.{Ticket}
 use Rattle.mdl_book.specs.Books.{lock_kind, ticket_count}
 use Rattle.mdl_book.specs.Granting.{is_compatible}
 use Rattle.mdl_book.specs.Tickets.{ticket_of}
-use Rattle.mdl_steps.specs.declared.step_kind.StepKind.TheVariants.{Materialise}
+use Rattle.mdl_steps.specs.declared.step_kind.StepKind.{StepKind}
+use Rattle.mdl_steps.specs.declared.step_kind.StepKind.TheVariants.{Materialise, PutLatch, RaiseFlags}
 use Rattle.mdl_steps.specs.declared.view.LatchRecord.{LatchRecord}
 use Rattle.mdl_steps.specs.declared.view.Met.{Met}
 use Rattle.mdl_steps.specs.declared.view.Own.{Own}
@@ -16,12 +17,28 @@ use Rattle.mdl_steps.specs.declared.view.View.{View}
 use Rattle.mdl_steps.specs.Cells.{held_at, own_at, ticket_by}
 use Rattle.mdl_steps.specs.FastPlays.{but_at, granting_all, moved}
 use Rattle.mdl_steps.specs.Interleavings.{interleaved}
-use Rattle.mdl_steps.specs.Layout.{lock_word}
+use Rattle.mdl_steps.specs.Layout.{latch_word, lock_word}
 use Rattle.mdl_steps.specs.Lists.{Each}
 use Rattle.mdl_steps.specs.Plays.{Mine}
 use Rattle.mdl_steps.specs.SeatStates.{AtItsTable, SeatState}
 use Rattle.mdl_steps.specs.Seats.{written}
-use Rattle.mdl_visits.specs.Visits.{HasInHand, HasStep, and_made, deeds_of}
+use Rattle.mdl_visits.specs.Visits.{HasInHand, HasStep, Visits, and_made, deeds_of, gives_back}
+
+-- ---- the visit
+
+-- whether a step of this kind raised the flag OBTRUSIVE
+abbrev pub raises_obtrusive : StepKind → Bool
+raises_obtrusive (RaiseFlags slow obtrusive) = obtrusive
+raises_obtrusive _ = false
+
+-- a step that gave no latch back and didn't close a fast path: it didn't raise the flag OBTRUSIVE
+abbrev pub LeavesOpen : Met → Type 0
+LeavesOpen e = (gives_back e.kind ≡ false) × (raises_obtrusive e.kind ≡ false)
+
+-- the session visited a place once, and closed no fast path: the last step gave back the latch of the place, and none before gave one back
+abbrev pub VisitsOnce : ℕ → Mine → Mine → Type 0
+VisitsOnce place m m′ =
+    (e : Met) × (before : List Met) × (m′.0.log ≡ (m.0.log ++ before) ++ e ∷ []) × (e.kind ≡ PutLatch) × (e.word ≡ latch_word place) × Each LeavesOpen before
 
 -- ---- what the session has then
 
@@ -29,11 +46,14 @@ use Rattle.mdl_visits.specs.Visits.{HasInHand, HasStep, and_made, deeds_of}
 abbrev pub all_slow : ℕ → View → View
 all_slow place v = record v { fast = but_at place v.fast; slow = interleaved v.slow (own_at place v.fast) }
 
--- the session's fast tickets at a place became slow ones, and nothing else changed but its list of steps, which are without deeds
+-- the session's fast tickets at a place became slow ones, and nothing else changed but its list of steps, which are without deeds. It visited the place
+-- once, and made no step if it had none there
 pub record Materialises (place : ℕ) (m m′ : Mine) : Type 0 where
   pub made : List Met
   pub now : m′ ≡ and_made made (all_slow place m.0, m.1)
   pub did : deeds_of made ≡ []
+  pub once : own_at place m.0.fast ≢ [] → VisitsOnce place m m′
+  pub none : own_at place m.0.fast ≡ [] → made ≡ []
 
 -- the step by which the lock's word no longer counts these tickets: by the record of the latch they are granted in the book, behind all others
 pub record MeetsMaterialised (place : ℕ) (tickets : List Ticket) (e : Met) : Type 0 where
@@ -60,6 +80,10 @@ pub record MeetsFullFor (n place : ℕ) (e : Met) : Type 0 where
 -- why there was no room for so many: memory ran out, or a step shows that the book was too full for all of them
 abbrev pub LacksRoomFor : ℕ → ℕ → BookError → SeatState → SeatState → Type 0
 LacksRoomFor n place cause s s′ = (cause ≡ fault.OutOfMemory) ⊎ ((cause ≡ fault.Full) × HasStep s s′ (MeetsFullFor n place))
+
+-- the session visited a place once and went with nothing done, for want of room for so many, which are some
+abbrev pub WasRefusedFor : ℕ → ℕ → BookError → SeatState → SeatState → Type 0
+WasRefusedFor n place cause s s′ = AtItsTable s s′ (Visits place []) × LacksRoomFor n place cause s s′ × VisitsOnce place s.me s′.me × (0 < n)
 
 -- ---- the book in hand
 

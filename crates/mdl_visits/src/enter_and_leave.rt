@@ -6,7 +6,7 @@ ghost use Rattle.mdl_key.specs.Words.{is_obtrusive};
 ghost use Rattle.mdl_steps.specs.declared.deed.Deed.TheVariants.{Gain};
 ghost use Rattle.mdl_steps.specs.SeatStates.{AtItsTable, SeatState};
 ghost use Rattle.mdl_visits.specs.Grantings.{IsLowered, IsOrderly};
-ghost use Rattle.mdl_visits.specs.Leavings.{DidUnder, HasWorked};
+ghost use Rattle.mdl_visits.specs.Leavings.{DidUnder, HasWorked, PutsBack};
 ghost use Rattle.mdl_visits.specs.Visits.{EndsWish, HasEntered, HasLatched, HasStep, HasWish, IsInside, MayVisit, Visits, WasGranted};
 
 use crate::latches::await_latch;
@@ -62,6 +62,7 @@ pub(crate) fn lower_flags_and_put(seat: &mut TableSeat, latch: Latched, deeds: &
     requires worked { HasWorked latch.place deeds.now seat.old }
     ensures visited { (s : SeatState) → AtItsTable s seat.old (IsInside latch.place) → AtItsTable s seat.new (Visits latch.place deeds.now) }
     ensures step { HasStep seat.old seat.new (DidUnder latch.place deeds.now seat.old) }
+    ensures back { PutsBack latch.place seat.old.me seat.new.me }
 {
     lower_flags(seat, &latch, deeds);
     seat.put_latch(latch, &[]);

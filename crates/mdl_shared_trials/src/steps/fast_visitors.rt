@@ -1,18 +1,17 @@
 //! A session that has fast tickets alone, at the place of one key.
 ghost use Rattle.std.specs.Prelude.{◌≡◌, [], length, None, Some};
-ghost use Rattle.std.specs.Arc.{arc_value};
 ghost use Rattle.std.specs.Option.{option_to_list};
 ghost use Rattle.mdl_steps.specs.FastPlays.{noted_at};
-ghost use Rattle.mdl_steps.specs.Seats.{IsSized, IsPlace};
+ghost use Rattle.mdl_steps.specs.Seats.{IsPlace};
 ghost use Rattle.mdl_visits.specs.Idle.{IsIdle};
 ghost use Rattle.mdl_shared.specs.Members.{kind_known};
 
-use mdl_key::{Key, Kind, Mode};
-use mdl_steps::{Maker, Own, OwnedTable, TableSeat};
-use mdl_visits::{FastTried, release_fast, reschedule, resolve, try_fast};
+use crate::steps::seated::Seated;
+use mdl_key::{Kind, Mode};
+use mdl_steps::{Own, TableSeat};
+use mdl_visits::{FastTried, release_fast, reschedule, try_fast};
 use mdl_word::Word;
-use std::alloc::Global;
-use std::sync::{Arc, Wait};
+use std::sync::Wait;
 
 /// How many fast tickets a session has at a place at most.
 pub(crate) const MOST_FAST: usize = 1023;
@@ -43,28 +42,17 @@ pub(crate) struct FastVisitor {
 }
 
 impl FastVisitor {
-    /// The session of the next seat, once it has looked the key up.
-    pub(crate) fn come<R: Wait>(
-        rt: &R,
-        alloc: Global,
-        table: &Arc<OwnedTable, Global>,
-        maker: &mut Maker,
-        key: &Key,
-    ) -> Option<FastVisitor>
-        requires seated { maker.old.seat.table_id ≡ (arc_value table.now).shared.table_id }
-        requires sized { IsSized (arc_value table.now).shared.table_id }
-        ensures seated { maker.new.seat.table_id ≡ maker.old.seat.table_id }
-    {
-        let mut seat = maker.enrol(Arc::try_clone(table).ok()?)?;
-        let place = resolve(rt, &mut seat, alloc, key).ok()?;
-        Some(FastVisitor {
+    /// It has done nothing yet.
+    pub(crate) fn new(seated: Seated) -> FastVisitor {
+        let Seated { seat, place, kind } = seated;
+        FastVisitor {
             seat,
             place,
-            kind: key.kind(),
+            kind,
             next: 1,
             count: 0,
             newest: None,
-        })
+        }
     }
 
     /// The word of the lock.

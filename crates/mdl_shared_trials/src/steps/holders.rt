@@ -1,17 +1,17 @@
 //! A session that gains fast tickets at the place of one key, and makes them slow ones.
 ghost use Rattle.std.specs.Prelude.{◌≡◌, ◌+◌, [], length, Some, None, true};
-ghost use Rattle.std.specs.Arc.{arc_value};
-ghost use Rattle.mdl_steps.specs.Seats.{IsSized, IsPlace};
+ghost use Rattle.mdl_steps.specs.Seats.{IsPlace};
 ghost use Rattle.mdl_visits.specs.Idle.{IsIdle};
 ghost use Rattle.mdl_shared.specs.Members.{kind_known};
 ghost use Rattle.mdl_shared_trials.specs.Holders.{are_in_turn};
 
-use mdl_key::{Key, Kind, Mode};
-use mdl_steps::{Maker, Own, OwnedTable, TableSeat};
-use mdl_visits::{FastTried, materialise, resolve, try_fast};
+use crate::steps::seated::Seated;
+use mdl_key::{Kind, Mode};
+use mdl_steps::{Own, TableSeat};
+use mdl_visits::{FastTried, materialise, try_fast};
 use mdl_word::Word;
 use std::alloc::Global;
-use std::sync::{Arc, Wait};
+use std::sync::Wait;
 
 // How many fast tickets a session has at a place at most.
 const MOST_FAST: usize = 1023;
@@ -34,26 +34,15 @@ pub(crate) struct Holder {
 }
 
 impl Holder {
-    /// The session of the next seat, once it has looked the key up.
-    pub(crate) fn come<R: Wait>(
-        rt: &R,
-        alloc: Global,
-        table: &Arc<OwnedTable, Global>,
-        maker: &mut Maker,
-        key: &Key,
-    ) -> Option<Holder>
-        requires seated { maker.old.seat.table_id ≡ (arc_value table.now).shared.table_id }
-        requires sized { IsSized (arc_value table.now).shared.table_id }
-        ensures seated { maker.new.seat.table_id ≡ maker.old.seat.table_id }
-    {
-        let mut seat = maker.enrol(Arc::try_clone(table).ok()?)?;
-        let place = resolve(rt, &mut seat, alloc, key).ok()?;
-        Some(Holder {
+    /// It has done nothing yet.
+    pub(crate) fn new(alloc: Global, seated: Seated) -> Holder {
+        let Seated { seat, place, kind } = seated;
+        Holder {
             seat,
             place,
-            kind: key.kind(),
+            kind,
             fast: Vec::new(alloc),
-        })
+        }
     }
 
     /// Gains a fast ticket, and tells whether it did.

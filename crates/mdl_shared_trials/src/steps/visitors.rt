@@ -1,19 +1,18 @@
 //! A session that visits the place of one key, and reads the words there and those of waits.
 ghost use Rattle.std.specs.Prelude.{◌≡◌, ℕ, ◌+◌, ◌<◌, ◌^◌, None, Some, true};
-ghost use Rattle.std.specs.Arc.{arc_value};
 ghost use Rattle.std.specs.Option.{option_to_list};
 ghost use Rattle.mdl_key.specs.Words.{is_mode_of};
-ghost use Rattle.mdl_steps.specs.Seats.{IsSized, IsPlace};
+ghost use Rattle.mdl_steps.specs.Seats.{IsPlace};
 ghost use Rattle.mdl_steps.specs.WaitStates.{IsLost, granted_state};
 ghost use Rattle.mdl_visits.specs.Idle.{IsIdle, HasSlowAlone};
 ghost use Rattle.mdl_shared.specs.Members.{kind_known};
 
-use mdl_key::{Key, Kind, Mode};
-use mdl_steps::{Ask, Loss, Maker, Own, OwnedTable, TableSeat, WaitWord};
-use mdl_visits::{Queued, Tried, begin_wait, end_lost_wait, release, resolve, try_now};
+use crate::steps::seated::Seated;
+use mdl_key::{Kind, Mode};
+use mdl_steps::{Ask, Loss, Own, TableSeat, WaitWord};
+use mdl_visits::{Queued, Tried, begin_wait, end_lost_wait, release, try_now};
 use mdl_word::Word;
-use std::alloc::Global;
-use std::sync::{Arc, Wait};
+use std::sync::Wait;
 
 // The greatest number of a ticket and of a wait.
 const MOST_NUMBERS: u64 = (1 << 60) - 1;
@@ -54,29 +53,18 @@ pub(crate) struct Visitor {
 }
 
 impl Visitor {
-    /// The session of the next seat, once it has looked the key up.
-    pub(crate) fn come<R: Wait>(
-        rt: &R,
-        alloc: Global,
-        table: &Arc<OwnedTable, Global>,
-        maker: &mut Maker,
-        key: &Key,
-    ) -> Option<Visitor>
-        requires seated { maker.old.seat.table_id ≡ (arc_value table.now).shared.table_id }
-        requires sized { IsSized (arc_value table.now).shared.table_id }
-        ensures seated { maker.new.seat.table_id ≡ maker.old.seat.table_id }
-    {
-        let mut seat = maker.enrol(Arc::try_clone(table).ok()?)?;
-        let place = resolve(rt, &mut seat, alloc, key).ok()?;
-        Some(Visitor {
+    /// It has done nothing yet.
+    pub(crate) fn new(seated: Seated) -> Visitor {
+        let Seated { seat, place, kind } = seated;
+        Visitor {
             seat,
             place,
-            kind: key.kind(),
+            kind,
             next: 1,
             waits: 0,
             asks: None,
             ticket: None,
-        })
+        }
     }
 
     /// The word of the lock.

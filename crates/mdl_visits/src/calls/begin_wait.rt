@@ -1,10 +1,10 @@
 //! A wish for a lock is granted at once, or its session begins to wait.
-ghost use Rattle.std.specs.Prelude.{◌≡◌, ℕ, ◌+◌, ◌^◌, ◌<◌, [], Ok, OnErr, IfErr, false};
+ghost use Rattle.std.specs.Prelude.{◌≡◌, ℕ, ◌+◌, ◌^◌, ◌<◌, [], Ok, IfErr, false};
 ghost use Rattle.mdl_steps.specs.declared.deed.Deed.TheVariants.{Gain};
-ghost use Rattle.mdl_steps.specs.SeatStates.{AtItsTable, SeatState};
+ghost use Rattle.mdl_steps.specs.SeatStates.{SeatState};
 ghost use Rattle.mdl_visits.specs.declared.calls.begin_wait.Queued.TheVariants.{Granted, Waiting};
 ghost use Rattle.mdl_visits.specs.WaitOpenings.{BeginsWait, IsNewWait};
-ghost use Rattle.mdl_visits.specs.Visits.{EndsWish, HasEntered, HasWish, LacksRoom, MayVisit, Visits, WasGranted};
+ghost use Rattle.mdl_visits.specs.Visits.{EndsWish, HasEntered, HasWish, MayVisit, WasGranted, WasRefused};
 
 use crate::enter_and_leave::{enter, gain, lower_flags_and_put};
 use mdl_book::BookError;
@@ -40,8 +40,7 @@ pub fn begin_wait<R: Wait>(
     requires wait { (wait ≡ seat.old.me.0.waits + 1) × (wait < 2 ^ 60) }
     ensures granted { result ≡ Ok Granted → WasGranted place mode (Gain number mode) seat.old seat.new }
     ensures waiting { result ≡ Ok Waiting → BeginsWait place mode number seat.old seat.new }
-    ensures unchanged { OnErr result (AtItsTable seat.old seat.new (Visits place [])) }
-    ensures refused { IfErr result (λ cause. LacksRoom place cause seat.old seat.new) }
+    ensures refused { IfErr result (λ cause. WasRefused place cause seat.old seat.new) }
 {
     let (latch, word, can) = enter(rt, seat, place, mode, is_obtrusive(kind, mode));
     if can {

@@ -1,13 +1,11 @@
 //! A second ticket is made of one that the session has.
-ghost use Rattle.std.specs.Prelude.{◌≡◌, ◌∷◌, [], Some, None, OnOk, OnErr, IfErr, true};
+ghost use Rattle.std.specs.Prelude.{◌≡◌, ◌∷◌, [], None, OnOk, IfErr};
 ghost use Rattle.mdl_steps.specs.declared.deed.Deed.TheVariants.{Gain};
 ghost use Rattle.mdl_steps.specs.declared.view.Met.{Met};
 ghost use Rattle.mdl_steps.specs.SeatStates.{AtItsTable};
-ghost use Rattle.mdl_visits.specs.Coverings.{FitsAt};
+ghost use Rattle.mdl_visits.specs.Coverings.{MayClone};
 ghost use Rattle.mdl_visits.specs.Leavings.{MeetsOwn};
-ghost use Rattle.mdl_visits.specs.Numbers.{numbered};
-ghost use Rattle.mdl_visits.specs.Visits.{IsStepOf, LacksRoom, MayVisit, Visits};
-ghost use Rattle.mdl_system.specs.Strength.{covers};
+ghost use Rattle.mdl_visits.specs.Visits.{IsStepOf, MayVisit, Visits, WasRefused};
 
 use crate::enter_and_leave::lower_flags_and_put;
 use crate::latches::await_latch;
@@ -28,15 +26,11 @@ pub fn clone_ticket<R: Wait>(
 ) -> Result<(), BookError>
     requires at { MayVisit held.place seat.old }
     requires idle { seat.old.me.0.asks ≡ None }
-    requires held { numbered held.number seat.old.me.0.slow ≡ Some held }
-    requires number { number ≡ seat.old.me.0.next }
-    requires fits { FitsAt seat.old.me.0 held.place mode }
-    requires covers { covers held.mode mode ≡ true }
+    requires may { MayClone held number mode seat.old.me.0 }
     ensures cloned { OnOk result (AtItsTable seat.old seat.new (Visits held.place (Gain number mode ∷ []))) }
-    ensures unchanged { OnErr result (AtItsTable seat.old seat.new (Visits held.place [])) }
     ensures step { (e : Met) × IsStepOf seat.old.me seat.new.me e × MeetsOwn held.place seat.old.me.0.number held.number e
         × OnOk result (e.deeds ≡ Gain number mode ∷ []) }
-    ensures refused { IfErr result (λ cause. LacksRoom held.place cause seat.old seat.new) }
+    ensures refused { IfErr result (λ cause. WasRefused held.place cause seat.old seat.new) }
 {
     let latch = await_latch(rt, seat, held.place);
     match seat.write_gain(&latch, number, mode, NO_FAST_TICKETS) {

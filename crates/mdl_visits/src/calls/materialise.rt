@@ -1,13 +1,12 @@
 //! A session's fast tickets at a place become slow ones.
-ghost use Rattle.std.specs.Prelude.{◌≡◌, ◌≤◌, ℕ, [], length, map, false, None, OnOk, OnErr, IfErr};
+ghost use Rattle.std.specs.Prelude.{◌≡◌, ◌≤◌, ℕ, length, map, false, None, OnOk, OnErr, IfErr};
 ghost use Rattle.mdl_book.specs.declared.book_view.BookView.{BookView};
 ghost use Rattle.mdl_steps.specs.Cells.{own_at, ticket_by};
 ghost use Rattle.mdl_steps.specs.FastPlays.{moved, weight_of};
 ghost use Rattle.mdl_steps.specs.Limits.{most_fast};
 ghost use Rattle.mdl_steps.specs.Lists.{Once};
-ghost use Rattle.mdl_steps.specs.SeatStates.{AtItsTable};
-ghost use Rattle.mdl_visits.specs.Materialisings.{CanStand, LacksRoomFor, LacksRoomIn, Stand, WasMaterialised, granting_own, with_book};
-ghost use Rattle.mdl_visits.specs.Visits.{KnowsKind, MayVisit, Visits};
+ghost use Rattle.mdl_visits.specs.Materialisings.{CanStand, LacksRoomIn, Stand, WasMaterialised, WasRefusedFor, granting_own, with_book};
+ghost use Rattle.mdl_visits.specs.Visits.{KnowsKind, MayVisit};
 ghost use Rattle.mdl_word.specs.Words.{encode, one_in};
 
 use crate::enter_and_leave::lower_flags_and_put;
@@ -20,7 +19,8 @@ use mdl_word::Word;
 use std::sync::Wait;
 
 /// Makes the session's fast tickets at a place, which are these, slow ones: they are granted in the book of the place, and the lock's word no
-/// longer counts them. The session waits for nothing. If there is no room for all of them, all stays as it was. After
+/// longer counts them. The session waits for nothing. It takes the latch there once, and not at all without such tickets, and leaves the fast path
+/// open. If there is no room for all of them, all stays as it was. After
 /// `MDL_context::materialize_fast_path_locks`.
 pub fn materialise<R: Wait>(
     rt: &R,
@@ -35,8 +35,7 @@ pub fn materialise<R: Wait>(
     requires these { fast.now ≡ own_at place seat.old.me.0.fast }
     requires once { Once (moved place seat.old.me.0) }
     ensures materialised { OnOk result (WasMaterialised place seat.old seat.new) }
-    ensures unchanged { OnErr result (AtItsTable seat.old seat.new (Visits place [])) }
-    ensures refused { IfErr result (λ cause. LacksRoomFor (length fast.now) place cause seat.old seat.new) }
+    ensures refused { IfErr result (λ cause. WasRefusedFor (length fast.now) place cause seat.old seat.new) }
 {
     if fast.is_empty() {
         return Ok(());
@@ -57,9 +56,8 @@ fn write_gains(seat: &mut TableSeat, latch: &Latched, tickets: &[Own]) -> Result
     requires can { (book : BookView) × CanStand latch.now.place tickets.now book seat.old }
     ensures written { (book : BookView) → CanStand latch.now.place tickets.now book seat.old
         → OnOk result (seat.new ≡ with_book latch.now.place (granting_own seat.old.me.0.number tickets.now book) seat.old) }
-    ensures unchanged { OnErr result (seat.new ≡ seat.old) }
     ensures refused { (book : BookView) → CanStand latch.now.place tickets.now book seat.old
-        → IfErr result (LacksRoomIn book (length tickets.now)) }
+        → IfErr result (λ cause. (seat.new ≡ seat.old) × LacksRoomIn book (length tickets.now) cause) }
 {
     for (at, ticket) in tickets.iter().enumerate() {
         if let Err(cause) = seat.write_gain(latch, ticket.number, ticket.mode, NO_FAST_TICKETS) {

@@ -1,12 +1,11 @@
 //! Two tickets of a place become one.
-ghost use Rattle.std.specs.Prelude.{◌≡◌, ◌≢◌, ◌∷◌, [], Some, None, true};
+ghost use Rattle.std.specs.Prelude.{◌≡◌, ◌∷◌, [], None};
 ghost use Rattle.mdl_steps.specs.declared.deed.Deed.TheVariants.{Alter, Lose};
 ghost use Rattle.mdl_steps.specs.Deeds.{KnowsPlace};
 ghost use Rattle.mdl_steps.specs.SeatStates.{AtItsTable};
+ghost use Rattle.mdl_visits.specs.Coverings.{MayMerge};
 ghost use Rattle.mdl_visits.specs.Leavings.{MergesOwn};
-ghost use Rattle.mdl_visits.specs.Numbers.{numbered};
 ghost use Rattle.mdl_visits.specs.Visits.{MayVisit, Visits};
-ghost use Rattle.mdl_system.specs.Strength.{covers};
 
 use crate::enter_and_leave::lower_flags_and_put;
 use crate::latches::await_latch;
@@ -20,10 +19,7 @@ pub fn merge<R: Wait>(rt: &R, seat: &mut TableSeat, kept: Own, gone: Own)
     requires at { MayVisit kept.place seat.old }
     requires known { KnowsPlace seat.old.me.0 kept.place }
     requires idle { seat.old.me.0.asks ≡ None }
-    requires held { (numbered kept.number seat.old.me.0.slow ≡ Some kept) × (numbered gone.number seat.old.me.0.slow ≡ Some gone) }
-    requires two { kept.number ≢ gone.number }
-    requires here { kept.place ≡ gone.place }
-    requires covers { covers gone.mode kept.mode ≡ true }
+    requires may { MayMerge kept gone seat.old.me.0 }
     ensures merged { AtItsTable seat.old seat.new (Visits kept.place (Alter kept.number gone.mode ∷ Lose gone.number ∷ [])) }
     ensures step { MergesOwn kept gone seat.old seat.new }
 {

@@ -2,9 +2,9 @@
 use Rattle.std.proofs.Common.{[], refl, sym, ap, ◌∙◌, subst, inr}
 use Rattle.mdl_steps.specs.declared.view.Met.{Met}
 use Rattle.mdl_steps.specs.Plays.{Mine, unlatched}
-use Rattle.mdl_visits.specs.Leavings.{DidUnder, Leaves}
+use Rattle.mdl_visits.specs.Leavings.{DidUnder, Leaves, PutsBack}
 use Rattle.mdl_visits.specs.Visits.{IsStepOf}
-use Rattle.mdl_visits.proofs.Leaving.{first_step, leaves, visits_left}
+use Rattle.mdl_visits.proofs.Leaving.{first_step, leaves, puts_back, visits_left}
 use Rattle.mdl_visits.proofs.Seats.{mine, table_of}
 use Rattle.mdl_visits.proofs.enter_and_leave.lower_flags_and_put.Goals as goal
 
@@ -31,4 +31,5 @@ returns c =
     record {
       visited = λ s came. (table_of put ∙ lowered.0 ∙ came.0, visits_left place s.me m n came.1 ds left);
       step = subst (λ (x : Mine). (e : Met) × IsStepOf m x e × DidUnder place ds seat e) (sym whole) (first_step place ds low.0 low.1 low.2 low.3 m);
+      back = subst (λ (x : Mine). PutsBack place m x) (sym whole) (puts_back place ds low.0 low.1 low.2 low.3 m);
     }

@@ -16,22 +16,24 @@ use Rattle.mdl_shared.proofs.member.Member.clone_by_latch.Goals as goal
 pub clone_ticket-requires-clause-at : goal.clone_ticket-requires-clause-at
 clone_ticket-requires-clause-at g c = (slow-held c.args.self.now c.args.held c.requires.unfast c.requires.held).0.at
 
-pub clone_ticket-requires-clause-held : goal.clone_ticket-requires-clause-held
-clone_ticket-requires-clause-held g c = (slow-held c.args.self.now c.args.held c.requires.unfast c.requires.held).1.its
-
-pub clone_ticket-requires-clause-fits : goal.clone_ticket-requires-clause-fits
-clone_ticket-requires-clause-fits g c =
+pub clone_ticket-requires-clause-may : goal.clone_ticket-requires-clause-may
+clone_ticket-requires-clause-may g c =
     let m = c.args.self.now in
     let t = c.args.held in
     let clear = ap (λ (l : Lists). clone_fault (Some t) l.asks c.args.mode l.known l.next) (sym m.lists) ∙ c.requires.clear in
-    fit_there t.place c.args.mode m.seat.me.0.known (clone-passed m.seat.me.0.asks c.args.mode m.seat.me.0.known m.seat.me.0.next (Some t) t refl clear).1
+    let may = clone-passed m.seat.me.0.asks c.args.mode m.seat.me.0.known m.seat.me.0.next (Some t) t refl clear in record {
+      held = (slow-held m t c.requires.unfast c.requires.held).1.its;
+      next = ap (λ (l : Lists). l.next) m.lists;
+      fits = fit_there t.place c.args.mode m.seat.me.0.known may.1;
+      covered = may.3;
+    }
 
 -- ---- none is made
 
 pub invariant_of-self : goal.invariant_of-self
 invariant_of-self g c =
     let m = c.args.self.now in
-    let visit = c.in-Err.ensures.unchanged in
+    let visit = c.in-Err.ensures.refused.0 in
     record {
       lawful = ∣ still-member (visited m.seat c.clone_ticket.new.seat m.sessions refl visit) (member m) ∣₁;
       lists = lists-done m c.args.held.place [] (lists-visited visit) refl refl;

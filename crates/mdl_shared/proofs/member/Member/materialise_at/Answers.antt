@@ -39,7 +39,7 @@ materialise-requires-clause-once g c = (may-make-slow c.args.self.now c.args.pla
 pub invariant_of-self : goal.invariant_of-self
 invariant_of-self g c =
     let m = c.args.self.now in
-    let made = steps-visited m.seat c.materialise.new.seat c.in-Err.ensures.unchanged in record {
+    let made = steps-visited m.seat c.materialise.new.seat c.in-Err.ensures.refused.0 in record {
       lawful = ∣ still-member (quiet-made {place = 0} m.seat c.materialise.new.seat m.sessions {room = m.tickets.room} {room′ = m.tickets.room} made).done (member m) ∣₁;
       lists = lists-made m c.materialise.new.seat made;
       room = m.room;

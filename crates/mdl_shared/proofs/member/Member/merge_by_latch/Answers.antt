@@ -10,6 +10,7 @@ use Rattle.mdl_shared.proofs.Props.{member}
 use Rattle.mdl_shared.proofs.QuietDeeds.{quiet-visit}
 use Rattle.mdl_shared.proofs.SlowHeld.{slow-held}
 use Rattle.mdl_shared.proofs.TicketCalls.{merge-joins}
+use Rattle.mdl_shared.proofs.TicketFaults.{merge-passed}
 use Rattle.mdl_shared.proofs.member.Member.merge_by_latch.Goals as goal
 
 pub merge-requires-clause-at : goal.merge-requires-clause-at
@@ -18,10 +19,15 @@ merge-requires-clause-at g c = (slow-held c.args.self.now c.args.kept c.requires
 pub merge-requires-clause-known : goal.merge-requires-clause-known
 merge-requires-clause-known g c = (slow-held c.args.self.now c.args.kept c.requires.unfast c.requires.held.0).0.known
 
-pub merge-requires-clause-held : goal.merge-requires-clause-held
-merge-requires-clause-held g c =
+pub merge-requires-clause-may : goal.merge-requires-clause-may
+merge-requires-clause-may g c =
     let m = c.args.self.now in
-    ((slow-held m c.args.kept c.requires.unfast c.requires.held.0).1.its, (slow-held m c.args.gone c.requires.unfast c.requires.held.1).1.its)
+    let may = merge-passed c.args.kept c.args.gone m.asks c.requires.clear in record {
+      held = ((slow-held m c.args.kept c.requires.unfast c.requires.held.0).1.its, (slow-held m c.args.gone c.requires.unfast c.requires.held.1).1.its);
+      two = may.0;
+      here = may.1;
+      covered = may.2;
+    }
 
 pub set_mode-requires : goal.set_mode-requires
 set_mode-requires g c =

@@ -59,7 +59,7 @@ returns-in-Ok-Blocked g c =
 pub invariant_of-self-in-Err-1 : goal.invariant_of-self-in-Err-1
 invariant_of-self-in-Err-1 g c =
     let m = c.args.self.now in
-    let visit = c.in-Err.ensures.unchanged in
+    let visit = c.in-Err.ensures.refused.0 in
     let done = visited m.seat c.try_now.new.seat m.sessions refl visit in
     record {
       lawful = ∣ still-member done (member m) ∣₁;

@@ -1,9 +1,10 @@
 -- The tickets are granted in the book and then counted no longer, or there was no room for all of them.
-use Rattle.std.proofs.Common.{◌<◌, length, sym, ◌∙◌, arith}
+use Rattle.std.proofs.Common.{◌≡◌, ◌≢◌, ◌<◌, [], length, sym, ap, ◌∙◌, arith}
 use Rattle.std.proofs.lemmas.Bool.{eqb-true}
 use Rattle.std.proofs.lemmas.Bool.Decides.{nat_tests}
 use Rattle.std.proofs.lemmas.List.{nil_from_length}
-use Rattle.mdl_visits.proofs.Materialising.{can_stand, lacks_room, may_materialise, may_put, nothing_done, nothing_fast, place_last, place_then, ready, rests, was_materialised}
+use Rattle.mdl_steps.specs.Cells.{own_at}
+use Rattle.mdl_visits.proofs.Materialising.{can_stand, done_once, lacks_room, may_materialise, may_put, nothing_done, nothing_fast, place_last, place_then, ready, refused_once, rests, was_materialised}
 use Rattle.mdl_visits.proofs.calls.materialise.materialise.Goals as goal
 
 pub returns-then-is_empty-clause-materialised : goal.returns-then-is_empty-clause-materialised
@@ -21,20 +22,21 @@ pub lower_flags_and_put-requires : goal.lower_flags_and_put-requires
 lower_flags_and_put-requires g c =
     let raise = c.raise_flags.ensures in
     let r = ready c.await_latch-latch.ensures.arrives c.args.fast.now c.raise_flags.new.self raise.made raise.keeps c.requires.these c.requires.idle in
-    record { worked = rests r c.in-Err.ensures.unchanged }
-
-pub returns-in-Err-clause-unchanged : goal.returns-in-Err-clause-unchanged
-returns-in-Err-clause-unchanged g c =
-    let raise = c.raise_flags.ensures in
-    let r = ready c.await_latch-latch.ensures.arrives c.args.fast.now c.raise_flags.new.self raise.made raise.keeps c.requires.these c.requires.idle in
-    nothing_done r c.in-Err.ensures.unchanged c.lower_flags_and_put.new.seat c.lower_flags_and_put.ensures.visited
+    record { worked = rests r (c.in-Err.ensures.refused r.found.book (can_stand r)).0 }
 
 pub returns-in-Err-clause-refused : goal.returns-in-Err-clause-refused
 returns-in-Err-clause-refused g c =
+    let arrives = c.await_latch-latch.ensures.arrives in
     let raise = c.raise_flags.ensures in
-    let r = ready c.await_latch-latch.ensures.arrives c.args.fast.now c.raise_flags.new.self raise.made raise.keeps c.requires.these c.requires.idle in
-    lacks_room r c.in-Err.ensures.unchanged (length c.args.fast.now) c.in-Err.cause c.lower_flags_and_put.new.seat c.lower_flags_and_put.ensures.step
-    (c.in-Err.ensures.refused r.found.book (can_stand r))
+    let r = ready arrives c.args.fast.now c.raise_flags.new.self raise.made raise.keeps c.requires.these c.requires.idle in
+    let refused = c.in-Err.ensures.refused r.found.book (can_stand r) in
+    let left = c.lower_flags_and_put.ensures in
+    let some : 0 < length c.args.fast.now = grind (arith, nat_tests) in (
+      nothing_done r refused.0 c.lower_flags_and_put.new.seat left.visited,
+      lacks_room r refused.0 (length c.args.fast.now) c.in-Err.cause c.lower_flags_and_put.new.seat left.step refused.1,
+      refused_once arrives c.raise_flags.new.self raise.made c.write_gains.new.seat c.lower_flags_and_put.new.seat refused.0 left.back,
+      some,
+    )
 
 pub materialise-requires-clause-place : goal.materialise-requires-clause-place
 materialise-requires-clause-place g c =
@@ -69,4 +71,10 @@ returns-clause-materialised g c =
     let raise = c.raise_flags.ensures in
     let r = ready c.await_latch-latch.ensures.arrives c.args.fast.now c.raise_flags.new.self raise.made raise.keeps c.requires.these c.requires.idle in
     let wrote = c.in_default.ensures.written r.found.book (can_stand r) in
-    was_materialised r wrote c.materialise.ensures.made c.materialise.ensures.keeps c.put_latch.new.self c.put_latch.ensures.made
+    let makes = c.materialise.ensures.made in
+    let puts = c.put_latch.ensures.made in
+    let some : 0 < length c.args.fast.now = grind (arith, nat_tests) in
+    let some_there : own_at c.args.place c.args.seat.now.me.0.fast ≢ [] =
+    λ none. (let length_is : length c.args.fast.now ≡ 0 = ap length (c.requires.these ∙ none) in omega arith) in
+    was_materialised r wrote makes c.materialise.ensures.keeps c.put_latch.new.self puts some_there
+    (done_once c.await_latch-latch.ensures.arrives c.raise_flags.new.self raise.made _ _ _ c.put_latch.new.self wrote makes puts)

@@ -27,15 +27,6 @@ write_losses-requires c =
     let is = c.in-Err.ensures.unchanged ∙ c.loop-at.invariant can.0 can.1 in
     record { stand = (can.0, first_stand c.args.latch.now.place c.args.tickets.now c.loop-at.at can.0 c.args.seat.now c.write_gain.new.self can.1 is) }
 
-pub returns-in-Err-clause-unchanged : goal.returns-in-Err-clause-unchanged
-returns-in-Err-clause-unchanged c =
-    let place = c.args.latch.now.place in
-    let can = c.requires.can in
-    let is = c.in-Err.ensures.unchanged ∙ c.loop-at.invariant can.0 can.1 in
-    c.write_losses.ensures.written can.0 (first_stand place c.args.tickets.now c.loop-at.at can.0 c.args.seat.now c.write_gain.new.self can.1 is)
-    ∙ ap (λ (x : SeatState). with_book place can.0 x) is
-    ∙ none_written place can.0 c.args.seat.now can.1.in_hand
-
 pub returns-in-Err-clause-refused : goal.returns-in-Err-clause-refused
 returns-in-Err-clause-refused c = λ book can.
     let s : SeatState = c.args.seat.now in
@@ -47,8 +38,13 @@ returns-in-Err-clause-refused c = λ book can.
     let so_far : BookView = granting_own who (take i tickets) book in
     let was = c.loop-at.invariant book can in
     let refuses = c.in-Err.ensures.refused so_far (subst (HasInHand place so_far) (sym was) refl) in
-    no_room_then Unit who tickets i no_own book c.loop-at-test.true can.beside c.in-Err.cause
-    (subst (λ (x : SeatState). Refuses {T = Unit} (grant_fault (ticket_by x.me.0.number t) 0 so_far) fault.OutOfMemory (Err c.in-Err.cause)) was refuses)
+    let is = c.in-Err.ensures.unchanged ∙ was in (
+      c.write_losses.ensures.written book (first_stand place tickets i book s c.write_gain.new.self can is)
+          ∙ ap (λ (x : SeatState). with_book place book x) is
+          ∙ none_written place book s can.in_hand,
+      no_room_then Unit who tickets i no_own book c.loop-at-test.true can.beside c.in-Err.cause
+          (subst (λ (x : SeatState). Refuses {T = Unit} (grant_fault (ticket_by x.me.0.number t) 0 so_far) fault.OutOfMemory (Err c.in-Err.cause)) was refuses),
+    )
 
 pub loop-at-preserved : goal.loop-at-preserved
 loop-at-preserved c = λ book can.

@@ -10,11 +10,8 @@ returns-then-not-can-clause-blocked g c =
     let has = as_told c.if-not-can.true c.enter-can.ensures.entered in
     λ _. blocked has _ c.lower_flags_and_put.ensures.visited c.lower_flags_and_put.ensures.step
 
-pub returns-in-Err-clause-unchanged : goal.returns-in-Err-clause-unchanged
-returns-in-Err-clause-unchanged g c = (c.in-Err.ensures.done c.args.place c.args.seat.now (as_told c.if-not-can.false c.enter-can.ensures.entered)).0
-
 pub returns-in-Err-clause-refused : goal.returns-in-Err-clause-refused
-returns-in-Err-clause-refused g c = (c.in-Err.ensures.done c.args.place c.args.seat.now (as_told c.if-not-can.false c.enter-can.ensures.entered)).1
+returns-in-Err-clause-refused g c = c.in-Err.ensures.done c.args.place c.args.seat.now (as_told c.if-not-can.false c.enter-can.ensures.entered)
 
 pub returns-clause-granted : goal.returns-clause-granted
 returns-clause-granted g c = λ _. c.in_default.ensures.done c.args.place c.args.seat.now (as_told c.if-not-can.false c.enter-can.ensures.entered)

@@ -1,26 +1,21 @@
 -- A ticket more, under which nothing is noted, or only steps were made.
-use Rattle.std.proofs.Common.{◌≡◌, ◌≢◌, ℕ, ◌+◌, ◌==◌, ◌++◌, List, [], ◌∷◌, length, Some, None, refl, sym, ap, ◌∙◌, subst, length-append, arith}
+use Rattle.std.proofs.Common.{◌≡◌, ℕ, ◌+◌, ◌==◌, ◌++◌, List, [], ◌∷◌, length, Some, None, refl, sym, ap, ◌∙◌, subst, length-append, arith}
 use Rattle.std.specs.Prelude.{Option}
 use Rattle.std.proofs.lemmas.List.{nil_from_length}
 use Rattle.atomic_table.specs.Seated.{TableId}
 use Rattle.mdl_key.specs.declared.namespace.Kind.{Kind}
 use Rattle.mdl_word.specs.Words.{increment_of}
-use Rattle.mdl_word.specs.declared.word.Word.{Word}
 use Rattle.mdl_defs.proofs.ColumnLemmas.{length-filter-le}
 use Rattle.mdl_steps.specs.declared.view.Own.{Own}
 use Rattle.mdl_steps.specs.Cells.{own_at}
 use Rattle.mdl_steps.specs.FastPlays.{fast_own, first_note, noted_at}
 use Rattle.mdl_steps.specs.Plays.{Mine}
-use Rattle.mdl_steps.specs.SeatStates.{AtItsTable}
 use Rattle.mdl_steps.specs.Seats.{IsPlace}
 use Rattle.mdl_steps.proofs.Views.{by_bool}
-use Rattle.mdl_visits.specs.declared.calls.try_fast.FastTried.{FastTried}
-use Rattle.mdl_visits.specs.declared.calls.try_fast.FastTried.TheVariants.{Granted, Obtruded, Contended}
 use Rattle.mdl_visits.specs.Idle.{IsIdle}
-use Rattle.mdl_visits.specs.Visits.{MakesSteps}
-use Rattle.mdl_visits.proofs.FastTrying.{only_steps}
 use Rattle.mdl_shared.specs.Members.{kind_known}
 use Rattle.mdl_shared.proofs.Membership.{kind_there}
+use Rattle.mdl_shared_trials.proofs.VainTries.{only_steps}
 use Rattle.mdl_shared_trials.proofs.steps.fast_visitors.FastVisitor.try_fast.Goals as goal
 
 -- a first ticket without a note is passed over
@@ -35,12 +30,6 @@ none_noted place (x ∷ xs) slow t unnoted e =
     by_bool (x.place == place)
     (λ here. rw here (passed_over x (own_at place xs ++ slow) (own_at place (xs ++ t ∷ []) ++ slow) x.noted refl (rw here at e) (none_noted place xs slow t unnoted)))
     (λ away. rw away (none_noted place xs slow t unnoted (rw away at e)))
-
--- whoever wasn't granted the ticket made steps alone
-ungranted : (P : Type 0) (tried : FastTried) → tried ≢ Granted → ((word : Word) → tried ≡ Obtruded word → P) → ((word : Word) → tried ≡ Contended word → P) → P
-ungranted P Granted missed obtruded contended = absurd (missed refl)
-ungranted P (Obtruded word) missed obtruded contended = obtruded word refl
-ungranted P (Contended word) missed obtruded contended = contended word refl
 
 pub try_fast-tried-requires-clause-gained : goal.try_fast-tried-requires-clause-gained
 try_fast-tried-requires-clause-gained c =
@@ -87,8 +76,7 @@ invariant_of-self-in_default c =
     let self = c.args.self.now in
     let place = self.place in
     let tried = c.try_fast-tried in
-    let steps = ungranted (AtItsTable self.seat tried.new.seat MakesSteps) tried.result c.in_default.not-Granted
-    (λ word is. (tried.ensures.obtruded word is).0) (λ word is. let missed = tried.ensures.contended word is in (missed.0, only_steps missed.1)) in
+    let steps = only_steps place self.seat tried.new.seat tried.result c.in_default.not-Granted tried.ensures.obtruded tried.ensures.contended in
     let now = steps.1.1 in
     record {
       placed = subst (λ (id : TableId). IsPlace id place) (sym steps.0) self.placed;

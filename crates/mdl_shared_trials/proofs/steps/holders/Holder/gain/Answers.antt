@@ -1,30 +1,19 @@
 -- A ticket more, whose number is the next, or only steps were made.
-use Rattle.std.proofs.Common.{◌≡◌, ◌≢◌, ℕ, ◌+◌, ◌++◌, List, [], ◌∷◌, length, None, refl, true, sym, ap, ◌∙◌, subst, length-append, arith}
+use Rattle.std.proofs.Common.{◌≡◌, ℕ, ◌+◌, ◌++◌, List, [], ◌∷◌, length, None, refl, true, sym, ap, ◌∙◌, subst, length-append, arith}
 use Rattle.atomic_table.specs.Seated.{TableId}
 use Rattle.mdl_key.specs.declared.namespace.Kind.{Kind}
 use Rattle.mdl_word.specs.Words.{increment_of}
-use Rattle.mdl_word.specs.declared.word.Word.{Word}
 use Rattle.mdl_steps.specs.declared.view.Own.{Own}
 use Rattle.mdl_steps.specs.FastPlays.{fast_own}
 use Rattle.mdl_steps.specs.Plays.{Mine}
-use Rattle.mdl_steps.specs.SeatStates.{AtItsTable}
 use Rattle.mdl_steps.specs.Seats.{IsPlace}
-use Rattle.mdl_visits.specs.declared.calls.try_fast.FastTried.{FastTried}
-use Rattle.mdl_visits.specs.declared.calls.try_fast.FastTried.TheVariants.{Granted, Obtruded, Contended}
 use Rattle.mdl_visits.specs.Idle.{IsIdle}
-use Rattle.mdl_visits.specs.Visits.{MakesSteps}
-use Rattle.mdl_visits.proofs.FastTrying.{only_steps}
 use Rattle.mdl_shared.specs.Members.{kind_known}
 use Rattle.mdl_shared.proofs.Membership.{kind_there}
 use Rattle.mdl_shared_trials.specs.Holders.{are_in_turn}
 use Rattle.mdl_shared_trials.proofs.HoldersKnow.{fast_there, one_in_turn, unnoted_there}
+use Rattle.mdl_shared_trials.proofs.VainTries.{only_steps}
 use Rattle.mdl_shared_trials.proofs.steps.holders.Holder.gain.Goals as goal
-
--- whoever wasn't granted the ticket made steps alone
-ungranted : (P : Type 0) (tried : FastTried) → tried ≢ Granted → ((word : Word) → tried ≡ Obtruded word → P) → ((word : Word) → tried ≡ Contended word → P) → P
-ungranted P Granted missed obtruded contended = absurd (missed refl)
-ungranted P (Obtruded word) missed obtruded contended = obtruded word refl
-ungranted P (Contended word) missed obtruded contended = contended word refl
 
 pub try_fast-requires-clause-gained : goal.try_fast-requires-clause-gained
 try_fast-requires-clause-gained c =
@@ -75,8 +64,7 @@ invariant_of-self-in_default-try_fast c =
     let self = c.args.self.now in
     let place = self.place in
     let tried = c.try_fast in
-    let steps = ungranted (AtItsTable self.seat tried.new.seat MakesSteps) tried.result c.in_default-try_fast.not-Granted
-    (λ word is. (tried.ensures.obtruded word is).0) (λ word is. let missed = tried.ensures.contended word is in (missed.0, only_steps missed.1)) in
+    let steps = only_steps place self.seat tried.new.seat tried.result c.in_default-try_fast.not-Granted tried.ensures.obtruded tried.ensures.contended in
     let now = steps.1.1 in
     let listed = sym c.reserve.ensures.items in
     record {

@@ -1,0 +1,70 @@
+//! What can end a measurement.
+use mdl_calls::{NewError, SpaceError};
+use mdl_context::ContextError;
+use mdl_key::KeyError;
+use std::alloc::AllocError;
+use std::io;
+
+/// What can end a measurement.
+#[derive(Clone, Copy)]
+pub enum Failure {
+    /// A key, or a table, that can't be made.
+    Unmade,
+    /// A call that is refused.
+    Refused,
+    /// A call that answers something else than it should.
+    Unexpected,
+    /// Memory ran out.
+    Memory,
+    /// The clock or the arguments can't be read, or nothing can be printed.
+    Device,
+}
+
+impl Failure {
+    /// What the program says of it.
+    pub fn text(self) -> &'static str {
+        match self {
+            Failure::Unmade => "a key or a table can't be made",
+            Failure::Refused => "a call is refused",
+            Failure::Unexpected => "a call has an answer that it should not have",
+            Failure::Memory => "out of memory",
+            Failure::Device => "the clock, the arguments or the output fail",
+        }
+    }
+}
+
+impl From<KeyError> for Failure {
+    fn from(_error: KeyError) -> Failure {
+        Failure::Unmade
+    }
+}
+
+impl From<NewError> for Failure {
+    fn from(_error: NewError) -> Failure {
+        Failure::Unmade
+    }
+}
+
+impl From<SpaceError> for Failure {
+    fn from(_error: SpaceError) -> Failure {
+        Failure::Refused
+    }
+}
+
+impl From<ContextError> for Failure {
+    fn from(_error: ContextError) -> Failure {
+        Failure::Refused
+    }
+}
+
+impl From<AllocError> for Failure {
+    fn from(_error: AllocError) -> Failure {
+        Failure::Memory
+    }
+}
+
+impl From<io::Error> for Failure {
+    fn from(_error: io::Error) -> Failure {
+        Failure::Device
+    }
+}
