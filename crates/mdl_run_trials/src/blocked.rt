@@ -1,16 +1,13 @@
 //! A session of the test's own has a table for itself while a script is played over the same lock table.
 ghost use Rattle.std.specs.Prelude.{◌≡◌, ◌≤◌, All, length};
-ghost use Rattle.std.specs.List.{list_all};
 ghost use Rattle.mdl_shared.specs.Passes.{table_of, pass_table};
-ghost use Rattle.mdl_script.specs.Turns.{has_pass};
 
-use crate::playing::lines;
+use crate::playing::{lines, played_on};
 use mdl_calls::{Attempt, SpaceError, TicketId};
 use mdl_defs::{Definition, Standing};
 use mdl_key::{Key, MOST_PLACES, MOST_SESSIONS, Mode};
-use mdl_script::{OpenGate, run_on};
+use mdl_script::OpenGate;
 use mdl_shared::{HoldsTickets, Manager, Pass, Session};
-use mdl_syntax::{Script, parse};
 use std::alloc::Global;
 use std::process::Abort;
 use std::sync::Wait;
@@ -55,41 +52,7 @@ fn is_new_table(standing: &Standing) -> bool {
     }
 }
 
-// Whether a session has one of these passes.
-fn has_pass(passes: &[Pass], who: u16) -> bool
-    ensures { result ≡ has_pass passes.now who }
-{
-    passes.iter().any(|pass| pass.number() == who)
-}
-
-// Whether the session of each line has one.
-fn are_there(passes: &[Pass], script: &Script) -> bool
-    ensures { result ≡ list_all (λ line. has_pass passes.now line.session) script.now }
-{
-    script
-        .lines()
-        .iter()
-        .all(|line| has_pass(passes, line.session))
-}
-
-// The text of a run by these passes.
-fn played_by<R: Threads + Wait + Sync>(
-    rt: &R,
-    alloc: Global,
-    manager: &Manager,
-    passes: Vec<Pass>,
-) -> Result<String, Fail>
-    requires some { 1 ≤ length passes.items }
-    requires theirs { All (λ pass. pass_table pass ≡ table_of manager.now) passes.items }
-{
-    let script = parse(alloc, lines(alloc, SCRIPT)?.as_bytes())?;
-    if !are_there(&passes, &script) {
-        return Err(Fail::from("a session has no pass"));
-    }
-    Ok(run_on(rt, alloc, manager, passes, &script, 0, &OpenGate)?)
-}
-
-// The same while a session has table t, and what it sees of table u then.
+// The text of the run while a session has table t, and what it sees of table u then.
 fn played_beside<R: Threads + Wait + Sync>(
     rt: &R,
     alloc: Global,
@@ -105,13 +68,15 @@ fn played_beside<R: Threads + Wait + Sync>(
     let Some(id) = take(own, &had, Mode::X)? else {
         return Err(Fail::from("the table is not free"));
     };
-    let text = played_by(rt, alloc, manager, passes)?;
+    let script = lines(alloc, SCRIPT)?;
+    let text = played_on(rt, alloc, manager, passes, script.as_str(), 0, &OpenGate)?;
     let standing = read(own, &seen)?;
     own.release(id)?;
     Ok((text, standing))
 }
 
-fn close<R: Drop>(rt: &impl Abort, session: Session<R>) {
+/// The session has no ticket and no wait: it is closed.
+pub(crate) fn close<R: Drop>(rt: &impl Abort, session: Session<R>) {
     match session.close() {
         Ok(_pass) => {}
         Err(HoldsTickets(_session)) => panic!(rt; "the session has a ticket or a wait"),

@@ -1,6 +1,12 @@
 //! Scripts are played on threads, from text to text.
-use mdl_script::{Gate, run_threads};
-use mdl_syntax::parse;
+ghost use Rattle.std.specs.Prelude.{◌≡◌, ◌≤◌, All, length};
+ghost use Rattle.std.specs.List.{list_all};
+ghost use Rattle.mdl_shared.specs.Passes.{table_of, pass_table};
+ghost use Rattle.mdl_script.specs.Turns.{has_pass};
+
+use mdl_script::{Gate, run_on, run_threads};
+use mdl_shared::{Manager, Pass};
+use mdl_syntax::{Script, parse};
 use std::alloc::{AllocError, Global};
 use std::sync::Wait;
 use std::test::Fail;
@@ -26,4 +32,41 @@ pub(crate) fn played<R: Threads + Wait + Sync, G: Gate + Sync>(
 ) -> Result<String, Fail> {
     let script = parse(alloc, script.as_bytes())?;
     Ok(run_threads(rt, alloc, &script, patience, gate)?)
+}
+
+// Whether a session has one of these passes.
+fn has_pass(passes: &[Pass], who: u16) -> bool
+    ensures { result ≡ has_pass passes.now who }
+{
+    passes.iter().any(|pass| pass.number() == who)
+}
+
+// Whether the session of each line has one.
+fn are_there(passes: &[Pass], script: &Script) -> bool
+    ensures { result ≡ list_all (λ line. has_pass passes.now line.session) script.now }
+{
+    script
+        .lines()
+        .iter()
+        .all(|line| has_pass(passes, line.session))
+}
+
+/// The text of a run of a script by these passes of a lock table that is there already.
+pub(crate) fn played_on<R: Threads + Wait + Sync, G: Gate + Sync>(
+    rt: &R,
+    alloc: Global,
+    manager: &Manager,
+    passes: Vec<Pass>,
+    script: &str,
+    patience: u32,
+    gate: &G,
+) -> Result<String, Fail>
+    requires some { 1 ≤ length passes.items }
+    requires theirs { All (λ pass. pass_table pass ≡ table_of manager.now) passes.items }
+{
+    let script = parse(alloc, script.as_bytes())?;
+    if !are_there(&passes, &script) {
+        return Err(Fail::from("a session has no pass"));
+    }
+    Ok(run_on(rt, alloc, manager, passes, &script, patience, gate)?)
 }

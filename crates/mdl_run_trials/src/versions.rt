@@ -1,6 +1,9 @@
 //! Eight sessions read a table while a ninth one makes and changes it.
-use crate::playing::played;
+use crate::blocked::close;
+use crate::playing::played_on;
+use mdl_key::MOST_PLACES;
 use mdl_script::OpenGate;
+use mdl_shared::{Audited, Manager, Session};
 use std::alloc::{AllocError, Global};
 use std::test::Fail;
 
@@ -98,12 +101,27 @@ fn first_that_falls(text: &str) -> Option<u16> {
     None
 }
 
+// Whether nobody has a ticket in any book, or waits for one.
+fn are_free(books: &[Audited]) -> bool {
+    books.iter().all(|book| book.book.granted.is_empty() && book.book.waiting.is_empty())
+}
+
+// A tenth session looks at all books when the run is over.
 #[test]
 fn versions_never_fall(rt: HostRuntime) -> Result<(), Fail> {
     let alloc = rt.alloc();
     let script = script(alloc)?;
-    let played = played(&rt, alloc, script.as_str(), u32::MAX, &OpenGate)?;
+    let (manager, mut passes) = Manager::new(alloc, MOST_PLACES, 10)?;
+    let Some(last) = passes.pop() else {
+        return Err(Fail::from("there is no session"));
+    };
+    let text = script.as_str();
+    let played = played_on(&rt, alloc, &manager, passes, text, u32::MAX, &OpenGate)?;
+    let mut watcher = Session::open(&rt, &manager, last);
+    let books = watcher.audit();
+    close(&rt, watcher);
     assert_eq!(rt; first_that_falls(played.as_str()), None);
     assert!(rt; played.ends_with(CHANGED));
+    assert!(rt; are_free(&books?));
     Ok(())
 }

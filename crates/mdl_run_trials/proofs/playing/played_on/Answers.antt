@@ -3,7 +3,7 @@ use Rattle.std.proofs.Common.{◌≡◌, ◌∙◌, sym, subst, true, All}
 use Rattle.mdl_script.specs.RunTexts.{named_sessions}
 use Rattle.mdl_script.specs.Turns.{has_pass}
 use Rattle.mdl_run_trials.proofs.PassLemmas.{named_there}
-use Rattle.mdl_run_trials.proofs.blocked.played_by.Goals as goal
+use Rattle.mdl_run_trials.proofs.playing.played_on.Goals as goal
 
 pub run_on-requires-clause-there : goal.run_on-requires-clause-there
 run_on-requires-clause-there g c κs within =
