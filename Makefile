@@ -2,8 +2,8 @@
 
 # The script that `make run` and `make try` run. By its ending it is one of statements (NAME.replay), one whose sessions run on threads
 # (NAME.run), of a scoped lock (NAME.scoped.lock), or of an object lock (NAME.lock). With OPTIONS=--scoped it is one of a scoped lock
-# whatever its ending, with SUBCOMMAND=replay, SUBCOMMAND=run or SUBCOMMAND=lock any ending will do, and OPTIONS="--patience 5" is the
-# patience of a run on threads.
+# whatever its ending, with SUBCOMMAND=replay, SUBCOMMAND=run or SUBCOMMAND=lock any ending will do, and OPTIONS="--patience 5 --cache 1"
+# gives a run on threads a patience, and its sessions caches.
 SCRIPT = crates/mdlsim/stdin
 SUBCOMMAND = $(if $(filter %.replay,$(SCRIPT)),replay,$(if $(filter %.run,$(SCRIPT)),run,lock))
 OPTIONS = $(if $(filter %.scoped.lock,$(SCRIPT)),--scoped)
@@ -16,13 +16,16 @@ PROGRAMS = mdlsim
 
 PROGRAM = crates/mdlsim/out/mdlsim
 
+# How long `make fuzz` goes on, and from which number it makes its scripts: any, unless SEED=N names it. MDLSIM=PATH is another program.
+SECONDS = 60
+
 # It is there once `make run` has printed answers.
 FIRST_RUN = crates/mdlsim/out/first_run
 
 BENCH = crates/mdl_bench/out/mdl_bench
 FAST_BENCH = crates/mdl_fast_bench/out/mdl_fast_bench
 
-.PHONY: help run try script test layout docs bench examples commands growths wrong build install dist dist-check dist-libraries \
+.PHONY: help run try script test layout docs bench examples commands c fuzz growths wrong build install dist dist-check dist-libraries \
     dist-libraries-check clean kit
 
 help:
@@ -34,6 +37,8 @@ help:
 	@echo 'make docs                  says what is stale in the docs'
 	@echo 'make examples              compares the answers to each example with those that lie beside it'
 	@echo 'make commands              compares what mdlsim, proved, does by its words with what it ought to do'
+	@echo 'make c                     builds the programs of examples/c over the library for C, proved, and compares what they print'
+	@echo 'make fuzz [SECONDS=60]     plays random scripts with the mdlsim that was built last, and checks each run'
 	@echo 'make growths               refuses each growth of some short lives in turn'
 	@echo 'make wrong [CRATE=NAME]    has the prover refuse the wrong bodies, of all crates or of one'
 	@echo 'make bench                 times scripts and calls'
@@ -61,8 +66,8 @@ script:
 	*) echo "$(SCRIPT): a script ends with .lock, .replay or .run" >&2; exit 1 ;; esac
 
 # The gate: the files are in the layout, the docs agree with the tree, everything is proved and tested from nothing, the wrong bodies are refused
-# (but some of those that `make wrong` tries), the examples have their answers, the program does what its words ask for, and refused growths
-# lose nothing (every seventh is refused here; `make growths` refuses each).
+# (but some of those that `make wrong` tries), the examples have their answers, the program does what its words ask for, refused growths
+# lose nothing (every twenty-third is refused here; `make growths` refuses each), and the programs of C have their answers, where there is gcc.
 test: layout docs
 	@sh make/gate.sh
 
@@ -94,9 +99,18 @@ bench: build
 examples: kit
 	@sh examples/check.sh
 
-# The program does what the words of its command line ask for, and tells what it can't do.
+# The program does what the words of its command line ask for, and tells what it can't do; bad lines and streams that fail it tells, too.
 commands: build
 	@python3 commands/check.py $(PROGRAM)
+
+# The programs of examples/c give their answers, over the library for C as the prover passed it. Without gcc they aren't tried.
+c: kit
+	@sh make/c.sh
+
+# Plays random scripts with the program that was built last, and checks each run. Scripts that fail are kept in fuzz/out/.
+fuzz:
+	@sh make/needs.sh python3
+	@python3 fuzz/fuzz.py --seconds $(SECONDS) $(if $(SEED),--seed $(SEED)) $(or $(MDLSIM),$(PROGRAM))
 
 # Short lives of the crates go well where any one of their allocations is refused, and runs on threads tell where one of some is.
 growths: kit
@@ -129,7 +143,7 @@ dist-libraries-check: kit
 	@sh make/dist_libraries.sh check $(PROGRAMS)
 
 clean:
-	@rm -rf crates/*/out bench/peers/out dist
+	@rm -rf crates/*/out bench/peers/out fuzz/out dist
 
 kit:
 	@sh make/needs.sh rt python3

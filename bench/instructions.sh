@@ -1,6 +1,6 @@
 #!/bin/sh
 # Counts the instructions of a pair of calls, `try_fast` and `release_fast`, of a session that knows and holds little, and of one that knows and
-# holds much.
+# holds much; and the instructions and the allocations of a read that is lent by a cache of one table, and of many.
 # Usage: sh bench/instructions.sh PROGRAM
 # PROGRAM is mdl_fast_bench. A count is the difference of two runs, so what is done once isn't in it. It needs valgrind; where that isn't there, a
 # line says so.
@@ -9,26 +9,50 @@ few=10000
 many=110000
 
 if ! command -v valgrind > /dev/null; then
-    echo "the instructions of a pair are left out: valgrind isn't there"
+    echo "the instructions are left out: valgrind isn't there"
     exit 0
 fi
 made=$(mktemp -d)
 trap 'rm -rf "$made"' EXIT
 
-# The instructions of a run of so many pairs.
-counted() {
-    valgrind --tool=callgrind --callgrind-out-file="$made/counts" "$program" pairs "$1" "$2" "$3" 2> "$made/said" || {
+# A run of the program under one of valgrind's tools: OPTION.. WORD..
+watched() {
+    valgrind "$@" 2> "$made/said" || {
         cat "$made/said" >&2
         exit 1
     }
+}
+
+# The instructions of a run: so many turns of what the other words say.
+counted() {
+    watched --tool=callgrind --callgrind-out-file="$made/counts" "$program" "$@"
     sed -n 's/^\(summary\|totals\): //p' "$made/counts" | head -n 1
 }
 
-# NAME, instructions, the threads, what is known and held, and how many instructions a pair takes.
+# The allocations of a run.
+allocated() {
+    watched --tool=memcheck "$program" "$@"
+    sed -n 's/.*total heap usage: \([0-9,]*\) allocs.*/\1/p' "$made/said" | tr -d ,
+}
+
+# Prints NAME, what is counted, the threads, what is known, held or kept, and how many a turn takes. It is called with the function that counts,
+# the first words of that line, and the words of the program without the turns.
+told() {
+    count=$1
+    line=$2
+    word=$3
+    shift 3
+    less=$($count "$word" "$few" "$@") && more=$($count "$word" "$many" "$@") || exit 1
+    tenths=$(((more - less) * 10 / (many - few)))
+    echo "$line $((tenths / 10)).$((tenths % 10))"
+}
+
 for stock in '1 0' '1 1' '250 0' '250 1' '250 250'; do
     known=${stock% *}
     held=${stock#* }
-    less=$(counted "$few" "$known" "$held") && more=$(counted "$many" "$known" "$held") || exit 1
-    tenths=$(((more - less) * 10 / (many - few)))
-    echo "a_pair instructions 1 known_${known}_held_$held $((tenths / 10)).$((tenths % 10))"
+    told counted "a_pair instructions 1 known_${known}_held_$held" pairs "$known" "$held"
+done
+for kept in 1 250; do
+    told counted "r_read_cached instructions 1 kept_$kept" reads "$kept"
+    told allocated "r_read_cached allocations 1 kept_$kept" reads "$kept"
 done

@@ -1,5 +1,5 @@
-"""Gives mdlsim words, and looks what it does: which run they ask for, and what it tells of words that ask for none. Looks whether the completions
-of the shells have the words that its help lists.
+"""Gives mdlsim words, and looks what it does: which run they ask for, and what it tells of words that ask for none. Gives it lines that it has to
+refuse, and streams that fail. Looks whether the completions of the shells have the words that its help lists.
 
 Usage, at the top of the repository: python3 commands/check.py [PROGRAM]    the program that was built last, or another one
 """
@@ -8,6 +8,9 @@ import pathlib
 import re
 import subprocess
 import sys
+
+from devices import wrong_devices
+from lines import wrong_lines
 
 PROGRAM = "crates/mdlsim/out/mdlsim"
 HERE = pathlib.Path(__file__).resolve().parent
@@ -35,13 +38,17 @@ TAKEN = [
     ("replay", "1 BEGIN\n65 BEGIN\n", 1, "", "line 2: BadSession\n"),
 ]
 
-# Ways to say how often a statement that waits looks again. Which number is taken the contract of `command` says; these runs show that one is.
-PATIENCES = [
+# Ways to say how often a statement that waits looks again, and how many definitions a session keeps. Which numbers are taken the contract of `command`
+# says; these runs show that some are.
+NUMBERS = [
     *("--patience 0", "--patience=0", "--patience 1 --", "--patience=1 --", "--patience 4294967295", "--patience=4294967295"),
     *("--patience 007", "--patience=00000000000000000000000000000007", "--patience +7", "--patience=+7"),
     *("--patience=-0", "--patience=-000"),
+    *("--cache 1", "--cache=1", "--cache 64 --", "--cache=64 --", "--cache 4096", "--cache=4096", "--cache 007", "--cache=+7"),
+    *("--patience 5 --cache 1", "--cache 1 --patience 5", "--patience=5 --cache=1 --", "--cache=1 --patience=5 --"),
+    *("--patience 5 --cache=1", "--patience=5 --cache 1 --", "--cache 1 --patience=-0", "--cache=1 --patience 5"),
 ]
-TAKEN += [(f"run {words}", ALONE, 0, FINALS, "") for words in PATIENCES]
+TAKEN += [(f"run {words}", ALONE, 0, FINALS, "") for words in NUMBERS]
 
 # Both ask for the matrices.
 MATRICES = ["matrix", "matrix --"]
@@ -98,11 +105,11 @@ def wrong_completions(program):
 def main(words):
     """Looks at all rows, and returns the status to end with."""
     program = words[0] if words else PROGRAM
-    wrong = [*wrong_rows(program), *wrong_completions(program)]
+    wrong = [*wrong_rows(program), *wrong_completions(program), *wrong_lines(program), *wrong_devices(program)]
     for given, found in wrong:
         print(f"mdlsim {given}: {found}".replace("mdlsim mdlsim", "mdlsim"), file=sys.stderr)
     if not wrong:
-        print("mdlsim does what its words ask for, tells what it can't do, and has its words in the completions")
+        print("mdlsim does what its words ask for, tells what it can't do, by bad lines and bad streams too, and has its words in the completions")
     return 1 if wrong else 0
 
 

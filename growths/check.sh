@@ -3,16 +3,17 @@
 # The program makes as many allocations before its lives as its word says, and to each run the allocation of the same
 # number is refused, so each word has another one of the lives refused. It is built here once, without its proof, which `rt ci` gives, and
 # runs compiled alone: the kit's interpreter can't run a program that reads its words, and one step is enough for it to say so.
-# Then mdlsim plays an example on threads, behind more and more lines: to each run one allocation is refused, and it has to tell just that.
-# Usage: sh growths/check.sh        each allocation, in some twelve minutes
-#        sh growths/check.sh 7      every seventh of them
+# Then mdlsim plays an example on threads, behind more and more lines: to each run one allocation is refused, and it has to tell just that, unless a cache
+# alone lacks the memory.
+# Usage: sh growths/check.sh        each allocation, in some fifty minutes
+#        sh growths/check.sh 23     every twenty-third of them
 growths=$(cd "$(dirname "$0")" && pwd)
 sh "$growths/../make/needs.sh" rt python3 awk || exit 1
 made=$(mktemp -d)
 trap 'rm -rf "$made"' EXIT
 
-# The number of the allocation that is refused. It has to be more than a run makes: some 1,550, those that read the word included.
-refused=1580
+# The number of the allocation that is refused. It has to be more than a run makes: 3,134, those that read the word included.
+refused=3300
 
 # The same of mdlsim, where it plays the example alone.
 refused_on_threads=400
@@ -41,19 +42,37 @@ lay() {
     echo run > "$made/plays/$1.args"
 }
 
-# Whether all cases but the example alone ended with status 3, and told nothing but that memory ran out. Those that didn't are named.
+# The answers to the example behind so many lines, if nothing is refused.
+answers() {
+    seq -f '%.0f 1 ERR 1146' 1 "$1"
+    awk -v LINES="$1" '$1 != "FINAL" { $1 += LINES } { print }' "$growths/../examples/two_threads.answers"
+}
+
+# Whether all cases but the example alone, which `rt try` compares, ended with status 3, and told nothing but that memory ran out; or gave all answers, since
+# a cache of definitions lacked the memory, which is no fault. Those that didn't are named.
 nothing_else_is_told() {
-    awk '/^== / { told = ""; next }
+    awk -v WHOLE="$made/whole" '/^== / { told = ""; next }
         /^allocations: / { next }
         !/^case=/ { told = told $0 "/"; next }
-        /^case=0 / ? !/ status=0 / : !/ status=3 / || told != "fault: memory/" { print $1 " told " told; wrong = 1 }
+        {
+            split($1, name, "=")
+            file = WHOLE "/" name[2]
+            answers = ""
+            while ((getline line < file) > 0) answers = answers line "/"
+            close(file)
+            starved = / status=3 / && told == "fault: memory/"
+            whole = / status=0 / && told == answers
+            if (name[2] == "0" ? !/ status=0 / : !starved && !whole) { print $1 " told " told; wrong = 1 }
+        }
         END { exit wrong }' "$made/log"
 }
 
 cd "$growths/../crates/mdlsim" || exit 1
-mkdir "$made/plays"
-for lines in 0 $(seq 24 6 150); do
+mkdir "$made/plays" "$made/whole"
+lay 0
+for lines in $(seq 24 6 150); do
     lay "$lines"
+    answers "$lines" > "$made/whole/$lines"
 done
 cp "$growths/../examples/two_threads.answers" "$made/plays/0.stdout"
 play $refused_on_threads "$made/plays"

@@ -15,7 +15,7 @@ trap 'rm -rf "$made"' EXIT
 pages=$(ls README.md CONTRIBUTING.md CHANGELOG.md docs/*.md crates/*/README.md examples/*.md 2> /dev/null)
 
 # The most words that all pages may have together.
-most_words=45000
+most_words=46000
 
 # ---- what there is
 
@@ -152,15 +152,17 @@ stale_names() {
     awk -F '\t' -f make/docs/rows.awk "$made/by-file" "$made/words"
 }
 
-# Each public call of a library is named on its crate's page, in the index of docs/PROOFS.md, or in the table of memory. That has all
-# calls of a file, or none.
+# Each public call of a library is named on its crate's page, in the index of docs/PROOFS.md, or in the table of memory. But for the row of others,
+# that has all calls of a file, or none.
 stale_calls() {
     calls > "$made/calls"
     awk -F '\t' -f make/docs/unnamed.awk "$made/words" "$made/calls"
-    column docs/LIBRARY.md '| call | memory' 1 > "$made/memory"
+    grep -v '^| of others: ' docs/LIBRARY.md > "$made/page"
+    column "$made/page" '| call | memory' 1 > "$made/memory"
     awk 'NR == FNR { told[$1]; next } { file[$3] = $2 } $3 in told { some[$2] } END { for (call in file) if (file[call] in some) print call }' \
         "$made/memory" "$made/calls" > "$made/timed"
     differing 'docs/LIBRARY.md, table of memory' timed < "$made/memory"
+    python3 make/docs/memory.py < "$made/calls"
 }
 
 stale_figures() {

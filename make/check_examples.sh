@@ -11,9 +11,9 @@ made=$(mktemp -d)
 trap 'rm -rf "$made"' EXIT
 
 # The library crates: those with a src/lib.rt that are no tests. mdl_steps_laws and mdl_session_laws have nothing to call: their functions only state
-# laws.
+# laws. mdl_c is called from C, as examples/c does.
 libraries() {
-    ls crates/*/src/lib.rt | cut -d/ -f2 | grep -v -x -e '.*trials' -e 'mdl_examples' -e 'mdl_steps_laws' -e 'mdl_session_laws'
+    ls crates/*/src/lib.rt | cut -d/ -f2 | grep -v -x -e '.*trials' -e 'mdl_examples' -e 'mdl_steps_laws' -e 'mdl_session_laws' -e 'mdl_c'
 }
 
 # The file of examples that names a crate in its first line.

@@ -1,6 +1,6 @@
 #!/bin/sh
 # The gate: proves everything from nothing and runs all tests, tries the wrong bodies over what was proved, compares with what the proved
-# program answers to the examples and does by its words, and refuses every seventh growth. At the end it says how much processor time that took.
+# program answers to the examples and does by its words, refuses every twenty-third growth, and runs the programs of C. At the end it says how much processor time that took.
 # Usage: sh make/gate.sh, at the top of the repository.
 spent=$(mktemp)
 trap 'rm -f "$spent"' EXIT
@@ -11,7 +11,7 @@ RT_JOBS=$(awk -v most="$(nproc)" '/^MemAvailable:/ { fit = int($2 / 4.5e6); prin
 export RT_JOBS
 
 rt ci && python3 make/wrong_bodies.py --gate && MDLSIM=$PWD/crates/mdlsim/out/mdlsim sh examples/check.sh && python3 commands/check.py \
-    && sh growths/check.sh 7
+    && sh growths/check.sh 23 && sh make/c.sh
 status=$?
 # (the second line has the children's time: of the user, and of the system)
 times > "$spent"

@@ -157,7 +157,18 @@ def told_of(function, said):
     # (that of a function that calls itself is in a folder with a `+`)
     proofs = tuple("/".join(["proofs", *folders, mark + name, ""]) for mark in ("", "+"))
     verdict = [it for it in said if it.startswith(f"fn {function}: ")]
-    return verdict, [it for it in said if it.removeprefix("./").startswith(proofs) and ": error: " in it]
+    return verdict, [it for it in messages_of(said) if it.removeprefix("./").startswith(proofs) and ": error: " in it]
+
+
+def messages_of(said):
+    """Returns what a check said, each message with the indented lines that go on with it."""
+    messages = []
+    for line in said:
+        if line.startswith(" ") and messages:
+            messages[-1] += " " + line.strip()
+        else:
+            messages.append(line)
+    return messages
 
 
 def is_refused(function, said):
@@ -204,7 +215,7 @@ def emptied(lines, module, types, but):
         if not found or (found[1] and not owner):
             continue
         path = [*(owner if found[1] else module), found[2]]
-        if "::".join(path) in but:
+        if "::".join(path) in but or line.endswith("}"):
             continue
         indent = found[1] or ""
         while not line.startswith(indent + "{") and not (line.endswith("{") and line.startswith((indent + ")", found[0]))):

@@ -7,7 +7,7 @@ _mdlsim() {
         case ${COMP_WORDS[1]} in
             lock) words='--scoped --help' ;;
             matrix | replay) words='--help' ;;
-            run) words='--patience --help' ;;
+            run) words='--patience --cache --help' ;;
             help) words='lock matrix replay run' ;;
         esac
     fi

@@ -39,13 +39,15 @@ pub use mdl_calls as calls;
 pub use mdl_context as context;
 pub use mdl_context::{Acquire, Context, Request, Resume};
 pub use mdl_defs as defs;
-pub use mdl_defs::{Change, Column, Columns, Definition, Standing};
+pub use mdl_defs::{
+    CacheError, Change, Column, Columns, DefCache, Definition, MOST_KEPT, Standing,
+};
 pub use mdl_graph as graph;
 pub use mdl_key as key;
 pub use mdl_key::{Duration, Key, Kind, Mode, Namespace, conflicts_granted, conflicts_waiting};
 pub use mdl_lines as lines;
 pub use mdl_script as script;
-pub use mdl_script::{replay, run_on, run_threads};
+pub use mdl_script::{DEFAULT_CACHE, replay, run_on, run_threads};
 pub use mdl_shared as shared;
 pub use mdl_shared::{Manager, Pass, Session};
 pub use mdl_space as space;

@@ -1,4 +1,5 @@
 //! Definitions and their changes.
+mod caches;
 mod columns;
 mod standings;
 

@@ -1,3 +1,4 @@
+pub mod CacheLemmas
 pub mod FaithfulLemmas
 pub mod LoneLemmas
 pub mod MappedLists

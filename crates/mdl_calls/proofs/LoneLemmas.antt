@@ -88,7 +88,10 @@ lone-reads a b (Read_definition w n) who id version definition ticket made under
     let mine : w ≡ who = cc in
     let named : n ≡ id = cc in
     (sym mine ∙ j.allowed.0 ∙ sym j.same.0, subst (HoldsAt ticket.place) (sym j.changed) (held-there id a.own ticket its), sym j.told_truly)
-lone-reads a b (Read_kept w n) who id version definition ticket made under its j = let e = j.has in cc
+lone-reads a b (Read_kept w n) who id version definition ticket made under its j =
+    let mine : w ≡ who = cc in
+    let named : n ≡ id = cc in
+    (sym mine ∙ j.allowed.0 ∙ sym j.same.0, subst (HoldsAt ticket.place) (sym j.changed) (held-there id a.own ticket its), sym j.told_truly)
 lone-reads a b _ who id version definition ticket made under its j = cc
 
 of_ticket : (id : ℕ) (own : Own) (ticket : Held) (P : Held → Type 0) → ticket_held id own ≡ Some ticket → OfHeld id own P → P ticket

@@ -1,4 +1,5 @@
 pub mod Answers
+pub mod Caches
 pub mod Calls
 pub mod Causes
 pub mod Faithful

@@ -12,12 +12,12 @@ ghost use Rattle.mdl_system.specs.Strength.{covers};
 ghost use Rattle.mdl_calls.specs.declared.space_error.SpaceError.{SpaceError};
 ghost use Rattle.mdl_calls.specs.declared.answers.Settled.{Settled};
 ghost use Rattle.mdl_calls.specs.declared.answers.Held.{Held};
-ghost use Rattle.mdl_calls.specs.Words.{Call, Resolve, Try_now, Begin_wait, Search as Search_by, Poll_wait, Settle_timeout, End_wait, Wait_of, Kill, Release, Clone_ticket, Upgrade_now, Merge, Downgrade, List_held, Read_definition, Change_definition, Tables_of, Key_of, Unpin, caller, Answer, Refused, Would_wait, Changed, Done, Reads, Tables, Key_is, At_place, Victim_is, Has_wait, Has_killed, Holds, is_answer_of, placed, attempted, begun, searched, polled, timed_out, ended, done, cloned, upgrade_tried, listed, Own, Wait, Numbers, own_after, wait_number, is_waiting, IsRising, Draws, IsExplained, told, IsToldOf, HoldsAt, AwaitsAt, AreTablesOf, IsChangeOf, keyed, read, read_under, redefined, redefined_place, tables_told, ticket_held};
+ghost use Rattle.mdl_calls.specs.Words.{AreMet, Call, Resolve, Try_now, Begin_wait, Search as Search_by, Poll_wait, Settle_timeout, End_wait, Wait_of, Kill, Release, Clone_ticket, Upgrade_now, Merge, Downgrade, List_held, Read_definition, Read_kept, Change_definition, Tables_of, Key_of, Unpin, caller, Answer, Refused, Would_wait, Changed, Done, Reads, Tables, Key_is, At_place, Victim_is, Has_wait, Has_killed, Holds, is_answer_of, placed, attempted, begun, searched, polled, timed_out, ended, done, cloned, upgrade_tried, listed, Own, Wait, Numbers, own_after, wait_number, is_waiting, IsRising, Draws, IsExplained, told, IsToldOf, HoldsAt, AwaitsAt, AreTablesOf, IsChangeOf, keyed, read, read_under, redefined, redefined_place, tables_told, ticket_held};
 
 use crate::{
     Attempt, Begun, Ended, Held, Place, Poll, Search, SpaceError, TicketId, TimedOut, Upgrade,
 };
-use mdl_defs::{Change, Standing};
+use mdl_defs::{Change, DefCache, Standing};
 use mdl_key::{Key, Mode};
 
 /// A lock space: keys at their places, and the tickets and waits of numbered sessions.
@@ -50,6 +50,9 @@ pub trait LockSpace {
 
     // This is what stands at a place: a session has read it, or made it, and it can't have changed since.
     ghost has_read: { Self → ℕ → ℕ → Standing → Type 0 };
+
+    // A session has met this at a place, now or before: it read it, or made it.
+    ghost has_met: { Self → ℕ → ℕ → Standing → Type 0 };
 
     // What stands at a place had this version already as a session read it.
     ghost has_seen: { Self → ℕ → ℕ → ℕ → Type 0 };
@@ -160,6 +163,23 @@ pub trait LockSpace {
     fn read_definition(&mut self, who: u16, id: TicketId) -> Result<Standing, SpaceError>
         requires { speaks_for self.old who }
         ensures { joins self.old (Read_definition who id) (read result) self.new };
+
+    /// As [`LockSpace::read_definition`], with a cache of what the session read before. Each definition in it has to be one that
+    /// the session met in this space.
+    ///
+    /// A space in which other sessions act reads the version alone where the cache has the definition, and else keeps what it
+    /// reads. The space of one thread leaves the cache as it is. That the cache finds no memory is no error.
+    fn read_kept(
+        &mut self,
+        who: u16,
+        id: TicketId,
+        cache: &mut DefCache,
+    ) -> Result<Standing, SpaceError>
+        requires speaks { speaks_for self.old who }
+        requires met { AreMet (has_met self.old who) cache.old.kept }
+        ensures joined { joins self.old (Read_kept who id) (read result) self.new }
+        ensures met { AreMet (has_met self.new who) cache.new.kept }
+        ensures capacity { cache.new.capacity ≡ cache.old.capacity };
 
     /// Changes what stands under the key of the place of a ticket that is held exclusively, and answers the new
     /// version, which is one greater. `Drop` takes no memory.
@@ -326,6 +346,14 @@ pub trait LockSpace {
     // No version is read below one that was seen.
     ghost seen_below: { (a : Self) (w place version : ℕ) (standing : Standing) → speaks_for a w → has_seen a w place version
         → has_read a w place standing → version ≤ standing.version };
+
+    // What is read is met.
+    ghost meets: { (a : Self) (w place : ℕ) (standing : Standing) → speaks_for a w → has_read a w place standing
+        → has_met a w place standing };
+
+    // What was met was met.
+    ghost met_stays: { (a b : Self) (call : Call) (answer : Answer) (w place : ℕ) (standing : Standing) → speaks_for a w
+        → joins a call answer b → has_met a w place standing → has_met b w place standing };
 
     // An upgrade to a mode that the held one covers never has to wait.
     ghost upgrades: { (a b : Self) (who id : ℕ) (mode : Mode) (ticket : Held) → ticket_held id (own a who) ≡ Some ticket

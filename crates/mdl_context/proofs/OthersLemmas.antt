@@ -2,6 +2,7 @@
 use Rattle.std.proofs.Common.{◌≡◌, ◌≢◌, ℕ, List, Option, Some, inl, inr, refl, sym, ap, ◌∙◌, subst}
 use Rattle.mdl_key.specs.declared.mode.Mode.{Mode}
 use Rattle.mdl_key.specs.Keys.{KeyName}
+use Rattle.mdl_defs.specs.declared.standing.Standing.{Standing}
 use Rattle.mdl_calls.specs.declared.answers.Held.{Held}
 use Rattle.mdl_calls.specs.Words.{Answer, Done, Call, Unpin, caller, EachCall, Program, Runs, Give, Ask, Grow}
 use Rattle.mdl_calls.specs.declared.lock_space.LockSpace.{Ghosts}
@@ -22,36 +23,55 @@ use Rattle.mdl_context.proofs.OwnCallLemmas.{calls_weaker, own_reusing, own_find
 abbrev pub IsFor : {A : Type 0} → ℕ → Program A → Type 0
 IsFor who program = EachCall (λ call. caller call ≡ Some who) program
 
--- ---- what runs of such a program leave
+-- ---- what calls leave
+
+-- where nothing is done, nobody is touched
+pub left-alone : {S : Type 0} (members : Ghosts S) (who : ℕ) (a : S) → LeavesOthers members who a a
+left-alone members who a = (λ w other speaks. (speaks, refl, λ place key known. known), λ w speaks. (speaks, λ place standing met. met))
+
+-- twice over, the others are left as they are
+pub both-leave : {S : Type 0} (members : Ghosts S) (who : ℕ) (a mid b : S)
+    → LeavesOthers members who a mid → LeavesOthers members who mid b → LeavesOthers members who a b
+both-leave members who a mid b first second = (
+  λ w other speaks.
+      let here = first.0 w other speaks in
+      let there = second.0 w other here.0 in
+      (there.0, there.1 ∙ here.1, λ place key known. there.2 place key (here.2 place key known)),
+  λ w speaks.
+      let here = first.1 w speaks in
+      let there = second.1 w here.0 in
+      (there.0, λ place standing met. there.1 place standing (here.1 place standing met)),
+)
 
 module _ {S : Type 0} (members : Ghosts S)
     (keeps : (a b : S) (call : Call) (answer : Answer) (w : ℕ) → members.speaks_for a w → members.joins a call answer b → members.speaks_for b w)
     (others : (a b : S) (call : Call) (answer : Answer) (w : ℕ) → members.speaks_for a w → (caller call ≡ Some w → ⊥) → members.joins a call answer b → members.own b w ≡ members.own a w)
     (remembers : (a b : S) (call : Call) (answer : Answer) (w place : ℕ) (key : KeyName) → members.speaks_for a w → (call ≡ Unpin w place → answer ≡ Done → ⊥) → members.joins a call answer b
-    → members.knows a w place key → members.knows b w place key) where
+    → members.knows a w place key → members.knows b w place key)
+    (met_stays : (a b : S) (call : Call) (answer : Answer) (w place : ℕ) (standing : Standing) → members.speaks_for a w → members.joins a call answer b
+    → members.has_met a w place standing → members.has_met b w place standing) where
   not-theirs : (call : Call) (w who place : ℕ) → w ≢ who → caller call ≡ Some who → call ≡ Unpin w place → ⊥
   not-theirs call w who place other made e = other (unwrap (ap caller (sym e) ∙ made)) where
     unwrap : Some w ≡ Some who → w ≡ who
     unwrap same = cc
 
-  pub leaves : {A : Type 0} (who : ℕ) (program : Program A) (a b : S) (reply : A) → IsFor who program → Runs members.joins a program reply b → LeavesOthers members who a b
-  leaves who (Give x) a b reply made (same, here) w other speaks =
-      subst (λ s. members.speaks_for s w × (members.own s w ≡ members.own a w) × ((place : ℕ) (key : KeyName) → members.knows a w place key → members.knows s w place key)) here (speaks, refl, λ place key known. known)
-  leaves who (Ask call next) a b reply made (answer, mid, step, run) w other speaks =
-      let then_speaks = keeps a mid call answer w speaks step in
-      let rest = leaves who (next answer) mid b reply (made.1 answer) run w other then_speaks in
-      let now = others a mid call answer w speaks (λ e. other (cc)) step in
-      (rest.0, rest.1 ∙ now, λ place key known. rest.2 place key (remembers a mid call answer w place key speaks (λ e _. not-theirs call w who place other made.0 e) step known))
-  leaves who (Grow refused found) a b reply made (inl run) w other speaks = leaves who refused a b reply made.0 run w other speaks
-  leaves who (Grow refused found) a b reply made (inr run) w other speaks = leaves who found a b reply made.1 run w other speaks
+  -- a call of one session
+  pub leaves-call : (a b : S) (call : Call) (answer : Answer) (who : ℕ) → caller call ≡ Some who → members.joins a call answer b → LeavesOthers members who a b
+  leaves-call a b call answer who made step = (
+    λ w other speaks. (
+      keeps a b call answer w speaks step,
+      others a b call answer w speaks (λ e. other (cc)) step,
+      λ place key known. remembers a b call answer w place key speaks (λ e _. not-theirs call w who place other made e) step known,
+    ),
+    λ w speaks. (keeps a b call answer w speaks step, λ place standing met. met_stays a b call answer w place standing speaks step met),
+  )
 
--- twice over, the others are left as they are
-pub both-leave : {S : Type 0} (members : Ghosts S) (who : ℕ) (a mid b : S)
-    → LeavesOthers members who a mid → LeavesOthers members who mid b → LeavesOthers members who a b
-both-leave members who a mid b first second w other speaks =
-    let here = first w other speaks in
-    let there = second w other here.0 in
-    (there.0, there.1 ∙ here.1, λ place key known. there.2 place key (here.2 place key known))
+  pub leaves : {A : Type 0} (who : ℕ) (program : Program A) (a b : S) (reply : A) → IsFor who program → Runs members.joins a program reply b → LeavesOthers members who a b
+  leaves who (Give x) a b reply made (same, here) = subst (λ s. LeavesOthers members who a s) here (left-alone members who a)
+  leaves who (Ask call next) a b reply made (answer, mid, step, run) =
+      both-leave members who a mid b (leaves-call a mid call answer who made.0 step) (leaves who (next answer) mid b reply (made.1 answer) run)
+  leaves who (Grow refused found) a b reply made (inl run) = leaves who refused a b reply made.0 run
+  leaves who (Grow refused found) a b reply made (inr run) = leaves who found a b reply made.1 run
 
 -- ---- the programs of a context
 

@@ -8,6 +8,7 @@ use Rattle.mdl_key.specs.declared.mode.Mode.{Mode}
 use Rattle.mdl_key.specs.declared.mode.Duration.{Duration}
 use Rattle.mdl_key.specs.declared.mode.Duration.TheVariants.{Statement, Transaction, Explicit}
 use Rattle.mdl_key.specs.Keys.{KeyName, key_eq}
+use Rattle.mdl_defs.specs.declared.standing.Standing.{Standing}
 use Rattle.mdl_calls.specs.declared.answers.Held.{Held}
 use Rattle.mdl_calls.specs.declared.answers.Settled.{Settled}
 use Rattle.mdl_calls.specs.Own.{Own, Wait, are_rising}
@@ -123,10 +124,17 @@ pub record Attends {S : Type 0} (members : Ghosts S) (space : S) (context : Cont
 abbrev pub IsSettled : {S : Type 0} → (S → ℕ → Settled → Type 0) → S → ℕ → Type 0
 IsSettled is_settled space who = (how : Settled) × is_settled space who how
 
+-- a lock space goes on to speak for each of its sessions, and what the session has met stays met
+abbrev pub KeepsMet : {S : Type 0} → Ghosts S → S → S → Type 0
+KeepsMet members before after =
+    (w : ℕ) → members.speaks_for before w →
+    members.speaks_for after w × ((place : ℕ) (standing : Standing) → members.has_met before w place standing → members.has_met after w place standing)
+
 -- a lock space goes on to speak for all sessions but one, and nothing changes for them: each has what it had, and knows what it
--- knew
+-- knew. What any session has met stays met
 abbrev pub LeavesOthers : {S : Type 0} → Ghosts S → ℕ → S → S → Type 0
 LeavesOthers members who before after =
-    (w : ℕ) → w ≢ who → members.speaks_for before w →
+    ((w : ℕ) → w ≢ who → members.speaks_for before w →
     members.speaks_for after w × (members.own after w ≡ members.own before w)
-    × ((place : ℕ) (key : KeyName) → members.knows before w place key → members.knows after w place key)
+    × ((place : ℕ) (key : KeyName) → members.knows before w place key → members.knows after w place key))
+    × KeepsMet members before after

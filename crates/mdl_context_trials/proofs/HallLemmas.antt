@@ -33,7 +33,7 @@ attended_over members keeps others remembers a b call answer x other step attend
 still_attended : (before after : Core) (x : ContextView) (who : ℕ) → LeavesOthers core_space who before after → x.who ≢ who
     → Attends core_space before x → Attends core_space after x
 still_attended before after x who leaves other attends =
-    let kept = leaves x.who other attends.speaks in attends-same before after x attends kept.2 kept.0 kept.1
+    let kept = leaves.0 x.who other attends.speaks in attends-same before after x attends kept.2 kept.0 kept.1
 
 -- contexts of later sessions
 still_served : (before after : Core) (first who : ℕ) (xs : List ContextView) → LeavesOthers core_space who before after → who < first

@@ -12,7 +12,7 @@ ghost use Rattle.mdl_core.proofs.CoreSound.{calls_keep-sound};
 ghost use Rattle.mdl_core.proofs.ReadLaws.{core-reads, core-redefines, core-redefines_so, core-reads_one, core-stands, core-reads_fit, core-sees, core-seen_stays, core-seen_below, core-pins_stay, has_not};
 
 use crate::hall::new_space;
-use mdl_defs::{Change, Standing};
+use mdl_defs::{Change, DefCache, Standing};
 use mdl_key::{Key, Mode};
 use mdl_space::{
     Attempt, Begun, CoreSpace, Ended, Held, LockSpace, NewError, Place, Poll, Search, SpaceError,
@@ -58,6 +58,8 @@ impl LockSpace for Unmerging {
     ghost numbers = { numbers_at };
 
     ghost has_read = { HasRead };
+
+    ghost has_met = { λ _ _ _ _. Unit {0} };
 
     ghost has_seen = { HasSeen };
 
@@ -125,6 +127,15 @@ impl LockSpace for Unmerging {
 
     fn read_definition(&mut self, who: u16, id: TicketId) -> Result<Standing, SpaceError> {
         self.space.read_definition(who, id)
+    }
+
+    fn read_kept(
+        &mut self,
+        who: u16,
+        id: TicketId,
+        cache: &mut DefCache,
+    ) -> Result<Standing, SpaceError> {
+        self.space.read_kept(who, id, cache)
     }
 
     fn change_definition(
@@ -215,6 +226,10 @@ impl LockSpace for Unmerging {
     ghost seen_stays = { core-seen_stays };
 
     ghost seen_below = { core-seen_below };
+
+    ghost meets = { λ a w place standing speaks read. tt };
+
+    ghost met_stays = { λ a b call answer w place standing speaks joins met. tt };
 
     ghost upgrades = { core-upgrades };
 

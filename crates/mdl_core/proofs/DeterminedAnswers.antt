@@ -16,7 +16,7 @@ use Rattle.mdl_calls.specs.declared.answers.Held.{Held}
 use Rattle.mdl_calls.specs.declared.answers.Settled.{Settled}
 use Rattle.mdl_calls.specs.declared.answers.Settled.TheVariants as settled_as
 use Rattle.mdl_calls.specs.declared.space_error.SpaceError.TheVariants.{NotHeld, NotUpgradable, NotExclusive, AlreadyWaiting, BadMode, VersionFull, CounterFull, Def, WrongKind}
-use Rattle.mdl_calls.specs.Words.{Answer, Refused, Done, Would_wait, No_cycle, Victim_is, Has_wait, Has_killed, Changed, Upgraded, finds_no_memory, Call, Resolve, Try_now, Begin_wait, Search, Poll_wait, Settle_timeout, End_wait, Wait_of, Kill, Release, Clone_ticket, Upgrade_now, Merge, Downgrade, Read_definition, Change_definition, Key_of, Tables_of, List_held, caller, may_merge}
+use Rattle.mdl_calls.specs.Words.{Answer, Refused, Done, Would_wait, No_cycle, Victim_is, Has_wait, Has_killed, Changed, Upgraded, finds_no_memory, Call, Resolve, Try_now, Begin_wait, Search, Poll_wait, Settle_timeout, End_wait, Wait_of, Kill, Release, Clone_ticket, Upgrade_now, Merge, Downgrade, Read_definition, Read_kept, Change_definition, Key_of, Tables_of, List_held, caller, may_merge}
 use Rattle.mdl_core.specs.declared.pending.Pending.{Pending}
 use Rattle.mdl_core.specs.ChangeEvents.{holding_of}
 use Rattle.mdl_core.specs.CoreCalls.{has_call, outcome, refused_or, first_cause, request_causes, clone_causes, granted_unless_full, queued_unless_full, cloning_of, upgrade_causes, upgraded_if_free, upgrading_of, is_lower, downgrading_of, merge_causes, merging_of, held_ticket, releasing_of, standing, polling_of, timing_out_at, timing_out_of, ending_at, ending_of, wait_at, is_open_wait, looking_after, killing, searching_of, searching, victim_at, reading_of, redefining_of, redefining_fault, redefined_unless}
@@ -348,6 +348,8 @@ determined a (Merge who old new) sound speaks has =
 determined a (Downgrade who id mode) sound speaks has =
     by-ticket a who sound speaks.0 id _ (λ o. downgrading_of who mode o a) refl (λ ticket key. downgrades_to a who sound speaks.0 mode ticket)
 determined a (Read_definition who id) sound speaks has =
+    by-ticket a who sound speaks.0 id _ (λ o. reading_of o a) refl (reads a who sound speaks.0)
+determined a (Read_kept who id) sound speaks has =
     by-ticket a who sound speaks.0 id _ (λ o. reading_of o a) refl (reads a who sound speaks.0)
 determined a (Change_definition who id change) sound speaks has =
     by-ticket a who sound speaks.0 id _ (λ o. redefining_of o change a) refl (redefines a who sound speaks.0 change)

@@ -16,7 +16,7 @@ use Rattle.mdl_calls.specs.declared.answers.Settled.{Settled}
 use Rattle.mdl_calls.specs.declared.answers.Settled.TheVariants as settled_as
 use Rattle.mdl_calls.specs.declared.space_error.SpaceError.{SpaceError}
 use Rattle.mdl_calls.specs.declared.space_error.SpaceError.TheVariants.{OutOfMemory}
-use Rattle.mdl_calls.specs.Words.{Answer, Refused, takes_memory, Call, Resolve, Try_now, Begin_wait, Search, Poll_wait, Settle_timeout, End_wait, Wait_of, Kill, Release, Clone_ticket, Upgrade_now, Merge, Downgrade, Read_definition, Change_definition, Key_of, Tables_of, List_held}
+use Rattle.mdl_calls.specs.Words.{Answer, Refused, takes_memory, Call, Resolve, Try_now, Begin_wait, Search, Poll_wait, Settle_timeout, End_wait, Wait_of, Kill, Release, Clone_ticket, Upgrade_now, Merge, Downgrade, Read_definition, Read_kept, Change_definition, Key_of, Tables_of, List_held}
 use Rattle.mdl_core.specs.declared.pending.Pending.{Pending}
 use Rattle.mdl_core.specs.Changes.{Change, Gain, Lose, Queue, Admit, Settle, Leave, Take_up, Alter, Fold, Redefine, seat_after, book_after, is_of_book, booked_if, changing, next_ready, admitting_if, serving}
 unfoldable use Rattle.mdl_core.specs.Changes.{admitting_up_to}
@@ -195,6 +195,7 @@ places-kept a (Upgrade_now who id mode) other has = upgrade-keeps a who mode (he
 places-kept a (Merge who old new) other has = merge-keeps a who (held_ticket who old a) (held_ticket who new a)
 places-kept a (Downgrade who id mode) other has = downgrade-keeps a who mode (held_ticket who id a)
 places-kept a (Read_definition who id) other has = read-keeps a (held_ticket who id a)
+places-kept a (Read_kept who id) other has = read-keeps a (held_ticket who id a)
 places-kept a (Change_definition who id change) other has = redefine-keeps a change (held_ticket who id a)
 places-kept a (Key_of who place) other has = either a (not (has_key place a)) _ _ refl refl
 places-kept a (Tables_of who schema) other has = refl

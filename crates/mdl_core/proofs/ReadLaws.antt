@@ -68,7 +68,11 @@ core-reads a b (Read_definition w n) who id version definition ticket mine under
     let two : n ≡ id = cc in
     read-there a b who id version definition ticket its
     (subst (λ (p : ℕ × ℕ). Joins a (Read_definition p.0 p.1) (Reads version definition) b) (λ i. (one i, two i)) joins)
-core-reads a b (Read_kept w n) who id version definition ticket mine under its (speaks, has, made) = cc
+core-reads a b (Read_kept w n) who id version definition ticket mine under its joins =
+    let one : w ≡ who = cc in
+    let two : n ≡ id = cc in
+    read-there a b who id version definition ticket its
+    (subst (λ (p : ℕ × ℕ). Joins a (Read_definition p.0 p.1) (Reads version definition) b) (λ i. (one i, two i)) joins)
 core-reads a b _ who id version definition ticket mine under its joins = cc
 
 -- ---- changes

@@ -18,7 +18,7 @@ use Rattle.mdl_calls.specs.declared.answers.Settled.{Settled}
 use Rattle.mdl_calls.specs.declared.answers.Settled.TheVariants as settled_as
 use Rattle.mdl_calls.specs.declared.answers.TimedOut.TheVariants.{ByThisCall, Already}
 use Rattle.mdl_core.specs.declared.pending.Pending.{Pending}
-use Rattle.mdl_calls.specs.Words.{Answer, Refused, Done, At_place, Granted, Would_wait, Waits, No_cycle, Victim_is, Pending as Is_pending, Is_settled, Timed_out, Lost, Has_wait, Has_killed, Holds, Reads, Changed, Key_is, Tables, Upgraded, Call, Resolve, Try_now, Begin_wait, Search, Poll_wait, Settle_timeout, End_wait, Wait_of, Kill, Release, Clone_ticket, Upgrade_now, Merge, Downgrade, Read_definition, Change_definition, Key_of, Tables_of, List_held, is_number, may_merge, cause_of}
+use Rattle.mdl_calls.specs.Words.{Answer, Refused, Done, At_place, Granted, Would_wait, Waits, No_cycle, Victim_is, Pending as Is_pending, Is_settled, Timed_out, Lost, Has_wait, Has_killed, Holds, Reads, Changed, Key_is, Tables, Upgraded, Call, Resolve, Try_now, Begin_wait, Search, Poll_wait, Settle_timeout, End_wait, Wait_of, Kill, Release, Clone_ticket, Upgrade_now, Merge, Downgrade, Read_definition, Read_kept, Change_definition, Key_of, Tables_of, List_held, is_number, may_merge, cause_of}
 use Rattle.mdl_core.specs.Cores.{Core, book_at, seat_at, key_at, standing_at, has_key, has_session, index_of, is_free, tables_in}
 use Rattle.mdl_core.specs.Changes.{opening, granting_to, queueing, losing, taking_up, leaving, freeing, altering, folding, redefining_at, serving}
 use Rattle.mdl_core.specs.Seats.{is_open, is_closed}
@@ -322,6 +322,7 @@ has_call (Upgrade_now _ _ _) = true
 has_call (Merge _ _ _) = true
 has_call (Downgrade _ _ _) = true
 has_call (Read_definition _ _) = true
+has_call (Read_kept _ _) = true
 has_call (Change_definition _ _ _) = true
 has_call (Key_of _ _) = true
 has_call (Tables_of _ _) = true
@@ -345,6 +346,7 @@ outcome (Upgrade_now who id mode) core = upgrading who id mode core
 outcome (Merge who old new) core = merging who old new core
 outcome (Downgrade who id mode) core = downgrading who id mode core
 outcome (Read_definition who id) core = reading who id core
+outcome (Read_kept who id) core = reading who id core
 outcome (Change_definition who id change) core = redefining who id change core
 outcome (Key_of who place) core = naming place core
 outcome (Tables_of who schema) core = telling_tables schema core

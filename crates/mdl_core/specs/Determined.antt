@@ -17,7 +17,7 @@ use Rattle.mdl_calls.specs.declared.answers.Settled.TheVariants as settled_as
 use Rattle.mdl_calls.specs.declared.answers.TimedOut.TheVariants.{ByThisCall, Already}
 use Rattle.mdl_calls.specs.declared.space_error.SpaceError.{SpaceError}
 use Rattle.mdl_calls.specs.declared.space_error.SpaceError.TheVariants.{NoPlace, NotHeld, NotUpgradable, NotExclusive, AlreadyWaiting, BadMode, VersionFull, NoWait, Unsettled, CounterFull, Full, Def, WrongKind}
-use Rattle.mdl_calls.specs.Words.{Answer, Refused, Done, At_place, Granted, Would_wait, Waits, No_cycle, Victim_is, Pending, Is_settled, Timed_out, Lost, Has_wait, Has_killed, Holds, Reads, Changed, Key_is, Tables, Upgraded, finds_no_memory, Call, Resolve, Try_now, Begin_wait, Search, Poll_wait, Settle_timeout, End_wait, Wait_of, Kill, Release, Clone_ticket, Upgrade_now, Merge, Downgrade, Read_definition, Change_definition, Key_of, Tables_of, List_held, caller, Numbers, Draws}
+use Rattle.mdl_calls.specs.Words.{Answer, Refused, Done, At_place, Granted, Would_wait, Waits, No_cycle, Victim_is, Pending, Is_settled, Timed_out, Lost, Has_wait, Has_killed, Holds, Reads, Changed, Key_is, Tables, Upgraded, finds_no_memory, Call, Resolve, Try_now, Begin_wait, Search, Poll_wait, Settle_timeout, End_wait, Wait_of, Kill, Release, Clone_ticket, Upgrade_now, Merge, Downgrade, Read_definition, Read_kept, Change_definition, Key_of, Tables_of, List_held, caller, Numbers, Draws}
 use Rattle.mdl_core.specs.CoreJoins.{Joins, numbers_at}
 use Rattle.mdl_core.specs.Cores.{Core, has_session}
 use Rattle.mdl_core.specs.CoreSystems.{state_of, system_of}
@@ -236,6 +236,7 @@ Determines system places numbers (Upgrade_now who id mode) = OfTicket system who
 Determines system places numbers (Merge who old new) = OfTicket system who old (λ kept. OfTicket system who new (ToMerge system who kept))
 Determines system places numbers (Downgrade who id mode) = OfTicket system who id (ToDowngrade mode)
 Determines system places numbers (Read_definition who id) = OfTicket system who id (λ ticket. ToRead (system.definitions ticket.key))
+Determines system places numbers (Read_kept who id) = OfTicket system who id (λ ticket. ToRead (system.definitions ticket.key))
 Determines system places numbers (Change_definition who id change) =
     OfTicket system who id (λ ticket. Needs (ticket.mode ≡ X) NotExclusive (ToChange ticket.key change (system.definitions ticket.key)))
 Determines system places numbers (Key_of who place) = AtPlace places place (λ key. Only (Key_is key))

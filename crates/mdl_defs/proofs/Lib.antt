@@ -1,3 +1,4 @@
+pub mod CacheLemmas
 pub mod ChangeLemmas
 pub mod ColumnLemmas
 pub mod StandingLemmas

@@ -1,3 +1,5 @@
+pub mod CacheLends
+pub mod Caches
 pub mod Changes
 pub mod Columns
 pub mod Definitions

@@ -29,6 +29,7 @@
 mod change;
 mod change_error;
 mod columns;
+mod def_cache;
 mod def_error;
 mod definition;
 mod laws;
@@ -37,6 +38,7 @@ mod standing;
 pub use change::{Change, apply};
 pub use change_error::ChangeError;
 pub use columns::{Column, Columns};
+pub use def_cache::{CacheError, DefCache, MOST_KEPT};
 pub use def_error::DefError;
 pub use definition::{Definition, MOST_COLUMNS};
 pub use laws::{changes_keep_standing, changes_keep_well_formed};

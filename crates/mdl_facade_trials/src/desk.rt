@@ -1,5 +1,5 @@
 //! One session's statements over the space of one thread.
-ghost use Rattle.mdl.specs.mdl_context.Contexts.{Attends};
+ghost use Rattle.mdl.specs.mdl_stmt.Attendance.{AttendsWith};
 ghost use Rattle.mdl.specs.mdl_space.CoreMembers.{core_space};
 
 use mdl::space::NewError;
@@ -18,24 +18,24 @@ struct Desk {
 
 // The space attends to the session, which is what the calls of its runner ask for.
 impl Model for Desk {
-    ghost use Rattle.mdl.specs.mdl_context.Contexts.{Attends};
+    ghost use Rattle.mdl.specs.mdl_stmt.Attendance.{AttendsWith};
     ghost use Rattle.mdl.specs.mdl_space.CoreMembers.{core_space};
 
     ghost Value = { Unit };
 
     ghost view = { λ _. tt };
 
-    ghost invariant = { λ desk. Attends core_space desk.space desk.runner.context };
+    ghost invariant = { λ desk. AttendsWith core_space desk.space desk.runner.context desk.runner.cache };
 }
 
 impl Desk {
     // Nobody has asked for anything.
     fn new(alloc: Global) -> Result<Desk, NewError> {
         let space = CoreSpace::new(alloc, 256, 1)?;
-        Ok(Desk {
-            space,
-            runner: OwnedRunner::new(alloc, 1),
-        })
+        match OwnedRunner::new(alloc, 1, 64) {
+            Ok(runner) => Ok(Desk { space, runner }),
+            Err(OutOfMemory) => Err(NewError::OutOfMemory),
+        }
     }
 
     // Starts a statement, unless the session waits.
@@ -50,8 +50,8 @@ fn start(
     runner: &mut OwnedRunner<CoreSpace>,
     statement: &Statement,
 ) -> Result<Option<Progress>, OutOfMemory>
-    requires { Attends core_space space.old runner.old.context }
-    ensures { Attends core_space space.new runner.new.context }
+    requires { AttendsWith core_space space.old runner.old.context runner.old.cache }
+    ensures { AttendsWith core_space space.new runner.new.context runner.new.cache }
 {
     if runner.is_waiting() {
         return Ok(None);

@@ -3,7 +3,7 @@
 //! A row has some figures. Each is timed once in each of ten rounds. For a program it prints two lines for each figure: what a turn took in
 //! the least round, and in the median one; and for a reader how figures do beside each other. With the argument `quick` it makes one turn of
 //! each, which shows that all of them work, and prints nothing. With `pairs TURNS KNOWN HELD` it makes so many pairs of calls, and nothing
-//! else, by a session that knows and holds so much.
+//! else, by a session that knows and holds so much. With `reads TURNS KEPT` it makes so many reads by a cache that keeps so much.
 #![tactic(auto)]
 
 mod again;
@@ -18,6 +18,8 @@ mod pairs;
 mod patient;
 mod player;
 mod races;
+mod reader;
+mod reads;
 mod row;
 mod seat;
 mod table;
@@ -30,7 +32,11 @@ use exclusive::{EXCLUSIVE, EXCLUSIVE_GOALS};
 use failure::Failure;
 use grants::{GRANT_GOALS, GRANTS};
 use pairs::{PAIR_GOALS, PAIRS, Stock, time_calls};
-use races::{CROWD_GOALS, HOT_GOALS, MIXED_GOALS, OWN_GOALS, crowds, hot, mixed, own, time_races};
+use races::{
+    CROWD_GOALS, HOT_GOALS, MIXED_GOALS, OWN_GOALS, SHARED_READ_GOALS, crowds, hot, mixed, own,
+    shared_reads, time_races,
+};
+use reads::{READ_GOALS, READS, narrow, time_reads};
 use row::time_row;
 use std::alloc::Global;
 use std::process::ExitCode;
@@ -68,6 +74,10 @@ fn answer<R: Threads + Wait + Sync + Clock + CpuClock + Print>(
             time_calls(rt, alloc, stock, turns)?;
             Ok(())
         }
+        Wanted::Reads { turns, kept } => {
+            time_reads(rt, alloc, narrow(kept), turns)?;
+            Ok(())
+        }
     }
 }
 
@@ -78,6 +88,8 @@ enum Wanted {
     Rows { quick: bool },
     // So many pairs, by a session with a stock.
     Pairs { turns: u32, stock: Stock },
+    // So many reads, lent by a cache that keeps so many tables.
+    Reads { turns: u32, kept: u16 },
 }
 
 fn command_line(rt: &HostRuntime) -> Result<Wanted, Failure> {
@@ -85,7 +97,8 @@ fn command_line(rt: &HostRuntime) -> Result<Wanted, Failure> {
     let Some(first) = words.next() else {
         return Ok(Wanted::Rows { quick: false });
     };
-    if first.as_str() != "pairs" {
+    let only_reads = first.as_str() == "reads";
+    if !only_reads && first.as_str() != "pairs" {
         let quick = first.as_str() == "quick";
         return Ok(Wanted::Rows { quick });
     }
@@ -94,6 +107,10 @@ fn command_line(rt: &HostRuntime) -> Result<Wanted, Failure> {
         *number = word.parse::<u32>().unwrap_or(0);
     }
     let [turns, known, held] = numbers;
+    if only_reads {
+        let kept = small(known);
+        return Ok(Wanted::Reads { turns, kept });
+    }
     Ok(Wanted::Pairs {
         turns,
         stock: Stock {
@@ -113,7 +130,8 @@ fn time_all<R: Wait + Clock + Print>(rt: &R, alloc: Global, quick: bool) -> Resu
     time_row(rt, alloc, quick, &TRANSACTIONS, &TRANSACTION_GOALS)?;
     time_row(rt, alloc, quick, &EXCLUSIVE, &EXCLUSIVE_GOALS)?;
     time_row(rt, alloc, quick, &GRANTS, &GRANT_GOALS)?;
-    time_row(rt, alloc, quick, &AGAIN, &AGAIN_GOALS)
+    time_row(rt, alloc, quick, &AGAIN, &AGAIN_GOALS)?;
+    time_row(rt, alloc, quick, &READS, &READ_GOALS)
 }
 
 // Times all rows of several threads.
@@ -125,5 +143,6 @@ fn time_threads<R: Threads + Wait + Sync + Clock + CpuClock + Print>(
     time_races(rt, alloc, quick, &hot(), &HOT_GOALS)?;
     time_races(rt, alloc, quick, &own(), &OWN_GOALS)?;
     time_races(rt, alloc, quick, &crowds(), &CROWD_GOALS)?;
-    time_races(rt, alloc, quick, &mixed(), &MIXED_GOALS)
+    time_races(rt, alloc, quick, &mixed(), &MIXED_GOALS)?;
+    time_races(rt, alloc, quick, &shared_reads(), &SHARED_READ_GOALS)
 }

@@ -7,6 +7,7 @@ ghost use Rattle.mdl_shared.specs.SessionViews.{space_of};
 use crate::failure::Failure;
 use crate::lap::{Gate, Lap, LapStart};
 use crate::patient::{gain, give_up, take};
+use crate::reader::{Reading, read_along};
 use crate::seat::{close, look_up};
 use crate::table::table;
 use mdl_calls::Place;
@@ -25,6 +26,8 @@ pub enum Part {
     Transaction,
     /// The same. Before every ten thousandth an ALTER locks the last table for itself, and gives it up.
     TransactionOrAlter,
+    /// The definition of the last table is read, under one fast ticket for all turns.
+    Read(Reading),
 }
 
 // How many turns there are to an ALTER.
@@ -48,6 +51,11 @@ impl Keys {
             second: table(alloc, from.saturating_add(1))?,
             third: table(alloc, from.saturating_add(2))?,
         })
+    }
+
+    /// The last table.
+    pub fn last(&self) -> &Key {
+        &self.third
     }
 }
 
@@ -227,6 +235,13 @@ pub fn play<R: Wait + Clock + CpuClock>(
 ) -> Result<Played, Failure>
     requires { pass_table pass ≡ table_of manager.now }
 {
+    if let Part::Read(reading) = turns.part {
+        let lap = read_along(rt, alloc, manager, pass, &keys.third, reading, turns)?;
+        return Ok(Played {
+            lap,
+            alters: Vec::new(alloc),
+        });
+    }
     let mut player = Player::new(rt, manager, pass, keys)?;
     let start = LapStart::at_gate(rt, &turns.gate)?;
     let alters = player.play(alloc, turns.part, turns.count)?;

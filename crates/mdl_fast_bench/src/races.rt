@@ -3,6 +3,7 @@ use crate::contended::{Count, count_by_four, count_by_two};
 use crate::failure::Failure;
 use crate::lap::Gate;
 use crate::player::{Part, Played};
+use crate::reader::Reading;
 use crate::row::{Figure, Goal, ROUNDS, Row};
 use crate::threads::Play;
 use crate::words::Words;
@@ -55,6 +56,16 @@ const SHARED_TABLES: Play = Play {
 
 const ALTERED_TABLES: Play = Play {
     part: Part::TransactionOrAlter,
+    shared: true,
+};
+
+const CACHED_READS: Play = Play {
+    part: Part::Read(Reading::Cached),
+    shared: true,
+};
+
+const LATCHED_READS: Play = Play {
+    part: Part::Read(Reading::Latched),
     shared: true,
 };
 
@@ -160,6 +171,55 @@ pub const MIXED_GOALS: [Goal; 1] = [Goal {
     beside: 1,
     most: 13,
 }];
+
+// Reads of one table.
+fn in_reads(name: &'static str, threads: u16, work: Work) -> Race {
+    Race {
+        figure: Figure {
+            name,
+            threads,
+            what: "read",
+            turns: 100_000,
+        },
+        work,
+    }
+}
+
+/// Reads of one table's definition, lent by each session's own cache, and copied under the latch.
+pub fn shared_reads() -> [Race; 6] {
+    let by_processor = Work::PlayOfProcessors(CACHED_READS);
+    [
+        in_reads("r_read_cached_1", 1, Work::Play(CACHED_READS)),
+        in_reads("r_read_cached_4", 4, Work::Play(CACHED_READS)),
+        in_reads("r_read_cached_1_cpu", 1, by_processor),
+        in_reads("r_read_cached_4_cpu", 4, by_processor),
+        in_reads("r_read_definition_1", 1, Work::Play(LATCHED_READS)),
+        in_reads("r_read_definition_4", 4, Work::Play(LATCHED_READS)),
+    ]
+}
+
+pub const SHARED_READ_GOALS: [Goal; 4] = [
+    Goal {
+        figure: 1,
+        beside: 0,
+        most: 12,
+    },
+    Goal {
+        figure: 3,
+        beside: 2,
+        most: 12,
+    },
+    Goal {
+        figure: 0,
+        beside: 4,
+        most: 10,
+    },
+    Goal {
+        figure: 1,
+        beside: 5,
+        most: 10,
+    },
+];
 
 /// Times the races of a row, as [`crate::row::time_row`] does with jobs. No trait can stand between: it couldn't say that a thread may have what
 /// its types' bounds are about.

@@ -1,11 +1,12 @@
 //! Sessions that each play a part on a thread of their own: how long they take.
-ghost use Rattle.std.specs.Prelude.{◌≡◌, ◌+◌, ◌<◌, length};
+ghost use Rattle.std.specs.Prelude.{◌≡◌, ◌+◌, ◌<◌, ◌≤◌, length};
 ghost use Rattle.std.specs.Thread.{IsSync};
 ghost use Rattle.mdl_shared.specs.Passes.{ArePasses, table_of, pass_table};
 
 use crate::failure::Failure;
 use crate::lap::Gate;
 use crate::player::{Keys, Part, Played, Turns, play};
+use crate::reader::found_table;
 use mdl_key::{MOST_PLACES, MOST_SESSIONS};
 use mdl_shared::{Manager, Pass};
 use std::alloc::Global;
@@ -51,6 +52,29 @@ impl Play {
         }
     }
 
+    // The last session lets the table stand that the others read, if they do.
+    fn prepare<R: Wait>(
+        self,
+        rt: &R,
+        alloc: Global,
+        manager: &Manager,
+        passes: &mut Vec<Pass>,
+        keys: &Keys,
+    ) -> Result<(), Failure>
+        requires some { 0 < length passes.old.items }
+        requires theirs { ArePasses (table_of manager.now) passes.old.items }
+        ensures left { length passes.old.items ≤ length passes.new.items + 1 }
+        ensures theirs { ArePasses (table_of manager.now) passes.new.items }
+    {
+        match self.part {
+            Part::Read(_) => {
+                let pass = take_pass(manager, passes);
+                found_table(rt, alloc, manager, pass, keys.last())
+            }
+            _ => Ok(()),
+        }
+    }
+
     /// On one thread.
     pub fn alone<R: Wait + Clock + CpuClock>(
         self,
@@ -61,6 +85,7 @@ impl Play {
         let turns = self.turns(1, count);
         let keys = self.keys(alloc, 0)?;
         let (manager, mut passes) = Manager::new(alloc, MOST_PLACES, MOST_SESSIONS)?;
+        self.prepare(rt, alloc, &manager, &mut passes, &keys)?;
         let pass = take_pass(&manager, &mut passes);
         play(rt, alloc, &manager, pass, &keys, &turns)
     }
@@ -75,6 +100,7 @@ impl Play {
         let turns = self.turns(2, count);
         let keys = (self.keys(alloc, 0)?, self.keys(alloc, 1)?);
         let (manager, mut passes) = Manager::new(alloc, MOST_PLACES, MOST_SESSIONS)?;
+        self.prepare(rt, alloc, &manager, &mut passes, &keys.0)?;
         let two = take_two(&manager, &mut passes);
         play_two(rt, alloc, &manager, two, (&keys.0, &keys.1), &turns)
     }
@@ -89,6 +115,7 @@ impl Play {
         let turns = self.turns(4, count);
         let keys = self.keys_of_four(alloc)?;
         let (manager, mut passes) = Manager::new(alloc, MOST_PLACES, MOST_SESSIONS)?;
+        self.prepare(rt, alloc, &manager, &mut passes, &keys[0])?;
         let two = take_two(&manager, &mut passes);
         let more = take_two(&manager, &mut passes);
         play_four(rt, alloc, &manager, two, more, &keys, &turns)

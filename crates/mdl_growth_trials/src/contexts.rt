@@ -1,7 +1,6 @@
 //! The contexts of two sessions over a space: tickets by duration, waits, a deadlock and stronger modes. Where a call is refused for want of
 //! memory, the session holds what it held and waits for nothing, and the call is made again. What gives up takes no memory.
 ghost use Rattle.std.specs.Prelude.{◌≡◌};
-ghost use Rattle.mdl_space.specs.CoreMembers.{core_space};
 ghost use Rattle.mdl_context.specs.Contexts.{Attends, LeavesOthers};
 
 use crate::spaces::{new_space, table};
@@ -13,7 +12,7 @@ use std::marker::Model;
 
 // A call of a session.
 #[derive(Clone, Copy)]
-enum Act {
+pub(crate) enum Act {
     Acquire(&'static str, Mode, Duration),
     // Of the ticket that it gained last.
     Upgrade(Mode),
@@ -30,7 +29,7 @@ enum Act {
 
 // What it answers.
 #[derive(Clone, Copy, PartialEq, Eq)]
-enum Reply {
+pub(crate) enum Reply {
     Acquired,
     MustWait,
     Waits,
@@ -61,9 +60,21 @@ impl Act {
 
 // The two sessions.
 #[derive(Clone, Copy)]
-enum Who {
+pub(crate) enum Who {
     First,
     Second,
+}
+
+/// Two sessions with their contexts.
+pub(crate) trait Two {
+    /// Makes a call of a session.
+    fn make(&mut self, who: Who, act: Act) -> Reply;
+
+    /// Whether a session's context keeps the tickets that it holds, and so many of them.
+    fn keeps(&self, who: Who, count: usize) -> bool;
+
+    /// How many tickets a session has of the statement, of the transaction and in all, and whether it waits.
+    fn stands(&self, who: Who) -> (Mark, usize, bool);
 }
 
 // A space with the contexts of its sessions 1 and 2.
@@ -98,14 +109,19 @@ impl Pair {
     }
 
     // Makes a call of a session.
-    fn make(&mut self, who: Who, act: Act) -> Reply {
+    fn call(&mut self, who: Who, act: Act) -> Reply {
         match who {
             Who::First => make(self.alloc, &mut self.space, &mut self.first, act),
             Who::Second => make(self.alloc, &mut self.space, &mut self.second, act),
         }
     }
+}
 
-    // Whether a session's context keeps the tickets that it holds, and so many of them.
+impl Two for Pair {
+    fn make(&mut self, who: Who, act: Act) -> Reply {
+        self.call(who, act)
+    }
+
     fn keeps(&self, who: Who, count: usize) -> bool {
         match who {
             Who::First => keeps(&self.space, &self.first, count),
@@ -113,7 +129,6 @@ impl Pair {
         }
     }
 
-    // How many tickets a session has of the statement, of the transaction and in all, and whether it waits.
     fn stands(&self, who: Who) -> (Mark, usize, bool) {
         match who {
             Who::First => stands(&self.first),
@@ -122,7 +137,8 @@ impl Pair {
     }
 }
 
-fn stands(context: &Context<CoreSpace>) -> (Mark, usize, bool) {
+/// How many tickets a context has of the statement, of the transaction and in all, and whether it waits.
+pub(crate) fn stands<S: LockSpace>(context: &Context<S>) -> (Mark, usize, bool) {
     (
         context.savepoint(),
         context.kept().len(),
@@ -130,8 +146,9 @@ fn stands(context: &Context<CoreSpace>) -> (Mark, usize, bool) {
     )
 }
 
-fn keeps(space: &CoreSpace, context: &Context<CoreSpace>, count: usize) -> bool
-    requires { Attends core_space space.now context.now }
+/// Whether a context keeps the tickets that its session holds, and so many of them.
+pub(crate) fn keeps<S: LockSpace>(space: &S, context: &Context<S>, count: usize) -> bool
+    requires { Attends S.LockSpace space.now context.now }
 {
     let who = context.who();
     let held = match space.held(who) {
@@ -152,8 +169,13 @@ fn are_kept(kept: &[Kept], held: &[Held]) -> bool {
             && ticket.mode == other.mode)
 }
 
-// Makes a call.
-fn make<S: LockSpace>(alloc: Global, space: &mut S, context: &mut Context<S>, act: Act) -> Reply
+/// Makes a call.
+pub(crate) fn make<S: LockSpace>(
+    alloc: Global,
+    space: &mut S,
+    context: &mut Context<S>,
+    act: Act,
+) -> Reply
     requires { Attends S.LockSpace space.old context.old }
     ensures attends { Attends S.LockSpace space.new context.new }
     ensures who { context.new.who ≡ context.old.who }
@@ -332,7 +354,8 @@ pub fn calls_are_answered(alloc: Global) -> bool {
     }
 }
 
-fn all_outlive(pair: &mut Pair) -> bool {
+/// Whether all calls of a life are answered, by these two.
+pub(crate) fn all_outlive<T: Two>(pair: &mut T) -> bool {
     for (who, act, want, count) in LIFE {
         if !outlives(pair, *who, *act, *want) || !pair.keeps(*who, *count) {
             return false;
@@ -343,7 +366,7 @@ fn all_outlive(pair: &mut Pair) -> bool {
 
 // Whether a call has this answer: at once, or at the second try, where memory was refused to the first, after which the session
 // had the tickets that it had, and didn't wait.
-fn outlives(pair: &mut Pair, who: Who, act: Act, want: Reply) -> bool {
+fn outlives<T: Two>(pair: &mut T, who: Who, act: Act, want: Reply) -> bool {
     let (mark, count, _) = pair.stands(who);
     let reply = pair.make(who, act);
     if reply != NO_MEMORY || !act.takes_memory() {

@@ -9,15 +9,21 @@
 mod books;
 mod contexts;
 mod definitions;
+mod desks;
+mod passes;
 mod replays;
 mod scenes;
 mod scripts;
+mod seats;
+mod sessions;
 mod spaces;
+mod spots;
 mod statements;
 mod works;
 
 use std::alloc::Global;
 use std::process::ExitCode;
+use std::sync::Wait;
 
 fn main(rt: HostRuntime) -> ExitCode {
     let lead = match lead_of(&rt) {
@@ -28,7 +34,7 @@ fn main(rt: HostRuntime) -> ExitCode {
         }
     };
     spend(rt.alloc(), lead);
-    match first_wrong(rt.alloc()) {
+    match first_wrong(&rt, rt.alloc()) {
         None => {
             let _ = println!(rt; "all went well");
             ExitCode::SUCCESS
@@ -59,7 +65,7 @@ fn spend(alloc: Global, count: usize) {
 }
 
 // The first life that goes wrong.
-fn first_wrong(alloc: Global) -> Option<&'static str> {
+fn first_wrong<R: Wait>(rt: &R, alloc: Global) -> Option<&'static str> {
     if !books::rings_are_found(alloc) {
         return Some("a ring of locks");
     }
@@ -75,7 +81,21 @@ fn first_wrong(alloc: Global) -> Option<&'static str> {
     if let Some(scene) = scenes::first_wrong(alloc) {
         return Some(scene);
     }
+    if let Some(life) = first_wrong_shared(rt, alloc) {
+        return Some(life);
+    }
     first_wrong_script(alloc)
+}
+
+// The first of the lives over a space that threads share that goes wrong.
+fn first_wrong_shared<R: Wait>(rt: &R, alloc: Global) -> Option<&'static str> {
+    if !sessions::calls_are_answered(rt, alloc) {
+        return Some("three sessions");
+    }
+    if !seats::calls_are_answered(rt, alloc) {
+        return Some("two contexts over sessions");
+    }
+    scenes::first_wrong_shared(rt, alloc)
 }
 
 // The first of the lives of scripts that goes wrong.

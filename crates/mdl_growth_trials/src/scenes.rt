@@ -1,9 +1,11 @@
 //! Scenes of statements: transactions and changes of tables, of schemas, and what sessions lock as a whole.
-use crate::statements::{Outcome, Row, Scene, goes_well};
+use crate::desks;
+use crate::statements::{self, Outcome, Row, Scene};
 use std::alloc::Global;
+use std::sync::Wait;
 
 // Transactions with savepoints, of which one is waited for, and tables that are dropped and renamed.
-const TRANSACTIONS: &[Row] = &[
+const TRANSACTIONS: &[Row<'static>] = &[
     ("1 CREATE SCHEMA test", Outcome::Done),
     ("1 CREATE TABLE t x y", Outcome::Done),
     ("1 CREATE TABLE u z", Outcome::Done),
@@ -28,7 +30,7 @@ const TRANSACTIONS: &[Row] = &[
 ];
 
 // Tables that are altered behind an open transaction, and for which the other session's readers are waited for.
-const ALTERED: &[Row] = &[
+const ALTERED: &[Row<'static>] = &[
     ("1 CREATE SCHEMA test", Outcome::Done),
     ("1 CREATE TABLE t x", Outcome::Done),
     ("1 BEGIN", Outcome::Done),
@@ -49,7 +51,7 @@ const ALTERED: &[Row] = &[
 ];
 
 // Tables that are locked, altered so, and others that are locked in their place.
-const LOCKED: &[Row] = &[
+const LOCKED: &[Row<'static>] = &[
     ("1 CREATE SCHEMA test", Outcome::Done),
     ("1 CREATE TABLE t x", Outcome::Done),
     ("1 CREATE TABLE u x", Outcome::Done),
@@ -71,7 +73,7 @@ const LOCKED: &[Row] = &[
 ];
 
 // The global read lock: behind a transaction, beside locked tables, waited for, and before a commit that waits.
-const READ_LOCK: &[Row] = &[
+const READ_LOCK: &[Row<'static>] = &[
     ("1 CREATE SCHEMA test", Outcome::Done),
     ("1 CREATE TABLE t x", Outcome::Done),
     ("1 CREATE TABLE u x", Outcome::Done),
@@ -99,7 +101,7 @@ const READ_LOCK: &[Row] = &[
 ];
 
 // Schemas that are created behind an open transaction, and dropped with their tables, for whose readers is waited.
-const SCHEMAS: &[Row] = &[
+const SCHEMAS: &[Row<'static>] = &[
     ("1 CREATE SCHEMA s", Outcome::Done),
     ("1 CREATE TABLE s.a x", Outcome::Done),
     ("1 CREATE TABLE s.b x", Outcome::Done),
@@ -121,44 +123,64 @@ const SCHEMAS: &[Row] = &[
 ];
 
 // A table of a column that is named twice is never created: the attempt tells whether its schema is there.
-const SCENES: &[Scene] = &[
-    Scene {
-        name: "transactions",
-        rows: TRANSACTIONS,
-        looks: &["2 SELECT t", "2 SELECT u", "2 SELECT w"],
-    },
-    Scene {
-        name: "altered tables",
-        rows: ALTERED,
-        looks: &["2 SELECT t"],
-    },
-    Scene {
-        name: "locked tables",
-        rows: LOCKED,
-        looks: &["1 SELECT t", "1 SELECT u"],
-    },
-    Scene {
-        name: "the global read lock",
-        rows: READ_LOCK,
-        looks: &["1 SELECT t"],
-    },
-    Scene {
-        name: "schemas",
-        rows: SCHEMAS,
-        looks: &[
-            "2 SELECT s.a",
-            "2 SELECT s.b",
-            "2 CREATE TABLE s.c x x",
-            "2 CREATE TABLE r.c x x",
-        ],
-    },
+const SCENES: &[(&str, Scene<'static>)] = &[
+    (
+        "transactions",
+        Scene {
+            rows: TRANSACTIONS,
+            looks: &["2 SELECT t", "2 SELECT u", "2 SELECT w"],
+        },
+    ),
+    (
+        "altered tables",
+        Scene {
+            rows: ALTERED,
+            looks: &["2 SELECT t"],
+        },
+    ),
+    (
+        "locked tables",
+        Scene {
+            rows: LOCKED,
+            looks: &["1 SELECT t", "1 SELECT u"],
+        },
+    ),
+    (
+        "the global read lock",
+        Scene {
+            rows: READ_LOCK,
+            looks: &["1 SELECT t"],
+        },
+    ),
+    (
+        "schemas",
+        Scene {
+            rows: SCHEMAS,
+            looks: &[
+                "2 SELECT s.a",
+                "2 SELECT s.b",
+                "2 CREATE TABLE s.c x x",
+                "2 CREATE TABLE r.c x x",
+            ],
+        },
+    ),
 ];
 
-/// The first scene that goes wrong.
+/// The first scene that goes wrong over a space of one thread.
 pub(crate) fn first_wrong(alloc: Global) -> Option<&'static str> {
-    for scene in SCENES {
-        if !goes_well(alloc, *scene) {
-            return Some(scene.name);
+    for (name, scene) in SCENES {
+        if !statements::goes_well(alloc, *scene) {
+            return Some(*name);
+        }
+    }
+    None
+}
+
+/// The first scene that goes wrong over sessions of a space that threads share.
+pub(crate) fn first_wrong_shared<R: Wait>(rt: &R, alloc: Global) -> Option<&'static str> {
+    for (name, scene) in SCENES {
+        if !desks::goes_well(rt, alloc, *scene) {
+            return Some(*name);
         }
     }
     None

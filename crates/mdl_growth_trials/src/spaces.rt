@@ -22,7 +22,7 @@ const MANY: TicketId = 14;
 
 // A call of a session.
 #[derive(Clone, Copy)]
-enum Act {
+pub(crate) enum Act {
     Resolve(&'static str),
     TryNow(Place, Mode),
     BeginWait(Place, Mode),
@@ -40,7 +40,7 @@ enum Act {
 
 // What it answers.
 #[derive(Clone, Copy, PartialEq, Eq)]
-enum Reply {
+pub(crate) enum Reply {
     At(Place),
     Granted(TicketId),
     WouldWait,
@@ -56,7 +56,7 @@ enum Reply {
 
 impl Act {
     // Whether it never takes memory.
-    fn takes_none(self) -> bool {
+    pub(crate) fn takes_none(self) -> bool {
         matches!(self, Act::Release(_) | Act::Downgrade(_, _) | Act::EndWait)
     }
 }
@@ -170,7 +170,7 @@ fn version_of<S: LockSpace>(space: &mut S, who: u16, ticket: Option<&Held>) -> O
 }
 
 // Makes a call of a session.
-fn call<S: LockSpace>(space: &mut S, alloc: Global, who: u16, act: Act) -> Reply
+pub(crate) fn call<S: LockSpace>(space: &mut S, alloc: Global, who: u16, act: Act) -> Reply
     requires { S.speaks_for space.old who }
     ensures { (w : ℕ) → S.speaks_for space.old w → S.speaks_for space.new w }
 {
@@ -283,7 +283,7 @@ fn upgraded(outcome: Result<Upgrade, SpaceError>) -> Reply {
     }
 }
 
-fn done(outcome: Result<(), SpaceError>) -> Reply {
+pub(crate) fn done(outcome: Result<(), SpaceError>) -> Reply {
     match outcome {
         Ok(()) => Reply::Done,
         Err(error) => Reply::Refused(error),

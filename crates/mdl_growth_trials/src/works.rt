@@ -14,6 +14,9 @@ use std::alloc::{AllocError, Global};
 
 const PLACES: u16 = 8;
 
+// How many definitions the cache of each session keeps.
+const CACHE: u16 = 64;
+
 const TABLES: &[u8] = b"1 CREATE SCHEMA test\n1 CREATE TABLE t x\n1 CREATE TABLE u x\n";
 
 const SCRIPT: &[u8] =
@@ -95,10 +98,10 @@ fn answers(
     ensures free { IsFree space.new who }
     ensures others { LeavesFree who space.old space.new }
 {
-    match work(alloc, space, who, script, 0, &OpenGate) {
+    match work(alloc, space, who, script, 0, CACHE, &OpenGate) {
         Ok(answers) => Some(answers),
         Err(AllocError) if has_nothing(space, who) => {
-            work(alloc, space, who, script, 0, &OpenGate).ok()
+            work(alloc, space, who, script, 0, CACHE, &OpenGate).ok()
         }
         Err(AllocError) => None,
     }

@@ -1,5 +1,9 @@
 //! What a program answers, and what it tells on which stream.
+ghost use Rattle.std.specs.Prelude.{IfOk};
+ghost use Rattle.mdl_program.specs.Runs.{IsRun};
+
 use crate::fakes::{Habit, Slip, Source, Target};
+use crate::statuses::Words::{Lock, Matrix, OnThreads, Refused, Replay, Scoped};
 use mdl_key::Kind;
 use mdl_program::{Run, lack_words, run_asked};
 use std::alloc::{AllocError, Global};
@@ -9,16 +13,30 @@ use std::sync::Wait;
 use std::test::Fail;
 use std::thread::Threads;
 
-// What words ask for, or what is said of words that ask for nothing.
-type Asked = Result<Run, &'static str>;
+// Words of a command line, read or refused.
+#[derive(Clone, Copy)]
+enum Words {
+    Lock,
+    Scoped,
+    Matrix,
+    Replay,
+    OnThreads,
+    Refused,
+}
 
-const LOCK: Asked = Ok(Run::Lock(Kind::Object));
-
-const SCOPED: Asked = Ok(Run::Lock(Kind::Scoped));
-
-const MATRIX: Asked = Ok(Run::Matrix);
-
-const REPLAY: Asked = Ok(Run::Replay);
+// What the words ask for, or what is said of words that ask for nothing.
+fn asked_by(words: Words) -> Result<Run, &'static str>
+    ensures { IfOk result IsRun }
+{
+    match words {
+        Words::Lock => Ok(Run::Lock(Kind::Object)),
+        Words::Scoped => Ok(Run::Lock(Kind::Scoped)),
+        Words::Matrix => Ok(Run::Matrix),
+        Words::Replay => Ok(Run::Replay),
+        Words::OnThreads => Ok(Run::Threads(5, 1)),
+        Words::Refused => Err("requires a subcommand\n"),
+    }
+}
 
 // What is seen of a run: its status, what it wrote, and what it told.
 #[derive(Drop)]
@@ -32,13 +50,13 @@ struct Seen {
 fn look_at<T: Threads + Wait + Sync>(
     rt: &T,
     alloc: Global,
-    asked: &Asked,
+    words: Words,
     input: &mut Source<'_>,
     output: Habit,
 ) -> Seen {
     let mut target = Target::new(alloc, output);
     let mut told = Vec::new(alloc);
-    let status = run_asked(rt, alloc, asked, input, &mut target, &mut told);
+    let status = run_asked(rt, alloc, &asked_by(words), input, &mut target, &mut told);
     Seen {
         status,
         written: target.taken,
@@ -64,10 +82,11 @@ fn statuses_and_lines_of_a_run(rt: HostRuntime) {
     let both = "1 GRANTED SR\n2 WAITS X\n";
     let statements = "1 BEGIN\n2 COMMIT\n";
     let told = "1 1 OK\n2 2 OK\n";
-    for (asked, script, input, output, status, answers, line) in [
-        (LOCK, "1 SR\n2 X\n", sound, sound, 0, both, ""),
+    let ended = "1 1 OK\n2 2 OK\nFINAL SCHEMA test@1\n";
+    for (words, script, input, output, status, answers, line) in [
+        (Lock, "1 SR\n2 X\n", sound, sound, 0, both, ""),
         (
-            SCOPED,
+            Scoped,
             "1 IX\n2 S\n",
             sound,
             sound,
@@ -76,7 +95,7 @@ fn statuses_and_lines_of_a_run(rt: HostRuntime) {
             "",
         ),
         (
-            LOCK,
+            Lock,
             "1 SR\n2 x\n",
             sound,
             sound,
@@ -84,15 +103,15 @@ fn statuses_and_lines_of_a_run(rt: HostRuntime) {
             "",
             "line 2: BadWord\n",
         ),
-        (LOCK, "x", sound, gone, 1, "", "line 1: BadSession\n"),
-        (SCOPED, "1 SR\n", sound, sound, 1, "", "line 1: BadWord\n"),
-        (LOCK, "1 SR\n2 X\n", sound, gone, 3, "1 GRANTED", device),
-        (LOCK, "1 SR\n2 X\n", gone, sound, 3, "", device),
-        (MATRIX, "", sound, gone, 3, "SCOPED GR", device),
-        (REPLAY, statements, sound, sound, 0, told, ""),
-        (REPLAY, "", sound, sound, 0, "", ""),
+        (Lock, "x", sound, gone, 1, "", "line 1: BadSession\n"),
+        (Scoped, "1 SR\n", sound, sound, 1, "", "line 1: BadWord\n"),
+        (Lock, "1 SR\n2 X\n", sound, gone, 3, "1 GRANTED", device),
+        (Lock, "1 SR\n2 X\n", gone, sound, 3, "", device),
+        (Matrix, "", sound, gone, 3, "SCOPED GR", device),
+        (Replay, statements, sound, sound, 0, told, ""),
+        (Replay, "", sound, sound, 0, "", ""),
         (
-            REPLAY,
+            Replay,
             "1 BEGIN\n1 SR\n",
             sound,
             gone,
@@ -100,11 +119,23 @@ fn statuses_and_lines_of_a_run(rt: HostRuntime) {
             "",
             "line 2: BadWord\n",
         ),
-        (REPLAY, statements, sound, gone, 3, "1 1 OK\n2 ", device),
-        (REPLAY, statements, gone, sound, 3, "", device),
+        (Replay, statements, sound, gone, 3, "1 1 OK\n2 ", device),
+        (Replay, statements, gone, sound, 3, "", device),
+        (OnThreads, statements, sound, sound, 0, ended, ""),
+        (
+            OnThreads,
+            "1 BEGIN\n1 SR\n",
+            sound,
+            gone,
+            1,
+            "",
+            "line 2: BadWord\n",
+        ),
+        (OnThreads, statements, sound, gone, 3, "1 1 OK\n2 ", device),
+        (OnThreads, statements, gone, sound, 3, "", device),
     ] {
         let mut source = Source::new(script.as_bytes(), input);
-        let seen = look_at(&rt, rt.alloc(), &asked, &mut source, output);
+        let seen = look_at(&rt, rt.alloc(), words, &mut source, output);
         assert_eq!(rt; seen.status, status, "{script}");
         assert_eq!(rt; seen.written.as_slice(), answers.as_bytes(), "{script}");
         assert_eq!(rt; seen.told.as_slice(), line.as_bytes(), "{script}");
@@ -118,7 +149,7 @@ fn refused_lines_far_down_are_told(rt: HostRuntime) -> Result<(), Fail> {
         let script = refused_after(rt.alloc(), lines)?;
         let sound = Habit::steps_of(usize::MAX);
         let mut source = Source::new(script.as_bytes(), sound);
-        let seen = look_at(&rt, rt.alloc(), &LOCK, &mut source, sound);
+        let seen = look_at(&rt, rt.alloc(), Lock, &mut source, sound);
         let number = lines + 1;
         let line = format!(in rt.alloc(); "line {number}: BadWord\n")?;
         assert_eq!(rt; seen.status, 1, "{line}");
@@ -132,7 +163,7 @@ fn refused_lines_far_down_are_told(rt: HostRuntime) -> Result<(), Fail> {
 fn the_matrices_are_printed_without_input(rt: HostRuntime) {
     let gone = Habit::steps_of(7).slips_after(0, Slip::Fails(ErrorKind::BrokenPipe));
     let mut source = Source::new(b"1 SR", gone);
-    let seen = look_at(&rt, rt.alloc(), &MATRIX, &mut source, Habit::steps_of(7));
+    let seen = look_at(&rt, rt.alloc(), Matrix, &mut source, Habit::steps_of(7));
     assert_eq!(rt; seen.status, 0);
     assert!(rt; seen.written.starts_with(b"SCOPED GRANTED IX: S X\n"));
     assert!(rt; seen.written.ends_with(b"OBJECT WAITING X: -\n"));
@@ -142,10 +173,9 @@ fn the_matrices_are_printed_without_input(rt: HostRuntime) {
 // What is said of words that ask for no run is told on the stream of errors alone, and no script is read.
 #[test]
 fn words_that_ask_for_no_run_are_refused(rt: HostRuntime) {
-    let refusal: Asked = Err("requires a subcommand\n");
     let gone = Habit::steps_of(7).slips_after(0, Slip::Fails(ErrorKind::BrokenPipe));
     let mut source = Source::new(b"1 SR\n", gone);
-    let seen = look_at(&rt, rt.alloc(), &refusal, &mut source, gone);
+    let seen = look_at(&rt, rt.alloc(), Refused, &mut source, gone);
     assert_eq!(rt; seen.status, 2);
     assert!(rt; seen.written.is_empty());
     assert_eq!(rt; seen.told.as_slice(), b"requires a subcommand\n".as_slice());

@@ -1,8 +1,7 @@
 -- What a run on threads leaves written.
-use Rattle.std.proofs.Common.{◌≡◌, ℕ, List, Option, Result, Ok, Err, refl}
-use Rattle.std.specs.Io.KnownBytes.{Appends, Keeps}
-use Rattle.mdl_lines.specs.declared.fault.Fault.{Fault}
-use Rattle.mdl_lines.specs.declared.fault.Fault.TheVariants.{Refused, Memory, Read, Write}
+use Rattle.std.proofs.Common.{ℕ, List, Option, Result, Ok, Err}
+use Rattle.std.specs.Io.KnownBytes.{Appends}
+use Rattle.mdl_lines.specs.declared.fault.Fault.TheVariants.{Write}
 use Rattle.mdl_lines.specs.declared.fault.LineError.{LineError}
 use Rattle.mdl_lines.specs.Words.{AppendsPart}
 use Rattle.mdl_syntax.specs.declared.script.Line.{Line}

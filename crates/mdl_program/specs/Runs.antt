@@ -1,5 +1,5 @@
 -- What the runs of the program are to write, how they may end, and with which status.
-use Rattle.std.specs.Prelude.{ℕ, List, Option, Some, None, IfSome, Result, Ok, Err}
+use Rattle.std.specs.Prelude.{⊤, ℕ, List, Option, Some, None, IfSome, Result, Ok, Err}
 use Rattle.std.specs.Option.{option_map}
 use Rattle.std.specs.Io.KnownBytes.{Appends}
 use Rattle.mdl_lines.specs.declared.fault.Fault.{Fault}
@@ -9,10 +9,18 @@ use Rattle.mdl_lock.specs.MatrixText.{matrix_text}
 use Rattle.mdl_lock.specs.Output.{lock_output_of}
 use Rattle.mdl_lock.specs.Scripts as commands
 use Rattle.mdl_script.specs.Output as played
+use Rattle.mdl_stmt.specs.Attendance.{IsCapacity}
 use Rattle.mdl_syntax.specs.Scripts as statements
 use Rattle.mdl_program.specs.Threads.{ThreadsLeave}
 use Rattle.mdl_program.specs.declared.program.Run.{Run}
 use Rattle.mdl_program.specs.declared.program.Run.TheVariants.{Lock, Matrix, Replay, Threads}
+
+-- the run can be done: its cache has room for as many definitions as one may keep
+abbrev pub IsRun : Run → Type 0
+IsRun (Threads patience cache) = IsCapacity cache
+IsRun (Lock kind) = ⊤
+IsRun Matrix = ⊤
+IsRun Replay = ⊤
 
 -- the output of a run on this input, where it is determined and known: the answers to a script, what becomes of the statements of one, or
 -- the matrices, which need no input. Of threads it isn't determined
@@ -20,14 +28,14 @@ abbrev pub output_of : Run → Option (List ℕ) → Option (List ℕ)
 output_of (Lock kind) input = option_map (lock_output_of kind) input
 output_of Matrix input = Some matrix_text
 output_of Replay input = option_map played.output_of input
-output_of (Threads patience) input = None
+output_of (Threads patience cache) input = None
 
 -- a run may end so on this input: a script's is refused just by its first refused line, and the matrices, which are not read, fail
 -- for want of memory or in writing alone
 abbrev pub IsEndOf : Run → Option (List ℕ) → Result (Unit {0}) Fault → Type 0
 IsEndOf (Lock kind) input end = IfSome input (λ script. MayEnd (commands.parsed kind script) end)
 IsEndOf Replay input end = IfSome input (λ script. MayEnd (statements.parsed script) end)
-IsEndOf (Threads patience) input end = IfSome input (λ script. MayEnd (statements.parsed script) end)
+IsEndOf (Threads patience cache) input end = IfSome input (λ script. MayEnd (statements.parsed script) end)
 IsEndOf Matrix input (Ok done) = Unit {0}
 IsEndOf Matrix input (Err (Refused line error)) = ⊥
 IsEndOf Matrix input (Err Memory) = Unit {0}
@@ -41,7 +49,7 @@ Writes (Err fault) old new output = LeavesWritten fault old new output
 
 -- what a run that ends so may leave written: of its output, or, on threads, of a text that tells of what the sessions can have done
 abbrev pub Leaves : Run → Option (List ℕ) → Result (Unit {0}) Fault → Option (List ℕ) → Option (List ℕ) → Type 0
-Leaves (Threads patience) input end old new = IfSome input (λ script. ThreadsLeave patience (statements.parsed script) end old new)
+Leaves (Threads patience cache) input end old new = IfSome input (λ script. ThreadsLeave patience (statements.parsed script) end old new)
 Leaves (Lock kind) input end old new = IfSome (output_of (Lock kind) input) (Writes end old new)
 Leaves Matrix input end old new = IfSome (output_of Matrix input) (Writes end old new)
 Leaves Replay input end old new = IfSome (output_of Replay input) (Writes end old new)

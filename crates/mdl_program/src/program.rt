@@ -3,7 +3,7 @@ ghost use Rattle.std.specs.Prelude.{◌≡◌, ◌≢◌, IfOk, IfErr, IsOk, Res
 ghost use Rattle.std.specs.Io.KnownBytes.{Keeps};
 ghost use Rattle.std.specs.IoError.{error_kind};
 ghost use Rattle.mdl_lines.specs.declared.fault.Fault.{Fault};
-ghost use Rattle.mdl_program.specs.Runs.{EndsAs, end_status};
+ghost use Rattle.mdl_program.specs.Runs.{EndsAs, IsRun, end_status};
 
 use crate::threads::play_on_threads;
 use mdl_key::Kind;
@@ -28,8 +28,9 @@ pub enum Run {
     Matrix,
     /// Play a script of statements.
     Replay,
-    /// Play a script of statements, each session on a thread of its own, with this patience.
-    Threads(u32),
+    /// Play a script of statements, each session on a thread of its own, with this patience, and with a cache of
+    /// its own for so many definitions.
+    Threads(u32, u16),
 }
 
 /// Does what is asked for, and answers the status. Words that ask for no run are refused: what there is to say of them is told
@@ -42,6 +43,7 @@ pub fn run_asked<T: Threads + Wait + Sync, D: fmt::Display, R: Read, W: Write, E
     output: &mut W,
     errors: &mut E,
 ) -> u8
+    requires { IfOk asked.now IsRun }
     // The status is that of an end which the run may have, and nothing is told of a run that was done.
     ensures ran { IfOk asked.now (λ run. (end : Result (Unit {0}) Fault)
         × EndsAs run (R.remaining input.old) (W.contents output.old) (W.contents output.new) end
@@ -63,13 +65,16 @@ fn end_of<T: Threads + Wait + Sync, R: Read, W: Write>(
     input: &mut R,
     output: &mut W,
 ) -> Result<(), Fault>
+    requires { IsRun asked }
     ensures { EndsAs asked (R.remaining input.old) (W.contents output.old) (W.contents output.new) result }
 {
     match asked {
         Run::Lock(kind) => lock_run(alloc, kind, input, output),
         Run::Matrix => matrix_run(alloc, output),
         Run::Replay => replay(alloc, input, output),
-        Run::Threads(patience) => play_on_threads(rt, alloc, patience, input, output),
+        Run::Threads(patience, cache) => {
+            play_on_threads(rt, alloc, patience, cache, input, output)
+        }
     }
 }
 

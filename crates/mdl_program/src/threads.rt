@@ -2,6 +2,7 @@
 ghost use Rattle.std.specs.Prelude.{◌≡◌, OnOk, IfOk, IfErr, IfSome, IsOk};
 ghost use Rattle.std.specs.String.{string_bytes};
 ghost use Rattle.mdl_lines.specs.Words.{IsFaultOf, MayEnd};
+ghost use Rattle.mdl_stmt.specs.Attendance.{IsCapacity};
 ghost use Rattle.mdl_syntax.specs.Scripts.{parsed};
 ghost use Rattle.mdl_program.specs.Threads.{IsTold, ThreadsLeave};
 
@@ -20,14 +21,16 @@ pub(crate) fn play_on_threads<T: Threads + Wait + Sync, R: Read, W: Write>(
     rt: &T,
     alloc: Global,
     patience: u32,
+    cache: u16,
     input: &mut R,
     output: &mut W,
 ) -> Result<(), Fault>
+    requires { IsCapacity cache }
     ensures ends { IfSome (R.remaining input.old) (λ bytes. MayEnd (parsed bytes) result) }
     ensures leaves { IfSome (R.remaining input.old) (λ bytes. ThreadsLeave patience (parsed bytes) result (W.contents output.old) (W.contents output.new)) }
 {
     let text = read_all(alloc, input)?;
-    let told = tell(rt, alloc, patience, text)?;
+    let told = tell(rt, alloc, patience, cache, text)?;
     write_all(output, told.as_bytes())
 }
 
@@ -36,15 +39,17 @@ fn tell<T: Threads + Wait + Sync>(
     rt: &T,
     alloc: Global,
     patience: u32,
+    cache: u16,
     text: Vec<u8>,
 ) -> Result<String, Fault>
+    requires { IsCapacity cache }
     ensures told { IfOk result (λ told. IsTold patience (parsed text.items) (string_bytes told)) }
     ensures accepted { OnOk result (IsOk (parsed text.items)) }
     ensures fault { IfErr result (IsFaultOf (parsed text.items)) }
 {
     let script = parse(alloc, &text)?;
     drop(text);
-    match run_threads(rt, alloc, &script, patience, &OpenGate) {
+    match run_threads(rt, alloc, &script, patience, cache, &OpenGate) {
         Ok(told) => Ok(told),
         Err(AllocError) => Err(Fault::Memory),
     }

@@ -2,7 +2,7 @@
 use Rattle.std.proofs.Common.{◌≡◌, ℕ, List, Option, Some, None, Ok, Err, refl, subst}
 use Rattle.mdl_key.specs.Keys.{KeyName}
 use Rattle.mdl_defs.specs.declared.standing.Standing.{Standing}
-use Rattle.mdl_calls.specs.Words.{Answer, Has_wait, Reads, Changed, Tables, Key_is, Call, Change_definition, Kill, Tables_of, Key_of, Read_definition, Wait_of, Program, Give, Ask, Grow, ◌>>=◌, Each, EachCall}
+use Rattle.mdl_calls.specs.Words.{Answer, Has_wait, Reads, Changed, Tables, Key_is, Call, Change_definition, Kill, Tables_of, Key_of, Read_kept, Wait_of, Program, Give, Ask, Grow, ◌>>=◌, Each, EachCall}
 use Rattle.mdl_core.specs.RunLaws.{IsMadeFor}
 use Rattle.mdl_context.specs.declared.request.Acquire.{Acquire}
 use Rattle.mdl_context.specs.declared.request.Acquire.TheVariants as acquire
@@ -177,7 +177,7 @@ own_play (row.Release id rest) mark session =
 own_play (row.Keep rest) mark session = own_play rest mark (playing.all_kept session)
 own_play (row.Read id rest) mark session =
     let more = λ (standing : Standing). play (rest standing) mark session in
-    own_ask session.context.who (Read_definition session.context.who id) (playing.read_answered mark session more) (refl, refl)
+    own_ask session.context.who (Read_kept session.context.who id) (playing.read_answered mark session more) (refl, refl)
     (own_read mark session more (λ standing. own_play (rest standing) mark session))
 own_play (row.Redefine id change rest) mark session =
     let more = play rest mark session in

@@ -4,7 +4,7 @@ use Rattle.mdl_key.specs.declared.mode.Mode.{Mode}
 use Rattle.mdl_key.specs.declared.mode.Duration.TheVariants.{Transaction, Explicit}
 use Rattle.mdl_key.specs.Keys.{KeyName}
 use Rattle.mdl_defs.specs.declared.standing.Standing.{Standing}
-use Rattle.mdl_calls.specs.Words.{Answer, Has_wait, Reads, Changed, Tables, Key_is, Read_definition, Change_definition, Tables_of, Key_of, Wait_of, Program, Give, Ask, Grow, ◌>>=◌, ◌>>◌}
+use Rattle.mdl_calls.specs.Words.{Answer, Has_wait, Reads, Changed, Tables, Key_is, Read_kept, Change_definition, Tables_of, Key_of, Wait_of, Program, Give, Ask, Grow, ◌>>=◌, ◌>>◌}
 use Rattle.mdl_calls.specs.Words as call
 use Rattle.mdl_context.specs.declared.request.Acquire.{Acquire}
 use Rattle.mdl_context.specs.declared.request.Acquire.TheVariants as acquire
@@ -116,7 +116,7 @@ play (row.Give_up which rest) mark session =
 play (row.Release id rest) mark session = releasing id session.context >>= (λ outcome. play rest mark (with_context session outcome.1))
 play (row.Keep rest) mark session = play rest mark (all_kept session)
 play (row.Read id rest) mark session =
-    Ask (Read_definition session.context.who id) (read_answered mark session (λ standing. play (rest standing) mark session))
+    Ask (Read_kept session.context.who id) (read_answered mark session (λ standing. play (rest standing) mark session))
 play (row.Redefine id change rest) mark session =
     Ask (Change_definition session.context.who id change) (change_answered mark session (play rest mark session))
 play (row.Tables_of schema rest) mark session =

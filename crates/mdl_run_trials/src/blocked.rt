@@ -6,7 +6,7 @@ use crate::playing::{lines, played_on};
 use mdl_calls::{Attempt, SpaceError, TicketId};
 use mdl_defs::{Definition, Standing};
 use mdl_key::{Key, MOST_PLACES, MOST_SESSIONS, Mode};
-use mdl_script::OpenGate;
+use mdl_script::{DEFAULT_CACHE, OpenGate};
 use mdl_shared::{HoldsTickets, Manager, Pass, Session};
 use std::alloc::Global;
 use std::process::Abort;
@@ -69,7 +69,16 @@ fn played_beside<R: Threads + Wait + Sync>(
         return Err(Fail::from("the table is not free"));
     };
     let script = lines(alloc, SCRIPT)?;
-    let text = played_on(rt, alloc, manager, passes, script.as_str(), 0, &OpenGate)?;
+    let text = played_on(
+        rt,
+        alloc,
+        manager,
+        passes,
+        script.as_str(),
+        0,
+        DEFAULT_CACHE,
+        &OpenGate,
+    )?;
     let standing = read(own, &seen)?;
     own.release(id)?;
     Ok((text, standing))

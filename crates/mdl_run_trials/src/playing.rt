@@ -2,9 +2,10 @@
 ghost use Rattle.std.specs.Prelude.{◌≡◌, ◌≤◌, All, length};
 ghost use Rattle.std.specs.List.{list_all};
 ghost use Rattle.mdl_shared.specs.Passes.{table_of, pass_table};
+ghost use Rattle.mdl_stmt.specs.Attendance.{IsCapacity};
 ghost use Rattle.mdl_script.specs.Turns.{has_pass};
 
-use mdl_script::{Gate, run_on, run_threads};
+use mdl_script::{DEFAULT_CACHE, Gate, run_on, run_threads};
 use mdl_shared::{Manager, Pass};
 use mdl_syntax::{Script, parse};
 use std::alloc::{AllocError, Global};
@@ -31,7 +32,7 @@ pub(crate) fn played<R: Threads + Wait + Sync, G: Gate + Sync>(
     gate: &G,
 ) -> Result<String, Fail> {
     let script = parse(alloc, script.as_bytes())?;
-    Ok(run_threads(rt, alloc, &script, patience, gate)?)
+    Ok(run_threads(rt, alloc, &script, patience, DEFAULT_CACHE, gate)?)
 }
 
 // Whether a session has one of these passes.
@@ -59,8 +60,10 @@ pub(crate) fn played_on<R: Threads + Wait + Sync, G: Gate + Sync>(
     passes: Vec<Pass>,
     script: &str,
     patience: u32,
+    cache: u16,
     gate: &G,
 ) -> Result<String, Fail>
+    requires capacity { IsCapacity cache }
     requires some { 1 ≤ length passes.items }
     requires theirs { All (λ pass. pass_table pass ≡ table_of manager.now) passes.items }
 {
@@ -68,5 +71,5 @@ pub(crate) fn played_on<R: Threads + Wait + Sync, G: Gate + Sync>(
     if !are_there(&passes, &script) {
         return Err(Fail::from("a session has no pass"));
     }
-    Ok(run_on(rt, alloc, manager, passes, &script, patience, gate)?)
+    Ok(run_on(rt, alloc, manager, passes, &script, patience, cache, gate)?)
 }

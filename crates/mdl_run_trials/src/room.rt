@@ -32,6 +32,9 @@ const PLACES: u16 = 16;
 
 const SESSIONS: u16 = 2;
 
+// How many definitions the cache of each session keeps.
+const CACHE: u16 = 64;
+
 /// A space in which nobody has asked for anything.
 pub(crate) fn new_space(alloc: Global) -> Result<CoreSpace, NewError>
     ensures one { IfOk result (λ space. IsFree space 1) }
@@ -57,7 +60,7 @@ pub(crate) fn answers_so<G: Gate>(
     let Ok(script) = parse(alloc, text) else {
         return false;
     };
-    match work(alloc, space, who, &script, patience, gate) {
+    match work(alloc, space, who, &script, patience, CACHE, gate) {
         Ok(answers) => are_told(&answers, want),
         Err(_) => false,
     }
@@ -81,7 +84,9 @@ pub(crate) fn holds(alloc: Global, space: &mut CoreSpace, text: &[u8]) -> bool
     let [line] = script.lines() else {
         return false;
     };
-    let mut runner = Runner::new(alloc, 2);
+    let Ok(mut runner) = Runner::new(alloc, 2, CACHE) else {
+        return false;
+    };
     matches!(
         runner.start(space, &line.statement),
         Ok(Progress::Done(Reply::Ok))

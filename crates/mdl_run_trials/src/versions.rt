@@ -1,18 +1,25 @@
-//! Eight sessions read a table while a ninth one makes and changes it.
+//! Eight sessions read two tables in turn while a ninth one makes and changes them.
+ghost use Rattle.mdl_stmt.specs.Attendance.{IsCapacity};
+
 use crate::blocked::close;
 use crate::playing::played_on;
 use mdl_key::MOST_PLACES;
-use mdl_script::OpenGate;
+use mdl_script::{DEFAULT_CACHE, OpenGate};
 use mdl_shared::{Audited, Manager, Session};
 use std::alloc::{AllocError, Global};
+use std::process::Abort;
+use std::sync::Wait;
 use std::test::Fail;
+use std::thread::Threads;
 
-// So often each of the readers reads.
+// So often each of the readers reads, one table and the other in turn.
 const READS: u32 = 250;
 
 const CHANGES: &str = "\
 9 CREATE TABLE t x
+9 CREATE TABLE u x
 9 ALTER TABLE t ADD a COPY
+9 ALTER TABLE u ADD a COPY
 9 ALTER TABLE t ADD b INPLACE
 9 ALTER TABLE t ADD c COPY
 ";
@@ -22,43 +29,55 @@ const CHANGED: &str = "\
 2002 9 OK
 2003 9 OK
 2004 9 OK
+2005 9 OK
+2006 9 OK
 FINAL SCHEMA test@1
 FINAL TABLE test.t@4(x,a,b,c)
+FINAL TABLE test.u@2(x,a)
 ";
 
 fn script(alloc: Global) -> Result<String, AllocError> {
     let mut script = String::new(alloc);
     for who in 1..=8_u16 {
-        for _read in 0..READS {
+        for _pair in 0..READS / 2 {
             writeln!(script, "{who} SELECT t")?;
+            writeln!(script, "{who} SELECT u")?;
         }
     }
     script.push_str(CHANGES)?;
     Ok(script)
 }
 
-// The session of an answer, and the version that it read: 0 where there was no table. Nothing else is answered to a read.
-fn reading(line: &str) -> Option<(u16, u64)> {
+// The session of an answer, and the version of the table that it read: 0 where there was none. Nothing else is answered to a read.
+fn reading(line: &str, table: &str) -> Option<(u16, u64)> {
     let (_number, answer) = line.split_once(' ')?;
     let (who, reply) = answer.split_once(' ')?;
-    let version = version(reply)?;
+    let version = version(reply, table)?;
     Some((who.parse().ok()?, version))
 }
 
-fn version(reply: &str) -> Option<u64> {
+fn version(reply: &str, table: &str) -> Option<u64> {
     if reply == "ERR 1146" {
         return Some(0);
     }
-    let shown = reply.strip_prefix("OK test.t@")?;
-    let (version, _columns) = shown.split_once('(')?;
+    let shown = reply.strip_prefix("OK test.")?.strip_prefix(table)?;
+    let (version, _columns) = shown.strip_prefix("@")?.split_once('(')?;
     version.parse().ok()
 }
 
-// The readings of a session, one after the other.
+// A table, and the version of it that was read last.
+#[derive(Clone, Copy)]
+struct Seen {
+    table: &'static str,
+    version: u64,
+}
+
+// The readings of a session, of one table and the other in turn.
 #[derive(Clone, Copy)]
 struct Readings {
     who: u16,
-    last: u64,
+    next: Seen,
+    other: Seen,
     count: u32,
 }
 
@@ -66,16 +85,28 @@ impl Readings {
     fn of(who: u16) -> Readings {
         Readings {
             who,
-            last: 0,
+            next: Seen {
+                table: "t",
+                version: 0,
+            },
+            other: Seen {
+                table: "u",
+                version: 0,
+            },
             count: 0,
         }
     }
 
-    // Notes an answer. Whether it is one of the session, and the version is not below the last one.
+    // Notes an answer. Whether it is one of the session, and the version of the table that comes next is not below the last one.
     fn note(&mut self, line: &str) -> bool {
-        match reading(line) {
-            Some((who, version)) if who == self.who && version >= self.last => {
-                self.last = version;
+        let Seen { table, version } = self.next;
+        match reading(line, table) {
+            Some((who, now)) if who == self.who && now >= version => {
+                self.next = self.other;
+                self.other = Seen {
+                    table,
+                    version: now,
+                };
                 self.count = self.count.saturating_add(1);
                 true
             }
@@ -106,22 +137,51 @@ fn are_free(books: &[Audited]) -> bool {
     books.iter().all(|book| book.book.granted.is_empty() && book.book.waiting.is_empty())
 }
 
-// A tenth session looks at all books when the run is over.
-#[test]
-fn versions_never_fall(rt: HostRuntime) -> Result<(), Fail> {
-    let alloc = rt.alloc();
+// The text of a run whose sessions' caches keep so many definitions, and the books that a tenth session finds when it is over.
+fn played_with<R: Threads + Wait + Sync + Abort>(
+    rt: &R,
+    alloc: Global,
+    cache: u16,
+) -> Result<(String, Vec<Audited>), Fail>
+    requires { IsCapacity cache }
+{
     let script = script(alloc)?;
     let (manager, mut passes) = Manager::new(alloc, MOST_PLACES, 10)?;
     let Some(last) = passes.pop() else {
         return Err(Fail::from("there is no session"));
     };
     let text = script.as_str();
-    let played = played_on(&rt, alloc, &manager, passes, text, u32::MAX, &OpenGate)?;
-    let mut watcher = Session::open(&rt, &manager, last);
+    let played = played_on(
+        rt,
+        alloc,
+        &manager,
+        passes,
+        text,
+        u32::MAX,
+        cache,
+        &OpenGate,
+    )?;
+    let mut watcher = Session::open(rt, &manager, last);
     let books = watcher.audit();
-    close(&rt, watcher);
+    close(rt, watcher);
+    Ok((played, books?))
+}
+
+#[test]
+fn versions_never_fall(rt: HostRuntime) -> Result<(), Fail> {
+    let (played, books) = played_with(&rt, rt.alloc(), DEFAULT_CACHE)?;
     assert_eq!(rt; first_that_falls(played.as_str()), None);
     assert!(rt; played.ends_with(CHANGED));
-    assert!(rt; are_free(&books?));
+    assert!(rt; are_free(&books));
+    Ok(())
+}
+
+// Each read is of the other table, so the cache has just dropped it.
+#[test]
+fn versions_never_fall_where_nothing_stays_kept(rt: HostRuntime) -> Result<(), Fail> {
+    let (played, books) = played_with(&rt, rt.alloc(), 1)?;
+    assert_eq!(rt; first_that_falls(played.as_str()), None);
+    assert!(rt; played.ends_with(CHANGED));
+    assert!(rt; are_free(&books));
     Ok(())
 }

@@ -68,8 +68,11 @@ attended-first core who speaks has =
 
 seated-first : (core : Core) (a n : ℕ) → ((who : ℕ) → a ≤ who → who < a + n → SpeaksFor core who) → ((who : ℕ) → own_at core who ≡ nothing) → AreSeated core a (map new_player (range_with_len a n))
 seated-first core a zero speaks has = tt
-seated-first core a (suc n) speaks has =
-    (refl, attended-first core a (speaks a (omega arith) (omega arith)) (has a), seated-first core (a + 1) n (λ who least most. speaks who (omega arith) (omega arith)) has)
+seated-first core a (suc n) speaks has = (
+  refl,
+  record { attends = attended-first core a (speaks a (omega arith) (omega arith)) (has a); met = λ one among. tt },
+  seated-first core (a + 1) n (λ who least most. speaks who (omega arith) (omega arith)) has,
+)
 
 -- ---- the world
 

@@ -12,12 +12,15 @@ use Rattle.mdl_space.specs.CoreMembers.{core_space}
 use Rattle.mdl_core.specs.CoreJoins.{Joins}
 use Rattle.mdl_core.proofs.CallLaws.{core-keeps}
 use Rattle.mdl_core.proofs.CoreSound.{calls_keep-sound}
-use Rattle.mdl_context.specs.Contexts.{ContextView, Attends, LeavesOthers}
+use Rattle.mdl_context.specs.Contexts.{LeavesOthers}
 use Rattle.mdl_context.proofs.AttendLemmas.{attends-same}
 use Rattle.mdl_lines.specs.Sessions.{IsScriptSession}
 use Rattle.mdl_rows.specs.Endings.{Pause}
 use Rattle.mdl_rows.specs.Playing.{going_on, starting}
+use Rattle.mdl_stmt.specs.Attendance.{AttendsWith}
+use Rattle.mdl_stmt.specs.Players.{RunnerView}
 use Rattle.mdl_syntax.specs.declared.script.Line.{Line}
+use Rattle.mdl_work.proofs.WorkLemmas.{attends-with}
 use Rattle.mdl_script.specs.declared.hall.Hall.{Hall}
 use Rattle.mdl_script.specs.declared.hall.Player as kept
 use Rattle.mdl_script.specs.Halls.{AreSeated, IsManned, place_of, player_of, world_of}
@@ -28,28 +31,29 @@ use Rattle.mdl_script.proofs.ListLemmas.{All-filter_range, filter-noted, filter-
 
 -- each of them is of its session, and attended to
 pub seated-at : (core : Core) (first i : ℕ) (xs : List kept.Player) (d : kept.Player) → AreSeated core first xs → i < length xs
-    → ((get_or xs i d).runner.context.who ≡ first + i) × Attends core_space core (get_or xs i d).runner.context
+    → ((get_or xs i d).runner.context.who ≡ first + i) × AttendsWith core_space core (get_or xs i d).runner.context (get_or xs i d).runner.cache
 seated-at core first i [] d seated inside = absurd (omega arith)
 seated-at core first zero (x ∷ xs) d seated inside = (seated.0 ∙ omega arith, seated.1)
 seated-at core first (suc i) (x ∷ xs) d seated inside =
     let rest = seated-at core (first + 1) i xs d seated.2 (omega arith) in (rest.0 ∙ omega arith, rest.1)
 
 -- one of the others has made a call
-still-attended : (before after : Core) (x : ContextView) (who : ℕ) → LeavesOthers core_space who before after → x.who ≢ who
-    → Attends core_space before x → Attends core_space after x
-still-attended before after x who leaves other attends =
-    let same = leaves x.who other attends.speaks in attends-same before after x attends same.2 same.0 same.1
+still-attended : (before after : Core) (x : RunnerView) (who : ℕ) → LeavesOthers core_space who before after → x.context.who ≢ who
+    → AttendsWith core_space before x.context x.cache → AttendsWith core_space after x.context x.cache
+still-attended before after x who leaves other with =
+    let same = leaves.0 x.context.who other with.attends.speaks in
+    attends-with core_space x.context x.cache before after (attends-same before after x.context with.attends same.2 same.0 same.1) leaves.1 with
 
 -- later sessions
 still-seated : (before after : Core) (first who : ℕ) (xs : List kept.Player) → LeavesOthers core_space who before after → who < first
     → AreSeated before first xs → AreSeated after first xs
 still-seated before after first who [] leaves later seated = tt
 still-seated before after first who (x ∷ xs) leaves later seated =
-    (seated.0, still-attended before after x.runner.context who leaves (λ e. omega (arith, seated.0, e)) seated.1, still-seated before after (first + 1) who xs leaves (omega arith) seated.2)
+    (seated.0, still-attended before after x.runner who leaves (λ e. omega (arith, seated.0, e)) seated.1, still-seated before after (first + 1) who xs leaves (omega arith) seated.2)
 
 -- one of them has made calls
 pub seated-then : (before after : Core) (first i : ℕ) (xs : List kept.Player) (x : kept.Player) → AreSeated before first xs → i < length xs
-    → x.runner.context.who ≡ first + i → Attends core_space after x.runner.context → LeavesOthers core_space (first + i) before after
+    → x.runner.context.who ≡ first + i → AttendsWith core_space after x.runner.context x.runner.cache → LeavesOthers core_space (first + i) before after
     → AreSeated after first (set xs i x)
 seated-then before after first i [] x seated inside who attends leaves = absurd (omega arith)
 seated-then before after first zero (y ∷ ys) x seated inside who attends leaves =
@@ -57,7 +61,7 @@ seated-then before after first zero (y ∷ ys) x seated inside who attends leave
 seated-then before after first (suc i) (y ∷ ys) x seated inside who attends leaves =
     let same : first + 1 + i ≡ first + suc i = omega arith in (
       seated.0,
-      still-attended before after y.runner.context (first + suc i) leaves (λ e. omega (arith, seated.0, e)) seated.1,
+      still-attended before after y.runner (first + suc i) leaves (λ e. omega (arith, seated.0, e)) seated.1,
       seated-then before after (first + 1) i ys x seated.2 (omega arith) (who ∙ sym same) attends
           (subst (λ n. LeavesOthers core_space n before after) (sym same) leaves),
     )

@@ -76,7 +76,7 @@ pub hall-speaks : (hall : Hall) → IsManned hall → (who : ℕ) → IsScriptSe
 hall-speaks hall manned who session =
     let inside : who - 1 < length hall.players.items = subst (λ l. who - 1 < l) (sym manned.all) (omega (arith, session.0, session.1)) in
     let at = seated-at hall.space 1 (who - 1) hall.players.items (new_player 0) manned.seated inside in
-    subst (λ w. SpeaksFor hall.space w) (at.0 ∙ omega (arith, session.0)) at.1.speaks
+    subst (λ w. SpeaksFor hall.space w) (at.0 ∙ omega (arith, session.0)) at.1.attends.speaks
 
 -- and so for all that wait
 pub waiting-speak : (hall : Hall) → IsManned hall → All (SpeaksFor hall.space) hall.waiting.items
@@ -126,8 +126,11 @@ attended-still a b who answer context step attends =
 
 seated-still : (a b : Core) (who : ℕ) (answer : Answer) (first : ℕ) (xs : List kept.Player) → Joins a (Settle_timeout who) answer b → AreSeated a first xs → AreSeated b first xs
 seated-still a b who answer first [] step seated = tt
-seated-still a b who answer first (x ∷ xs) step seated =
-    (seated.0, attended-still a b who answer x.runner.context step seated.1, seated-still a b who answer (first + 1) xs step seated.2)
+seated-still a b who answer first (x ∷ xs) step seated = (
+  seated.0,
+  record { attends = attended-still a b who answer x.runner.context step seated.1.attends; met = λ one among. tt },
+  seated-still a b who answer (first + 1) xs step seated.2,
+)
 
 pub timed-out : (hall : Hall) (who : ℕ) (answer : Answer) (after : Core) → IsManned hall → Joins hall.space (Settle_timeout who) answer after
     → IsManned (record { space = after; players = hall.players; waiting = hall.waiting })

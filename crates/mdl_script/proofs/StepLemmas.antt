@@ -6,7 +6,7 @@ use Rattle.mdl_calls.specs.Words.{Program, Runs}
 use Rattle.mdl_core.specs.CoreJoins.{Joins}
 use Rattle.mdl_core.specs.Words.{Core}
 use Rattle.mdl_space.specs.CoreMembers.{core_space}
-use Rattle.mdl_context.specs.Contexts.{Attends, LeavesOthers}
+use Rattle.mdl_context.specs.Contexts.{LeavesOthers}
 use Rattle.mdl_context.specs.MemoryLaws.{IsSureUnless}
 use Rattle.mdl_lines.specs.Sessions.{IsScriptSession}
 use Rattle.mdl_stmt.specs.declared.progress.Progress.{Progress}
@@ -17,6 +17,7 @@ use Rattle.mdl_rows.specs.MemoryLaws.{IsFault, session_at}
 use Rattle.mdl_rows.proofs.RowOutcomes.{sure_rows}
 use Rattle.mdl_rows.specs.Playing.{going_on}
 use Rattle.mdl_rows.specs.Sessions.{Session}
+use Rattle.mdl_stmt.specs.Attendance.{AttendsWith}
 use Rattle.mdl_stmt.specs.Players.{RunnerView}
 use Rattle.mdl_stmt.specs.Stages.{session_of}
 use Rattle.mdl_script.specs.declared.hall.Hall.{Hall}
@@ -81,7 +82,7 @@ module _ (hall : Hall) (who n : ℕ) (player d : kept.Player) (manned : IsManned
   here = same ∙ ap (λ m. get_or hall.players.items (m - 1) d) from
 
   -- it is of its session, and attended to
-  pub attends-at : (player.runner.context.who ≡ who) × Attends core_space hall.space player.runner.context
+  pub attends-at : (player.runner.context.who ≡ who) × AttendsWith core_space hall.space player.runner.context player.runner.cache
   attends-at =
       let at = seated-at hall.space 1 (who - 1) hall.players.items d manned.seated inside in
       rw here (at.0 ∙ omega (arith, session.0), at.1)
@@ -91,7 +92,7 @@ module _ (hall : Hall) (who n : ℕ) (player d : kept.Player) (manned : IsManned
   work-at waits so = rw here (sym (waits-at hall.space hall.players.items who d session.0 (subst (λ l. who ≤ l) (sym manned.all) session.1)) ∙ so)
 
   -- it takes another runner
-  pub seated-after : (after : Core) (line : ℕ) (runner : RunnerView) → runner.context.who ≡ player.runner.context.who → Attends core_space after runner.context
+  pub seated-after : (after : Core) (line : ℕ) (runner : RunnerView) → runner.context.who ≡ player.runner.context.who → AttendsWith core_space after runner.context runner.cache
       → LeavesOthers core_space player.runner.context.who hall.space after
       → AreSeated after 1 (set hall.players.items (n - 1) (record { runner = runner; line = line }))
   seated-after after line runner whose attends leaves =

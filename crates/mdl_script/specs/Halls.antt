@@ -4,7 +4,7 @@ use Rattle.std.specs.List.{position_or_len}
 use Rattle.mdl_key.specs.Words.{most_sessions}
 use Rattle.mdl_space.specs.CoreMembers.{core_space}
 use Rattle.mdl_core.specs.Cores.{Core}
-use Rattle.mdl_context.specs.Contexts.{Attends}
+use Rattle.mdl_stmt.specs.Attendance.{AttendsWith}
 use Rattle.mdl_stmt.specs.Stages.{session_of}
 use Rattle.mdl_rows.specs.States.{at_first}
 use Rattle.mdl_script.specs.declared.hall.Hall.{Hall}
@@ -18,15 +18,27 @@ player_of player = record { session = session_of player.runner; line = player.li
 abbrev pub world_of : Hall → World
 world_of hall = record { core = hall.space; players = map player_of hall.players.items }
 
--- one that was asked for nothing yet
-abbrev pub new_player : ℕ → kept.Player
-new_player who = record { runner = record { context = record { who = who; kept = []; known = []; wait = None }; state = at_first; work = None }; line = 0 }
+-- how many definitions the cache of each session keeps
+abbrev pub default_cache : ℕ
+default_cache = 64
 
--- these are the sessions from this number on, and the space attends to each of them
+-- one that was asked for nothing yet, and whose cache keeps nothing
+abbrev pub new_player : ℕ → kept.Player
+new_player who = record {
+  runner = record {
+    context = record { who = who; kept = []; known = []; wait = None };
+    state = at_first;
+    work = None;
+    cache = record { kept = []; capacity = default_cache };
+  };
+  line = 0;
+}
+
+-- these are the sessions from this number on, and the space attends to each of them with its cache
 abbrev pub AreSeated : Core → ℕ → List kept.Player → Type 0
 AreSeated core who [] = Unit {0}
 AreSeated core who (player ∷ players) =
-    (player.runner.context.who ≡ who) × Attends core_space core player.runner.context × AreSeated core (who + 1) players
+    (player.runner.context.who ≡ who) × AttendsWith core_space core player.runner.context player.runner.cache × AreSeated core (who + 1) players
 
 -- the place of a session among others in rising order: that of the first greater one, or behind all
 abbrev pub place_of : ℕ → List ℕ → ℕ

@@ -2,6 +2,7 @@
 ghost use Rattle.std.specs.Prelude.{◌≡◌, ℕ, List, [], ◌∷◌, IfOk, OnOk};
 ghost use Rattle.mdl_session_laws.specs.SessionSpaces.{SpeaksFor};
 ghost use Rattle.mdl_rows.specs.declared.reply.Reply.{Reply};
+ghost use Rattle.mdl_stmt.specs.Attendance.{IsCapacity};
 ghost use Rattle.mdl_shared.specs.SessionViews.{space_of};
 ghost use Rattle.mdl_script.specs.Answers.{AreAnswers, WorksOff, nothing};
 ghost use Rattle.mdl_script.specs.Books.{AreOfOneAudit};
@@ -24,6 +25,7 @@ pub(crate) fn make_first_schema<R: Wait, G>(
     asker: &mut Session<&R>,
     who: u16,
 ) -> Result<(), AllocError>
+    requires capacity { IsCapacity run.now.cache }
     requires speaks { SpeaksFor (space_of asker.old) who }
     requires nothing { (space_of asker.old).own ≡ nothing }
     ensures nothing { (space_of asker.new).own ≡ nothing }
@@ -38,7 +40,15 @@ pub(crate) fn make_first_schema<R: Wait, G>(
         session: who,
         statement: Statement::CreateSchema(name),
     };
-    let _answers = work_lines(run.alloc, asker, who, &[line], run.patience, &OpenGate)?;
+    let _answers = work_lines(
+        run.alloc,
+        asker,
+        who,
+        &[line],
+        run.patience,
+        run.cache,
+        &OpenGate,
+    )?;
     Ok(())
 }
 
@@ -48,6 +58,7 @@ pub(crate) fn take_turn<R: Wait, G: Gate>(
     asker: &mut Session<&R>,
     who: u16,
 ) -> Result<Transcript, AllocError>
+    requires capacity { IsCapacity run.now.cache }
     requires speaks { SpeaksFor (space_of asker.old) who }
     requires nothing { (space_of asker.old).own ≡ nothing }
     ensures nothing { (space_of asker.new).own ≡ nothing }
@@ -55,7 +66,15 @@ pub(crate) fn take_turn<R: Wait, G: Gate>(
     ensures worked { IfOk result (λ own. WorksOff run.now.patience run.now.script.now who asker.old own.answers.items asker.new) }
     ensures answered { IfOk result (λ own. AreAnswers asker.old.table run.now.patience run.now.script.now who own.answers.items) }
 {
-    let answers = work(run.alloc, asker, who, run.script, run.patience, run.gate)?;
+    let answers = work(
+        run.alloc,
+        asker,
+        who,
+        run.script,
+        run.patience,
+        run.cache,
+        run.gate,
+    )?;
     Ok(Transcript { who, answers })
 }
 

@@ -23,6 +23,9 @@ use std::alloc::{AllocError, Global};
 // As many turns as there can be after a line: 16,704.
 const MOST_TURNS: u16 = MOST_SESSIONS * MOST_WAITS;
 
+/// How many definitions a session's cache keeps unless the command line says otherwise.
+pub const DEFAULT_CACHE: u16 = 64;
+
 /// A session, and the number of the line of its last statement.
 #[derive(Drop)]
 pub(crate) struct Player<'s> {
@@ -266,7 +269,7 @@ fn new_players<'s>(alloc: Global) -> Result<Vec<Player<'s>>, AllocError>
     let mut players = Vec::new(alloc);
     for who in 1..MOST_SESSIONS + 1 {
         players.push(Player {
-            runner: Runner::new(alloc, who),
+            runner: Runner::new(alloc, who, DEFAULT_CACHE)?,
             line: 0,
         })?;
     }

@@ -28,6 +28,7 @@ mod running;
 mod told;
 mod turns;
 
+pub use hall::DEFAULT_CACHE;
 pub use laws::runs_have_one_text;
 pub use mdl_lines::{Fault, LineError};
 pub use mdl_syntax::{Line, Script, Statement, parse};

@@ -2,6 +2,7 @@
 ghost use Rattle.std.specs.Prelude.{◌≡◌, IfOk};
 ghost use Rattle.mdl_shared.specs.Passes.{pass_number, pass_table, table_of};
 ghost use Rattle.mdl_shared.specs.SessionViews.{space_of};
+ghost use Rattle.mdl_stmt.specs.Attendance.{IsCapacity};
 ghost use Rattle.mdl_script.specs.Answers.{AreAnswers, nothing};
 
 use mdl_shared::{Manager, Pass, Session};
@@ -19,14 +20,16 @@ pub(crate) fn work_pass<R: Wait, G: Gate>(
     pass: Pass,
     script: &Script,
     patience: u32,
+    cache: u16,
     gate: &G,
 ) -> Result<Vec<(u64, Reply)>, AllocError>
     requires theirs { pass_table pass ≡ table_of manager.now }
+    requires capacity { IsCapacity cache }
     ensures { IfOk result (λ answers. AreAnswers (table_of manager.now) patience script.now (pass_number pass) answers.items) }
 {
     let mut session = Session::open(rt, manager, pass);
     let who = session.number();
-    let answers = work(alloc, &mut session, who, script, patience, gate);
+    let answers = work(alloc, &mut session, who, script, patience, cache, gate);
     close(session);
     answers
 }

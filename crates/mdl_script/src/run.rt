@@ -6,7 +6,8 @@ use mdl_shared::Manager;
 use mdl_syntax::Script;
 use std::alloc::Global;
 
-/// What the sessions of a run share: what they wait by, the table, the script, their patience with a wait, and who is told.
+/// What the sessions of a run share: what they wait by, the table, the script, their patience with a wait, how many definitions the cache of
+/// each keeps, and who is told.
 #[derive(Drop)]
 pub(crate) struct Run<'a, R, G> {
     pub(crate) rt: &'a R,
@@ -14,6 +15,7 @@ pub(crate) struct Run<'a, R, G> {
     pub(crate) manager: &'a Manager,
     pub(crate) script: &'a Script,
     pub(crate) patience: u32,
+    pub(crate) cache: u16,
     pub(crate) gate: &'a G,
 }
 

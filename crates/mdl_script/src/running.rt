@@ -5,6 +5,7 @@ ghost use Rattle.mdl_session_laws.specs.SessionSpaces.{SpeaksFor};
 ghost use Rattle.mdl_shared.specs.declared.pass.Pass.{Pass};
 ghost use Rattle.mdl_shared.specs.Passes.{pass_number, pass_table, pass_view, table_of};
 ghost use Rattle.mdl_shared.specs.SessionViews.{space_of};
+ghost use Rattle.mdl_stmt.specs.Attendance.{IsCapacity};
 ghost use Rattle.mdl_script.specs.Answers.{nothing};
 ghost use Rattle.mdl_script.specs.RunTexts.{named_sessions};
 ghost use Rattle.mdl_script.specs.Runs.{IsRunBetween, IsRunFrom, IsRunOf};
@@ -29,6 +30,8 @@ use std::thread::{Scope, Threads};
 ///
 /// The passes are used up. The session of the first one has its turn in the thread of the caller; before that it makes the schema
 /// `test`, unless that stands, and when all others have ended it looks at all books.
+///
+/// Each session reads by a cache of its own, which keeps at most so many definitions as `cache` says.
 pub fn run_on<R: Threads + Wait + Sync, G: Gate + Sync>(
     rt: &R,
     alloc: Global,
@@ -36,8 +39,10 @@ pub fn run_on<R: Threads + Wait + Sync, G: Gate + Sync>(
     passes: Vec<Pass>,
     script: &Script,
     patience: u32,
+    cache: u16,
     gate: &G,
 ) -> Result<String, AllocError>
+    requires capacity { IsCapacity cache }
     requires some { 1 ≤ length passes.items }
     requires theirs { All (λ pass. pass_table pass ≡ table_of manager.now) passes.items }
     requires there { All (λ who. has_pass passes.items who ≡ true) (named_sessions script.now) }
@@ -52,6 +57,7 @@ pub fn run_on<R: Threads + Wait + Sync, G: Gate + Sync>(
             requires first { pass_table first ≡ table_of manager.now }
             requires theirs { All (λ pass. pass_table pass ≡ table_of manager.now) others.items }
             requires there { All (λ who. who ≢ pass_number first → has_pass others.items who ≡ true) (named_sessions script.now) }
+            requires capacity { IsCapacity cache }
             ensures { IfOk result (λ text. IsRunFrom patience script.entry.now (pass_view first) (string_bytes text)) }
         {
             let run = Run {
@@ -60,6 +66,7 @@ pub fn run_on<R: Threads + Wait + Sync, G: Gate + Sync>(
                 manager,
                 script,
                 patience,
+                cache,
                 gate,
             };
             text_in(scope, &run, first, others)
@@ -74,6 +81,7 @@ fn text_in<'s, E, R: Threads + Wait + Sync, G: Gate + Sync>(
     first: Pass,
     others: Vec<Pass>,
 ) -> Result<String, AllocError>
+    requires capacity { IsCapacity run.now.cache }
     requires first { pass_table first ≡ table_of run.now.manager.now }
     requires theirs { All (λ pass. pass_table pass ≡ table_of run.now.manager.now) others.items }
     requires there { All (λ who. who ≢ pass_number first → has_pass others.items who ≡ true) (named_sessions run.now.script.now) }
@@ -94,6 +102,7 @@ fn text_by<'s, E, R: Threads + Wait + Sync, G: Gate + Sync>(
     asker: &mut Session<&R>,
     who: u16,
 ) -> Result<String, AllocError>
+    requires capacity { IsCapacity run.now.cache }
     requires theirs { All (λ pass. pass_table pass ≡ table_of run.now.manager.now) others.items }
     requires there { All (λ other. other ≢ who → has_pass others.items other ≡ true) (named_sessions run.now.script.now) }
     requires table { asker.old.table ≡ table_of run.now.manager.now }
@@ -112,7 +121,7 @@ fn text_by<'s, E, R: Threads + Wait + Sync, G: Gate + Sync>(
 }
 
 /// Plays a script over a lock table of its own, in which nothing is defined yet: each session that the script names works off its own
-/// lines, on a thread of its own, with this patience with each wait, counted in looks at it.
+/// lines, on a thread of its own, with this patience with each wait, counted in looks at it, and with a cache of so many definitions.
 ///
 /// The answer is a text: session by session, in rising order, a line for each answer, and then one for each key that has a definition
 /// in the end, in the order of keys. Where memory is wanting, or a thread can't be started, there is none.
@@ -121,12 +130,14 @@ pub fn run_threads<R: Threads + Wait + Sync, G: Gate + Sync>(
     alloc: Global,
     script: &Script,
     patience: u32,
+    cache: u16,
     gate: &G,
 ) -> Result<String, AllocError>
+    requires capacity { IsCapacity cache }
     ensures { IfOk result (λ text. IsRunOf patience script.now (string_bytes text)) }
 {
     let Ok((manager, passes)) = Manager::new(alloc, MOST_PLACES, MOST_SESSIONS) else {
         return Err(AllocError);
     };
-    run_on(rt, alloc, &manager, passes, script, patience, gate)
+    run_on(rt, alloc, &manager, passes, script, patience, cache, gate)
 }

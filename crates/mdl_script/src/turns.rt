@@ -3,6 +3,7 @@ ghost use Rattle.std.specs.Prelude.{◌≡◌, ◌≢◌, [], ◌∷◌, ◌==�
 ghost use Rattle.std.specs.List.Sorted.{IsPermutation};
 ghost use Rattle.std.specs.String.{string_bytes};
 ghost use Rattle.mdl_shared.specs.Passes.{pass_number, pass_table, table_of};
+ghost use Rattle.mdl_stmt.specs.Attendance.{IsCapacity};
 ghost use Rattle.mdl_script.specs.Answers.{AreAnswers, IsTranscript};
 ghost use Rattle.mdl_script.specs.RunTexts.{named_sessions};
 ghost use Rattle.mdl_script.specs.Turns.{GainsAnswers, IsAbout, IsTurn, has_pass};
@@ -77,11 +78,12 @@ fn start_thread<'s, E, R: Threads + Wait + Sync, G: Gate + Sync>(
     pass: Pass,
 ) -> Result<PromisedHandle<Answered, AnswersOf<'s>>, AllocError>
     requires theirs { pass_table pass ≡ table_of run.now.manager.now }
+    requires capacity { IsCapacity run.now.cache }
     ensures { IfOk result (λ thread. IsAbout (table_of run.now.manager.now) run.now.patience run.now.script.now (pass_number pass) thread.promise) }
 {
     // The thread has each of these by itself: of a struct that has them by a lifetime, the proof keeps nothing.
     let (rt, gate, manager, script) = (run.rt, run.gate, run.manager, run.script);
-    let (alloc, patience) = (run.alloc, run.patience);
+    let (alloc, patience, cache) = (run.alloc, run.patience, run.cache);
     let promise = AnswersOf {
         who: pass.number(),
         manager,
@@ -89,7 +91,7 @@ fn start_thread<'s, E, R: Threads + Wait + Sync, G: Gate + Sync>(
         patience,
     };
     let thread = scope.spawn_with(promise, move || {
-        work_pass(rt, alloc, manager, pass, script, patience, gate)
+        work_pass(rt, alloc, manager, pass, script, patience, cache, gate)
     })?;
     Ok(thread)
 }
@@ -103,6 +105,7 @@ fn start_turn<'s, E, R: Threads + Wait + Sync, G: Gate + Sync>(
     who: u16,
 ) -> Result<Turn<'s>, AllocError>
     requires theirs { All (λ pass. pass_table pass ≡ table_of run.now.manager.now) passes.old.items }
+    requires capacity { IsCapacity run.now.cache }
     requires there { who ≢ mine → has_pass passes.old.items who ≡ true }
     ensures who { IfOk result (λ turn. turn.who ≡ who) }
     ensures turn { IfOk result (λ turn. IsTurn (table_of run.now.manager.now) run.now.patience run.now.script.now mine turn) }
@@ -128,6 +131,7 @@ pub(crate) fn start_all<'s, E, R: Threads + Wait + Sync, G: Gate + Sync>(
     mine: u16,
 ) -> Result<Vec<Turn<'s>>, AllocError>
     requires theirs { All (λ pass. pass_table pass ≡ table_of run.now.manager.now) passes.items }
+    requires capacity { IsCapacity run.now.cache }
     requires there { All (λ who. who ≢ mine → has_pass passes.items who ≡ true) (named_sessions run.now.script.now) }
     ensures sessions { IfOk result (λ turns. map (λ turn. turn.who) turns.items ≡ named_sessions run.now.script.now) }
     ensures turns { IfOk result (λ turns. All (IsTurn (table_of run.now.manager.now) run.now.patience run.now.script.now mine) turns.items) }

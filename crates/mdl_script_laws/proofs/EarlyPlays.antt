@@ -2,7 +2,7 @@
 use Rattle.std.proofs.Common.{◌≡◌, ℕ, true, false, Option, Some, None, List, [], inl, inr, refl, sym, ap, subst, ◌∙◌}
 use Rattle.std.proofs.lemmas.Bool.{false≢true}
 use Rattle.mdl_defs.specs.declared.standing.Standing.{Standing}
-use Rattle.mdl_calls.specs.Words.{Answer, Reads, Program, Give, ◌>>=◌, Each, Read_definition, Runs}
+use Rattle.mdl_calls.specs.Words.{Answer, Reads, Program, Give, ◌>>=◌, Each, Read_kept, Runs}
 use Rattle.mdl_calls.specs.declared.answers.Held.{Held}
 use Rattle.mdl_calls.specs.declared.answers.Settled.{Settled}
 use Rattle.mdl_calls.specs.declared.answers.Settled.TheVariants as settled
@@ -180,7 +180,7 @@ answered_untouched answer mark session a b pause tidy run =
     by (reply.Columns tables) same = tt
 
 -- to read changes nothing
-reads_same : (a b : Core) (who id : ℕ) (answer : Answer) → Joins a (Read_definition who id) answer b → b ≡ a
+reads_same : (a b : Core) (who id : ℕ) (answer : Answer) → Joins a (Read_kept who id) answer b → b ≡ a
 reads_same a b who id answer (speaks, has, inl made) = made.2
 reads_same a b who id answer (speaks, has, inr made) = by (held_ticket who id a) made where
   by : (ticket : Option Held) → reading_of ticket a ≡ (answer, b) → b ≡ a

@@ -4,7 +4,7 @@ use Rattle.std.specs.Option.{IfSome}
 use Rattle.mdl_key.specs.Keys.{KeyName}
 use Rattle.mdl_defs.specs.declared.change.Change.{Change}
 use Rattle.mdl_defs.specs.declared.standing.Standing.{Standing}
-use Rattle.mdl_calls.specs.Words.{Answer, Reads, Changed, Tables, Key_is, Has_wait, Read_definition, Change_definition, Tables_of, Key_of, Program, Give, Each, Runs}
+use Rattle.mdl_calls.specs.Words.{Answer, Reads, Changed, Tables, Key_is, Has_wait, Read_kept, Change_definition, Tables_of, Key_of, Program, Give, Each, Runs}
 use Rattle.mdl_calls.proofs.FaithfulLemmas.{calls_bind, each_reply, each_then}
 use Rattle.mdl_core.specs.CoreJoins.{Joins}
 use Rattle.mdl_core.specs.Cores.{Core}
@@ -168,7 +168,7 @@ module _ (from b : Core) (pause : Pause) (failed : HasFailed pause) where
       (λ outcome mid now. kept-play rest mark (with_context session outcome.1) mid now never so) run
   kept-play (row.Keep rest) mark session a at never so run = kept-play rest mark (playing.all_kept session) a at never so run
   kept-play (row.Read id rest) mark session a at never so (answer, mid, joins, run) =
-      let now = at-answer from a mid (Read_definition session.context.who id) answer tt at joins in
+      let now = at-answer from a mid (Read_kept session.context.who id) answer tt at joins in
       kept-read mark session (λ standing. play (rest standing) mark session) mid now
       (λ standing. kept-play (rest standing) mark session mid now never (so standing)) answer run
   kept-play (row.Redefine id change rest) mark session a at never so (answer, mid, joins, run) =

@@ -2,7 +2,7 @@
 use Rattle.std.proofs.Common.{ℕ, Option, Some, None, Ok, Err, refl, List}
 use Rattle.mdl_key.specs.Keys.{KeyName}
 use Rattle.mdl_defs.specs.declared.standing.Standing.{Standing}
-use Rattle.mdl_calls.specs.Words.{Answer, Has_wait, Reads, Changed, Change_definition, Kill, Read_definition, Wait_of, Program, Give, ◌>>=◌, Tables, Key_is, Tables_of, Key_of}
+use Rattle.mdl_calls.specs.Words.{Answer, Has_wait, Reads, Changed, Change_definition, Kill, Read_kept, Wait_of, Program, Give, ◌>>=◌, Tables, Key_is, Tables_of, Key_of}
 use Rattle.mdl_context.specs.declared.request.Acquire.{Acquire}
 use Rattle.mdl_context.specs.declared.request.Acquire.TheVariants as acquire
 use Rattle.mdl_context.specs.declared.request.Mark.{Mark}
@@ -125,7 +125,7 @@ calm-play (row.Release id rest) mark session =
 calm-play (row.Keep rest) mark session = calm-play rest mark (playing.all_kept session)
 calm-play (row.Read id rest) mark session =
     let more = λ (standing : Standing). play (rest standing) mark session in
-    calm-ask {A = Pause} session.context.who (Read_definition session.context.who id) (playing.read_answered mark session more) (refl, refl)
+    calm-ask {A = Pause} session.context.who (Read_kept session.context.who id) (playing.read_answered mark session more) (refl, refl)
     (λ answer session. refl) (calm-read mark session more (λ standing. calm-play (rest standing) mark session))
 calm-play (row.Redefine id change rest) mark session =
     let more = play rest mark session in

@@ -16,7 +16,7 @@ use Rattle.mdl_calls.specs.declared.answers.Settled.{Settled}
 use Rattle.mdl_calls.specs.declared.answers.Settled.TheVariants as settled
 use Rattle.mdl_calls.specs.declared.space_error.SpaceError.{SpaceError}
 use Rattle.mdl_calls.specs.declared.space_error.SpaceError.TheVariants as space
-use Rattle.mdl_calls.specs.Words.{Answer, Has_wait, Reads, Changed, Change_definition, Kill, Read_definition, Wait_of, Own, Program, Give, ◌>>=◌, Tables, Key_is, Tables_of, Key_of}
+use Rattle.mdl_calls.specs.Words.{Answer, Has_wait, Reads, Changed, Change_definition, Kill, Read_kept, Wait_of, Own, Program, Give, ◌>>=◌, Tables, Key_is, Tables_of, Key_of}
 use Rattle.mdl_core.specs.CoreJoins.{Joins, Knows, SpeaksFor, own_at}
 use Rattle.mdl_core.specs.Cores.{Core, standing_at}
 use Rattle.mdl_core.proofs.CallLaws.{core-changes, core-keeps, core-remembers, core-rising}
@@ -503,7 +503,7 @@ module _ (old : TableShown → Type 0) (live : Bool) (locks : List (ℕ × KeyNa
 
   -- what stands was asked for
   seen-read : (a b : Core) (context : ContextView) (state : State) (id version : ℕ) (definition : Option Definition) → At a context state
-      → Joins a (Read_definition context.who id) (Reads version definition) b → At b context state
+      → Joins a (Read_kept context.who id) (Reads version definition) b → At b context state
       → (x : TableShown) → Contains (seen_under id (record { version = version; definition = definition }) locks) x → IsStanding b context x
   seen-read a b context state id version definition point joins now x among =
       let from = Contains-map_from (λ (lock : ℕ × KeyName). shown_as lock.1 (record { version = version; definition = definition }))
@@ -512,8 +512,8 @@ module _ (old : TableShown → Type 0) (live : Bool) (locks : List (ℕ × KeyNa
       let before = point.locked from.0.0 from.0.1 lock.0 in
       let number : before.ticket.id ≡ id = before.number ∙ equal from.0.0 id lock.1 in
       let held = held-number (own_at a context.who) before.ticket id (core-rising a context.who point.fits.speaks) before.there number in
-      let read = core-reads a b (Read_definition context.who id) context.who id version definition before.ticket refl refl held joins in
-      let key = core-remembers a b (Read_definition context.who id) (Reads version definition) context.who before.ticket.place from.0.1
+      let read = core-reads a b (Read_kept context.who id) context.who id version definition before.ticket refl refl held joins in
+      let key = core-remembers a b (Read_kept context.who id) (Reads version definition) context.who before.ticket.place from.0.1
       point.fits.speaks (λ e done. cc) joins before.at in
       record {
         ticket = before.ticket;
@@ -523,26 +523,26 @@ module _ (old : TableShown → Type 0) (live : Bool) (locks : List (ℕ × KeyNa
       }
     where
       read-there : (a b : Core) (who id version : ℕ) (definition : Option Definition) (t : Held) → SpeaksFor a who
-          → Joins a (Read_definition who id) (Reads version definition) b
+          → Joins a (Read_kept who id) (Reads version definition) b
           → Contains (own_at a who).held t → Contains (own_at b who).held t
       read-there a b who id version definition t speaks joins among =
-          subst (λ (o : Own). Contains o.held t) (sym (core-changes a b (Read_definition who id) (Reads version definition) who refl joins)) among
+          subst (λ (o : Own). Contains o.held t) (sym (core-changes a b (Read_kept who id) (Reads version definition) who refl joins)) among
 
   leads-read : (id : ℕ) (more : Standing → Program Pause) (a b : Core) (session : Session) (answer : Answer) → At a session.context session.state
-      → Joins a (Read_definition session.context.who id) answer b
+      → Joins a (Read_kept session.context.who id) answer b
       → ((standing : Standing) → Point old live locks (seen_under id standing locks ++ seen) mark b session.context session.state
       → Leads (Comes old) (more standing) b)
       → Leads (Comes old) (playing.read_answered mark session more answer) b
   leads-read id more a b session (Reads version definition) point joins later =
       let now = point-same old live locks seen mark a session.context session.state point b
-      (stays-call session.context.who none a b (Read_definition session.context.who id) (Reads version definition) point.fits.speaks (refl, tt, refl) joins) in
+      (stays-call session.context.who none a b (Read_kept session.context.who id) (Reads version definition) point.fits.speaks (refl, tt, refl) joins) in
       later (record { version = version; definition = definition })
       (point-seen old live locks seen mark b session.context session.state now (seen_under id (record { version = version; definition = definition }) locks)
       (seen-read a b session.context session.state id version definition point joins now))
   leads-read id more a b session answer point joins later =
       leads-closing old live locks seen mark b session
       (point-same old live locks seen mark a session.context session.state point b
-      (stays-call session.context.who none a b (Read_definition session.context.who id) answer point.fits.speaks (refl, tt, refl) joins))
+      (stays-call session.context.who none a b (Read_kept session.context.who id) answer point.fits.speaks (refl, tt, refl) joins))
       (ending_of_refusal (refusal_of answer)) (λ lives x tell. absurd (tells_no_refusal (refusal_of answer) x tell))
 
   -- a change of it

@@ -9,7 +9,7 @@ use Rattle.std.proofs.lemmas.List.Sums.{count_by-le-length, length-filter}
 use Rattle.mdl_key.specs.Keys.{KeyName}
 use Rattle.mdl_book.specs.declared.book_view.BookView.{BookView}
 use Rattle.mdl_book.specs.Books.{empty_book}
-use Rattle.mdl_calls.specs.Words.{Answer, Call, Resolve, Tables_of, Read_kept, Unpin, Program, Give, Ask, Grow, outcome_of}
+use Rattle.mdl_calls.specs.Words.{Answer, Call, Resolve, Tables_of, Unpin, Program, Give, Ask, Grow, outcome_of}
 use Rattle.mdl_core.specs.CoreCalls.{has_call, outcome, placing}
 use Rattle.mdl_core.specs.Cores.{Core, comes_before, has_defined_table, in_key_order, index_of, put_in_order, tables_in}
 use Rattle.mdl_core.specs.Determined.{Places, places_of}
@@ -49,7 +49,6 @@ never e = cc
 
 -- a call that the space hasn't changes nothing
 left-alone : (call : Call) (core : Core) → has_call call ≡ false → (outcome call core).1 ≡ core
-left-alone (Read_kept who id) core has = refl
 left-alone (Unpin who place) core has = refl
 left-alone _ core has = absurd (never has)
 

@@ -7,8 +7,9 @@ use Rattle.mdl_calls.specs.Words.{Own}
 use Rattle.mdl_core.specs.Seats.{SeatView, empty_seat, own_of}
 use Rattle.mdl_core.specs.Words.{Core, SpeaksFor, empty_core, own_at}
 use Rattle.mdl_space.specs.CoreMembers.{core_space}
-use Rattle.mdl_context.specs.Contexts.{ContextView, Attends, LeavesOthers}
-use Rattle.mdl_context.proofs.AttendLemmas.{attends-same}
+use Rattle.mdl_context.specs.Contexts.{LeavesOthers}
+use Rattle.mdl_stmt.specs.Attendance.{AttendsWith}
+use Rattle.mdl_stmt.proofs.AttendanceLemmas.{attends-besides, attends-empty}
 use Rattle.mdl_stmt.specs.KeptStages.{OwnedView}
 use Rattle.mdl_server_example.specs.Servers.{AreServed, newcomer}
 
@@ -16,7 +17,7 @@ use Rattle.mdl_server_example.specs.Servers.{AreServed, newcomer}
 
 -- each of them is served
 served-at : (space : Core) (first i : ℕ) (xs : List OwnedView) (d : OwnedView) → AreServed space first xs → i < length xs
-    → ((get_or xs i d).context.who ≡ first + i) × Attends core_space space (get_or xs i d).context
+    → ((get_or xs i d).context.who ≡ first + i) × AttendsWith core_space space (get_or xs i d).context (get_or xs i d).cache
 served-at space first i [] d served inside = absurd (omega (arith, inside))
 served-at space first zero (x ∷ xs) d served inside = (served.0 ∙ omega arith, served.1)
 served-at space first (suc i) (x ∷ xs) d served inside =
@@ -24,15 +25,9 @@ served-at space first (suc i) (x ∷ xs) d served inside =
 
 -- so is the one of this index
 pub served-one : (space : Core) (i : ℕ) (xs : List OwnedView) (x : OwnedView) → AreServed space 1 xs → i < length xs → x ≡ get_or xs i x
-    → (x.context.who ≡ 1 + i) × Attends core_space space x.context
+    → (x.context.who ≡ 1 + i) × AttendsWith core_space space x.context x.cache
 served-one space i xs x served inside here =
-    subst (λ (y : OwnedView). (y.context.who ≡ 1 + i) × Attends core_space space y.context) (sym here) (served-at space 1 i xs x served inside)
-
--- another one has made calls
-still-attended : (before after : Core) (x : ContextView) (who : ℕ) → LeavesOthers core_space who before after → x.who ≢ who
-    → Attends core_space before x → Attends core_space after x
-still-attended before after x who leaves other attends =
-    let same = leaves x.who other attends.speaks in attends-same before after x attends same.2 same.0 same.1
+    subst (λ (y : OwnedView). (y.context.who ≡ 1 + i) × AttendsWith core_space space y.context y.cache) (sym here) (served-at space 1 i xs x served inside)
 
 -- an earlier one has
 still-served : (before after : Core) (first who : ℕ) (xs : List OwnedView) → LeavesOthers core_space who before after → who < first
@@ -40,13 +35,13 @@ still-served : (before after : Core) (first who : ℕ) (xs : List OwnedView) →
 still-served before after first who [] leaves later served = tt
 still-served before after first who (x ∷ xs) leaves later served = (
   served.0,
-  still-attended before after x.context who leaves (λ e. omega (arith, served.0, e, later)) served.1,
+  attends-besides core_space before after x.context x.cache who leaves (λ e. omega (arith, served.0, e, later)) served.1,
   still-served before after (first + 1) who xs leaves (omega (arith, later)) served.2,
 )
 
 -- one of them has
 served-then : (before after : Core) (first i : ℕ) (xs : List OwnedView) (x : OwnedView) → AreServed before first xs → i < length xs
-    → x.context.who ≡ first + i → Attends core_space after x.context → LeavesOthers core_space (first + i) before after
+    → x.context.who ≡ first + i → AttendsWith core_space after x.context x.cache → LeavesOthers core_space (first + i) before after
     → AreServed after first (set xs i x)
 served-then before after first i [] x served inside who attends leaves = absurd (omega (arith, inside))
 served-then before after first zero (y ∷ ys) x served inside who attends leaves =
@@ -54,14 +49,14 @@ served-then before after first zero (y ∷ ys) x served inside who attends leave
 served-then before after first (suc i) (y ∷ ys) x served inside who attends leaves =
     let same : first + 1 + i ≡ first + suc i = omega arith in (
       served.0,
-      still-attended before after y.context (first + suc i) leaves (λ e. omega (arith, served.0, e)) served.1,
+      attends-besides core_space before after y.context y.cache (first + suc i) leaves (λ e. omega (arith, served.0, e)) served.1,
       served-then before after (first + 1) i ys x served.2 (omega (arith, inside)) (who ∙ sym same) attends
           (subst (λ n. LeavesOthers core_space n before after) (sym same) leaves),
     )
 
 -- the one of this index has
 pub served-again : (before after : Core) (i : ℕ) (xs : List OwnedView) (x y : OwnedView) → AreServed before 1 xs → i < length xs → x ≡ get_or xs i x
-    → y.context.who ≡ x.context.who → Attends core_space after y.context → LeavesOthers core_space x.context.who before after
+    → y.context.who ≡ x.context.who → AttendsWith core_space after y.context y.cache → LeavesOthers core_space x.context.who before after
     → AreServed after 1 (set xs i y)
 served-again before after i xs x y served inside here who attends leaves =
     let whose = (served-one before i xs x served inside here).0 in
@@ -103,9 +98,10 @@ fresh-at [] i fresh = refl
 fresh-at (seat ∷ seats) zero fresh = fresh.0
 fresh-at (seat ∷ seats) (suc i) fresh = fresh-at seats i fresh.1
 
-attended-new : (space : Core) (who : ℕ) → SpeaksFor space who → own_at space who ≡ nothing → Attends core_space space (newcomer who).context
+attended-new : (space : Core) (who : ℕ) → SpeaksFor space who → own_at space who ≡ nothing → AttendsWith core_space space (newcomer who).context (newcomer who).cache
 attended-new space who speaks has =
-    record { speaks = speaks; serves = rw has (record { held = refl; wait = refl }); known = All-nil _; places = All-nil _; wish = tt }
+    attends-empty core_space space (newcomer who).context (newcomer who).cache refl
+    (record { speaks = speaks; serves = rw has (record { held = refl; wait = refl }); known = All-nil _; places = All-nil _; wish = tt })
 
 served-new : (space : Core) (a n : ℕ) → ((who : ℕ) → a ≤ who → who < a + n → SpeaksFor space who) → ((who : ℕ) → own_at space who ≡ nothing)
     → AreServed space a (map newcomer (range_with_len a n))

@@ -2,7 +2,8 @@
 ghost use Rattle.std.specs.Prelude.{◌≡◌, ◌<◌, IfOk, IfSome, length, map};
 ghost use Rattle.std.specs.List.{range_with_len};
 ghost use Rattle.mdl_space.specs.CoreMembers.{core_space};
-ghost use Rattle.mdl_context.specs.Contexts.{Attends, LeavesOthers};
+ghost use Rattle.mdl_context.specs.Contexts.{LeavesOthers};
+ghost use Rattle.mdl_stmt.specs.Attendance.{AttendsWith};
 ghost use Rattle.mdl_server_example.specs.Servers.{AreServed, newcomer};
 
 use mdl_key::MOST_PLACES;
@@ -11,6 +12,9 @@ use mdl_stmt::{OutOfMemory, OwnedRunner, Progress};
 use mdl_syntax::Statement;
 use std::alloc::{AllocError, Global};
 use std::marker::Model;
+
+// How many definitions the cache of a session keeps.
+const CACHE: u16 = 64;
 
 /// What the server answers.
 #[derive(Drop)]
@@ -102,7 +106,7 @@ fn new_runners(alloc: Global, sessions: u16) -> Result<Vec<OwnedRunner<CoreSpace
 {
     let mut runners = Vec::new(alloc);
     for index in 0..sessions {
-        runners.push(OwnedRunner::new(alloc, index + 1))?;
+        runners.push(OwnedRunner::new(alloc, index + 1, CACHE)?)?;
     }
     Ok(runners)
 }
@@ -113,8 +117,8 @@ fn start(
     runner: &mut OwnedRunner<CoreSpace>,
     statement: &Statement,
 ) -> Answer
-    requires { Attends core_space space.old runner.old.context }
-    ensures attends { Attends core_space space.new runner.new.context }
+    requires { AttendsWith core_space space.old runner.old.context runner.old.cache }
+    ensures attends { AttendsWith core_space space.new runner.new.context runner.new.cache }
     ensures who { runner.new.context.who ≡ runner.old.context.who }
     ensures others { LeavesOthers core_space runner.old.context.who space.old space.new }
 {
@@ -126,8 +130,8 @@ fn start(
 
 // Goes on with a statement that waits. While its wait isn't settled there is nothing to answer.
 fn go_on(space: &mut CoreSpace, runner: &mut OwnedRunner<CoreSpace>) -> Option<Answer>
-    requires { Attends core_space space.old runner.old.context }
-    ensures attends { Attends core_space space.new runner.new.context }
+    requires { AttendsWith core_space space.old runner.old.context runner.old.cache }
+    ensures attends { AttendsWith core_space space.new runner.new.context runner.new.cache }
     ensures who { runner.new.context.who ≡ runner.old.context.who }
     ensures others { LeavesOthers core_space runner.old.context.who space.old space.new }
 {

@@ -1,5 +1,5 @@
 -- What is always so of a session is so after each call.
-use Rattle.std.proofs.Common.{◌≡◌, ℕ, Bool, true, false, is_some, Option, Some, None, IfSome, refl, sym, ap, subst, ◌∙◌}
+use Rattle.std.proofs.Common.{◌≡◌, ℕ, Bool, true, false, is_some, Option, Some, None, IfSome, inr, refl, sym, ap, subst, ◌∙◌}
 use Rattle.mdl_calls.specs.declared.answers.Settled.{Settled}
 use Rattle.mdl_calls.specs.Words.{Answer, Call, IsRising, Own, Wait, is_waiting, own_after}
 use Rattle.mdl_session_laws.specs.SessionJoins.{Joins, KeepsSettled, ends_wait}
@@ -7,7 +7,7 @@ use Rattle.mdl_session_laws.specs.SessionSpaces.{Space, IsSound, Knows, is_known
 use Rattle.mdl_session_laws.specs.SpaceLaws.{beginning}
 use Rattle.mdl_session_laws.proofs.KnownAfter.{known-apart, knows-on, known-on}
 use Rattle.mdl_session_laws.proofs.OwnAfter.{placed-after, awaited-after, counts-after, waits-on}
-use Rattle.mdl_session_laws.proofs.ReadAfter.{learnt, noted-on, newest-on, fits-on}
+use Rattle.mdl_session_laws.proofs.ReadAfter.{HasLearnt, learnt, noted-on, newest-on, fits-on}
 use Rattle.mdl_session_laws.proofs.TicketLists.{all-weaker}
 
 -- where it has no wait, it knows nothing of one
@@ -70,6 +70,23 @@ module _ (a b : Space) (call : Call) (answer : Answer) (sound : IsSound a) (join
         newest = newest-on a b sound lets;
         fits = fits-on a b sound (knows-on call answer a.known b.known joins.learns) lets;
       }
+
+-- likewise of a session that has learnt what stands at a place, and is otherwise the same
+pub learns-sound : (a b : Space) → IsSound a → HasLearnt a b → b ≡ record a { notes = b.notes; reads = b.reads } → IsSound b
+learns-sound a b sound learns same =
+    let c : Space = record a { notes = b.notes; reads = b.reads } in
+    let lets = inr (subst (HasLearnt a) same learns) in
+    subst IsSound (sym same) (record {
+      rising = sound.rising;
+      below = sound.below;
+      placed = sound.placed;
+      awaited = sound.awaited;
+      apart = sound.apart;
+      settled = sound.settled;
+      noted = noted-on a c sound lets;
+      newest = newest-on a c sound lets;
+      fits = fits-on a c sound (λ place key is. is) lets;
+    })
 
 -- and it is so of a session that has nothing yet
 pub begins-sound : (number : ℕ) → IsSound (beginning number)

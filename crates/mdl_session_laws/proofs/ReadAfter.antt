@@ -1,5 +1,5 @@
 -- What a session has read after a call: what it noted is of what it read last, which is the newest and may stand there.
-use Rattle.std.proofs.Common.{◌≡◌, ◌⊎◌, ℕ, ◌+◌, true, Option, Some, None, MatchOption, option_map, inl, inr, refl, sym, ap, subst, ◌∙◌, arith}
+use Rattle.std.proofs.Common.{◌≡◌, ◌≢◌, ◌⊎◌, ℕ, ◌+◌, true, Option, Some, None, MatchOption, option_map, Contains, inl, inr, refl, sym, ap, subst, ◌∙◌, arith}
 use Rattle.std.proofs.lemmas.Bool.Decides.{eqb_tells}
 use Rattle.mdl_key.specs.Words.{KeyName}
 use Rattle.mdl_defs.specs.declared.change.Change.{Change}
@@ -7,11 +7,11 @@ use Rattle.mdl_defs.specs.declared.standing.Standing.{Standing}
 use Rattle.mdl_defs.specs.Standings.{MayStand, standing_after}
 use Rattle.mdl_defs.proofs.StandingLemmas.{changes-keep_standing}
 use Rattle.mdl_calls.specs.declared.answers.Held.{Held}
-use Rattle.mdl_calls.specs.Words.{Answer, Reads, Changed, Call, Read_definition, Read_kept, Change_definition, OfHeld, Own, is_number, ticket_held}
-use Rattle.mdl_session_laws.specs.SessionJoins.{LetsRead, Meets, NotesThere, ReadsNothing, ReadsThere, ChangesThere}
-use Rattle.mdl_session_laws.specs.SessionSpaces.{Space, IsSound, IsNoted, FitsKey, key_known, is_known, noted_at, last_read, is_newest, was_read}
+use Rattle.mdl_calls.specs.Words.{Answer, Refused, Reads, Changed, Call, Read_definition, Read_kept, Change_definition, OfHeld, Own, is_number, ticket_held}
+use Rattle.mdl_session_laws.specs.SessionJoins.{IsLast, LetsRead, Meets, NotesThere, ReadsNothing, ReadsThere, ChangesThere}
+use Rattle.mdl_session_laws.specs.SessionSpaces.{Space, Reading, IsSound, IsNoted, FitsKey, key_known, is_known, noted_at, last_read, is_newest, was_read}
 use Rattle.mdl_session_laws.proofs.KeyLists.{is-known}
-use Rattle.mdl_session_laws.proofs.ReadLists.{last-here, last-elsewhere, last-stays, last-newest, last-newest_elsewhere, newest-up}
+use Rattle.mdl_session_laws.proofs.ReadLists.{last-here, last-elsewhere, last-keeps, last-stays, last-newest, last-newest_elsewhere, newest-up}
 use Rattle.mdl_session_laws.proofs.TicketLists.{all-found}
 
 -- ---- tickets
@@ -40,25 +40,42 @@ pub meets-fits : (a : Space) (place : ℕ) (standing : Standing) (key : KeyName)
 meets-fits a place standing key its meets =
     subst (λ (o : Option KeyName). MatchOption o ⊥ (λ k. MayStand k.namespace standing)) (sym its) (meets.fits key its)
 
--- a session has read what may stand there, and nothing newer before
+-- a session has read what may stand there, and nothing newer before. What is noted there is its version
 pub record HasLearnt (a b : Space) : Type 0 where
   pub place : ℕ
   pub standing : Standing
   pub newest : is_newest place standing.version a.reads ≡ true
   pub fits : FitsKey a place standing
-  pub notes : NotesThere place standing a b
+  pub last : IsLast place standing a.reads b.reads
+  pub here : (version : ℕ) → noted_at place b.notes ≡ Some version → standing.version ≡ version
+  pub elsewhere : (other : ℕ) → other ≢ place → noted_at other b.notes ≡ noted_at other a.notes
+
+-- as it notes that there
+by-notes : (a b : Space) (place : ℕ) (standing : Standing) → is_newest place standing.version a.reads ≡ true → FitsKey a place standing
+    → NotesThere place standing a b → HasLearnt a b
+by-notes a b place standing newest fits notes = record {
+  place = place;
+  standing = standing;
+  newest = newest;
+  fits = fits;
+  last = notes.last;
+  here = λ version is. (let one : Some standing.version ≡ Some version = sym notes.here ∙ is in cc);
+  elsewhere = notes.elsewhere;
+}
 
 learnt-read : (a b : Space) (id : ℕ) (standing : Standing) → IsSound a → OfHeld id a.own (λ ticket. ReadsThere standing a b ticket.place) → HasLearnt a b
 learnt-read a b id standing sound lets =
     let h = of-held id a.own (λ ticket. ReadsThere standing a b ticket.place) lets in
     let key = held-known a id h.0 sound h.1 in
-    record {
-      place = h.0.place;
-      standing = standing;
-      newest = h.2.0.newest;
-      fits = meets-fits a h.0.place standing key.0 key.1 h.2.0;
-      notes = h.2.1;
-    }
+    by-notes a b h.0.place standing h.2.0.newest (meets-fits a h.0.place standing key.0 key.1 h.2.0) h.2.1
+
+-- also where the call was refused
+learnt-vain : (a b : Space) (id : ℕ) → IsSound a → OfHeld id a.own (λ ticket. (standing : Standing) × (b.reads ≡ a.reads) × ReadsThere standing a b ticket.place)
+    → HasLearnt a b
+learnt-vain a b id sound lets =
+    let h = of-held id a.own (λ ticket. (standing : Standing) × (b.reads ≡ a.reads) × ReadsThere standing a b ticket.place) lets in
+    let key = held-known a id h.0 sound h.1 in
+    by-notes a b h.0.place h.2.0 h.2.2.0.newest (meets-fits a h.0.place h.2.0 key.0 key.1 h.2.2.0) h.2.2.1
 
 -- what is made of what stood may stand where that did
 pub changed-fits : (a b : Space) (place version : ℕ) (change : Change) (key : KeyName) → key_known place a.known ≡ Some key
@@ -71,18 +88,17 @@ learnt-changed : (a b : Space) (id version : ℕ) (change : Change) → IsSound 
 learnt-changed a b id version change sound lets =
     let h = of-held id a.own (λ ticket. ChangesThere change version a b ticket.place) lets in
     let key = held-known a id h.0 sound h.1 in
-    record {
-      place = h.0.place;
-      standing = standing_after change h.2.stood;
-      newest = newest-up a.reads h.0.place h.2.stood.version (h.2.stood.version + 1) (omega arith) h.2.meets.newest;
-      fits = changed-fits a b h.0.place version change key.0 key.1 h.2;
-      notes = h.2.notes;
-    }
+    by-notes a b h.0.place (standing_after change h.2.stood) (newest-up a.reads h.0.place h.2.stood.version (h.2.stood.version + 1) (omega arith) h.2.meets.newest)
+    (changed-fits a b h.0.place version change key.0 key.1 h.2) h.2.notes
 
 -- a call lets its session read nothing, or at one place
 pub learnt : (a b : Space) (call : Call) (answer : Answer) → IsSound a → LetsRead call answer a b → ReadsNothing a b ⊎ HasLearnt a b
 learnt a b (Read_definition who id) (Reads version definition) sound lets = inr (learnt-read a b id _ sound lets)
 learnt a b (Read_kept who id) (Reads version definition) sound lets = inr (learnt-read a b id _ sound lets)
+learnt a b (Read_kept who id) (Refused why) sound lets = elim lets [
+  | inl nothing ↦ inl nothing
+  | inr vain ↦ inr (learnt-vain a b id sound vain.1)
+]
 learnt a b (Change_definition who id change) (Changed version) sound lets = inr (learnt-changed a b id version change sound lets)
 learnt a b _ _ sound lets = inl lets
 
@@ -91,7 +107,12 @@ learnt a b _ _ sound lets = inl lets
 -- what was read stays read
 pub was_read-on : (a b : Space) → ReadsNothing a b ⊎ HasLearnt a b → (place version : ℕ) → was_read place version a.reads ≡ true → was_read place version b.reads ≡ true
 was_read-on a b (inl nothing) place version was = ap (was_read place version) nothing.reads ∙ was
-was_read-on a b (inr h) place version was = last-stays h.place place version h.standing a.reads b.reads h.notes.last was
+was_read-on a b (inr h) place version was = last-stays h.place place version h.standing a.reads b.reads h.last was
+
+-- and is one of those that were read
+pub among-on : (a b : Space) → ReadsNothing a b ⊎ HasLearnt a b → (r : Reading) → Contains a.reads r → Contains b.reads r
+among-on a b (inl nothing) r among = subst (λ l. Contains l r) (sym nothing.reads) among
+among-on a b (inr h) r among = last-keeps h.place h.standing a.reads b.reads r h.last among
 
 -- the version that is noted is that of what was read last
 pub noted-on : (a b : Space) → IsSound a → ReadsNothing a b ⊎ HasLearnt a b → (place version : ℕ) → noted_at place b.notes ≡ Some version → IsNoted b place version
@@ -100,12 +121,12 @@ noted-on a b sound (inl nothing) place version is =
 noted-on a b sound (inr h) place version is = elim (eqb_tells place h.place) [
   | inl same ↦ (
       let there : last_read place b.reads ≡ Some h.standing =
-      ap (λ p. last_read p b.reads) same.1 ∙ last-here h.place h.standing a.reads b.reads h.notes.last in
-      let noted : Some h.standing.version ≡ Some version = sym h.notes.here ∙ ap (λ p. noted_at p b.notes) (sym same.1) ∙ is in
-      ap (option_map (λ (s : Standing). s.version)) there ∙ noted)
+      ap (λ p. last_read p b.reads) same.1 ∙ last-here h.place h.standing a.reads b.reads h.last in
+      let noted = h.here version (ap (λ p. noted_at p b.notes) (sym same.1) ∙ is) in
+      ap (option_map (λ (s : Standing). s.version)) there ∙ ap (λ (n : ℕ). Some n) noted)
   | inr apart ↦
-      ap (option_map (λ (s : Standing). s.version)) (last-elsewhere h.place place h.standing a.reads b.reads h.notes.last apart.1)
-      ∙ sound.noted place version (sym (h.notes.elsewhere place apart.1) ∙ is)
+      ap (option_map (λ (s : Standing). s.version)) (last-elsewhere h.place place h.standing a.reads b.reads h.last apart.1)
+      ∙ sound.noted place version (sym (h.elsewhere place apart.1) ∙ is)
 ]
 
 -- nothing newer was read there
@@ -116,12 +137,12 @@ newest-on a b sound (inl nothing) place standing is =
 newest-on a b sound (inr h) place standing is = elim (eqb_tells place h.place) [
   | inl same ↦ (
       let there : Some h.standing ≡ Some standing =
-      sym (last-here h.place h.standing a.reads b.reads h.notes.last) ∙ ap (λ p. last_read p b.reads) (sym same.1) ∙ is in
+      sym (last-here h.place h.standing a.reads b.reads h.last) ∙ ap (λ p. last_read p b.reads) (sym same.1) ∙ is in
       let one : h.standing ≡ standing = cc in
       ap (λ p. is_newest p standing.version b.reads) same.1
-      ∙ subst (λ (s : Standing). is_newest h.place s.version b.reads ≡ true) one (last-newest h.place h.standing a.reads b.reads h.notes.last h.newest))
-  | inr apart ↦ last-newest_elsewhere h.place place standing.version h.standing a.reads b.reads h.notes.last apart.1
-      (sound.newest place standing (sym (last-elsewhere h.place place h.standing a.reads b.reads h.notes.last apart.1) ∙ is))
+      ∙ subst (λ (s : Standing). is_newest h.place s.version b.reads ≡ true) one (last-newest h.place h.standing a.reads b.reads h.last h.newest))
+  | inr apart ↦ last-newest_elsewhere h.place place standing.version h.standing a.reads b.reads h.last apart.1
+      (sound.newest place standing (sym (last-elsewhere h.place place h.standing a.reads b.reads h.last apart.1) ∙ is))
 ]
 
 -- and it may stand there, as what is known stays known
@@ -142,8 +163,8 @@ fits-on a b sound knows lets place standing is = on (before lets)
     before (inr h) = elim (eqb_tells place h.place) [
       | inl same ↦ (
           let there : Some h.standing ≡ Some standing =
-          sym (last-here h.place h.standing a.reads b.reads h.notes.last) ∙ ap (λ p. last_read p b.reads) (sym same.1) ∙ is in
+          sym (last-here h.place h.standing a.reads b.reads h.last) ∙ ap (λ p. last_read p b.reads) (sym same.1) ∙ is in
           let one : h.standing ≡ standing = cc in
           subst (λ p. FitsKey a p standing) (sym same.1) (subst (FitsKey a h.place) one h.fits))
-      | inr apart ↦ sound.fits place standing (sym (last-elsewhere h.place place h.standing a.reads b.reads h.notes.last apart.1) ∙ is)
+      | inr apart ↦ sound.fits place standing (sym (last-elsewhere h.place place h.standing a.reads b.reads h.last apart.1) ∙ is)
     ]

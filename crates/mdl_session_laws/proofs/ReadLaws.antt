@@ -12,9 +12,9 @@ use Rattle.mdl_calls.specs.declared.space_error.SpaceError.{SpaceError}
 use Rattle.mdl_calls.specs.declared.space_error.SpaceError.TheVariants.{OutOfMemory}
 use Rattle.mdl_calls.specs.Words.{Answer, Refused, Reads, Changed, Call, Read_definition, Read_kept, Change_definition, caller, HoldsAt, IsChangeOf, cause_of, OfHeld, read_under, redefined_place, ticket_held}
 use Rattle.mdl_session_laws.specs.SessionJoins.{Joins, Meets, MeetsFault, NotesThere, ReadsNothing, ReadsThere, ChangesThere, IsRefusedFor}
-use Rattle.mdl_session_laws.specs.SessionSpaces.{Space, SpeaksFor, Knows, HasRead, HasSeen, own_of, last_read}
-use Rattle.mdl_session_laws.proofs.ReadAfter.{of-held, held-of, learnt, was_read-on}
-use Rattle.mdl_session_laws.proofs.ReadLists.{last-here, last-elsewhere, last-was_read, newest-above}
+use Rattle.mdl_session_laws.specs.SessionSpaces.{Space, SpeaksFor, Knows, HasMet, HasRead, HasSeen, own_of, last_read}
+use Rattle.mdl_session_laws.proofs.ReadAfter.{of-held, held-of, learnt, among-on, was_read-on}
+use Rattle.mdl_session_laws.proofs.ReadLists.{last-among, last-here, last-elsewhere, last-was_read, newest-above}
 
 -- ---- what was met
 
@@ -128,6 +128,15 @@ module _ (a b : Space) (w place : ℕ) (standing : Standing) (has : HasRead a w 
         | inr apart ↦ noted-elsewhere a b w h.0.place place read standing h.2.1 apart.1 has
       ]
 
+  -- or it was met, and the call was refused
+  stands-vain : (id : ℕ) → OfHeld id a.own (λ (t : Held). (read : Standing) × (b.reads ≡ a.reads) × ReadsThere read a b t.place) → HasRead b w place standing
+  stands-vain id lets =
+      let h = of-held id a.own (λ (t : Held). (read : Standing) × (b.reads ≡ a.reads) × ReadsThere read a b t.place) lets in
+      stands-read id h.2.0 (of-one id h.0 h.1 (λ (t : Held). ReadsThere h.2.0 a b t.place) h.2.2)
+    where
+      of-one : (n : ℕ) (t : Held) → ticket_held n a.own ≡ Some t → (P : Held → Type 0) → P t → OfHeld n a.own P
+      of-one n t its P has = subst (λ o. MatchOption o ⊥ P) (sym its) has
+
   -- or changed elsewhere
   stands-changed : (id version : ℕ) (change : Change) → (option_map (λ (t : Held). t.place) (ticket_held id a.own) ≡ Some place → ⊥)
       → OfHeld id a.own (λ (t : Held). ChangesThere change version a b t.place) → HasRead b w place standing
@@ -150,6 +159,10 @@ session-stands a b (Read_definition who id) (Reads version definition) w place s
     stands-read a b w place standing has id _ joins.reads
 session-stands a b (Read_kept who id) (Reads version definition) w place standing speaks_for other holds joins has =
     stands-read a b w place standing has id _ joins.reads
+session-stands a b (Read_kept who id) (Refused why) w place standing speaks_for other holds joins has = elim joins.reads [
+  | inl nothing ↦ stands-on a b w place standing has holds nothing
+  | inr vain ↦ stands-vain a b w place standing has id vain.1
+]
 session-stands a b (Change_definition who id change) (Changed version) w place standing speaks_for other holds joins has =
     stands-changed a b w place standing has id version change (other (ap (λ n. Some n) (joins.mine.0 ∙ sym speaks_for.0))) joins.reads
 session-stands a b _ _ w place standing speaks_for other holds joins has = stands-on a b w place standing has holds joins.reads
@@ -174,3 +187,12 @@ pub session-seen_below : (a : Space) (w place version : ℕ) (standing : Standin
     → HasRead a w place standing → version ≤ standing.version
 session-seen_below a w place version standing speaks_for seen has =
     newest-above a.reads place version standing.version seen (speaks_for.1.newest place standing has.1)
+
+-- what is read is met
+pub session-meets : (a : Space) (w place : ℕ) (standing : Standing) → SpeaksFor a w → HasRead a w place standing → HasMet a w place standing
+session-meets a w place standing speaks_for has = last-among a.reads place standing has.1
+
+-- what was met was met
+pub session-met_stays : (a b : Space) (call : Call) (answer : Answer) (w place : ℕ) (standing : Standing) → SpeaksFor a w → Joins a call answer b
+    → HasMet a w place standing → HasMet b w place standing
+session-met_stays a b call answer w place standing speaks_for joins = among-on a b (learnt a b call answer speaks_for.1 joins.reads) _

@@ -1,8 +1,9 @@
 -- What a session has read, in order: what was read last at each place, and the greatest version.
-use Rattle.std.proofs.Common.{◌≡◌, ◌≢◌, ℕ, ◌≤◌, Bool, true, false, ◌&&◌, ◌==◌, List, [], ◌∷◌, ◌++◌, Option, Some, None, inl, inr, if◌then◌else◌, refl, ap, ◌∙◌, eq-eqb, arith}
+use Rattle.std.proofs.Common.{◌≡◌, ◌≢◌, ℕ, ◌≤◌, Bool, true, false, ◌&&◌, ◌==◌, List, [], ◌∷◌, ◌++◌, Option, Some, None, Contains, inl, inr, if◌then◌else◌, refl, sym, ap, subst, ◌∙◌, eq-eqb, arith}
 use Rattle.std.specs.Option.{option_or}
-use Rattle.std.proofs.lemmas.Bool.{and_from, or_left, or_right}
+use Rattle.std.proofs.lemmas.Bool.{and_from, eqb-true, or_left, or_right}
 use Rattle.std.proofs.lemmas.Bool.Decides.{nat_tests}
+use Rattle.std.proofs.lemmas.List.Elements.{Contains-append_left, Contains-append_right}
 use Rattle.std.proofs.lemmas.List.Folds.{list_any-append}
 use Rattle.mdl_defs.specs.declared.standing.Standing.{Standing}
 use Rattle.mdl_session_laws.specs.SessionJoins.{IsLast}
@@ -45,6 +46,25 @@ last-was_read (r ∷ later) place standing e = go (last_read place later) (last-
     go None was e = here (r.place == place) refl e
     go (Some s) was e = or_right (r.place == place && r.standing.version == standing.version) _ (was e)
 
+-- and is one of those that were read
+pub last-among : (reads : List Reading) (place : ℕ) (standing : Standing) → last_read place reads ≡ Some standing
+    → Contains reads (record { place = place; standing = standing })
+last-among [] place standing e = cc
+last-among (r ∷ later) place standing e = go (last_read place later) (last-among later place standing) e
+  where
+    here : (b : Bool) → (r.place == place) ≡ b → (if b then Some r.standing else None) ≡ Some standing
+        → Contains (r ∷ later) (record { place = place; standing = standing })
+    here false at e = cc
+    here true at e =
+        let same : r.standing ≡ standing = cc in
+        let there = eqb-true r.place place at in
+        subst (Contains (r ∷ later)) (λ i. record { place = there i; standing = same i }) (0, omega arith, refl)
+
+    go : (o : Option Standing) → (o ≡ Some standing → Contains later (record { place = place; standing = standing }))
+        → option_or o (if r.place == place then Some r.standing else None) ≡ Some standing → Contains (r ∷ later) (record { place = place; standing = standing })
+    go None among e = here (r.place == place) refl e
+    go (Some s) among e = Contains-append_right (r ∷ []) later _ (among e)
+
 -- nothing that was read is newer than the newest
 pub newest-above : (reads : List Reading) (place version newest : ℕ) → was_read place version reads ≡ true → is_newest place newest reads ≡ true → version ≤ newest
 newest-above [] place version newest was most = cc
@@ -85,6 +105,12 @@ pub last-stays : (place at version : ℕ) (standing : Standing) (before after : 
     → was_read at version before ≡ true → was_read at version after ≡ true
 last-stays place at version standing before after (inl e) was = ap (was_read at version) e ∙ stays-read before _ at version was
 last-stays place at version standing before after (inr same) was = ap (was_read at version) same.0 ∙ was
+
+-- and among those that were read
+pub last-keeps : (place : ℕ) (standing : Standing) (before after : List Reading) (r : Reading) → IsLast place standing before after
+    → Contains before r → Contains after r
+last-keeps place standing before after r (inl e) among = subst (λ l. Contains l r) (sym e) (Contains-append_left before _ r among)
+last-keeps place standing before after r (inr same) among = subst (λ l. Contains l r) (sym same.0) among
 
 -- it is still the newest
 pub last-newest : (place : ℕ) (standing : Standing) (before after : List Reading) → IsLast place standing before after

@@ -1,8 +1,8 @@
 -- A call that is refused joins a session to one that has, knows and has read the same: what is left to show is the cause, and what was met of the wait.
-use Rattle.std.proofs.Common.{◌≡◌, ℕ, true, false, Option, Some, IfSome, refl, sym, ap, subst, ◌∙◌}
+use Rattle.std.proofs.Common.{inl, ◌≡◌, ℕ, true, false, Option, Some, IfSome, refl, sym, ap, subst, ◌∙◌}
 use Rattle.mdl_calls.specs.declared.answers.Settled.{Settled}
 use Rattle.mdl_calls.specs.declared.space_error.SpaceError.{SpaceError}
-use Rattle.mdl_calls.specs.Words.{Refused, Call, Resolve, Try_now, Read_definition, Poll_wait, End_wait, caller, is_answer_of, told, IsCause, Own, Numbers, Draws, own_after}
+use Rattle.mdl_calls.specs.Words.{Refused, Call, Resolve, Try_now, Read_definition, Read_kept, Poll_wait, End_wait, caller, is_answer_of, told, IsCause, Own, Numbers, Draws, own_after}
 use Rattle.mdl_session_laws.specs.SessionJoins.{Joins, KeepsSettled, Learns, LetsRead, ReadsNothing, TellsTruly, ends_wait, gained_at, has_call, met}
 use Rattle.mdl_session_laws.specs.SessionSpaces.{Space, SpeaksFor, Knows, is_known, noted_at}
 
@@ -50,6 +50,7 @@ refused-ends _ why = refl
 
 refused-reads : (call : Call) (why : SpaceError) (a b : Space) → ReadsNothing a b → LetsRead call (Refused why) a b
 refused-reads (Read_definition who id) why a b nothing = nothing
+refused-reads (Read_kept who id) why a b nothing = inl nothing
 refused-reads _ why a b nothing = nothing
 
 pub refused-joins : (a b : Space) (call : Call) (why : SpaceError) → IfSome (caller call) (SpeaksFor a) → has_call call ≡ true

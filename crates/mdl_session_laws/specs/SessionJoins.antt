@@ -136,12 +136,19 @@ pub record MeetsFault (change : Change) (cause : SpaceError) (a : Space) (place 
 abbrev pub IsRefusedFor : Change → SpaceError → Space → Held → Type 0
 IsRefusedFor change cause a ticket = same_mode ticket.mode X ≡ true → (cause ≡ OutOfMemory) ⊎ MeetsFault change cause a ticket.place
 
+-- it reads nothing, or memory ran out after it met something at the place of a ticket, which it had read already
+abbrev pub ReadsInVain : SpaceError → ℕ → Space → Space → Type 0
+ReadsInVain cause id a b =
+    ReadsNothing a b
+    ⊎ ((cause ≡ OutOfMemory) × OfHeld id a.own (λ ticket. (standing : Standing) × (b.reads ≡ a.reads) × ReadsThere standing a b ticket.place))
+
 -- what a call with this answer lets its session read and note. What isn't named here lets it read nothing
 abbrev pub LetsRead : Call → Answer → Space → Space → Type 0
 LetsRead (Read_definition who id) (Reads version definition) a b =
     OfHeld id a.own (λ ticket. ReadsThere (record { version = version; definition = definition }) a b ticket.place)
 LetsRead (Read_kept who id) (Reads version definition) a b =
     OfHeld id a.own (λ ticket. ReadsThere (record { version = version; definition = definition }) a b ticket.place)
+LetsRead (Read_kept who id) (Refused cause) a b = ReadsInVain cause id a b
 LetsRead (Change_definition who id change) (Changed version) a b = OfHeld id a.own (λ ticket. ChangesThere change version a b ticket.place)
 LetsRead _ _ a b = ReadsNothing a b
 

@@ -1,6 +1,6 @@
 -- A session of a space that threads share, as those see it that stand on lock spaces: plain data of its own, what is always so of that, and what it
 -- has, knows and has read by that. It speaks for itself alone.
-use Rattle.std.specs.Prelude.{◌≡◌, ℕ, ◌+◌, Bool, true, false, not, ◌&&◌, ◌||◌, ◌==◌, nat_lt, nat_le, List, [], ◌∷◌, find, Option, Some, None, is_some, MatchOption, if◌then◌else◌}
+use Rattle.std.specs.Prelude.{◌≡◌, ℕ, ◌+◌, Bool, true, false, not, ◌&&◌, ◌||◌, ◌==◌, nat_lt, nat_le, List, [], ◌∷◌, find, Option, Some, None, is_some, MatchOption, Contains, if◌then◌else◌}
 use Rattle.std.specs.List.{list_all, list_any}
 use Rattle.std.specs.Option.{option_map, option_or, IfSome}
 use Rattle.mdl_key.specs.Words.{KeyName, key_eq}
@@ -138,6 +138,10 @@ IsSettledAs a who how = a.settled ≡ Some how
 -- this stands at a place: the session has noted its version, and read it
 abbrev pub HasRead : Space → ℕ → ℕ → Standing → Type 0
 HasRead a who place standing = (noted_at place a.notes ≡ Some standing.version) × (last_read place a.reads ≡ Some standing)
+
+-- it has read this there, now or before
+abbrev pub HasMet : Space → ℕ → ℕ → Standing → Type 0
+HasMet a who place standing = Contains a.reads (record { place = place; standing = standing })
 
 -- it has read this version there
 abbrev pub HasSeen : Space → ℕ → ℕ → ℕ → Type 0

@@ -1,6 +1,6 @@
 -- Sessions of a space that threads share, each with a context of its own.
 use Rattle.mdl_session_laws.specs.SessionJoins.{Joins}
-use Rattle.mdl_session_laws.specs.SessionSpaces.{SpeaksFor, own_of, numbers_of, Knows, IsSettledAs, HasRead, HasSeen, Pins, Owes}
+use Rattle.mdl_session_laws.specs.SessionSpaces.{SpeaksFor, own_of, numbers_of, Knows, IsSettledAs, HasMet, HasRead, HasSeen, Pins, Owes}
 use Rattle.mdl_calls.specs.declared.lock_space.LockSpace.{Ghosts}
 use Rattle.mdl_context.specs.Contexts.{ContextView, Attends}
 use Rattle.mdl_shared.specs.SessionViews.{SessionView, space_of}
@@ -15,6 +15,7 @@ session_space = record {
   is_settled = λ s. IsSettledAs (space_of s);
   numbers = λ s. numbers_of (space_of s);
   has_read = λ s. HasRead (space_of s);
+  has_met = λ s. HasMet (space_of s);
   has_seen = λ s. HasSeen (space_of s);
   pins = λ s. Pins (space_of s);
   owes = λ s. Owes (space_of s);

@@ -1,7 +1,7 @@
 //! The space of one thread, and the statements of its only session.
-use crate::statements::{Outcome, say};
+use crate::statements::{CACHE, Outcome, say};
 use mdl_space::{CoreSpace, NewError};
-use mdl_stmt::{Runner, Statement};
+use mdl_stmt::{OutOfMemory, Runner, Statement};
 use std::alloc::Global;
 use std::marker::Model;
 
@@ -15,23 +15,23 @@ pub(crate) struct Alone<'s> {
 // The space attends to the runner's context, which is what the calls of the runner ask for.
 impl<'s> Model for Alone<'s> {
     ghost use Rattle.mdl_space.specs.CoreMembers.{core_space};
-    ghost use Rattle.mdl_context.specs.Contexts.{Attends};
+    ghost use Rattle.mdl_stmt.specs.Attendance.{AttendsWith};
 
     ghost Value = { Unit };
 
     ghost view = { λ _. tt };
 
-    ghost invariant = { λ alone. Attends core_space alone.space alone.runner.context };
+    ghost invariant = { λ alone. AttendsWith core_space alone.space alone.runner.context alone.runner.cache };
 }
 
 impl<'s> Alone<'s> {
     /// The session has done nothing.
     pub(crate) fn new(alloc: Global, places: u16) -> Result<Alone<'s>, NewError> {
         let space = CoreSpace::new(alloc, places, 1)?;
-        Ok(Alone {
-            space,
-            runner: Runner::new(alloc, 1),
-        })
+        match Runner::new(alloc, 1, CACHE) {
+            Ok(runner) => Ok(Alone { space, runner }),
+            Err(OutOfMemory) => Err(NewError::OutOfMemory),
+        }
     }
 
     /// Starts a statement.

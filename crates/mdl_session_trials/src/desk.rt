@@ -3,9 +3,9 @@ ghost use Rattle.std.specs.Prelude.{◌≡◌};
 ghost use Rattle.mdl_shared.specs.Passes.{table_of, pass_table};
 
 use crate::closing::closed;
-use crate::statements::{Outcome, go_on, say};
+use crate::statements::{CACHE, Outcome, go_on, say};
 use mdl_shared::{Manager, Pass, Session};
-use mdl_stmt::{Runner, Statement};
+use mdl_stmt::{OutOfMemory, Runner, Statement};
 use std::alloc::Global;
 use std::marker::Model;
 use std::process::Abort;
@@ -19,23 +19,32 @@ pub(crate) struct Desk<'s, R: Wait> {
 
 // The session attends to the runner's context, which is what the calls of the runner ask for.
 impl<'s, R: Wait> Model for Desk<'s, R> {
-    ghost use Rattle.mdl_session_trials.specs.Seats.{AttendsTo};
+    ghost use Rattle.mdl_stmt.specs.Attendance.{AttendsWith};
+    ghost use Rattle.mdl_session_trials.specs.Seats.{session_space};
 
     ghost Value = { Unit };
 
     ghost view = { λ _. tt };
 
-    ghost invariant = { λ desk. AttendsTo desk.session desk.runner.context };
+    ghost invariant = { λ desk. AttendsWith session_space desk.session desk.runner.context desk.runner.cache };
 }
 
 impl<'s, R: Wait> Desk<'s, R> {
     /// The session of a pass, which has done nothing.
-    pub(crate) fn open(alloc: Global, rt: R, manager: &Manager, pass: Pass) -> Desk<'s, R>
+    pub(crate) fn open(
+        rt: &impl Abort,
+        alloc: Global,
+        wait: R,
+        manager: &Manager,
+        pass: Pass,
+    ) -> Desk<'s, R>
         requires { pass_table pass ≡ table_of manager.now }
     {
-        let session = Session::open(rt, manager, pass);
-        let runner = Runner::new(alloc, session.number());
-        Desk { session, runner }
+        let session = Session::open(wait, manager, pass);
+        match Runner::new(alloc, session.number(), CACHE) {
+            Ok(runner) => Desk { session, runner },
+            Err(OutOfMemory) => panic!(rt; "there is no memory for a cache"),
+        }
     }
 
     /// Starts a statement.

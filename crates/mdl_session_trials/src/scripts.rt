@@ -57,7 +57,7 @@ fn are_right_of_a_session<R: Wait + Abort + AllocGlobal>(
 ) -> Result<(), Fail> {
     let alloc = rt.alloc();
     let (manager, mut passes) = Manager::new(alloc, PLACES, 1)?;
-    let mut desk = Desk::open(alloc, rt, &manager, passes.remove(0));
+    let mut desk = Desk::open(rt, alloc, rt, &manager, passes.remove(0));
     assert_eq!(rt; first_wrong(&mut desk, lines, rows), None);
     desk.close(rt);
     Ok(())

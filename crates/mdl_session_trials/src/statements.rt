@@ -1,8 +1,11 @@
 //! What comes of the statements of a session, in any lock space.
-ghost use Rattle.mdl_context.specs.Contexts.{Attends};
+ghost use Rattle.mdl_stmt.specs.Attendance.{AttendsWith};
 
 use mdl_space::LockSpace;
 use mdl_stmt::{OutOfMemory, Progress, Reply, Runner, Statement};
+
+/// How many definitions the cache of a session keeps.
+pub(crate) const CACHE: u16 = 64;
 
 /// What comes of a statement, or of going on with one.
 #[derive(Clone, Copy, PartialEq, Eq)]
@@ -26,8 +29,8 @@ pub(crate) fn say<'s, S: LockSpace>(
     runner: &mut Runner<'s, S>,
     statement: &'s Statement,
 ) -> Outcome
-    requires { Attends S.LockSpace space.old runner.old.context }
-    ensures { Attends S.LockSpace space.new runner.new.context }
+    requires { AttendsWith S.LockSpace space.old runner.old.context runner.old.cache }
+    ensures { AttendsWith S.LockSpace space.new runner.new.context runner.new.cache }
 {
     if runner.is_waiting() {
         return Outcome::OutOfTurn;
@@ -37,8 +40,8 @@ pub(crate) fn say<'s, S: LockSpace>(
 
 /// Goes on with the statement that waits.
 pub(crate) fn go_on<'s, S: LockSpace>(space: &mut S, runner: &mut Runner<'s, S>) -> Outcome
-    requires { Attends S.LockSpace space.old runner.old.context }
-    ensures { Attends S.LockSpace space.new runner.new.context }
+    requires { AttendsWith S.LockSpace space.old runner.old.context runner.old.cache }
+    ensures { AttendsWith S.LockSpace space.new runner.new.context runner.new.cache }
 {
     if !runner.is_waiting() {
         return Outcome::OutOfTurn;

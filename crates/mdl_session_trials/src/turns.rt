@@ -102,8 +102,8 @@ fn are_right_of_two<R: Wait + Abort + AllocGlobal>(
 ) -> Result<(), Fail> {
     let alloc = rt.alloc();
     let (manager, mut passes) = Manager::new(alloc, PLACES, 2)?;
-    let two = Desk::open(alloc, rt, &manager, passes.remove(1));
-    let one = Desk::open(alloc, rt, &manager, passes.remove(0));
+    let two = Desk::open(rt, alloc, rt, &manager, passes.remove(1));
+    let one = Desk::open(rt, alloc, rt, &manager, passes.remove(0));
     let mut both = Two { one, two, lines };
     assert_eq!(rt; both.first_wrong(turns), None);
     both.close(rt);

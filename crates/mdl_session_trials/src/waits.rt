@@ -154,17 +154,22 @@ impl<R: Drop> Three<R> {
 }
 
 // Three sessions of a space of one place.
+fn open_three<R: Wait>(rt: &R, alloc: Global) -> Result<Three<&R>, Fail> {
+    let (manager, mut passes) = Manager::new(alloc, 1, 3)?;
+    let three = Session::open(rt, &manager, passes.remove(2));
+    let two = Session::open(rt, &manager, passes.remove(1));
+    let one = Session::open(rt, &manager, passes.remove(0));
+    Ok(Three { one, two, three })
+}
+
+// Session 2 can't be closed between these rows.
 fn are_right<R: Wait + Abort + AllocGlobal>(
     rt: &R,
     before: &[Row],
     after: &[Row],
 ) -> Result<(), Fail> {
     let alloc = rt.alloc();
-    let (manager, mut passes) = Manager::new(alloc, 1, 3)?;
-    let three = Session::open(rt, &manager, passes.remove(2));
-    let two = Session::open(rt, &manager, passes.remove(1));
-    let one = Session::open(rt, &manager, passes.remove(0));
-    let mut all = Three { one, two, three };
+    let mut all = open_three(rt, alloc)?;
     assert_eq!(rt; all.first_wrong(alloc, before), None);
     let mut all = all.keep_two_open(rt);
     assert_eq!(rt; all.first_wrong(alloc, after), None);
@@ -233,13 +238,22 @@ const HELD: &[Row] = &[
     (2, Act::Try(Mode::SR), Reply::Granted(1)),
 ];
 
-const GIVEN_UP: &[Row] = &[
-    (2, Act::Release(1), Reply::Done),
-    (1, Act::Release(1), Reply::Done),
-];
-
-// A session is closed once it has given up its own ticket, whatever the others hold.
+// A session is closed once it has given up its own ticket, while another one goes on holding its own.
 #[test]
 fn a_session_with_a_ticket_stays_open(rt: HostRuntime) -> Result<(), Fail> {
-    are_right(&rt, HELD, GIVEN_UP)
+    let alloc = rt.alloc();
+    let mut all = open_three(&rt, alloc)?;
+    assert_eq!(rt; all.first_wrong(alloc, HELD), None);
+    let mut all = all.keep_two_open(&rt);
+    assert_eq!(rt; all.session(2).release(1), Ok(()));
+    let Three {
+        mut one,
+        two,
+        three,
+    } = all;
+    closed(&rt, two);
+    assert_eq!(rt; one.release(1), Ok(()));
+    closed(&rt, one);
+    closed(&rt, three);
+    Ok(())
 }

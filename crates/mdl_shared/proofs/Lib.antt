@@ -31,6 +31,10 @@ pub mod WishCalls
 pub mod EndCalls
 pub mod SpaceReads
 pub mod ReadCalls
+pub mod CacheEntries
+pub mod LastReads
+pub mod VersionCalls
+pub mod KeptCalls
 pub mod KillCalls
 pub mod KeyCalls
 pub mod Wishing

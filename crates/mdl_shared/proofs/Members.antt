@@ -15,6 +15,7 @@ use Rattle.mdl_steps.specs.Layout.{word_count}
 use Rattle.mdl_steps.specs.Plays.{Mine}
 use Rattle.mdl_steps.specs.SeatStates.{AtItsTable, SeatState}
 use Rattle.mdl_session_laws.specs.SessionJoins.{Joins}
+use Rattle.mdl_session_laws.specs.SessionSpaces.{IsSound}
 use Rattle.mdl_session_laws.proofs.KeptSound.{keeps-sound}
 use Rattle.mdl_visits.specs.Grantings.{StaysTold, VisitsAndReschedules}
 use Rattle.mdl_visits.specs.Idle.{IsIdle}
@@ -44,9 +45,10 @@ pub record StaysInOrder (s s′ : SessionView) : Type 0 where
   pub told : is_ask_told s′.me.0.asks s′.me.0.told ≡ true
   pub fewer : (s′.me.0.waits < s′.me.0.next) × (s′.me.0.waits < most_numbers)
 
-pub kept : {s s′ : SessionView} {call : Call} {answer : Answer} → IsMember s → StaysInOrder s s′ → Joins (space_of s) call answer (space_of s′) → IsMember s′
-kept {s} {s′} {call} {answer} is order joins = record {
-  sound = keeps-sound (space_of s) (space_of s′) call answer is.sound joins;
+-- and it is sound as a lock space
+pub in-order : {s s′ : SessionView} → IsMember s → StaysInOrder s s′ → s′.me.0.number ≡ s.me.0.number → IsSound (space_of s′) → IsMember s′
+in-order {s} {s′} is order number sound = record {
+  sound = sound;
   idle = order.idle;
   unfast = order.unfast;
   plain = order.plain;
@@ -55,12 +57,15 @@ kept {s} {s′} {call} {answer} is order joins = record {
   last = order.last;
   told = order.told;
   fewer = order.fewer;
-  counted = subst (λ (n : ℕ). (0 < n) × (n ≤ s′.sessions)) (sym joins.number)
+  counted = subst (λ (n : ℕ). (0 < n) × (n ≤ s′.sessions)) (sym number)
       (subst (λ (n : ℕ). (0 < s.me.0.number) × (s.me.0.number ≤ n)) (sym order.sessions) is.counted);
   narrow = subst (λ (t : TableId). (0 < t.slots) × (t.slots ≤ 65536)) (sym order.table) is.narrow;
   words = subst (λ (t : TableId). t.words ≡ word_count t.slots s′.sessions) (sym order.table)
       (is.words ∙ ap (word_count s.table.slots) (sym order.sessions));
 }
+
+pub kept : {s s′ : SessionView} {call : Call} {answer : Answer} → IsMember s → StaysInOrder s s′ → Joins (space_of s) call answer (space_of s′) → IsMember s′
+kept {s} {s′} {call} {answer} is order joins = in-order is order joins.number (keeps-sound (space_of s) (space_of s′) call answer is.sound joins)
 
 -- whatever room it has
 pub member-room : {s : SessionView} → IsMember s → (r : Room) → IsMember (record s { room = r })

@@ -18,13 +18,15 @@ use Rattle.mdl_calls.specs.Words.{Changed, Reads, Refused, Change_definition, Re
 use Rattle.mdl_calls.proofs.StandingLemmas.{drop-memory, redefined-cause}
 use Rattle.mdl_steps.specs.declared.view.Met.{Met}
 use Rattle.mdl_steps.specs.declared.view.Own.{Own}
+use Rattle.mdl_steps.specs.declared.view.Read.{Read}
 use Rattle.mdl_steps.specs.Plays.{Mine, noting_version}
 use Rattle.mdl_steps.specs.SeatStates.{SeatState}
-use Rattle.mdl_session_laws.specs.SessionJoins.{ChangesThere, Joins, MeetsFault as Faulty, ReadsThere as Read_so, TellsTruly}
+use Rattle.mdl_steps.specs.VersionPlays.{Follows}
+use Rattle.mdl_session_laws.specs.SessionJoins.{ChangesThere, IsLast, Joins, MeetsFault as Faulty, ReadsThere as Read_so, TellsTruly}
 use Rattle.mdl_session_laws.specs.SessionSpaces.{Knows, key_known as key_known_in}
 use Rattle.mdl_visits.specs.Leavings.{Learns, MeetsStanding}
 use Rattle.mdl_visits.specs.Numbers.{numbered}
-use Rattle.mdl_visits.specs.Readings.{Follows, WasHeld}
+use Rattle.mdl_visits.specs.Readings.{WasHeld}
 use Rattle.mdl_visits.specs.Redefinitions.{IsNamed, IsRefusedFor, Redefines, exclusive_fault}
 use Rattle.mdl_visits.specs.Visits.{Does, StaysQuiet, Visits}
 use Rattle.mdl_visits.proofs.Doing.{does_visits}
@@ -43,22 +45,22 @@ use Rattle.mdl_shared.proofs.Members.{StaysInOrder}
 use Rattle.mdl_shared.proofs.SameSpace.{KeepsRest, Stays, joins-held, refused, same-stays, sees-same}
 use Rattle.mdl_shared.proofs.SpaceLists.{key-told, ticket-told}
 use Rattle.mdl_shared.proofs.SpaceNotes.{noting-told}
-use Rattle.mdl_shared.proofs.SpaceReads.{known-there, meets-there, notes-there}
+use Rattle.mdl_shared.proofs.SpaceReads.{known-there, meets-there, notes-there, read-last}
 use Rattle.mdl_shared.proofs.SpaceTickets.{holds-told, of-held}
 use Rattle.mdl_shared.proofs.TicketOrder.{counted-noted, noted-both}
 
 -- ---- a session that reads what stands at a place
 
--- it has read this, and noted it under each ticket that it has there, and made steps; nothing else changed
-pub record HasNoted (place : ℕ) (standing : Standing) (s s′ : SessionView) : Type 0 where
+-- it has noted a version under each ticket that it has there, has read this in all, and made steps; nothing else changed
+pub record NotesAll (place version : ℕ) (reads : List Read) (s s′ : SessionView) : Type 0 where
   pub log : List Met
   pub room : Room
   pub now : s′ ≡ record s {
     me = (
       record s.me.0 {
-        fast = noting_version place standing.version s.me.0.fast;
-        slow = noting_version place standing.version s.me.0.slow;
-        reads = s.me.0.reads ++ record { place = place; standing = standing } ∷ [];
+        fast = noting_version place version s.me.0.fast;
+        slow = noting_version place version s.me.0.slow;
+        reads = reads;
         log = log;
       },
       s.me.1,
@@ -66,25 +68,29 @@ pub record HasNoted (place : ℕ) (standing : Standing) (s s′ : SessionView) :
     room = room;
   }
 
+-- it has read this, and noted it
+abbrev pub HasNoted : ℕ → Standing → SessionView → SessionView → Type 0
+HasNoted place standing s s′ = NotesAll place standing.version (s.me.0.reads ++ record { place = place; standing = standing } ∷ []) s s′
+
 -- what its seat's visit tells
-pub noted-by : {place : ℕ} {standing : Standing} (seat seat′ : SeatState) (sessions : ℕ) {room room′ : Room} → seat′.table ≡ seat.table → Learns place standing seat.me seat′.me
+pub noted-by : {place : ℕ} (standing : Standing) (seat seat′ : SeatState) (sessions : ℕ) {room room′ : Room} → seat′.table ≡ seat.table → Learns place standing seat.me seat′.me
     → HasNoted place standing (session_at seat sessions room) (session_at seat′ sessions room′)
-noted-by seat seat′ sessions {room′ = room′} table learns = record {
+noted-by standing seat seat′ sessions {room′ = room′} table learns = record {
   log = seat.me.0.log ++ learns.0;
   room = room′;
   now = λ i. record { table = table i; sessions = sessions; me = learns.1 i; room = room′ };
 }
 
-module _ {place : ℕ} {standing : Standing} {s s′ : SessionView} (noted : HasNoted place standing s s′) where
+module _ {place version : ℕ} {reads : List Read} {s s′ : SessionView} (noted : NotesAll place version reads s s′) where
   pub noted-order : IsMember s → StaysInOrder s s′
   noted-order is = subst (λ (x : SessionView). StaysInOrder s x) (sym noted.now) (record {
     table = refl;
     sessions = refl;
     idle = is.idle;
-    unfast = λ a asks. ap (noting_version place standing.version) (is.unfast a asks);
-    plain = counted-noted place standing.version s.me.0.known s.me.0.fast is.plain;
+    unfast = λ a asks. ap (noting_version place version) (is.unfast a asks);
+    plain = counted-noted place version s.me.0.known s.me.0.fast is.plain;
     within = is.within;
-    alike = subst AreAlike (noted-both place standing.version s.me.0.slow s.me.0.fast) (alike_noting place standing.version (tickets_seen s.me.0) is.alike);
+    alike = subst AreAlike (noted-both place version s.me.0.slow s.me.0.fast) (alike_noting place version (tickets_seen s.me.0) is.alike);
     last = is.last;
     told = is.told;
     fewer = is.fewer;
@@ -93,17 +99,17 @@ module _ {place : ℕ} {standing : Standing} {s s′ : SessionView} (noted : Has
   noted-rest : KeepsRest s s′
   noted-rest = subst (λ (x : SessionView). KeepsRest s x) (sym noted.now) (record { number = refl; known = refl; wait = sees-same s _ refl refl refl })
 
-  noted-tickets : tickets_seen s′.me.0 ≡ noting_version place standing.version (tickets_seen s.me.0)
-  noted-tickets = ap (λ (x : SessionView). tickets_seen x.me.0) noted.now ∙ sym (noted-both place standing.version s.me.0.slow s.me.0.fast)
+  pub noted-tickets : tickets_seen s′.me.0 ≡ noting_version place version (tickets_seen s.me.0)
+  noted-tickets = ap (λ (x : SessionView). tickets_seen x.me.0) noted.now ∙ sym (noted-both place version s.me.0.slow s.me.0.fast)
 
   noted-drawn : (space_of s′).numbers ≡ (space_of s).numbers
   noted-drawn = ap (λ (x : SessionView). (space_of x).numbers) noted.now
 
 -- its own lists are those of its view still
-pub lists-noted : (m : Member) {place version : ℕ} {standing : Standing} {slow fast : List Own} {s : SessionView} → HasNoted place standing (view_of m) s → standing.version ≡ version
+pub lists-noted : (m : Member) {place found version : ℕ} {reads : List Read} {slow fast : List Own} {s : SessionView} → NotesAll place found reads (view_of m) s → found ≡ version
     → (slow ≡ noting_version place version m.tickets.slow) × (fast ≡ noting_version place version m.tickets.fast)
     → record { slow = slow; fast = fast; known = m.known.known; next = m.next; asks = m.asks; waits = m.waits } ≡ lists_seen s.me.0
-lists-noted m {place} {version} {standing} {slow} {fast} {s} noted is same =
+lists-noted m {place} {found} {version} {reads} {slow} {fast} {s} noted is same =
     (λ i. record { slow = same.0 i; fast = same.1 i; known = m.known.known; next = m.next; asks = m.asks; waits = m.waits })
     ∙ ap (λ (l : Lists). record l { slow = noting_version place version l.slow; fast = noting_version place version l.fast }) m.lists
     ∙ ap (λ (n : ℕ). record (lists_seen m.seat.me.0) { slow = noting_version place n m.seat.me.0.slow; fast = noting_version place n m.seat.me.0.fast }) (sym is)
@@ -139,15 +145,21 @@ unfit-joins {s} is id change why fault =
 
 module _ {s : SessionView} (is : IsMember s) (id : ℕ) (t : Own) (its : numbered id (tickets_seen s.me.0) ≡ Some t) where
   -- reads
-  pub read-joins : {s′ : SessionView} (standing : Standing) → HasNoted t.place standing s s′ → Follows t.place standing s.me
+  pub last-joins : {s′ : SessionView} (standing : Standing) {reads : List Read} → NotesAll t.place standing.version reads s s′ → Follows t.place standing s.me
+      → IsLast t.place standing (space_of s).reads (space_of s′).reads
       → Joins (space_of s) (Read_definition s.me.0.number id) (Reads standing.version standing.definition) (space_of s′)
-  read-joins {s′} standing noted follows =
+  last-joins {s′} standing noted follows last =
       joins-held s s′ (Read_definition s.me.0.number id) (Reads standing.version standing.definition) (map told_of (tickets_seen s.me.0)) (noted-rest noted) (speaks is) refl refl
       (ap (map told_of) (noted-tickets noted) ∙ noting-told t.place standing.version (tickets_seen s.me.0)) refl (noted-drawn noted) (holds-told id (tickets_seen s.me.0) true (ap is_some its)) tt refl
       (λ state how met. cc) (λ how told. cc) refl
       (of-held id (tickets_seen s.me.0) t (λ (h : Held). Read_so standing (space_of s) (space_of s′) h.place) its
-      (meets-there s t.place standing follows, notes-there s s′ id t.place t standing its refl (noted-tickets noted) (ap (λ (x : SessionView). x.me.0.reads) noted.now)))
+      (meets-there s t.place standing follows, notes-there s s′ id t.place t standing its refl (noted-tickets noted) last))
       tt
+
+  pub read-joins : {s′ : SessionView} (standing : Standing) → HasNoted t.place standing s s′ → Follows t.place standing s.me
+      → Joins (space_of s) (Read_definition s.me.0.number id) (Reads standing.version standing.definition) (space_of s′)
+  read-joins {s′} standing noted follows =
+      last-joins standing noted follows (read-last s s′ t.place standing (ap (λ (x : SessionView). x.me.0.reads) noted.now))
 
   pub read-shows : {s′ : SessionView} (standing : Standing) → HasNoted t.place standing s s′ → Follows t.place standing s.me → Does [] s.me s′.me → StaysQuiet s.me s′.me
       → ShowsStep s s′ (λ e. MeetsStanding t.place s.me.0.number standing e × (numbered id s.me.0.slow ≡ Some t → WasHeld t.place s.me.0.number id e))
@@ -209,7 +221,8 @@ module _ {s : SessionView} (is : IsMember s) (id : ℕ) (t : Own) (its : numbere
               (named-there redefines.meets.latch.book.key key redefines.named knows) redefines.meets.allowed;
           newer = newer;
           notes = notes-there s s′ id t.place t (standing_after change stood) its refl
-              (noted-tickets noted ∙ ap (λ v. noting_version t.place v (tickets_seen s.me.0)) (same ∙ newer)) redefines.learnt;
+              (noted-tickets noted ∙ ap (λ v. noting_version t.place v (tickets_seen s.me.0)) (same ∙ newer))
+              (read-last s s′ t.place (standing_after change stood) redefines.learnt);
         }))
         tt
 

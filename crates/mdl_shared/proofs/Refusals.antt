@@ -1,7 +1,7 @@
 -- A call that is refused for what the session has of its own, before any step.
 use Rattle.std.proofs.Common.{◌≡◌, List, [], Some, IfSome, Option, inl, refl, sym, subst, append-nil}
 use Rattle.mdl_calls.specs.declared.space_error.SpaceError.{SpaceError}
-use Rattle.mdl_calls.specs.Words.{Refused, Call, Resolve, Try_now, Begin_wait, Search, Poll_wait, Settle_timeout, End_wait, Wait_of, Kill, Release, Clone_ticket, Upgrade_now, Merge, Downgrade, Read_definition, Change_definition, Tables_of, Key_of}
+use Rattle.mdl_calls.specs.Words.{Refused, Call, Resolve, Try_now, Begin_wait, Search, Poll_wait, Settle_timeout, End_wait, Wait_of, Kill, Release, Clone_ticket, Upgrade_now, Merge, Downgrade, Read_definition, Read_kept, Change_definition, Tables_of, Key_of}
 use Rattle.mdl_steps.specs.declared.deed.Deed.{Deed}
 use Rattle.mdl_steps.specs.declared.view.Own.{Own}
 use Rattle.mdl_steps.specs.Plays.{Mine}
@@ -43,6 +43,7 @@ steps-none (Settle_timeout who) s = stays-on s.me
 steps-none (Wait_of target) s = stays-on s.me
 steps-none (Kill target number) s = stays-on s.me
 steps-none (Read_definition who id) s = ([], sym (append-nil s.me.0.log), tt)
+steps-none (Read_kept who id) s = ([], sym (append-nil s.me.0.log), tt)
 steps-none _ s = tt
 
 -- it meets nothing but its own fault
@@ -60,6 +61,7 @@ own-met (Upgrade_now who id mode) why l s e = inl e
 own-met (Merge who old new) why l s e = inl e
 own-met (Downgrade who id mode) why l s e = e
 own-met (Read_definition who id) why l s e = inl e
+own-met (Read_kept who id) why l s e = inl e
 own-met (Change_definition who id change) why l s e = inl e
 own-met (Tables_of who schema) why l s e = cc
 own-met (Key_of who place) why l s e = refl

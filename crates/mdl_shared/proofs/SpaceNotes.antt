@@ -62,7 +62,7 @@ noted-in place version mark (t ∷ ts) all e =
     (λ there. noted-in place version mark ts all.1 (sym (note-there place t.place t.noted (filter_map note_of ts) there) ∙ e))
 
 -- and that is noted, where there is one
-noted-some : (place version : ℕ) (mark : Option ℕ) (tickets : List Own) → AllNoted place mark tickets
+pub noted-some : (place version : ℕ) (mark : Option ℕ) (tickets : List Own) → AllNoted place mark tickets
     → list_all (λ (h : Held). not (h.place == place)) (map told_of tickets) ≡ false → mark ≡ Some version → noted_under place tickets ≡ Some version
 noted-some place version mark [] all some is = cc
 noted-some place version mark (t ∷ ts) all some is =
@@ -140,7 +140,7 @@ nothing-read m m′ reads all = record {
 -- ---- a version that is noted
 
 -- under each ticket at the place
-noting-all : (place version : ℕ) (tickets : List Own) → AllNoted place (Some version) (noting_version place version tickets)
+pub noting-all : (place version : ℕ) (tickets : List Own) → AllNoted place (Some version) (noting_version place version tickets)
 noting-all place version [] = tt
 noting-all place version (t ∷ ts) =
     by_bool (t.place == place)

@@ -18,11 +18,12 @@ use Rattle.mdl_steps.specs.declared.view.Read.{Read}
 use Rattle.mdl_steps.specs.Cells.{own_at, reads_at}
 use Rattle.mdl_steps.specs.Lists.{Each}
 use Rattle.mdl_steps.specs.Plays.{noting_version}
+use Rattle.mdl_steps.specs.VersionPlays.{Follows}
 use Rattle.mdl_steps.proofs.Views.{by_bool}
-use Rattle.mdl_session_laws.specs.SessionJoins.{Meets, NotesThere}
+use Rattle.mdl_session_laws.specs.SessionJoins.{IsLast, Meets, NotesThere}
 use Rattle.mdl_session_laws.specs.SessionSpaces.{Note, is_newest, last_read, noted_at}
 use Rattle.mdl_visits.specs.Numbers.{numbered}
-use Rattle.mdl_visits.specs.Readings.{Follows, ReadsThere}
+use Rattle.mdl_visits.specs.Readings.{ReadsThere}
 use Rattle.mdl_shared.specs.OwnLists.{key_known, told_of}
 use Rattle.mdl_shared.specs.SessionViews.{SessionView, note_of, space_of, tickets_seen}
 use Rattle.mdl_shared.proofs.SameSpace.{reading_of}
@@ -33,7 +34,7 @@ use Rattle.mdl_shared.proofs.TicketOrder.{each-at}
 -- ---- a ticket that is held
 
 -- it is one of the place's
-placed-some : (place id : ℕ) (tickets : List Own) (t : Own) → numbered id tickets ≡ Some t → t.place ≡ place
+pub placed-some : (place id : ℕ) (tickets : List Own) (t : Own) → numbered id tickets ≡ Some t → t.place ≡ place
     → list_all (λ (h : Held). not (h.place == place)) (map told_of tickets) ≡ false
 placed-some place id [] t its here = cc
 placed-some place id (x ∷ xs) t its here = grind (arith, nat_tests, placed-some place id xs t)
@@ -122,12 +123,17 @@ meets-there m place standing follows = record {
   same = λ last is same. last-each place standing last m.me.0.reads follows.reads is same;
 }
 
--- it has been read, and is noted there
+-- it was read there, after all that was read before
+pub read-last : (m m′ : SessionView) (place : ℕ) (standing : Standing) → ReadsThere place standing m.me m′.me
+    → IsLast place standing (space_of m).reads (space_of m′).reads
+read-last m m′ place standing reads = inl (ap (map reading_of) reads ∙ map-append reading_of m.me.0.reads (record { place = place; standing = standing } ∷ []))
+
+-- it has been read last, and is noted there
 pub notes-there : (m m′ : SessionView) (id place : ℕ) (t : Own) (standing : Standing) → numbered id (tickets_seen m.me.0) ≡ Some t → t.place ≡ place
-    → (tickets_seen m′.me.0) ≡ noting_version place standing.version (tickets_seen m.me.0) → ReadsThere place standing m.me m′.me
+    → (tickets_seen m′.me.0) ≡ noting_version place standing.version (tickets_seen m.me.0) → IsLast place standing (space_of m).reads (space_of m′).reads
     → NotesThere place standing (space_of m) (space_of m′)
-notes-there m m′ id place t standing its here noted reads = record {
-  last = inl (ap (map reading_of) reads ∙ map-append reading_of m.me.0.reads (record { place = place; standing = standing } ∷ []));
+notes-there m m′ id place t standing its here noted last = record {
+  last = last;
   here = ap (noted_under place) noted ∙ noting-placed place standing.version (tickets_seen m.me.0) (placed-some place id (tickets_seen m.me.0) t its here);
   elsewhere = λ other apart. ap (noted_under other) noted ∙ noting-elsewhere place standing.version other (tickets_seen m.me.0) apart;
 }

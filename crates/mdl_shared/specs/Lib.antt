@@ -17,12 +17,14 @@ pub use Rattle.mdl_visits.specs.Tables
 pub use Rattle.mdl_visits.specs.Visits
 pub use Rattle.mdl_visits.specs.WaitEndings
 pub use Rattle.mdl_visits.specs.WaitOpenings
+pub mod CacheEnds
 pub mod DeedsDone
 pub mod Doings
 pub mod Endings
 pub mod FastCalls
 pub mod FastDeeds
 pub mod FastWishes
+pub mod KeptReads
 pub mod Members
 pub mod Modes
 pub mod OwnLists

@@ -1,5 +1,5 @@
 -- How a session keeps its own list of tickets: the tickets without their notes, and what it has of each place.
-use Rattle.std.specs.Prelude.{◌≡◌, ℕ, ◌≤◌, Bool, ◌==◌, ◌&&◌, not, List, count_by, filter, length, map, nat_lt, slice_get, slice_index_or, ◌<◌, Option}
+use Rattle.std.specs.Prelude.{◌≡◌, ℕ, ◌-◌, ◌≤◌, Bool, ◌==◌, ◌&&◌, not, List, count_by, filter, if◌then◌else◌, length, map, nat_lt, slice_get, slice_index_or, ◌<◌, None, Option, Some}
 use Rattle.std.specs.Option.{option_map_or, option_and_then}
 use Rattle.mdl_steps.specs.declared.view.Own.{Own}
 use Rattle.mdl_shared.specs.declared.tickets.Gained.{Gained}
@@ -53,6 +53,18 @@ AreAt place old new =
 -- the ticket at an index has this number
 abbrev pub StandsAt : ℕ → ℕ → List Gained → Type 0
 StandsAt id at tickets = (at < length tickets) × ((d : Gained) → (slice_index_or tickets at d).id ≡ id)
+
+-- the last ticket has this number, is at this place, and is a fast one or not
+abbrev pub IsLast : ℕ → ℕ → Bool → List Gained → Type 0
+IsLast place id fast tickets =
+    (0 < length tickets)
+    × ((d : Gained) → (slice_index_or tickets (length tickets - 1) d).id ≡ id)
+    × ((d : Gained) → (slice_index_or tickets (length tickets - 1) d).place ≡ place)
+    × ((d : Gained) → (slice_index_or tickets (length tickets - 1) d).fast ≡ fast)
+
+-- what was found, where it is a fast ticket
+abbrev pub fast_found : Option (Own × Bool) → Option Own
+fast_found found = option_and_then (λ (t : Own × Bool). if t.1 then Some t.0 else None) found
 
 -- each ticket has a number below those of all later ones
 abbrev pub AreRising : List Gained → Type 0

@@ -1,9 +1,10 @@
 -- What the steps of a session's call show, by the call and its answer: what the calls of `Session` promise of them, for those that make the calls by the
 -- trait of lock spaces. What the call leaves the session with is told beside this, as plain data.
-use Rattle.std.specs.Prelude.{◌≡◌, ◌≢◌, ◌⊎◌, ℕ, ◌<◌, ◌≤◌, Bool, true, false, List, [], ◌∷◌, ◌++◌, length, Option, Some, None, IfSome, Result, Ok, Err, is_some}
+use Rattle.std.specs.Prelude.{◌≡◌, ◌≢◌, ◌⊎◌, ℕ, ◌<◌, ◌≤◌, Bool, true, false, Contains, List, [], ◌∷◌, ◌++◌, length, Option, Some, None, IfSome, Result, Ok, Err, is_some}
 use Rattle.mdl_key.specs.declared.mode.Mode.{Mode}
 use Rattle.mdl_key.specs.declared.mode.Mode.TheVariants.{X}
 use Rattle.mdl_key.specs.Words.{KeyName}
+use Rattle.mdl_defs.specs.declared.standing.Standing.{Standing}
 use Rattle.mdl_system.specs.Strength.{covers}
 use Rattle.mdl_calls.specs.declared.answers.Search.{Search as Found}
 use Rattle.mdl_calls.specs.declared.answers.Search.TheVariants as found
@@ -11,7 +12,7 @@ use Rattle.mdl_calls.specs.declared.answers.TimedOut.TheVariants.{ByThisCall, Al
 use Rattle.mdl_calls.specs.declared.answers.Upgrade.TheVariants as upgrade
 use Rattle.mdl_calls.specs.declared.space_error.SpaceError.{SpaceError}
 use Rattle.mdl_calls.specs.declared.space_error.SpaceError.TheVariants as cause
-use Rattle.mdl_calls.specs.Words.{Answer, Refused, Done, At_place, Granted, Would_wait, Waits, No_cycle, Victim_is, Pending, Is_settled, Timed_out, Lost, Has_wait, Has_killed, Upgraded, Reads, Changed, Tables, Call, Resolve, Try_now, Begin_wait, Search, Poll_wait, Settle_timeout, End_wait, Wait_of, Kill, Release, Clone_ticket, Upgrade_now, Merge, Downgrade, Read_definition, Change_definition, Tables_of, Key_of, List_held}
+use Rattle.mdl_calls.specs.Words.{Answer, Refused, Done, At_place, Granted, Would_wait, Waits, No_cycle, Victim_is, Pending, Is_settled, Timed_out, Lost, Has_wait, Has_killed, Upgraded, Reads, Changed, Tables, Call, Resolve, Try_now, Begin_wait, Search, Poll_wait, Settle_timeout, End_wait, Wait_of, Kill, Release, Clone_ticket, Upgrade_now, Merge, Downgrade, Read_definition, Read_kept, Change_definition, Tables_of, Key_of, List_held}
 use Rattle.mdl_steps.specs.declared.deed.Deed.{Deed}
 use Rattle.mdl_steps.specs.declared.deed.Deed.TheVariants.{Gain, Alter, Lose}
 use Rattle.mdl_steps.specs.declared.step_kind.StepKind.TheVariants.{Materialise}
@@ -20,12 +21,14 @@ use Rattle.mdl_steps.specs.declared.view.Keys.{Keys}
 use Rattle.mdl_steps.specs.declared.view.Known.{Known}
 use Rattle.mdl_steps.specs.declared.view.Met.{Met}
 use Rattle.mdl_steps.specs.declared.view.Own.{Own}
+use Rattle.mdl_steps.specs.declared.view.Read.{Read}
 use Rattle.mdl_steps.specs.declared.wait_word.Loss.TheVariants as loss
-use Rattle.mdl_steps.specs.Cells.{own_at}
+use Rattle.mdl_steps.specs.Cells.{own_at, reads_at}
 use Rattle.mdl_steps.specs.Layout.{lock_word}
 use Rattle.mdl_steps.specs.Limits.{most_fast}
 use Rattle.mdl_steps.specs.Lists.{Each}
 use Rattle.mdl_steps.specs.Plays.{Mine}
+use Rattle.mdl_steps.specs.VersionPlays.{Follows, LearnsVersion, met_version, noted_version}
 use Rattle.mdl_steps.specs.Schemas.{unknown}
 use Rattle.mdl_steps.specs.WaitStates.{granted_state, lost_state, unsettled_state, wait_in}
 use Rattle.mdl_visits.specs.declared.resolve_error.ResolveError.{ResolveError}
@@ -37,7 +40,7 @@ use Rattle.mdl_visits.specs.Lookups.{TookDirectory, IsAnswer}
 use Rattle.mdl_visits.specs.Materialisings.{MeetsFullFor}
 use Rattle.mdl_visits.specs.Numbers.{numbered}
 use Rattle.mdl_visits.specs.Polls.{MeetsNumber, MeetsOther, MeetsWait, Settles, SettlesNothing, state_of}
-use Rattle.mdl_visits.specs.Readings.{Follows, ReadsThere, WasHeld}
+use Rattle.mdl_visits.specs.Readings.{ReadsThere, WasHeld}
 use Rattle.mdl_visits.specs.Redefinitions.{IsRefusedAs, Redefines, exclusive_fault}
 use Rattle.mdl_visits.specs.Searches.{Searched}
 use Rattle.mdl_visits.specs.Tables.{AreTables, HasAsked}
@@ -169,6 +172,37 @@ abbrev pub LacksRoomForWish : ℕ → Mode → SpaceError → SessionView → Se
 LacksRoomForWish place mode why a b =
     ((why ≡ cause.OutOfMemory) × LacksMemory place mode a b) ⊎ ((why ≡ cause.Full) × FullForWish place mode a b)
 
+-- the version of a place was read by one step without its latch, and nothing else was done: the session notes it under each ticket that it has there, and
+-- what is defined in it counts as read, which follows all that the session knew of the place
+pub record ReadsVersion (place version : ℕ) (a b : SessionView) : Type 0 where
+  pub learnt : LearnsVersion place version a.me b.me
+  pub same : b ≡ record a { me = b.me; room = b.room }
+  pub room : KeepsRoom 0 a.room b.room
+
+-- it was found so, and nothing is kept of it: the session notes nothing. It has read no later one there
+pub record MissesVersion (place version : ℕ) (a b : SessionView) : Type 0 where
+  pub now : b.me ≡ met_version place version a.me
+  pub same : b ≡ record a { me = b.me; room = b.room }
+  pub room : KeepsRoom 0 a.room b.room
+  pub newest : Each (λ (r : Read). r.standing.version ≤ version) (reads_at place a.me.0.reads)
+
+-- likewise it was found to be that of what the session had read there, which follows all that it knows of the place; and it notes that under each ticket that
+-- it has there
+pub record FindsVersion (place : ℕ) (standing : Standing) (a b : SessionView) : Type 0 where
+  pub now : b.me ≡ noted_version place standing.version a.me
+  pub same : b ≡ record a { me = b.me; room = b.room }
+  pub room : KeepsRoom 0 a.room b.room
+  pub read : Contains a.me.0.reads (record { place = place; standing = standing })
+  pub follows : Follows place standing a.me
+
+-- what stands at the place of a ticket was read under the latch
+abbrev pub ReadsByLatch : ℕ → Own → Standing → SessionView → SessionView → Type 0
+ReadsByLatch id t standing a b =
+    Follows t.place standing a.me
+    × ReadsThere t.place standing a.me b.me
+    × ShowsStep a b (λ e. MeetsStanding t.place a.me.0.number standing e
+    × (numbered id a.me.0.slow ≡ Some t → WasHeld t.place a.me.0.number id e))
+
 -- ---- by calls
 
 -- why a call is refused for what the session has of its own
@@ -184,6 +218,7 @@ own_fault (Upgrade_now who id mode) l = upgrade_fault mode l.known l.asks (numbe
 own_fault (Merge who old new) l = merge_fault (numbered old (tickets_of l)) (numbered new (tickets_of l)) l.asks
 own_fault (Downgrade who id mode) l = downgrade_fault (numbered id (tickets_of l)) mode l.known
 own_fault (Read_definition who id) l = holding_fault id (tickets_of l)
+own_fault (Read_kept who id) l = holding_fault id (tickets_of l)
 own_fault (Change_definition who id change) l = exclusive_fault (numbered id (tickets_of l))
 own_fault (Key_of who place) l = naming_fault place l.known
 own_fault _ l = None
@@ -208,6 +243,7 @@ StepsSo (Settle_timeout who) a b = StaysOn a.me b.me
 StepsSo (Wait_of target) a b = StaysOn a.me b.me
 StepsSo (Kill target number) a b = StaysOn a.me b.me
 StepsSo (Read_definition who id) a b = StaysQuiet a.me b.me
+StepsSo (Read_kept who id) a b = StaysQuiet a.me b.me
 StepsSo _ a b = Unit {0}
 
 -- what the steps did to the session's own tickets
@@ -238,7 +274,7 @@ SettlesSo (Settle_timeout who) (Timed_out ByThisCall) l a b = Settles a.me.0.num
 SettlesSo (Kill target number) (Has_killed true) l a b = Settles target number (lost_state loss.Killed) a.me b.me
 SettlesSo _ _ l a b = SettlesNothing a.me b.me
 
--- what they met. What isn't named here shows nothing: it is no answer to the call, or no session has the call (`Read_kept`, `Unpin`)
+-- what they met. What isn't named here shows nothing: it is no answer to the call, or no session has the call (`Unpin`)
 abbrev pub MeetsSo : Call → Answer → Lists → SessionView → SessionView → Type 0
 MeetsSo (Resolve who key) (At_place place) l a b =
     (0 < place) × (place < a.table.slots)
@@ -308,6 +344,13 @@ MeetsSo (Read_definition who id) (Reads version definition) l a b =
     × (numbered id l.slow ≡ Some t → WasHeld t.place a.me.0.number id e)))
 MeetsSo (Read_definition who id) (Refused why) l a b =
     (own_fault (Read_definition who id) l ≡ Some why) ⊎ ((why ≡ cause.OutOfMemory) × OfTicket id l (λ t. Visits t.place [] a.me b.me))
+MeetsSo (Read_kept who id) (Reads version definition) l a b =
+    OfTicket id l (λ t. FindsVersion t.place (record { version = version; definition = definition }) a b
+    ⊎ ((found : ℕ) × (mid : SessionView) × MissesVersion t.place found a mid × ReadsByLatch id t (record { version = version; definition = definition }) mid b))
+MeetsSo (Read_kept who id) (Refused why) l a b =
+    (own_fault (Read_kept who id) l ≡ Some why)
+    ⊎ ((why ≡ cause.OutOfMemory) × OfTicket id l (λ t. ((standing : Standing) × FindsVersion t.place standing a b)
+    ⊎ ((found : ℕ) × (mid : SessionView) × MissesVersion t.place found a mid × Visits t.place [] mid.me b.me)))
 MeetsSo (Change_definition who id change) (Changed version) l a b =
     OfTicket id l (λ t. (t.mode ≡ X) × Redefines t.place change version a.me b.me)
 MeetsSo (Change_definition who id change) (Refused why) l a b =

@@ -47,6 +47,7 @@ impl Member {
     /// Grants a fast ticket of the next number, for which there is room, unless the fast path is closed. It needs no latch and takes no memory.
     ///
     /// `one` is what the word of the place counts it by.
+    #[inline(always)]
     pub(crate) fn gain_fast(
         &mut self,
         place: usize,
@@ -84,6 +85,7 @@ impl Member {
 
     /// Gives up a fast ticket, which it has. Returns whether waits at its place may have become grantable. It needs no latch and takes no
     /// memory.
+    #[inline(always)]
     pub(crate) fn lose_fast(&mut self, held: Own) -> bool
         requires held { numbered held.number self.old.tickets.fast ≡ Some held }
         ensures lost { DoesQuietly held.place (Lose held.number ∷ []) (view_of self.old) (view_of self.new) }
@@ -114,7 +116,8 @@ impl Member {
         Ok(())
     }
 
-    // The same at one place, where it has a fast ticket.
+    // The same at one place, where it has a fast ticket, apart so that the look whether there is one is inlined.
+    #[inline(never)]
     fn materialise_at<R: Wait>(&mut self, rt: &R, place: usize) -> Result<(), SpaceError>
         requires idle { self.old.asks ≡ None }
         requires some { 0 < length (own_at place self.old.tickets.fast) }

@@ -39,6 +39,7 @@
 
 mod audit;
 mod begin_wait;
+mod cached;
 mod change_definition;
 mod clone_ticket;
 mod downgrade;
@@ -57,6 +58,7 @@ mod merge;
 mod pass;
 mod poll_wait;
 mod read_definition;
+mod read_kept;
 mod release;
 mod release_fast;
 mod reschedule;
@@ -70,10 +72,12 @@ mod tickets;
 mod try_fast;
 mod try_now;
 mod upgrade_now;
+mod version;
 mod wait_of;
 mod wait_words;
 mod wishes;
 
+pub use cached::{Cached, read_cached};
 pub use manager::Manager;
 pub use mdl_calls::NewError;
 pub use mdl_visits::{

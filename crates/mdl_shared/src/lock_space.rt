@@ -1,10 +1,10 @@
 //! A session as a lock space, of which it speaks for itself alone.
 ghost use Rattle.mdl_session_laws.specs.SessionJoins.{Joins};
-ghost use Rattle.mdl_session_laws.specs.SessionSpaces.{SpeaksFor, own_of, numbers_of, Knows, IsSettledAs, HasRead, HasSeen, Pins, Owes};
+ghost use Rattle.mdl_session_laws.specs.SessionSpaces.{SpeaksFor, own_of, numbers_of, Knows, IsSettledAs, HasMet, HasRead, HasSeen, Pins, Owes};
 ghost use Rattle.mdl_session_laws.proofs.CallLaws.{session-allowed, session-keeps, session-changes, session-others, session-rising, session-draws, session-others_draw, session-fits, session-lists, session-explains, session-upgrades};
 ghost use Rattle.mdl_session_laws.proofs.KeyLaws.{session-resolves, session-remembers, session-one_key, session-one_place, session-tells_key, session-held_places, session-wait_place, session-tells_tables, session-resolved_pinned, session-pins_stay, session-pinned_known, session-held_pinned, session-wait_pinned, session-no_new_debts, session-unpins_none, session-unpins_in_use, session-unpins};
 ghost use Rattle.mdl_session_laws.proofs.WaitLaws.{session-tells, session-waits_settled, session-settled_once, session-stays, session-agrees, session-victims, session-counts, session-kills, session-kills_or_settled};
-ghost use Rattle.mdl_session_laws.proofs.ReadLaws.{session-reads, session-redefines, session-redefines_so, session-reads_one, session-stands, session-reads_fit, session-sees, session-seen_stays, session-seen_below};
+ghost use Rattle.mdl_session_laws.proofs.ReadLaws.{session-meets, session-met_stays, session-reads, session-redefines, session-redefines_so, session-reads_one, session-stands, session-reads_fit, session-sees, session-seen_stays, session-seen_below};
 ghost use Rattle.mdl_shared.specs.SessionViews.{space_of};
 ghost use Rattle.mdl_shared.specs.Showings.{Shows};
 
@@ -13,7 +13,7 @@ use mdl_calls::{
     Attempt, Begun, Ended, Held, LockSpace, Place, Poll, Search, SpaceError, TicketId, TimedOut,
     Upgrade,
 };
-use mdl_defs::{Change, Standing};
+use mdl_defs::{Change, DefCache, Standing};
 use mdl_key::{Key, Mode};
 use std::sync::Wait;
 
@@ -30,6 +30,8 @@ impl<R: Wait> LockSpace for Session<R> {
     ghost numbers = { λ s. numbers_of (space_of s) };
 
     ghost has_read = { λ s. HasRead (space_of s) };
+
+    ghost has_met = { λ s. HasMet (space_of s) };
 
     ghost has_seen = { λ s. HasSeen (space_of s) };
 
@@ -103,6 +105,15 @@ impl<R: Wait> LockSpace for Session<R> {
 
     fn read_definition(&mut self, _who: u16, id: TicketId) -> Result<Standing, SpaceError> {
         Session::read_definition(self, id)
+    }
+
+    fn read_kept(
+        &mut self,
+        _who: u16,
+        id: TicketId,
+        cache: &mut DefCache,
+    ) -> Result<Standing, SpaceError> {
+        Session::read_kept(self, id, cache)
     }
 
     fn change_definition(
@@ -198,6 +209,11 @@ impl<R: Wait> LockSpace for Session<R> {
         session-seen_stays (space_of a) (space_of b) call answer w place version speaks j.0 };
 
     ghost seen_below = { λ a. session-seen_below (space_of a) };
+
+    ghost meets = { λ a. session-meets (space_of a) };
+
+    ghost met_stays = { λ a b call answer w place standing speaks j.
+        session-met_stays (space_of a) (space_of b) call answer w place standing speaks j.0 };
 
     ghost upgrades = { λ a b who id mode ticket its covered j. session-upgrades (space_of a) (space_of b) who id mode ticket its covered j.0 };
 

@@ -25,13 +25,13 @@ impl<R: Wait> Session<R> {
         ensures joined { Joins (space_of self.old) (Release self.old.me.0.number id) (done result) (space_of self.new) }
         ensures shown { Shows (Release self.old.me.0.number id) (done result) self.old self.new }
     {
-        if let Some(held) = self.member.tickets.get_fast(id) {
+        let Some((held, fast)) = self.member.tickets.find(id) else {
+            return Err(SpaceError::NotHeld);
+        };
+        if fast {
             self.member.give_up_fast(&self.rt, held);
             return Ok(());
         }
-        let Some(held) = self.member.tickets.get(id) else {
-            return Err(SpaceError::NotHeld);
-        };
         let member = &mut self.member;
         release(&self.rt, &mut member.seat, held.place, id);
         member.tickets.strike(held.place, id);

@@ -1,6 +1,8 @@
 //! The places of keys, as a session looks them up.
+ghost use Rattle.std.specs.Prelude.{◌≡◌, None};
 ghost use Rattle.mdl_calls.specs.Words.{Resolve, placed};
 ghost use Rattle.mdl_session_laws.specs.SessionJoins.{Joins};
+ghost use Rattle.mdl_shared.specs.Members.{place_known};
 ghost use Rattle.mdl_shared.specs.SessionViews.{space_of};
 ghost use Rattle.mdl_shared.specs.Showings.{Shows};
 
@@ -19,6 +21,16 @@ impl<R: Wait> Session<R> {
         if let Some(place) = self.member.known.place_of(key) {
             return Ok(place as u16);
         }
+        self.look_up(key)
+    }
+
+    // The same of a key that it doesn't know, apart so that the way of a known key is short.
+    #[inline(never)]
+    fn look_up(&mut self, key: &Key) -> Result<Place, SpaceError>
+        requires unknown { place_known key.now self.old.me.0.known ≡ None }
+        ensures joined { Joins (space_of self.old) (Resolve self.old.me.0.number key.now) (placed result) (space_of self.new) }
+        ensures shown { Shows (Resolve self.old.me.0.number key.now) (placed result) self.old self.new }
+    {
         let member = &mut self.member;
         let slots = member.seat.slot_count();
         if member.known.reserve(1, slots).is_err() {

@@ -1,6 +1,7 @@
 //! A session's own list of its tickets.
-ghost use Rattle.std.specs.Prelude.{not, ◌^◌, MatchOption, None, OnErr, OnOk, IfOk, IfSome, Some, [], false, find, length, map, position, remove, slice_get, slice_index_or, true, ◌+◌, ◌++◌, ◌<◌, ◌==◌, ◌∷◌, ◌≡◌, ◌≤◌, ◌&&◌, ℕ, if◌then◌else◌};
+ghost use Rattle.std.specs.Prelude.{not, ◌^◌, MatchOption, None, OnErr, OnOk, IfOk, IfSome, Some, [], false, find, length, map, position, remove, slice_get, slice_index_or, true, ◌+◌, ◌-◌, ◌++◌, ◌<◌, ◌==◌, ◌∷◌, ◌≡◌, ◌≤◌, ◌&&◌, ℕ, if◌then◌else◌};
 ghost use Rattle.std.specs.List.{list_all};
+ghost use Rattle.std.specs.Option.{option_map};
 ghost use Rattle.std.specs.Vec.{vec_capacity, vec_len};
 ghost use Rattle.mdl_calls.specs.declared.answers.Held.{Held};
 ghost use Rattle.mdl_steps.specs.Cells.{note_at, own_at};
@@ -15,7 +16,7 @@ ghost use Rattle.mdl_shared.specs.Modes.{in_mode_at};
 ghost use Rattle.mdl_shared.specs.OwnLists.{told_of};
 ghost use Rattle.mdl_shared.specs.Waitings.{are_below};
 ghost use Rattle.mdl_shared.specs.TicketLists.{HasRoom, HasRoomFor, KeepsRoom};
-ghost use Rattle.mdl_shared.specs.OwnTickets.{StandsAt, counted_at, fast_counted_at, noted_in, own_of, AreRising, AreAt, has_fast, slowed};
+ghost use Rattle.mdl_shared.specs.OwnTickets.{IsLast, StandsAt, counted_at, fast_counted_at, fast_found, noted_in, own_of, AreRising, AreAt, has_fast, slowed};
 
 use mdl_calls::{Held, Place, TicketId};
 use mdl_key::Mode;
@@ -94,6 +95,16 @@ impl Tickets {
         Some(own_of(&self.places, self.gained[at]))
     }
 
+    /// The ticket of a number, and whether it is a fast one.
+    pub(crate) fn find(&self, id: TicketId) -> Option<(Own, bool)>
+        ensures found { option_map (λ t. t.0) result ≡ numbered id (interleaved self.now.slow self.now.fast) }
+        ensures fast { fast_found result ≡ numbered id self.now.fast }
+    {
+        let at = index_of(&self.gained, id)?;
+        let ticket = self.gained[at];
+        Some((own_of(&self.places, ticket), ticket.fast))
+    }
+
     /// The fast ticket of a number.
     pub(crate) fn get_fast(&self, id: TicketId) -> Option<Own>
         ensures found { result ≡ numbered id self.now.fast }
@@ -153,10 +164,14 @@ impl Tickets {
         ensures room { OnOk result (HasRoom place self.new.room) }
         ensures lacked { OnErr result (HasRoom place self.old.room → ⊥) }
     {
+        if place < self.places.len() && self.gained.len() < self.gained.capacity() {
+            return Ok(());
+        }
         self.reserve_many(1, place + 1)
     }
 
-    /// Makes room for so many more tickets, at places below this one.
+    /// Makes room for so many more tickets, at places below this one. It isn't inlined, so that [`Tickets::reserve`] is, where there is room.
+    #[inline(never)]
     pub(crate) fn reserve_many(&mut self, count: usize, places: usize) -> Result<(), AllocError>
         requires { places ≤ 65536 }
         ensures same { (self.new.slow ≡ self.old.slow) × (self.new.fast ≡ self.old.fast) }
@@ -199,6 +214,24 @@ impl Tickets {
 
     /// Strikes the ticket of a number at a place, if there is one.
     pub(crate) fn strike(&mut self, place: usize, id: TicketId)
+        ensures struck { (self.new.slow ≡ without_at place id self.old.slow) × (self.new.fast ≡ without_at place id self.old.fast) }
+        ensures freed { (t : Own) → numbered id self.old.fast ≡ Some t → t.place ≡ place → self.old.room.spare < self.new.room.spare }
+        ensures room { KeepsRoom 0 self.old.room self.new.room }
+    {
+        let Some(fast) = last_at(&self.gained, place, id) else {
+            return self.strike_earlier(place, id);
+        };
+        take_last(&mut self.gained);
+        uncount_one(&mut self.places, place);
+        if fast {
+            uncount_fast(&mut self.places, place);
+            self.fast -= 1;
+        }
+    }
+
+    // The same where it may stand before others, apart so that the look at the last ticket is inlined.
+    #[inline(never)]
+    fn strike_earlier(&mut self, place: usize, id: TicketId)
         ensures struck { (self.new.slow ≡ without_at place id self.old.slow) × (self.new.fast ≡ without_at place id self.old.fast) }
         ensures freed { (t : Own) → numbered id self.old.fast ≡ Some t → t.place ≡ place → self.old.room.spare < self.new.room.spare }
         ensures room { KeepsRoom 0 self.old.room self.new.room }
@@ -306,6 +339,18 @@ fn index_at(tickets: &[Gained], place: usize, id: TicketId) -> Option<usize>
     }
 }
 
+// Whether the last ticket, if it is the one of a number at a place, is a fast one.
+fn last_at(tickets: &[Gained], place: usize, id: TicketId) -> Option<bool>
+    ensures { IfSome result (λ fast. IsLast place id fast tickets.now) }
+{
+    let last = tickets.last()?;
+    if last.id == id && usize::from(last.place) == place {
+        Some(last.fast)
+    } else {
+        None
+    }
+}
+
 // A ticket with the note of its place.
 fn own_of(places: &[OfPlace], ticket: Gained) -> Own
     ensures { result ≡ own_of places.now ticket }
@@ -330,22 +375,17 @@ fn told(ticket: Gained) -> Held
     }
 }
 
-// Takes out the ticket at an index. No other one is moved where it is the last.
-fn take_out(tickets: &mut Vec<Gained>, at: usize)
-    requires { at < length tickets.old.items }
-    ensures items { tickets.new.items ≡ remove tickets.old.items at }
+// Takes out the last ticket.
+fn take_last(tickets: &mut Vec<Gained>)
+    requires { 0 < length tickets.old.items }
+    ensures items { tickets.new.items ≡ remove tickets.old.items (length tickets.old.items - 1) }
     ensures capacity { vec_capacity tickets.new ≡ vec_capacity tickets.old }
 {
-    if at + 1 == tickets.len() {
-        tickets.pop();
-    } else {
-        take_earlier(tickets, at);
-    }
+    tickets.pop();
 }
 
-// The same, with a move of those that stand later.
-#[inline(never)]
-fn take_earlier(tickets: &mut Vec<Gained>, at: usize)
+// Takes out the ticket at an index, with a move of those that stand later.
+fn take_out(tickets: &mut Vec<Gained>, at: usize)
     requires { at < length tickets.old.items }
     ensures items { tickets.new.items ≡ remove tickets.old.items at }
     ensures capacity { vec_capacity tickets.new ≡ vec_capacity tickets.old }
@@ -380,6 +420,7 @@ fn fast_counted(places: &[OfPlace], place: usize) -> usize
 }
 
 // The first place with a fast ticket.
+#[inline(never)]
 fn first_fast(places: &[OfPlace]) -> Option<usize>
     ensures { result ≡ position has_fast places.now }
 {

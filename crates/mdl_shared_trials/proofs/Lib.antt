@@ -1,2 +1,3 @@
 pub mod HoldersKnow
+pub mod MetAfter
 pub mod VainTries

@@ -11,6 +11,8 @@ mod acts;
 #[cfg(test)]
 mod audits;
 #[cfg(test)]
+mod cached_reads;
+#[cfg(test)]
 mod chance;
 #[cfg(test)]
 mod changes;
@@ -26,6 +28,8 @@ mod examples;
 mod fast;
 #[cfg(test)]
 mod fast_counts;
+#[cfg(test)]
+mod kept_reads;
 #[cfg(test)]
 mod locks;
 #[cfg(test)]

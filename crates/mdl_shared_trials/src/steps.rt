@@ -7,6 +7,8 @@ mod lists;
 mod materialising;
 mod seated;
 mod threads;
+mod version_visits;
+mod versions;
 mod visitors;
 mod visits;
 mod waits;

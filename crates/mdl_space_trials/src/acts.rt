@@ -2,7 +2,7 @@
 ghost use Rattle.std.specs.Prelude.{ℕ};
 
 use crate::wishes::{Shown, Wish, change_of, what_stands};
-use mdl_defs::Standing;
+use mdl_defs::{DefCache, Standing};
 use mdl_key::{Key, Mode};
 use mdl_space::{
     Attempt, Begun, Ended, LockSpace, Place, Poll, Search, Settled, SpaceError, TicketId, TimedOut,
@@ -27,6 +27,8 @@ pub(crate) enum Act {
     Merge(u16, TicketId, TicketId),
     Downgrade(u16, TicketId, Mode),
     Read(u16, TicketId),
+    // With a cache that keeps nothing yet.
+    ReadKept(u16, TicketId),
     Redefine(u16, TicketId, Wish),
 }
 
@@ -50,6 +52,8 @@ pub(crate) enum Reply {
     Killed(bool),
     Done,
     Reads(u64, Shown),
+    // How many definitions the cache keeps, where it is to keep none.
+    Keeps(usize),
     Changed(u64),
 }
 
@@ -69,6 +73,7 @@ impl Act {
             | Act::Merge(who, _, _)
             | Act::Downgrade(who, _, _)
             | Act::Read(who, _)
+            | Act::ReadKept(who, _)
             | Act::Redefine(who, _, _) => who,
             Act::WaitOf(_) | Act::Kill(_, _) => anyone,
         }
@@ -123,7 +128,23 @@ pub(crate) fn call<S: LockSpace>(space: &mut S, alloc: Global, who: u16, act: Ac
         Act::Merge(_, old, new) => done(space.merge(who, old, new)),
         Act::Downgrade(_, id, mode) => done(space.downgrade(who, id, mode)),
         Act::Read(_, id) => read(space.read_definition(who, id)),
+        Act::ReadKept(_, id) => read_kept(space, alloc, who, id),
         Act::Redefine(_, id, wish) => redefine(space, alloc, who, id, wish),
+    }
+}
+
+// Reads what stands under the key of a ticket's place with a cache that keeps nothing yet. It is to keep nothing afterwards, too.
+fn read_kept<S: LockSpace>(space: &mut S, alloc: Global, who: u16, id: TicketId) -> Reply
+    requires { S.speaks_for space.old who }
+    ensures { (w : ℕ) → S.speaks_for space.old w → S.speaks_for space.new w }
+{
+    let Ok(mut cache) = DefCache::new(alloc, 4) else {
+        return Reply::Refused(SpaceError::OutOfMemory);
+    };
+    let outcome = space.read_kept(who, id, &mut cache);
+    match cache.len() {
+        0 => read(outcome),
+        kept => Reply::Keeps(kept),
     }
 }
 

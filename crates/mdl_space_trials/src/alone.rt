@@ -176,6 +176,8 @@ const CREATED: &[(Act, Reply)] = &[
     (Act::TryNow(3, 1, Mode::X), Reply::WouldWait),
     (Act::TryNow(3, 1, Mode::X), Reply::Granted(1)),
     (Act::Redefine(3, 1, Wish::CreateTable), Reply::Changed(1)),
+    (Act::ReadKept(3, 1), Reply::Reads(1, Shown::Table(1))),
+    (Act::ReadKept(3, 2), Reply::Refused(SpaceError::NotHeld)),
 ];
 
 const DROPPED: &[(Act, Reply)] = &[(Act::Redefine(3, 1, Wish::Drop), Reply::Changed(2))];

@@ -44,6 +44,24 @@ const CHANGES: &[(Act, Reply)] = &[
     (Act::Read(4, 1), Reply::Reads(6, Shown::Table(1))),
 ];
 
+// A cache changes no answer in the space of one thread, and is left alone.
+const WITH_A_CACHE: &[(Act, Reply)] = &[
+    (Act::ReadKept(1, 1), NOT_HELD),
+    (Act::TryNow(1, TABLE, Mode::X), Reply::Granted(1)),
+    (Act::ReadKept(1, 1), Reply::Reads(0, Shown::Nothing)),
+    (Act::Redefine(1, 1, Wish::CreateTable), Reply::Changed(1)),
+    (Act::ReadKept(1, 1), Reply::Reads(1, Shown::Table(1))),
+    (Act::ReadKept(1, 1), Reply::Reads(1, Shown::Table(1))),
+    (Act::Read(1, 1), Reply::Reads(1, Shown::Table(1))),
+    (Act::ReadKept(1, 2), NOT_HELD),
+    // A ticket is its own session's.
+    (Act::ReadKept(2, 1), NOT_HELD),
+    (Act::Release(1, 1), Reply::Done),
+    (Act::ReadKept(1, 1), NOT_HELD),
+    (Act::TryNow(2, TABLE, Mode::SR), Reply::Granted(1)),
+    (Act::ReadKept(2, 1), Reply::Reads(1, Shown::Table(1))),
+];
+
 const REFUSED: &[(Act, Reply)] = &[
     (Act::Read(1, 1), NOT_HELD),
     (Act::Redefine(1, 1, Wish::Drop), NOT_HELD),
@@ -110,6 +128,11 @@ const REFUSED: &[(Act, Reply)] = &[
 #[test]
 fn definitions_are_read_and_changed(rt: HostRuntime) {
     assert_eq!(rt; first_wrong(rt.alloc(), CHANGES), None);
+}
+
+#[test]
+fn definitions_are_read_with_a_cache(rt: HostRuntime) {
+    assert_eq!(rt; first_wrong(rt.alloc(), WITH_A_CACHE), None);
 }
 
 #[test]

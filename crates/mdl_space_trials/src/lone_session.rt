@@ -1,11 +1,11 @@
 //! A lock space for tests: one session, one key, and one ticket and its clone at most, while another session comes and goes, and
 //! changes what stands under the key.
-ghost use Rattle.std.specs.Prelude.{◌&&◌, ◌||◌, ◌≡◌, ◌≢◌, ◌≤◌, ◌+◌, [], true, false, MatchResult, IfOk, IfSome, OnErr, Err, is_some};
+ghost use Rattle.std.specs.Prelude.{◌&&◌, ◌||◌, ◌⊎◌, ◌≡◌, ◌≢◌, ◌≤◌, ◌+◌, [], true, false, MatchResult, IfOk, IfSome, OnErr, Err, is_some};
 ghost use Rattle.mdl_key.specs.Words.{kind_of, is_mode_of};
 ghost use Rattle.mdl_system.specs.Strength.{covers, may_upgrade, may_downgrade};
 ghost use Rattle.mdl_defs.specs.Standings.{MayStand, standing_after};
 ghost use Rattle.mdl_calls.specs.Words.{Begin_wait, IsClear, IsCause, IsChangeOf, is_table_of, ticket_drawn, is_waiting, ticket_held, redefined, change_takes_memory};
-ghost use Rattle.mdl_calls.specs.Own.{changing};
+ghost use Rattle.mdl_calls.specs.Own.{changing, holds};
 ghost use Rattle.mdl_calls.specs.Tests.LoneSessions.{Knows, alone, numbering, owning, having};
 
 use mdl_defs::{Change, Definition, Standing};
@@ -164,6 +164,21 @@ impl LoneSession {
             Some((ticket, _)) if ticket.id == id => Some(ticket),
             Some((_, Some(copy))) if copy.id == id => Some(copy),
             _ => None,
+        }
+    }
+
+    // What stands under the key, read under a held ticket.
+    fn read_held(&self, id: TicketId) -> Result<Standing, SpaceError>
+        ensures { MatchResult result
+            (λ standing. (standing ≡ self.now.standing) × (holds id self.now.own ≡ true))
+            (λ e. ((e ≡ SpaceError.NotHeld) × (holds id self.now.own ≡ false)) ⊎ (e ≡ SpaceError.OutOfMemory)) }
+    {
+        if self.ticket(id).is_none() {
+            return Err(SpaceError::NotHeld);
+        }
+        match self.standing.clone() {
+            Ok(standing) => Ok(standing),
+            Err(_) => Err(SpaceError::OutOfMemory),
         }
     }
 

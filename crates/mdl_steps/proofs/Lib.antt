@@ -31,6 +31,7 @@ pub mod Notes
 pub mod Exclusive
 pub mod Noting
 pub mod Versions
+pub mod VersionReads
 pub mod Reading
 pub mod Hands
 pub mod Tells

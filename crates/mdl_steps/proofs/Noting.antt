@@ -22,7 +22,7 @@ use Rattle.mdl_steps.proofs.Views.{at_inside}
 use Rattle.mdl_steps.proofs.Notes.{with_note, notes_else, notes_here, notes_shown, notes_length, notes_agree, each-push, reads_else, reads_here}
 
 -- a part whose fast tickets are the same but for their notes
-all_fast-noted : (parts : List Part) (id : ℕ) (x y : Part) → get_elem? parts id ≡ some x → map (ticket_by y.number) y.fast ≡ map (ticket_by x.number) x.fast → all_fast (set parts id y) ≡ all_fast parts
+pub all_fast-noted : (parts : List Part) (id : ℕ) (x y : Part) → get_elem? parts id ≡ some x → map (ticket_by y.number) y.fast ≡ map (ticket_by x.number) x.fast → all_fast (set parts id y) ≡ all_fast parts
 all_fast-noted [] id x y at same = refl
 all_fast-noted (z ∷ zs) zero x y at same = ap (λ ts. ts ++ all_fast zs) same ∙ sym (ap (λ (w : Part). map (ticket_by w.number) w.fast ++ all_fast zs) (some-injective z x at))
 all_fast-noted (z ∷ zs) (suc id) x y at same = ap (λ ts. map (ticket_by z.number) z.fast ++ ts) (all_fast-noted zs id x y at same)

@@ -14,6 +14,7 @@ pub mod RuleLaws
 pub mod Schemas
 pub mod SeatStates
 pub mod Seats
+pub mod VersionPlays
 pub mod WaitPlays
 pub mod WaitSeats
 pub mod WaitStates

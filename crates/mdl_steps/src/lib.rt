@@ -51,6 +51,7 @@ mod schemas;
 mod slot;
 mod step_kind;
 mod table_seat;
+mod version_reads;
 mod view;
 mod wait_word;
 mod waiting_in_hand;

@@ -2,12 +2,14 @@
 ghost use Rattle.std.specs.Prelude.{ℕ, List, [], Option, None};
 ghost use Rattle.mdl_key.specs.declared.mode.Mode.{Mode};
 ghost use Rattle.mdl_key.specs.declared.mode.Mode.TheVariants.{S};
+ghost use Rattle.mdl_defs.specs.Caches.{Kept};
 ghost use Rattle.mdl_steps.specs.declared.deed.Deed.{Deed};
 ghost use Rattle.mdl_steps.specs.declared.view.Known.{Known};
 ghost use Rattle.mdl_steps.specs.Cells.{blank, numbers_for, no_numbers};
 ghost use Rattle.mdl_steps.specs.FastPlays.{reads_word_unlatched, grants_fast, releases_fast, materialises};
 ghost use Rattle.mdl_steps.specs.Plays.{enrols, takes_latch, puts_latch, raises_flags, lowers_flags, reads_word, writes_version, takes_directory, puts_directory, puts_reading, puts_key};
 ghost use Rattle.mdl_steps.specs.Rule.{Rule};
+ghost use Rattle.mdl_steps.specs.VersionPlays.{finds_version, reads_version};
 ghost use Rattle.mdl_steps.specs.WaitPlays.{reads_wait, settles_lost, settles_granted, opens_wait, ends_granted, ends_lost};
 
 use crate::{Slot, View};
@@ -214,6 +216,32 @@ pub(crate) struct ReadWordUnlatched;
 
 impl Play<Slot, View> for ReadWordUnlatched {
     ghost then = { reads_word_unlatched };
+}
+
+/// A version is read without the latch.
+pub(crate) struct ReadVersion;
+
+impl Play<Slot, View> for ReadVersion {
+    ghost then = { reads_version };
+}
+
+/// What the cache keeps that a version is looked for in.
+pub(crate) trait FindingVersion {
+    ghost kept: { List Kept };
+}
+
+/// Each call picks it.
+impl FindingVersion for Brand {
+    ghost kept = { [] };
+}
+
+/// A version is looked for in a cache, without the latch.
+pub(crate) struct FindVersion<J: FindingVersion> {
+    marker: PhantomData<J>,
+}
+
+impl<J: FindingVersion> Play<Slot, View> for FindVersion<J> {
+    ghost then = { finds_version J.kept };
 }
 
 /// Which fast ticket is granted.

@@ -29,6 +29,8 @@ pub enum StepKind {
     },
     /// A place's version was written.
     WriteVersion,
+    /// A place's version was read, without its latch.
+    ReadVersion,
     /// A wait was opened.
     OpenWait,
     /// A wait was granted.

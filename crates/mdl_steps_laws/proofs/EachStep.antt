@@ -50,7 +50,7 @@ use Rattle.mdl_steps_laws.proofs.FastEvents.{granting_fast_grants, only_passes, 
 use Rattle.mdl_steps_laws.proofs.FastRests.{materialising_rests, reading_unlatched_rests}
 use Rattle.mdl_steps_laws.proofs.Keeping.{own_parts}
 use Rattle.mdl_steps_laws.proofs.RestKeys.{consulting_rests, drawing_rests, informing_rests, naming_rests}
-use Rattle.mdl_steps_laws.proofs.RestKinds.{lowering_rests, missing_directory_rests, missing_rests, putting_reading_rests, putting_rests, raising_rests, reading_rests, taking_rests}
+use Rattle.mdl_steps_laws.proofs.RestKinds.{finding_version_rests, lowering_rests, missing_directory_rests, missing_rests, putting_reading_rests, putting_rests, raising_rests, reading_rests, reading_version_rests, taking_rests}
 use Rattle.mdl_steps_laws.proofs.RestSplits.{splitting_rests}
 use Rattle.mdl_steps_laws.proofs.StepEvents.{lowering_brings, putting_brings, writing_brings}
 use Rattle.mdl_steps_laws.proofs.StepKeys.{granted_key, known_key, recorded_book, waiting_key}
@@ -388,6 +388,12 @@ module _ (s t : State Slot View) (r : Rule s) (r′ : Rule t) (id : ℕ) (m m′
       rests (after_step s (lock_word q) found id m′) (becomes (lock_word q) found s.homes m′.0 at whole.2.0 (stay whole.2.1) refl)
       (reading_rests s r q whole.0 id m m′ seat whole.1.0 whole.1.1 st found at play)
   brings (Makes.WritesVersion q may at play) whole = writes q whole.0 may at (play.1 q (redefining may.1 may.0.book) at may.2.holds.carried) whole.1.0 whole.1.1
+  brings (Makes.ReadsVersion q at play) whole =
+      rests (after_step s (version_word q) found id m′) (becomes (version_word q) found s.homes m′.0 at whole.1.0 (stay whole.1.1) refl)
+      (reading_version_rests s r q whole.0 id m m′ seat st found at (ap (λ (n : ℕ). get_or s.words n 0) at) play)
+  brings (Makes.FindsVersion q kept at play) whole =
+      rests (after_step s (version_word q) found id m′) (becomes (version_word q) found s.homes m′.0 at whole.1.0 (stay whole.1.1) refl)
+      (finding_version_rests s r q whole.0 id m m′ seat kept st found at (ap (λ (n : ℕ). get_or s.words n 0) at) play)
   brings (Makes.OpensWait q mode at word play) whole = opens q mode whole.0 whole.1.0 whole.1.1 at (play.1 at word) whole.2.0 whole.2.1
   brings (Makes.ReadsWait session at play) whole = meets_wait session step.ReadWait at (play.1 session at).1 whole.0 whole.1
   brings (Makes.SettlesLost session number state at old new play) whole =

@@ -68,6 +68,8 @@ module _ (s t : State Slot View) where
   is_a_step st m was m′ (Makes.LowersFlags q deeds _ _ _ _ _ _) brought = by_deeds_at m.0.number q deeds brought
   is_a_step st m was m′ (Makes.ReadsWord _ _ _) brought = nothing brought
   is_a_step st m was m′ (Makes.WritesVersion _ may _ _) brought = happens (ChangeDefinition (of_lock brought.0 brought.2.0) may.1) brought.2.2
+  is_a_step st m was m′ (Makes.ReadsVersion _ _ _) brought = nothing brought
+  is_a_step st m was m′ (Makes.FindsVersion _ _ _ _) brought = nothing brought
   is_a_step st m was m′ (Makes.OpensWait _ mode _ _ _) brought =
       happens (BeginWait brought.0 (record { ticket = asked_ticket mode m.0; wait = m.0.waits + 1; state = Unsettled })) brought.2
   is_a_step st m was m′ (Makes.ReadsWait _ _ _) brought = nothing brought

@@ -1,9 +1,13 @@
 -- The kinds of step by which nothing is done in the system.
-use Rattle.std.proofs.Common.{◌≡◌, ◌≢◌, ℕ, ◌+◌, ◌*◌, ◌<◌, ◌≤◌, ◌==◌, cond, inl, inr, List, [], map, set, get_or, Some, None, refl, sym, ap, ◌∙◌, subst, arith, length-set, get_or-set_other, get_or-set_same}
+use Rattle.std.proofs.Common.{◌≡◌, ◌≢◌, ℕ, ◌+◌, ◌*◌, ◌<◌, ◌≤◌, ◌==◌, cond, inl, inr, List, [], map, set, get_or, Option, Some, None, refl, sym, ap, ◌∙◌, subst, arith, length-set, get_or-set_other, get_or-set_same}
 use mathlib.Core.Option.{Option as Maybe, some, none}
 use lib.ListN.{get_elem?}
 use Rattle.atomic_table.specs.Table.{State}
 use Rattle.atomic_table.proofs.Lists.{at_set, set_else, set_here}
+use Rattle.std.specs.Option.{option_map_or}
+use Rattle.mdl_defs.specs.declared.standing.Standing.{Standing}
+use Rattle.mdl_defs.specs.declared.definition.Definition.{Definition}
+use Rattle.mdl_defs.specs.Caches.{Kept, kept_of}
 use Rattle.mdl_key.specs.Words.{KeyName}
 use Rattle.mdl_book.specs.declared.book_view.BookView.{BookView}
 use Rattle.mdl_steps.specs.declared.slot.Slot.{Slot}
@@ -11,14 +15,15 @@ use Rattle.mdl_steps.specs.declared.slot.Slot.TheVariants as slot
 use Rattle.mdl_steps.specs.declared.view.LatchRecord.{LatchRecord}
 use Rattle.mdl_steps.specs.declared.view.View.{View}
 use Rattle.mdl_steps.specs.Cells.{held_at, own_at, ticket_by}
-use Rattle.mdl_steps.specs.Layout.{latch_word, lock_word}
+use Rattle.mdl_steps.specs.Layout.{latch_word, lock_word, version_word}
 use Rattle.mdl_steps.specs.Plays.{Mine, latched, lowered, noting, raised, read_and_put, flags_lowered, unlatched}
 use Rattle.mdl_steps.specs.Rule.{Rule}
+use Rattle.mdl_steps.specs.VersionPlays.{found_version, learnt_version, noting_found}
 use Rattle.mdl_steps.proofs.Views.{held_at-changed, held_at-dropped, held_at-first, held_at-past, held_at-unchanged, held_at-undropped}
 use Rattle.mdl_steps.proofs.WaitSteps.{set_found}
 use Rattle.mdl_steps_laws.specs.Headline.{HasPlace, IsFree}
 use Rattle.mdl_steps_laws.specs.Locks.{AreKeysOf, IsBookAt}
-use Rattle.mdl_steps_laws.specs.RestLaws.{LoweringRests, MissingDirectoryRests, MissingRests, PuttingReadingRests, PuttingRests, IsRest, RaisingRests, ReadingRests, TakingRests, after_step}
+use Rattle.mdl_steps_laws.specs.RestLaws.{FindingVersionRests, LoweringRests, MissingDirectoryRests, MissingRests, PuttingReadingRests, PuttingRests, IsRest, RaisingRests, ReadingRests, ReadingVersionRests, TakingRests, after_step}
 use Rattle.mdl_steps_laws.proofs.RestSteps.{elsewhere_rests, one_book, place_rests}
 use Rattle.mdl_steps_laws.proofs.SeatSteps.{Leaves, noted_alike}
 
@@ -197,3 +202,66 @@ missing_directory_rests s r id me me′ seat st found at is taken play =
     let e = (play.1 at).1 taken in
     subst (λ (n : ℕ). IsRest s (after_step s (latch_word 0) n id me′)) (sym is)
     (met_directory s r id me me′ seat (ap (λ (x : Mine). x.0.number) e) (ap (λ (x : Mine). x.0.fast) e) (ap (λ (x : Mine). x.0.asks) e) (ap (λ (x : Mine). x.0.directory) e) (ap (λ (x : Mine). x.0.latches) e))
+
+-- ---- its version, without the latch
+
+learnt_version_rests : (s : State Slot View) → Rule s → (place : ℕ) → HasPlace s place → (id : ℕ) (me : Mine) → get_elem? s.views id ≡ some me.0
+    → (standing : Standing) → IsRest s (after_step s (version_word place) (get_or s.words (version_word place) 0) id (learnt_version place standing me))
+learnt_version_rests s r place has id me seat standing r′ =
+    let w : View = (learnt_version place standing me).0 in
+    let n : ℕ = get_or s.words (version_word place) 0 in
+    let leaves : Leaves place me.0 w = record {
+      number = refl;
+      fast = λ number q. noted_alike place standing.version number q me.0.fast;
+      held_else = λ q else. refl;
+    } in (
+      r′,
+      place_rests s r place id me.0 w seat leaves refl (version_word place) n (omega arith, omega arith) s.homes refl (unmoved s place) has refl
+          (kept_here s place has id me.0 w seat (version_word place) n (ap (λ ws. get_or ws (latch_word place) 0) (set_found s.words (version_word place)))
+          (λ g e. (g, e, refl))) r′,
+    )
+
+pub reading_version_rests : ReadingVersionRests
+reading_version_rests s r place has id me me′ seat st found at is play =
+    let learns = play.1 place at in
+    subst (λ (n : ℕ). IsRest s (after_step s (version_word place) n id me′)) (sym is)
+    (subst (λ (x : Mine). IsRest s (after_step s (version_word place) (get_or s.words (version_word place) 0) id x)) (sym learns.now)
+    (learnt_version_rests s r place has id me seat learns.standing))
+
+-- the session's tickets there get notes, or none, which changes none of them
+found_fast : (place version number q : ℕ) (v : View) (o : Option Definition)
+    → map (ticket_by number) (own_at q (option_map_or (λ _. noting_found place version v) o v).fast) ≡ map (ticket_by number) (own_at q v.fast)
+found_fast place version number q v None = refl
+found_fast place version number q v (Some d) = noted_alike place version number q v.fast
+
+-- nor anything else that it has
+found_same : {T : Type 0} (of : View → T) (place version : ℕ) (v : View) (o : Option Definition) → of (noting_found place version v) ≡ of v
+    → of (option_map_or (λ _. noting_found place version v) o v) ≡ of v
+found_same of place version v None same = refl
+found_same of place version v (Some d) same = same
+
+found_version_rests : (s : State Slot View) → Rule s → (place : ℕ) → HasPlace s place → (id : ℕ) (me : Mine) → get_elem? s.views id ≡ some me.0
+    → (kept : List Kept) (version : ℕ)
+    → IsRest s (after_step s (version_word place) (get_or s.words (version_word place) 0) id (found_version kept place version me))
+found_version_rests s r place has id me seat kept version r′ =
+    let o = kept_of place version kept in
+    let w : View = (found_version kept place version me).0 in
+    let n : ℕ = get_or s.words (version_word place) 0 in
+    let leaves : Leaves place me.0 w = record {
+      number = found_same (λ v. v.number) place version me.0 o refl;
+      fast = λ number q. found_fast place version number q me.0 o;
+      held_else = λ q else. found_same (λ v. held_at q v.latches) place version me.0 o refl;
+    } in (
+      r′,
+      place_rests s r place id me.0 w seat leaves (found_same (λ v. v.asks) place version me.0 o refl) (version_word place) n (omega arith, omega arith) s.homes refl
+          (unmoved s place) has (found_same (λ v. v.directory) place version me.0 o refl)
+          (kept_here s place has id me.0 w seat (version_word place) n (ap (λ ws. get_or ws (latch_word place) 0) (set_found s.words (version_word place)))
+          (λ g e. (g, sym (found_same (λ v. held_at place v.latches) place version me.0 o refl) ∙ e, refl))) r′,
+    )
+
+pub finding_version_rests : FindingVersionRests
+finding_version_rests s r place has id me me′ seat kept st found at is play =
+    let e : me′ ≡ found_version kept place found me = (play.1 place at).0 in
+    subst (λ (n : ℕ). IsRest s (after_step s (version_word place) n id me′)) (sym is)
+    (subst (λ (x : Mine). IsRest s (after_step s (version_word place) (get_or s.words (version_word place) 0) id x)) (sym e)
+    (found_version_rests s r place has id me seat kept found))

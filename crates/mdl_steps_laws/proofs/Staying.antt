@@ -16,10 +16,11 @@ use Rattle.mdl_steps.specs.Cells.{holder_at}
 use Rattle.mdl_steps.specs.Deeds.{is_own}
 use Rattle.mdl_steps.specs.Plays.{Mine, noting_version, read_and_put}
 use Rattle.mdl_steps.specs.Rule.{Rule}
+use Rattle.mdl_steps.specs.VersionPlays.{noted_version}
 use Rattle.mdl_steps.proofs.Views.{at_inside, by_bool}
 use Rattle.mdl_system.proofs.Deciding.{nat_told}
 use Rattle.mdl_system.proofs.MemberLemmas.{Contains-map, Contains-map_from}
-use Rattle.mdl_steps_laws.specs.Headline.{DefinitionsStay, Follow, HasNoted, HasPlace, HasRead, NotesStay, ReadingsNote, Stands}
+use Rattle.mdl_steps_laws.specs.Headline.{DefinitionsStay, Follow, HasNoted, HasPlace, HasRead, HitsNote, LearnsOf, NotesStay, ReadingsNote, Stands, VersionsNote}
 use Rattle.mdl_steps_laws.specs.SessionSteps.{Turn}
 use Rattle.mdl_steps_laws.proofs.Keeping.{Kept, own_is, own_parts}
 use Rattle.mdl_steps_laws.proofs.NotesKept.{noted_stands, read_stands}
@@ -42,7 +43,7 @@ notes_stay s t r (Turn.Steps id m m′ st left act there made moves) place has s
       let is : m.0 ≡ v = some-injective m.0 v (sym there ∙ ap (get_elem? s.views) mine ∙ at) in
       let seat_there : get_elem? s.views seat ≡ some m.0 = at ∙ ap (λ (x : View). some x) (sym is) in
       let had : HasNoted place number version m.0 = subst (HasNoted place number version) (sym is) noted in
-      let kept = made_keeps s r place has seat number version m seat_there had st (slice_index s.words st.word) m′ made (spares mine) in
+      let kept = made_keeps s r place has seat number version m seat_there had st (slice_index s.words st.word) refl m′ made (spares mine) in
       let now : get_elem? (set s.views id m′.0) seat ≡ some m′.0 =
       subst (λ (j : ℕ). get_elem? (set s.views id m′.0) j ≡ some m′.0) mine (set_here s.views id m′.0 (at_inside s.views id m.0 there)) in (
         m′.0,
@@ -132,6 +133,21 @@ noted_by_all place version slow fast t among here =
       ),
     )
 
+-- a view whose tickets at the place have the note
+noted_by : (place version : ℕ) (v w : View) → w.slow ≡ noting_version place version v.slow → w.fast ≡ noting_version place version v.fast
+    → (t : Own) → Contains (v.slow ++ v.fast) t → t.place ≡ place → HasNoted place t.number version w
+noted_by place version v w slow fast t among here =
+    let now = noted_by_all place version v.slow v.fast t among here in
+    let both : w.slow ++ w.fast ≡ noting_version place version v.slow ++ noting_version place version v.fast = λ i. slow i ++ fast i in
+    record {
+      ticket = now.0;
+      has = (subst (λ (ts : List Own). Contains ts now.0) (sym both) now.1.0, now.1.1);
+      noted = λ o had. elim (Contains-append_cases (noting_version place version v.slow) (noting_version place version v.fast) o (subst (λ (ts : List Own). Contains ts o) both had.0)) [
+        | inl old ↦ noted_all place version v.slow o old (own_parts place t.number o had.1).0
+        | inr new ↦ noted_all place version v.fast o new (own_parts place t.number o had.1).0
+      ];
+    }
+
 pub readings_note : ReadingsNote
 readings_note s r place has seat m m′ there st found may at play =
     let h = may.0 in
@@ -148,12 +164,32 @@ readings_note s r place has seat m m′ there st found may at play =
             ap (λ (b : BookView). b.standing) ((ok.held j (holder_at place w) (at_map (holder_at place) s.views j w there_w) g holds).book_is ∙ sym is);
       },
       subst (λ (x : Mine). HasRead place standing x.0) (sym e) (Contains-push m.0.reads (record { place = place; standing = standing })),
-      λ t among here. subst (λ (x : Mine). HasNoted place t.number standing.version x.0) (sym e) ((let now = noted_by_all place standing.version m.0.slow m.0.fast t among here in record {
-        ticket = now.0;
-        has = now.1;
-        noted = λ o had. elim (Contains-append_cases (noting_version place standing.version m.0.slow) (noting_version place standing.version m.0.fast) o had.0) [
-          | inl old ↦ noted_all place standing.version m.0.slow o old (own_parts place t.number o had.1).0
-          | inr fast ↦ noted_all place standing.version m.0.fast o fast (own_parts place t.number o had.1).0
-        ];
-      })),
+      noted_by place standing.version m.0 m′.0 (ap (λ (x : Mine). x.0.slow) e) (ap (λ (x : Mine). x.0.fast) e),
     )
+
+-- ---- a version
+
+learns_of : (place : ℕ) (standing : Standing) (m m′ : Mine) → m′.0.slow ≡ noting_version place standing.version m.0.slow
+    → m′.0.fast ≡ noting_version place standing.version m.0.fast → HasRead place standing m′.0 → LearnsOf place standing m m′
+learns_of place standing m m′ slow fast read = record {
+  read = read;
+  noted = noted_by place standing.version m.0 m′.0 slow fast;
+  stands = λ s r has seat there now. read_stands s r place has seat m′.0 there standing read now;
+}
+
+pub versions_note : VersionsNote
+versions_note place found m m′ st at play =
+    let learns = play.1 place at in
+    let e = learns.now in
+    let standing = learns.standing in (
+      standing,
+      learns.found,
+      learns_of place standing m m′ (ap (λ (x : Mine). x.0.slow) e) (ap (λ (x : Mine). x.0.fast) e)
+          (subst (λ (x : Mine). HasRead place standing x.0) (sym e) (Contains-push m.0.reads (record { place = place; standing = standing }))),
+    )
+
+pub hits_note : HitsNote
+hits_note place found kept m m′ st at play d hit read =
+    let noted : m′ ≡ noted_version place found m = rw hit at (play.1 place at).0 in
+    learns_of place (record { version = found; definition = Some d }) m m′ (ap (λ (x : Mine). x.0.slow) noted) (ap (λ (x : Mine). x.0.fast) noted)
+    (subst (λ (x : Mine). HasRead place (record { version = found; definition = Some d }) x.0) (sym noted) read)

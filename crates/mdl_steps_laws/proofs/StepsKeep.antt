@@ -1,16 +1,20 @@
 -- By each kind of step a session keeps the notes of the tickets that it doesn't give up, but where it changes the definition.
-use Rattle.std.proofs.Common.{◌≡◌, ◌≢◌, ◌⊎◌, ℕ, ◌<◌, ◌==◌, not, inl, inr, List, [], ◌∷◌, ◌++◌, Some, None, refl, sym, ap, ◌∙◌, subst, arith, append-nil}
+use Rattle.std.proofs.Common.{◌≡◌, ◌≢◌, ◌⊎◌, ℕ, ◌<◌, ◌==◌, not, inl, inr, List, [], ◌∷◌, ◌++◌, get_or, Some, None, refl, sym, ap, ◌∙◌, subst, arith, append-nil}
 use Rattle.std.specs.Prelude.{Contains, Option}
 use Rattle.std.proofs.lemmas.List.Elements.{Contains-append_left, Contains-append_right, Contains-append_cases}
+use Rattle.std.specs.Option.{option_map_or}
 use mathlib.Core.Option.{some}
 use lib.ListN.{get_elem?}
 use Rattle.atomic_table.specs.Table.{State, Step}
 use Rattle.atomic_table.proofs.Lists.{at_map}
+use Rattle.mdl_defs.specs.declared.definition.Definition.{Definition}
+use Rattle.mdl_defs.specs.Caches.{kept_of}
 use Rattle.mdl_book.specs.declared.book_view.BookView.{BookView}
 use Rattle.mdl_book.specs.Books.{empty_book, redefining}
 use Rattle.mdl_steps.specs.declared.deed.Deed.{Deed}
 use Rattle.mdl_steps.specs.declared.deed.Deed.TheVariants.{Lose}
 use Rattle.mdl_steps.specs.declared.slot.Slot.{Slot}
+use Rattle.mdl_steps.specs.declared.step_kind.StepKind.TheVariants as step
 use Rattle.mdl_steps.specs.declared.view.Ask.{Ask}
 use Rattle.mdl_steps.specs.declared.view.LatchRecord.{LatchRecord}
 use Rattle.mdl_steps.specs.declared.view.Own.{Own}
@@ -20,8 +24,10 @@ use Rattle.mdl_steps.specs.Cells.{held_at, holder_at, note_at, own_at}
 use Rattle.mdl_steps.specs.Deeds.{MayDo, all_booked, all_owned, is_own}
 use Rattle.mdl_steps.specs.FastPlays.{but_at, but_own, fast_own}
 use Rattle.mdl_steps.specs.Interleavings.{interleaved}
-use Rattle.mdl_steps.specs.Plays.{Mine, noting_version}
+use Rattle.mdl_steps.specs.Layout.{version_word}
+use Rattle.mdl_steps.specs.Plays.{Mine, logged, noting_version}
 use Rattle.mdl_steps.specs.Rule.{Rule}
+use Rattle.mdl_steps.specs.VersionPlays.{noting_found}
 use Rattle.mdl_steps.specs.WaitPlays.{taken_over, wait_in}
 use Rattle.mdl_steps.proofs.Interleaving.{Contains-interleaved_cases, Contains-interleaved_fast, Contains-interleaved_slow}
 use Rattle.mdl_steps.proofs.OneEvent.{may_all}
@@ -141,64 +147,78 @@ module _ (s : State Slot View) (r : Rule s) (place : ℕ) (has : HasPlace s plac
     reads = λ x among. subst (λ rs. Contains rs x) (sym reads) among;
   })
 
-  pub made_keeps : (st : Step Slot) (found : ℕ) (m′ : Mine) (made : Makes st m found m′) → ¬ (GivesUp place number made ⊎ Changes place made) → Keeps place number version m.0 m′.0
-  made_keeps st found m′ (Makes.DrawsNumber play) spares =
+  -- a version that was found, and noted or not
+  found_keeps : (q found : ℕ) (o : Option Definition) → (q ≡ place → found ≡ version)
+      → Keeps place number version m.0 (logged step.ReadVersion [] (version_word q) found m.0.latches (option_map_or (λ _. noting_found q found m.0) o m.0))
+  found_keeps q found None is = leaves place number version m.0 _ refl refl refl
+  found_keeps q found (Some d) is = record { tickets = notes q found is; reads = λ x among. among }
+
+  pub made_keeps : (st : Step Slot) (found : ℕ) → found ≡ get_or s.words st.word 0 → (m′ : Mine) (made : Makes st m found m′) → ¬ (GivesUp place number made ⊎ Changes place made)
+      → Keeps place number version m.0 m′.0
+  made_keeps st found was m′ (Makes.DrawsNumber play) spares =
       same m′ _ play.1 refl refl refl
-  made_keeps st found m′ (Makes.TakesDirectory at play) spares = elim (nat_told found 0) [
+  made_keeps st found was m′ (Makes.TakesDirectory at play) spares = elim (nat_told found 0) [
     | inl free ↦ (let took = (play.1 at).0 free in same m′ _ took.2 refl refl refl)
     | inr taken ↦ same m′ _ ((play.1 at).1 taken) refl refl refl
   ]
-  made_keeps st found m′ (Makes.PutsDirectory more at play) spares = same m′ _ (play.1 at) refl refl refl
-  made_keeps st found m′ (Makes.TakesLatch q at play) spares = elim (nat_told found 0) [
+  made_keeps st found was m′ (Makes.PutsDirectory more at play) spares = same m′ _ (play.1 at) refl refl refl
+  made_keeps st found was m′ (Makes.TakesLatch q at play) spares = elim (nat_told found 0) [
     | inl free ↦ (let took = (play.1 q at).0 free in same m′ _ took.2 refl refl refl)
     | inr taken ↦ same m′ _ ((play.1 q at).1 taken) refl refl refl
   ]
-  made_keeps st found m′ (Makes.PutsLatch q deeds may at play) spares =
+  made_keeps st found was m′ (Makes.PutsLatch q deeds may at play) spares =
       by_deeds m′ _ (play.1 q at) q deeds may.0 may.1.may (λ gives. spares (inl gives)) refl refl refl
-  made_keeps st found m′ (Makes.PutsReading q may at play) spares =
+  made_keeps st found was m′ (Makes.PutsReading q may at play) spares =
       let h = may.0 in
       via m′ _ (play.1 q h.book at may.1.holds.carried) (record {
         tickets = notes q h.book.standing.version (λ here. recorded_version h (subst (λ (p : ℕ). held_at p m.0.latches ≡ Some h) here may.1.holds.recorded));
         reads = λ x among. Contains-append_left m.0.reads (record { place = q; standing = h.book.standing } ∷ []) x among;
       })
-  made_keeps st found m′ (Makes.PutsKey q key k h may at play) spares = same m′ _ (play.1 q (empty_book key) at may.holds.carried) refl refl refl
-  made_keeps st found m′ (Makes.RaisesFlags q slow obtrusive at mask play) spares = same m′ _ (play.1 q slow obtrusive at mask) refl refl refl
-  made_keeps st found m′ (Makes.LowersFlags q deeds slow obtrusive may at mask play) spares =
+  made_keeps st found was m′ (Makes.PutsKey q key k h may at play) spares = same m′ _ (play.1 q (empty_book key) at may.holds.carried) refl refl refl
+  made_keeps st found was m′ (Makes.RaisesFlags q slow obtrusive at mask play) spares = same m′ _ (play.1 q slow obtrusive at mask) refl refl refl
+  made_keeps st found was m′ (Makes.LowersFlags q deeds slow obtrusive may at mask play) spares =
       let h = may.0 in
       let book : BookView = all_booked m.0.number deeds h.book in
       by_deeds m′ _ (play.1 q slow obtrusive book at mask may.1.holds.carried) q deeds h may.1.may (λ gives. spares (inl gives)) refl refl refl
-  made_keeps st found m′ (Makes.ReadsWord q at play) spares = same m′ _ (play.1 q at) refl refl refl
-  made_keeps st found m′ (Makes.WritesVersion q may at play) spares =
+  made_keeps st found was m′ (Makes.ReadsWord q at play) spares = same m′ _ (play.1 q at) refl refl refl
+  made_keeps st found was m′ (Makes.WritesVersion q may at play) spares =
       let book : BookView = redefining may.1 may.0.book in
       let standing = book.standing in
       via m′ _ (play.1 q book at may.2.holds.carried) (record {
         tickets = notes q standing.version (λ here. absurd (spares (inr here)));
         reads = λ x among. Contains-append_left m.0.reads (record { place = q; standing = standing } ∷ []) x among;
       })
-  made_keeps st found m′ (Makes.OpensWait q mode at wait play) spares = same m′ _ (play.1 at wait) refl refl refl
-  made_keeps st found m′ (Makes.ReadsWait session at play) spares = same m′ _ (play.1 session at).1 refl refl refl
-  made_keeps st found m′ (Makes.SettlesLost session wait state at old new play) spares = elim (nat_told found (wait_in wait 1)) [
+  made_keeps st found was m′ (Makes.ReadsVersion q at play) spares =
+      let learns = play.1 q at in
+      via m′ _ learns.now (record {
+        tickets = notes q learns.standing.version (λ here. learns.found ∙ was ∙ ap (λ (n : ℕ). get_or s.words n 0) (at ∙ ap version_word here) ∙ noted_stands s r place has seat m.0 there number version noted);
+        reads = λ x among. Contains-append_left m.0.reads (record { place = q; standing = learns.standing } ∷ []) x among;
+      })
+  made_keeps st found was m′ (Makes.FindsVersion q kept at play) spares = via m′ _ (play.1 q at).0 (found_keeps q found (kept_of q found kept) (λ here. was ∙ ap (λ (n : ℕ). get_or s.words n 0) (at ∙ ap version_word here) ∙ noted_stands s r place has seat m.0 there number version noted))
+  made_keeps st found was m′ (Makes.OpensWait q mode at wait play) spares = same m′ _ (play.1 at wait) refl refl refl
+  made_keeps st found was m′ (Makes.ReadsWait session at play) spares = same m′ _ (play.1 session at).1 refl refl refl
+  made_keeps st found was m′ (Makes.SettlesLost session wait state at old new play) spares = elim (nat_told found (wait_in wait 1)) [
     | inl won ↦ same m′ _ ((play.1 session wait state at old new).1 won) refl refl refl
     | inr missed ↦ same m′ _ ((play.1 session wait state at old new).2 missed) refl refl refl
   ]
-  made_keeps st found m′ (Makes.SettlesGranted q ticket session wait at old play) spares = elim (nat_told found (wait_in wait 1)) [
+  made_keeps st found was m′ (Makes.SettlesGranted q ticket session wait at old play) spares = elim (nat_told found (wait_in wait 1)) [
     | inl won ↦ same m′ _ ((play.1 session wait at old).1 won) refl refl refl
     | inr missed ↦ same m′ _ ((play.1 session wait at old).2 missed) refl refl refl
   ]
-  made_keeps st found m′ (Makes.EndsGranted at play) spares = via m′ _ (play.1 at) (record {
+  made_keeps st found was m′ (Makes.EndsGranted at play) spares = via m′ _ (play.1 at) (record {
     tickets = slow_alone (m.0.slow ++ taken_over m.0.asks m.0.slow) (taken m.0.asks refl);
     reads = λ x among. among;
   })
-  made_keeps st found m′ (Makes.EndsLost a state asks told at play) spares = same m′ _ (play.1 a state at asks told) refl refl refl
-  made_keeps st found m′ (Makes.ReadsWordUnlatched q at play) spares = same m′ _ (play.1 q at) refl refl refl
-  made_keeps st found m′ (Makes.GrantsFast q mode under at play) spares = elim (nat_told found st.first) [
+  made_keeps st found was m′ (Makes.EndsLost a state asks told at play) spares = same m′ _ (play.1 a state at asks told) refl refl refl
+  made_keeps st found was m′ (Makes.ReadsWordUnlatched q at play) spares = same m′ _ (play.1 q at) refl refl refl
+  made_keeps st found was m′ (Makes.GrantsFast q mode under at play) spares = elim (nat_told found st.first) [
     | inl won ↦ via m′ _ ((play.1 q at).0 won) (record {
       tickets = fast_alone (m.0.fast ++ fast_own m.0.next q mode under ∷ []) (kept_push place number version m.0.fast (fast_own m.0.next q mode under) (let less = below in λ e. omega arith));
       reads = λ x among. among;
     })
     | inr missed ↦ same m′ _ ((play.1 q at).1 missed) refl refl refl
   ]
-  made_keeps st found m′ (Makes.ReleasesFast q n at play) spares = via m′ _ (play.1 q at) (record {
+  made_keeps st found was m′ (Makes.ReleasesFast q n at play) spares = via m′ _ (play.1 q at) (record {
     tickets = fast_alone (but_own q n m.0.fast) (kept_filter place number version (λ t. not (is_own q n t)) (λ t mine. by_bool (is_own q n t)
         (λ hit.
         let a = own_parts place number t mine in
@@ -207,7 +227,7 @@ module _ (s : State Slot View) (r : Rule s) (place : ℕ) (has : HasPlace s plac
         (λ miss. rw miss refl)) m.0.fast);
     reads = λ x among. among;
   })
-  made_keeps st found m′ (Makes.Materialises q weight h may at play) spares = via m′ _ (play.1 q at) (record {
+  made_keeps st found was m′ (Makes.Materialises q weight h may at play) spares = via m′ _ (play.1 q at) (record {
     tickets = kept_joined place number version q m.0.slow m.0.fast;
     reads = λ x among. among;
   })

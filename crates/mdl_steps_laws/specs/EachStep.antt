@@ -75,6 +75,8 @@ IsWhole s left act {st} {m} (Makes.RaisesFlags place _ _ _ _ _) = HasPlace s pla
 IsWhole s left act (Makes.LowersFlags place _ _ _ _ _ _ _) = HasPlace s place × (act ≡ keeps)
 IsWhole s left act {st} {m} {found} (Makes.ReadsWord place _ _) = HasPlace s place × HasLatch place m × Meets found left act
 IsWhole s left act (Makes.WritesVersion place may _ _) = HasPlace s place × Writes (standing_after may.1 may.0.book.standing).version left act
+IsWhole s left act {st} {m} {found} (Makes.ReadsVersion place _ _) = HasPlace s place × Meets found left act
+IsWhole s left act {st} {m} {found} (Makes.FindsVersion place _ _ _) = HasPlace s place × Meets found left act
 IsWhole s left act {st} {m} (Makes.OpensWait place mode _ _ _) =
     HasPlace s place × ((h : LatchRecord) × MayOpen place mode h m) × Writes (wait_in (m.0.waits + 1) unsettled_state) left act
 IsWhole s left act {st} {m} {found} (Makes.ReadsWait _ _ _) = Meets found left act

@@ -8,7 +8,9 @@ use Rattle.std.specs.Prelude.{◌≡◌, ℕ, ◌<◌, true, List, [], ◌∷◌
 use mathlib.Core.Option.{some}
 use lib.ListN.{get_elem?}
 use Rattle.atomic_table.specs.Table.{State, Step}
+use Rattle.mdl_defs.specs.declared.definition.Definition.{Definition}
 use Rattle.mdl_defs.specs.declared.standing.Standing.{Standing}
+use Rattle.mdl_defs.specs.Caches.{Kept, kept_of}
 use Rattle.mdl_book.specs.declared.book_view.BookView.{BookView}
 use Rattle.mdl_book.specs.Books.{has_obtrusive, has_tickets, lock_kind}
 use Rattle.mdl_steps.specs.declared.slot.Slot.{Slot}
@@ -23,6 +25,7 @@ use Rattle.mdl_steps.specs.Plays.{Mine, puts_reading}
 use Rattle.mdl_steps.specs.Rule.{Counted, Rule}
 use Rattle.mdl_steps.specs.RuleLaws.{StandsTogether, fast_at}
 use Rattle.mdl_steps.specs.Seats.{MayPut}
+use Rattle.mdl_steps.specs.VersionPlays.{finds_version, reads_version}
 use Rattle.mdl_steps_laws.specs.SessionSteps.{Spares, Turn}
 
 -- ---- locks
@@ -91,6 +94,14 @@ NotesStay =
     (w : View) × (get_elem? t.views seat ≡ some w) × HasNoted place number version w
     × ((standing : Standing) → HasRead place standing v → HasRead place standing w)
 
+-- a session knows what is defined from its step on, and has noted the version under each ticket that it had there: that is defined wherever the rule
+-- holds, the session is so, and the place has the version
+pub record LearnsOf (place : ℕ) (standing : Standing) (m m′ : Mine) : Type 0 where
+  pub read : HasRead place standing m′.0
+  pub noted : (t : Own) → Contains (m.0.slow ++ m.0.fast) t → t.place ≡ place → HasNoted place t.number standing.version m′.0
+  pub stands : (s : State Slot View) → Rule s → HasPlace s place → (seat : ℕ) → get_elem? s.views seat ≡ some m′.0 →
+      slice_index s.words (version_word place) ≡ standing.version → Stands s place standing
+
 -- by a reading a session learns the definition, and notes its version under each ticket that it has there, whatever it had noted before
 abbrev pub ReadingsNote : Type 0
 ReadingsNote =
@@ -98,6 +109,19 @@ ReadingsNote =
     (st : Step Slot) (found : ℕ) → MayPut place [] m → st.word ≡ latch_word place → puts_reading st m found m′ →
     (standing : Standing) × Stands s place standing × HasRead place standing m′.0
     × ((t : Own) → Contains (m.0.slow ++ m.0.fast) t → t.place ≡ place → HasNoted place t.number standing.version m′.0)
+
+-- likewise where it reads the version alone, without the latch: what is defined in that version counts as read
+abbrev pub VersionsNote : Type 0
+VersionsNote =
+    (place found : ℕ) (m m′ : Mine) (st : Step Slot) → st.word ≡ version_word place → reads_version st m found m′ →
+    (standing : Standing) × (standing.version ≡ found) × LearnsOf place standing m m′
+
+-- and where it looks for the version in a cache that keeps a definition of it which it read
+abbrev pub HitsNote : Type 0
+HitsNote =
+    (place found : ℕ) (kept : List Kept) (m m′ : Mine) (st : Step Slot) → st.word ≡ version_word place → finds_version kept st m found m′ →
+    (d : Definition) → kept_of place found kept ≡ Some d → HasRead place (record { version = found; definition = Some d }) m.0 →
+    LearnsOf place (record { version = found; definition = Some d }) m m′
 
 -- these states follow one another, each by a turn that is no such step, and the rule holds of each
 abbrev pub Follow : ℕ → ℕ → ℕ → State Slot View → List (State Slot View) → State Slot View → Type 0

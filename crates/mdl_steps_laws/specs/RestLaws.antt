@@ -3,6 +3,7 @@ use Rattle.std.specs.Prelude.{◌≡◌, ◌≢◌, ℕ, ◌<◌, Bool, List, []
 use mathlib.Core.Option.{some, none}
 use lib.ListN.{get_elem?}
 use Rattle.atomic_table.specs.Table.{State, Step}
+use Rattle.mdl_defs.specs.Caches.{Kept}
 use Rattle.mdl_key.specs.Words.{KeyName}
 use Rattle.mdl_word.specs.Words.{flags_alone}
 use Rattle.mdl_book.specs.Books.{empty_book}
@@ -13,10 +14,11 @@ use Rattle.mdl_steps.specs.declared.view.Keys.{Keys}
 use Rattle.mdl_steps.specs.declared.view.Known.{Known}
 use Rattle.mdl_steps.specs.declared.view.View.{View}
 use Rattle.mdl_steps.specs.Cells.{blank, held_at, no_numbers}
-use Rattle.mdl_steps.specs.Layout.{enrol_word, latch_word, lock_word}
+use Rattle.mdl_steps.specs.Layout.{enrol_word, latch_word, lock_word, version_word}
 use Rattle.mdl_steps.specs.Plays.{IsFresh, Mine, consulted, enrols, informed, latched, named, raises_flags, read_and_put, reads_word, flags_lowered, takes_directory, takes_latch, unlatched}
 use Rattle.mdl_steps.specs.Rule.{Rule}
 use Rattle.mdl_steps.specs.Seats.{MayName}
+use Rattle.mdl_steps.specs.VersionPlays.{finds_version, reads_version}
 use Rattle.mdl_steps_laws.specs.Headline.{HasPlace, IsFree}
 use Rattle.mdl_steps_laws.specs.WaitLaws.{Rests}
 
@@ -146,3 +148,21 @@ LoweringRests =
     (s : State Slot View) → Rule s → (place : ℕ) → HasPlace s place → (id : ℕ) (me : Mine) → get_elem? s.views id ≡ some me.0 →
     (h : LatchRecord) → held_at place me.0.latches ≡ Some h → (found left : ℕ) (slow obtrusive : Bool) →
     IsRest s (after_step s (lock_word place) left id (flags_lowered place [] found h.book slow obtrusive me))
+
+-- ---- its version, without the latch
+
+-- it is read
+abbrev pub ReadingVersionRests : Type 0
+ReadingVersionRests =
+    (s : State Slot View) → Rule s → (place : ℕ) → HasPlace s place → (id : ℕ) (me me′ : Mine) → get_elem? s.views id ≡ some me.0 →
+    (st : Step Slot) (found : ℕ) → st.word ≡ version_word place → found ≡ slice_index s.words (version_word place) →
+    reads_version st me found me′ →
+    IsRest s (after_step s (version_word place) found id me′)
+
+-- it is looked for in a cache
+abbrev pub FindingVersionRests : Type 0
+FindingVersionRests =
+    (s : State Slot View) → Rule s → (place : ℕ) → HasPlace s place → (id : ℕ) (me me′ : Mine) → get_elem? s.views id ≡ some me.0 →
+    (kept : List Kept) (st : Step Slot) (found : ℕ) → st.word ≡ version_word place → found ≡ slice_index s.words (version_word place) →
+    finds_version kept st me found me′ →
+    IsRest s (after_step s (version_word place) found id me′)

@@ -3,6 +3,7 @@ use Rattle.std.specs.Prelude.{◌≡◌, ◌⊎◌, ℕ, ◌+◌, Bool, List, []
 use mathlib.Core.Option.{some}
 use lib.ListN.{get_elem?}
 use Rattle.atomic_table.specs.Table.{Act, State, Step, stepped}
+use Rattle.mdl_defs.specs.Caches.{Kept}
 use Rattle.mdl_key.specs.declared.mode.Mode.{Mode}
 use Rattle.mdl_key.specs.Words.{KeyName}
 use Rattle.mdl_word.specs.Words.{all_but_flags, flags_alone}
@@ -18,6 +19,7 @@ use Rattle.mdl_steps.specs.FastPlays.{MayMaterialise, grants_fast, materialises,
 use Rattle.mdl_steps.specs.Layout.{latch_word, lock_word, version_word, wait_word}
 use Rattle.mdl_steps.specs.Plays.{Mine, enrols, lowers_flags, puts_directory, puts_key, puts_latch, puts_reading, raises_flags, reads_word, takes_directory, takes_latch, writes_version}
 use Rattle.mdl_steps.specs.Seats.{MayLower, MayName, MayPut, MayWriteVersion}
+use Rattle.mdl_steps.specs.VersionPlays.{finds_version, reads_version}
 use Rattle.mdl_steps.specs.WaitPlays.{ends_granted, ends_lost, opens_wait, reads_wait, settles_granted, settles_lost}
 use Rattle.mdl_steps.specs.WaitStates.{unsettled_state, wait_in}
 
@@ -39,6 +41,8 @@ pub data Makes (st : Step Slot) (m : Mine) (found : ℕ) (m′ : Mine) : Type 0 
       st.word ≡ lock_word place → st.first ≡ all_but_flags slow obtrusive → lowers_flags deeds st m found m′ → Makes st m found m′
   ReadsWord : (place : ℕ) → st.word ≡ lock_word place → reads_word st m found m′ → Makes st m found m′
   WritesVersion : (place : ℕ) → MayWriteVersion place m → st.word ≡ version_word place → writes_version st m found m′ → Makes st m found m′
+  ReadsVersion : (place : ℕ) → st.word ≡ version_word place → reads_version st m found m′ → Makes st m found m′
+  FindsVersion : (place : ℕ) (kept : List Kept) → st.word ≡ version_word place → finds_version kept st m found m′ → Makes st m found m′
   OpensWait : (place : ℕ) (mode : Mode) →
       st.word ≡ wait_word st.slots m.0.number → st.first ≡ wait_in (m.0.waits + 1) unsettled_state → opens_wait place mode st m found m′ → Makes st m found m′
   ReadsWait : (session : ℕ) → st.word ≡ wait_word st.slots session → reads_wait st m found m′ → Makes st m found m′

@@ -1,5 +1,5 @@
 //! The headline, as one law, proved as the contract of a function that does nothing.
-ghost use Rattle.mdl_steps_laws.specs.Headline.{FreeLocksAreInOrder, ReadsStand, NotesStay, ReadingsNote, DefinitionsStay};
+ghost use Rattle.mdl_steps_laws.specs.Headline.{FreeLocksAreInOrder, ReadsStand, NotesStay, ReadingsNote, VersionsNote, HitsNote, DefinitionsStay};
 
 /// Whenever a lock's latch is free, its word counts exactly the fast tickets held, its two flags show whether its lists hold an obtrusive
 /// ticket or any ticket, and granted tickets of different sessions are compatible by the matrix; every atomic step in every interleaving
@@ -8,6 +8,8 @@ ghost use Rattle.mdl_steps_laws.specs.Headline.{FreeLocksAreInOrder, ReadsStand,
 pub fn definitions_stay()
     ensures free { FreeLocksAreInOrder }
     ensures noted { ReadingsNote }
+    ensures versions { VersionsNote }
+    ensures hits { HitsNote }
     ensures kept { NotesStay }
     ensures stands { ReadsStand }
     ensures until { DefinitionsStay }

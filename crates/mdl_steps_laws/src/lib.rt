@@ -21,9 +21,9 @@ pub use fast_path::{
 };
 pub use headline::definitions_stay;
 pub use rests::{
-    consulting_rests, drawing_rests, informing_rests, lowering_rests, missing_directory_rests,
-    missing_rests, naming_rests, putting_reading_rests, putting_rests, raising_rests,
-    reading_rests, splitting_rests, taking_rests,
+    consulting_rests, drawing_rests, finding_version_rests, informing_rests, lowering_rests,
+    missing_directory_rests, missing_rests, naming_rests, putting_reading_rests, putting_rests,
+    raising_rests, reading_rests, reading_version_rests, splitting_rests, taking_rests,
 };
 pub use steps::{lowering_brings, putting_brings, writing_brings};
 pub use tables::{

@@ -1,6 +1,6 @@
 //! The steps by which nothing is done in the table's system. Each law is proved as the contract of a function that does
 //! nothing.
-ghost use Rattle.mdl_steps_laws.specs.RestLaws.{DrawingRests, SplittingRests, ConsultingRests, MissingDirectoryRests, InformingRests, TakingRests, MissingRests, PuttingRests, PuttingReadingRests, NamingRests, RaisingRests, ReadingRests, LoweringRests};
+ghost use Rattle.mdl_steps_laws.specs.RestLaws.{DrawingRests, SplittingRests, ConsultingRests, MissingDirectoryRests, InformingRests, TakingRests, MissingRests, PuttingRests, PuttingReadingRests, NamingRests, RaisingRests, ReadingRests, LoweringRests, ReadingVersionRests, FindingVersionRests};
 
 /// As a number is drawn for one more session, nothing happens in the system.
 pub fn drawing_rests()
@@ -65,4 +65,14 @@ pub fn reading_rests()
 /// Or as flags are lowered with nothing done.
 pub fn lowering_rests()
     ensures { LoweringRests }
+{}
+
+/// Or as a place's version is read without its latch.
+pub fn reading_version_rests()
+    ensures { ReadingVersionRests }
+{}
+
+/// Or as it is looked for in a cache.
+pub fn finding_version_rests()
+    ensures { FindingVersionRests }
 {}

@@ -13,7 +13,8 @@ use Rattle.mdl_stmt.proofs.RunLemmas.{comes-then}
 use Rattle.std.proofs.Common.{◌≡◌, ◌≢◌, ℕ, refl, Some, None, Result, Ok, Err, ap, sym, subst, inl, inr}
 use Rattle.mdl_key.specs.Keys.{KeyName}
 use Rattle.mdl_key.specs.declared.mode.Mode.{Mode}
-use Rattle.mdl_calls.specs.Words.{Answer, Done, Call, Unpin, caller, Runs}
+use Rattle.mdl_calls.specs.Words.{AreMet, Answer, Done, Call, Unpin, caller, Runs}
+use Rattle.mdl_calls.proofs.CacheLemmas.{still-met}
 use Rattle.mdl_calls.specs.declared.lock_space.LockSpace.{Ghosts}
 use Rattle.mdl_context.specs.Contexts.{ContextView, Attends}
 use Rattle.mdl_context.proofs.AttendLemmas.{attends-same}
@@ -42,20 +43,28 @@ module _ {S : Type 0} (members : Ghosts S)
       (keeps a b call answer context.who attends.speaks joined) same
 
   -- one that is nobody's
-  pub leaves-call : (others : (a b : S) (call : Call) (answer : Answer) (w : ℕ) → members.speaks_for a w → (caller call ≡ Some w → ⊥) → members.joins a call answer b → members.own b w ≡ members.own a w)
+  leaves-call : (others : (a b : S) (call : Call) (answer : Answer) (w : ℕ) → members.speaks_for a w → (caller call ≡ Some w → ⊥) → members.joins a call answer b → members.own b w ≡ members.own a w)
       (a b : S) (call : Call) (answer : Answer) (w : ℕ) → KeepsPlaces call → (caller call ≡ Some w → ⊥) → members.joins a call answer b → members.speaks_for a w →
       members.speaks_for b w × (members.own b w ≡ members.own a w) × ((place : ℕ) (key : KeyName) → members.knows a w place key → members.knows b w place key)
   leaves-call others a b call answer w kept nobody joined speaks =
       (keeps a b call answer w speaks joined, others a b call answer w speaks nobody joined, λ place key known. remembers a b call answer w place key speaks (λ e _. kept _ _ e) joined known)
 
-  -- a context goes on after a call of its session, or nobody's, after which the session has what it had
+  -- a session goes on after a call of its own, or nobody's, after which it has what it had
   pub goes_on-call : (others : (a b : S) (call : Call) (answer : Answer) (w : ℕ) → members.speaks_for a w → (caller call ≡ Some w → ⊥) → members.joins a call answer b → members.own b w ≡ members.own a w)
-      (context : ContextView) (a b : S) (call : Call) (answer : Answer) → KeepsPlaces call → ((w : ℕ) → w ≢ context.who → caller call ≡ Some w → ⊥) → members.own b context.who ≡ members.own a context.who →
-      members.joins a call answer b → Attends members a context → GoesOn members a context b context
-  goes_on-call others context a b call answer kept apart same joined attends = record {
+      (met_stays : (a b : S) (call : Call) (answer : Answer) (w place : ℕ) (standing : Standing) → members.speaks_for a w → members.joins a call answer b
+      → members.has_met a w place standing → members.has_met b w place standing)
+      (x : PlayerView) (a b : S) (call : Call) (answer : Answer) → KeepsPlaces call → ((w : ℕ) → w ≢ x.context.who → caller call ≡ Some w → ⊥) → members.own b x.context.who ≡ members.own a x.context.who →
+      members.joins a call answer b → Attends members a x.context → AreMet (members.has_met a x.context.who) x.cache.kept → GoesOn members a x b x
+  goes_on-call others met_stays x a b call answer kept apart same joined attends met = record {
     who = refl;
-    others = λ w other speaks. leaves-call others a b call answer w kept (apart w other) joined speaks;
-    attends = attends-call context a b call answer kept same joined attends;
+    others = (
+      λ w other speaks. leaves-call others a b call answer w kept (apart w other) joined speaks,
+      λ w speaks. (keeps a b call answer w speaks joined, λ place standing met. met_stays a b call answer w place standing speaks joined met),
+    );
+    attends = attends-call x.context a b call answer kept same joined attends;
+    met = still-met (members.has_met a x.context.who) (members.has_met b x.context.who) x.cache.kept
+        (λ place standing there. met_stays a b call answer x.context.who place standing attends.speaks joined there) met;
+    capacity = refl;
   }
 
 -- ---- rows that are the same

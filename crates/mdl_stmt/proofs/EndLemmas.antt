@@ -2,6 +2,7 @@
 use Rattle.std.proofs.Common.{◌≡◌, ℕ, Option, Some, None, IsSome, IfSome, Result, Ok, Err, refl, sym, ap, subst}
 use Rattle.mdl_calls.specs.Words.{Answer, Call, Give, Runs}
 use Rattle.mdl_calls.proofs.RunLemmas.{runs_bind}
+use Rattle.mdl_defs.specs.Caches.{CacheView}
 use Rattle.mdl_context.specs.declared.context_error.ContextError.{ContextError}
 use Rattle.mdl_context.specs.declared.request.Mark.{Mark}
 use Rattle.mdl_context.specs.declared.request.Resume.{Resume}
@@ -30,25 +31,25 @@ module _ {S : Type 0} (joins : S → Call → Answer → S → Type 0) where
       (λ outcome. Give (ended ending (record { context = outcome.1; state = state_after ending before.state; left = None }))) a b b _ _ run (refl, refl))
 
   -- the wait went on, and then the statement
-  pub goes-on : (context after : ContextView) (state : State) (work : Option Work) (result : Result Resume ContextError) (pause : Pause) (a b c : S) → IsSome work →
+  pub goes-on : (context after : ContextView) (state : State) (cache : CacheView) (work : Option Work) (result : Result Resume ContextError) (pause : Pause) (a b c : S) → IsSome work →
       Runs joins a (resuming context) (result, after) b →
       ((some : Work) → work ≡ Some some → Runs joins b (resumed (left_of some) (record { context = context; state = state; left = None }) (result, after)) pause c) →
-      Runs joins a (going_on (session_of (record { context = context; state = state; work = work }))) pause c
-  goes-on context after state None result pause a b c some run rest = cc
-  goes-on context after state (Some work) result pause a b c some run rest =
+      Runs joins a (going_on (session_of (record { context = context; state = state; work = work; cache = cache }))) pause c
+  goes-on context after state cache None result pause a b c some run rest = cc
+  goes-on context after state cache (Some work) result pause a b c some run rest =
       runs_bind joins (resuming context) (resumed (left_of work) (record { context = context; state = state; left = None })) a b c _ pause run (rest work refl)
 
   -- it waits on
   pub waits-still : (runner : RunnerView) (after : ContextView) (a b : S) → IsSome runner.work → Runs joins a (resuming runner.context) (Ok resume.Waiting, after) b →
       Runs joins a (going_on (session_of runner)) (Waits_on (session_of (record runner { context = after }))) b
-  waits-still runner after a b some run = goes-on runner.context after runner.state runner.work (Ok resume.Waiting) _ a b b some run
-      (λ work same. (ap (λ (w : Option Work). Waits_on (session_of (record { context = after; state = runner.state; work = w }))) (sym same), refl))
+  waits-still runner after a b some run = goes-on runner.context after runner.state runner.cache runner.work (Ok resume.Waiting) _ a b b some run
+      (λ work same. (ap (λ (w : Option Work). Waits_on (session_of (record runner { context = after; work = w }))) (sym same), refl))
 
   -- it has its lock
   pub goes-on-with : (runner : RunnerView) (after : ContextView) (ticket : ℕ) (pause : Pause) (a b c : S) → IsSome runner.work → Runs joins a (resuming runner.context) (Ok (resume.Acquired ticket), after) b →
       IfSome runner.work (λ work. Runs joins b (play (rest_of work.stage ticket) work.mark (record { context = after; state = runner.state; left = None })) pause c) →
       Runs joins a (going_on (session_of runner)) pause c
-  goes-on-with runner after ticket pause a b c some run next = goes-on runner.context after runner.state runner.work (Ok (resume.Acquired ticket)) pause a b c some run
+  goes-on-with runner after ticket pause a b c some run next = goes-on runner.context after runner.state runner.cache runner.work (Ok (resume.Acquired ticket)) pause a b c some run
       (λ work same. subst (λ (w : Option Work). IfSome w (λ work. Runs joins b (play (rest_of work.stage ticket) work.mark (record { context = after; state = runner.state; left = None })) pause c)) same next)
 
   -- it was lost, or memory ran out
@@ -56,7 +57,7 @@ module _ {S : Type 0} (joins : S → Call → Answer → S → Type 0) where
       Runs joins a (resuming runner.context) (Ok (resume.Lost how), after) b →
       IfSome runner.work (λ work. Runs joins b (closing ending work.mark (record { context = after; state = runner.state; left = None })) pause c) →
       Runs joins a (going_on (session_of runner)) pause c
-  ends-lost runner after how ending pause a b c some is run next = goes-on runner.context after runner.state runner.work (Ok (resume.Lost how)) pause a b c some run
+  ends-lost runner after how ending pause a b c some is run next = goes-on runner.context after runner.state runner.cache runner.work (Ok (resume.Lost how)) pause a b c some run
       (λ work same. subst (λ (e : Ending). Runs joins b (closing e work.mark (record { context = after; state = runner.state; left = None })) pause c) is
       (subst (λ (w : Option Work). IfSome w (λ work. Runs joins b (closing ending work.mark (record { context = after; state = runner.state; left = None })) pause c)) same next))
 
@@ -64,6 +65,6 @@ module _ {S : Type 0} (joins : S → Call → Answer → S → Type 0) where
       Runs joins a (resuming runner.context) (Err error, after) b →
       IfSome runner.work (λ work. Runs joins b (closing ending work.mark (record { context = after; state = runner.state; left = None })) pause c) →
       Runs joins a (going_on (session_of runner)) pause c
-  ends-refused runner after error ending pause a b c some is run next = goes-on runner.context after runner.state runner.work (Err error) pause a b c some run
+  ends-refused runner after error ending pause a b c some is run next = goes-on runner.context after runner.state runner.cache runner.work (Err error) pause a b c some run
       (λ work same. subst (λ (e : Ending). Runs joins b (closing e work.mark (record { context = after; state = runner.state; left = None })) pause c) is
       (subst (λ (w : Option Work). IfSome w (λ work. Runs joins b (closing ending work.mark (record { context = after; state = runner.state; left = None })) pause c)) same next))

@@ -44,7 +44,7 @@ module _ {S : Type 0} {joins : S → Call → Answer → S → Type 0} {a : S} {
   -- tables are kept locked
   pub kept-so : (locked : List Locked) (scopes : List ℕ) →
       Comes joins a x (play (row.Room (row.Keep (row.Set (locking locked scopes) (Give reply.Ok))))) a
-      (record { context = all_explicit x.context; state = locking locked scopes x.state }) (closing (Answers reply.Ok))
+      (record x { context = all_explicit x.context; state = locking locked scopes x.state }) (closing (Answers reply.Ok))
   kept-so locked scopes = record { so = λ mark pause c run. inr run }
 
 -- a context that waits for nothing keeps all its tickets

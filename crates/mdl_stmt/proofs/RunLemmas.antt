@@ -258,7 +258,7 @@ module _ {S : Type 0} (joins : S → Call → Answer → S → Type 0) where
   -- the tickets of a transaction go, and then none is open
   pub closed-then : (before : PlayerView) (context : ContextView) (rest : Row Reply) (a b : S) →
       Runs joins a (giving_up (of_transaction before.context.kept) before.context) (Ok tt, context) b →
-      Comes joins a before (play (end_transaction >> rest)) b (record { context = context; state = closed before.state }) (play rest)
+      Comes joins a before (play (end_transaction >> rest)) b (record before { context = context; state = closed before.state }) (play rest)
   closed-then before context rest a b run = record {
     so = λ mark pause c after.
         runs_bind joins (giving_up (of_transaction before.context.kept) before.context) (λ outcome. play (row.Set closed rest) mark (with_context (at_rest before) outcome.1)) a b c _ pause run after;
@@ -267,7 +267,7 @@ module _ {S : Type 0} (joins : S → Call → Answer → S → Type 0) where
   -- the session goes back to a savepoint
   pub went-back : (name : List ℕ) (mark : Mark) (before : PlayerView) (context : ContextView) (a b : S) → savepoint_mark name before.state.savepoints ≡ Some mark →
       Runs joins a (giving_up (beyond_mark mark before.context.kept) before.context) (Ok tt, context) b →
-      Comes joins a before (play (rollback_to name)) b (record { context = context; state = record before.state { savepoints = up_to name before.state.savepoints } }) (closing (Answers reply.Ok))
+      Comes joins a before (play (rollback_to name)) b (record before { context = context; state = record before.state { savepoints = up_to name before.state.savepoints } }) (closing (Answers reply.Ok))
   went-back name mark before context a b found run = record {
     so = λ start pause c after.
         subst (λ (o : Option Mark). Runs joins a (play (go_back name o) start (at_rest before)) pause c) (sym found)

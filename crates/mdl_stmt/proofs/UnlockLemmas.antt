@@ -17,7 +17,7 @@ use Rattle.mdl_stmt.specs.Gets.{Comes, IsStep, at_rest}
 use Rattle.mdl_rows.specs.Playing.{play}
 use Rattle.mdl_rows.specs.Rows.{Row, Act, Give, check, for_each, release, set, ◌>>=◌, ◌>>◌}
 use Rattle.mdl_stmt.specs.Players.{PlayerView}
-use Rattle.mdl_rows.specs.States.{State, unlocked}
+use Rattle.mdl_rows.specs.States.{unlocked}
 use Rattle.mdl_rows.specs.Statements.{among_locked, lock_held, show, show_all, show_held, unlock_tables, write_locked, wrote}
 use Rattle.mdl_stmt.proofs.CallLemmas.{comes-row}
 use Rattle.mdl_stmt.proofs.RowLemmas.{bind-assoc}
@@ -82,21 +82,22 @@ ticket-at tables i table inside is =
     ∙ ap (λ l. table.ticket ∷ l) (sym (drop-map (λ (t : Locked). t.ticket) (suc i) tables))
 
 -- a session with this context
-abbrev pub seat : State → ContextView → PlayerView
-seat state context = record { context = context; state = state }
+abbrev pub seat : PlayerView → ContextView → PlayerView
+seat player context = record player { context = context }
 
 -- all tickets go, and then no table is locked
-pub unlocks : {S : Type 0} (joins : S → Call → Answer → S → Type 0) (state : State) (before middle after : ContextView) (a b c : S) →
-    IsStep joins (for_each release (tickets_of state.locked)) a (seat state before) (Ok tt) b (seat state middle) →
-    IsStep joins (for_each release state.scopes) b (seat state middle) (Ok tt) c (seat state after) →
-    IsStep joins unlock_tables a (seat state before) (Ok tt) c (seat (unlocked state) after)
-unlocks joins state before middle after a b c first second = λ rest.
-    let ids = tickets_of state.locked in
+pub unlocks : {S : Type 0} (joins : S → Call → Answer → S → Type 0) (player : PlayerView) (before middle after : ContextView) (a b c : S) →
+    IsStep joins (for_each release (tickets_of player.state.locked)) a (seat player before) (Ok tt) b (seat player middle) →
+    IsStep joins (for_each release player.state.scopes) b (seat player middle) (Ok tt) c (seat player after) →
+    IsStep joins unlock_tables a (seat player before) (Ok tt) c (record player { context = after; state = unlocked player.state })
+unlocks joins player before middle after a b c first second = λ rest.
+    let ids = tickets_of player.state.locked in
+    let scopes = player.state.scopes in
     let ends : Unit {0} → Row Reply = λ _. set unlocked >>= rest in
-    let same : (for_each release (ids ++ state.scopes) >>= (λ _. set unlocked)) >>= rest ≡ for_each release ids >>= (λ _. for_each release state.scopes >>= ends) =
-    bind-assoc (for_each release (ids ++ state.scopes)) (λ _. set unlocked) rest ∙ each-both release ids state.scopes ends in
+    let same : (for_each release (ids ++ scopes) >>= (λ _. set unlocked)) >>= rest ≡ for_each release ids >>= (λ _. for_each release scopes >>= ends) =
+    bind-assoc (for_each release (ids ++ scopes)) (λ _. set unlocked) rest ∙ each-both release ids scopes ends in
     record {
       so = λ mark pause s run.
-          subst (λ (r : Row Reply). Runs joins a (play r mark (at_rest (seat state before))) pause s) (sym same)
-          ((first (λ _. for_each release state.scopes >>= ends)).so mark pause s ((second ends).so mark pause s run));
+          subst (λ (r : Row Reply). Runs joins a (play r mark (at_rest (seat player before))) pause s) (sym same)
+          ((first (λ _. for_each release scopes >>= ends)).so mark pause s ((second ends).so mark pause s run));
     }

@@ -1,6 +1,7 @@
 -- What is left of a statement at each of its stages, where copies are kept of what it names: the same as in the module Stages.
 use Rattle.std.specs.Prelude.{ℕ, drop, Option}
 use Rattle.std.specs.Option.{option_map}
+use Rattle.mdl_defs.specs.Caches.{CacheView}
 use Rattle.mdl_context.specs.Contexts.{ContextView}
 use Rattle.mdl_rows.specs.declared.reply.Reply.{Reply}
 use Rattle.mdl_rows.specs.declared.reply.Reply.TheVariants as reply
@@ -76,6 +77,7 @@ pub record OwnedView : Type 0 where
   pub context : ContextView
   pub state : State
   pub work : Option KeptWork
+  pub cache : CacheView
 
 -- a session of which this is kept
 abbrev pub session_with : PlayerView → Option KeptWork → Session

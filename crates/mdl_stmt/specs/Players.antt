@@ -1,5 +1,6 @@
 -- A session as its player and its runner keep it.
 use Rattle.std.specs.Prelude.{ℕ, Bool, List, Option}
+use Rattle.mdl_defs.specs.Caches.{CacheView}
 use Rattle.mdl_context.specs.Contexts.{ContextView}
 use Rattle.mdl_rows.specs.declared.state.Locked.{Locked}
 use Rattle.mdl_rows.specs.declared.state.ReadLock.{ReadLock}
@@ -17,6 +18,7 @@ pub record ExplicitLocks : Type 0 where
 pub record PlayerView : Type 0 where
   pub context : ContextView
   pub state : State
+  pub cache : CacheView
 
 -- what a session keeps, by what it keeps until it gives it up, and its transaction
 abbrev pub state_of : ExplicitLocks → Bool → Bool → List Savepoint → State
@@ -31,11 +33,17 @@ state_of explicit is_open has_written savepoints =
     }
 
 -- a session that keeps this
-abbrev pub player_of : ExplicitLocks → ContextView → Bool → Bool → List Savepoint → PlayerView
-player_of explicit context is_open has_written savepoints = record { context = context; state = state_of explicit is_open has_written savepoints }
+abbrev pub player_of : CacheView → ExplicitLocks → ContextView → Bool → Bool → List Savepoint → PlayerView
+player_of cache explicit context is_open has_written savepoints =
+    record { context = context; state = state_of explicit is_open has_written savepoints; cache = cache }
 
 -- a session as its runner keeps it
 pub record RunnerView : Type 0 where
   pub context : ContextView
   pub state : State
   pub work : Option Work
+  pub cache : CacheView
+
+-- the same without its statement
+abbrev pub player_in : RunnerView → PlayerView
+player_in runner = record { context = runner.context; state = runner.state; cache = runner.cache }

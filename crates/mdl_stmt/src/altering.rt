@@ -31,9 +31,9 @@ impl<S: LockSpace> Player<S> {
         table: &Key,
         statement: &'s Statement,
     ) -> Played<'s>
-        requires ready { IsReady S.LockSpace space.old self.old.context }
+        requires ready { IsReady S.LockSpace space.old self.old }
         ensures run { IsPlayed S.joins (alter_first table.now (after_commit statement.now)) space.old self.old result space.new self.new }
-        ensures goes_on { GoesOn S.LockSpace space.old self.old.context space.new self.new.context }
+        ensures goes_on { GoesOn S.LockSpace space.old self.old space.new self.new }
         ensures idle { IdleUnlessPlayed result self.new }
     {
         if self.explicit.has_read_lock() {
@@ -47,9 +47,9 @@ impl<S: LockSpace> Player<S> {
 
     /// Alters a table, once no transaction is open.
     pub(crate) fn alter<'s>(&mut self, space: &mut S, alteration: &'s Alteration) -> Played<'s>
-        requires ready { IsReady S.LockSpace space.old self.old.context }
+        requires ready { IsReady S.LockSpace space.old self.old }
         ensures run { IsPlayed S.joins (alter_after_commit alteration.now) space.old self.old result space.new self.new }
-        ensures goes_on { GoesOn S.LockSpace space.old self.old.context space.new self.new.context }
+        ensures goes_on { GoesOn S.LockSpace space.old self.old space.new self.new }
         ensures idle { IdleUnlessPlayed result self.new }
     {
         let writes = Key::global(self.alloc);
@@ -75,9 +75,9 @@ impl<S: LockSpace> Player<S> {
         space: &mut S,
         alteration: &'s Alteration,
     ) -> Played<'s>
-        requires ready { IsReady S.LockSpace space.old self.old.context }
+        requires ready { IsReady S.LockSpace space.old self.old }
         ensures run { IsPlayed S.joins (lock_schema_and_alter alteration.now) space.old self.old result space.new self.new }
-        ensures goes_on { GoesOn S.LockSpace space.old self.old.context space.new self.new.context }
+        ensures goes_on { GoesOn S.LockSpace space.old self.old space.new self.new }
         ensures idle { IdleUnlessPlayed result self.new }
     {
         let Ok(schema) = schema_of(self.alloc, &alteration.table) else {
@@ -105,9 +105,9 @@ impl<S: LockSpace> Player<S> {
         space: &mut S,
         alteration: &'s Alteration,
     ) -> Played<'s>
-        requires ready { IsReady S.LockSpace space.old self.old.context }
+        requires ready { IsReady S.LockSpace space.old self.old }
         ensures run { IsPlayed S.joins (alter_in_schema alteration.now) space.old self.old result space.new self.new }
-        ensures goes_on { GoesOn S.LockSpace space.old self.old.context space.new self.new.context }
+        ensures goes_on { GoesOn S.LockSpace space.old self.old space.new self.new }
         ensures idle { IdleUnlessPlayed result self.new }
     {
         if self.explicit.has_locked() {
@@ -118,9 +118,9 @@ impl<S: LockSpace> Player<S> {
 
     /// Locks a table against other changes, and alters it.
     fn alter_unlocked<'s>(&mut self, space: &mut S, alteration: &'s Alteration) -> Played<'s>
-        requires ready { IsReady S.LockSpace space.old self.old.context }
+        requires ready { IsReady S.LockSpace space.old self.old }
         ensures run { IsPlayed S.joins (alter_unlocked alteration.now) space.old self.old result space.new self.new }
-        ensures goes_on { GoesOn S.LockSpace space.old self.old.context space.new self.new.context }
+        ensures goes_on { GoesOn S.LockSpace space.old self.old space.new self.new }
         ensures idle { IdleUnlessPlayed result self.new }
     {
         let request = Request {
@@ -146,9 +146,9 @@ impl<S: LockSpace> Player<S> {
         alteration: &'s Alteration,
         ticket: TicketId,
     ) -> Played<'s>
-        requires ready { IsReady S.LockSpace space.old self.old.context }
+        requires ready { IsReady S.LockSpace space.old self.old }
         ensures run { IsPlayed S.joins (alter_under alteration.now ticket) space.old self.old result space.new self.new }
-        ensures goes_on { GoesOn S.LockSpace space.old self.old.context space.new self.new.context }
+        ensures goes_on { GoesOn S.LockSpace space.old self.old space.new self.new }
         ensures idle { IdleUnlessPlayed result self.new }
     {
         if let Err(ending) = self.check_change(space, &alteration.change, ticket) {
@@ -167,9 +167,9 @@ impl<S: LockSpace> Player<S> {
         alteration: &'s Alteration,
         ticket: TicketId,
     ) -> Played<'s>
-        requires ready { IsReady S.LockSpace space.old self.old.context }
+        requires ready { IsReady S.LockSpace space.old self.old }
         ensures run { IsPlayed S.joins (alter_by_copy alteration.now ticket) space.old self.old result space.new self.new }
-        ensures goes_on { GoesOn S.LockSpace space.old self.old.context space.new self.new.context }
+        ensures goes_on { GoesOn S.LockSpace space.old self.old space.new self.new }
         ensures idle { IdleUnlessPlayed result self.new }
     {
         match self.raise(space, ticket, &alteration.table, Mode::SNW) {
@@ -190,9 +190,9 @@ impl<S: LockSpace> Player<S> {
         alteration: &'s Alteration,
         ticket: TicketId,
     ) -> Played<'s>
-        requires ready { IsReady S.LockSpace space.old self.old.context }
+        requires ready { IsReady S.LockSpace space.old self.old }
         ensures run { IsPlayed S.joins (alter_in_place alteration.now ticket) space.old self.old result space.new self.new }
-        ensures goes_on { GoesOn S.LockSpace space.old self.old.context space.new self.new.context }
+        ensures goes_on { GoesOn S.LockSpace space.old self.old space.new self.new }
         ensures idle { IdleUnlessPlayed result self.new }
     {
         match self.raise(space, ticket, &alteration.table, Mode::X) {
@@ -213,9 +213,9 @@ impl<S: LockSpace> Player<S> {
         alteration: &'s Alteration,
         ticket: TicketId,
     ) -> Played<'s>
-        requires ready { IsReady S.LockSpace space.old self.old.context }
+        requires ready { IsReady S.LockSpace space.old self.old }
         ensures run { IsPlayed S.joins (reopen_and_change alteration.now ticket) space.old self.old result space.new self.new }
-        ensures goes_on { GoesOn S.LockSpace space.old self.old.context space.new self.new.context }
+        ensures goes_on { GoesOn S.LockSpace space.old self.old space.new self.new }
         ensures idle { IdleUnlessPlayed result self.new }
     {
         self.lower(space, ticket, Mode::SU);
@@ -229,9 +229,9 @@ impl<S: LockSpace> Player<S> {
         alteration: &'s Alteration,
         ticket: TicketId,
     ) -> Played<'s>
-        requires ready { IsReady S.LockSpace space.old self.old.context }
+        requires ready { IsReady S.LockSpace space.old self.old }
         ensures run { IsPlayed S.joins (raise_and_change alteration.now ticket) space.old self.old result space.new self.new }
-        ensures goes_on { GoesOn S.LockSpace space.old self.old.context space.new self.new.context }
+        ensures goes_on { GoesOn S.LockSpace space.old self.old space.new self.new }
         ensures idle { IdleUnlessPlayed result self.new }
     {
         match self.raise(space, ticket, &alteration.table, Mode::X) {
@@ -252,9 +252,9 @@ impl<S: LockSpace> Player<S> {
         alteration: &'s Alteration,
         ticket: TicketId,
     ) -> Played<'s>
-        requires ready { IsReady S.LockSpace space.old self.old.context }
+        requires ready { IsReady S.LockSpace space.old self.old }
         ensures run { IsPlayed S.joins (change_table alteration.now ticket) space.old self.old result space.new self.new }
-        ensures goes_on { GoesOn S.LockSpace space.old self.old.context space.new self.new.context }
+        ensures goes_on { GoesOn S.LockSpace space.old self.old space.new self.new }
         ensures idle { IdleUnlessPlayed result self.new }
     {
         match self.redefine(space, ticket, &alteration.change) {
@@ -270,9 +270,9 @@ impl<S: LockSpace> Player<S> {
         change: &Change,
         ticket: TicketId,
     ) -> Result<(), Ending>
-        requires ready { IsReady S.LockSpace space.old self.old.context }
+        requires ready { IsReady S.LockSpace space.old self.old }
         ensures run { IsStep S.joins (check_change change.now ticket) space.old self.old result space.new self.new }
-        ensures goes_on { GoesOn S.LockSpace space.old self.old.context space.new self.new.context }
+        ensures goes_on { GoesOn S.LockSpace space.old self.old space.new self.new }
         ensures idle { self.new.context.wait ≡ None }
     {
         let standing = match self.read(space, ticket) {
@@ -296,9 +296,9 @@ impl<S: LockSpace> Player<S> {
         at: Altering,
         ticket: TicketId,
     ) -> Played<'s>
-        requires ready { IsReady S.LockSpace space.old self.old.context }
+        requires ready { IsReady S.LockSpace space.old self.old }
         ensures run { IsPlayed S.joins (rest_of_altering alteration.now at ticket) space.old self.old result space.new self.new }
-        ensures goes_on { GoesOn S.LockSpace space.old self.old.context space.new self.new.context }
+        ensures goes_on { GoesOn S.LockSpace space.old self.old space.new self.new }
         ensures idle { IdleUnlessPlayed result self.new }
     {
         match at {

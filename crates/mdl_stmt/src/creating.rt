@@ -31,9 +31,9 @@ impl<S: LockSpace> Player<S> {
         table: &'s Key,
         columns: &'s Columns,
     ) -> Played<'s>
-        requires ready { IsReady S.LockSpace space.old self.old.context }
+        requires ready { IsReady S.LockSpace space.old self.old }
         ensures run { IsPlayed S.joins (create_after_commit table.now columns.now) space.old self.old result space.new self.new }
-        ensures goes_on { GoesOn S.LockSpace space.old self.old.context space.new self.new.context }
+        ensures goes_on { GoesOn S.LockSpace space.old self.old space.new self.new }
         ensures idle { IdleUnlessPlayed result self.new }
     {
         let writes = Key::global(self.alloc);
@@ -60,9 +60,9 @@ impl<S: LockSpace> Player<S> {
         table: &'s Key,
         columns: &'s Columns,
     ) -> Played<'s>
-        requires ready { IsReady S.LockSpace space.old self.old.context }
+        requires ready { IsReady S.LockSpace space.old self.old }
         ensures run { IsPlayed S.joins (lock_schema_and_create table.now columns.now) space.old self.old result space.new self.new }
-        ensures goes_on { GoesOn S.LockSpace space.old self.old.context space.new self.new.context }
+        ensures goes_on { GoesOn S.LockSpace space.old self.old space.new self.new }
         ensures idle { IdleUnlessPlayed result self.new }
     {
         let Ok(schema) = schema_of(self.alloc, table) else {
@@ -92,9 +92,9 @@ impl<S: LockSpace> Player<S> {
         columns: &'s Columns,
         schema: TicketId,
     ) -> Played<'s>
-        requires ready { IsReady S.LockSpace space.old self.old.context }
+        requires ready { IsReady S.LockSpace space.old self.old }
         ensures run { IsPlayed S.joins (lock_and_create table.now columns.now schema) space.old self.old result space.new self.new }
-        ensures goes_on { GoesOn S.LockSpace space.old self.old.context space.new self.new.context }
+        ensures goes_on { GoesOn S.LockSpace space.old self.old space.new self.new }
         ensures idle { IdleUnlessPlayed result self.new }
     {
         let request = Request {
@@ -121,9 +121,9 @@ impl<S: LockSpace> Player<S> {
         schema: TicketId,
         ticket: TicketId,
     ) -> Played<'s>
-        requires ready { IsReady S.LockSpace space.old self.old.context }
+        requires ready { IsReady S.LockSpace space.old self.old }
         ensures run { IsPlayed S.joins (create_under columns.now schema ticket) space.old self.old result space.new self.new }
-        ensures goes_on { GoesOn S.LockSpace space.old self.old.context space.new self.new.context }
+        ensures goes_on { GoesOn S.LockSpace space.old self.old space.new self.new }
         ensures idle { IdleUnlessPlayed result self.new }
     {
         if let Err(ending) = self.check_schema(space, schema) {
@@ -140,9 +140,9 @@ impl<S: LockSpace> Player<S> {
 
     /// Looks whether a schema is there.
     pub(crate) fn check_schema(&mut self, space: &mut S, schema: TicketId) -> Result<(), Ending>
-        requires ready { IsReady S.LockSpace space.old self.old.context }
+        requires ready { IsReady S.LockSpace space.old self.old }
         ensures run { IsStep S.joins (check_schema schema) space.old self.old result space.new self.new }
-        ensures goes_on { GoesOn S.LockSpace space.old self.old.context space.new self.new.context }
+        ensures goes_on { GoesOn S.LockSpace space.old self.old space.new self.new }
         ensures idle { self.new.context.wait ≡ None }
     {
         match self.read(space, schema) {
@@ -163,9 +163,9 @@ impl<S: LockSpace> Player<S> {
         columns: &Columns,
         ticket: TicketId,
     ) -> Result<(), Ending>
-        requires ready { IsReady S.LockSpace space.old self.old.context }
+        requires ready { IsReady S.LockSpace space.old self.old }
         ensures run { IsStep S.joins (check_new columns.now ticket) space.old self.old result space.new self.new }
-        ensures goes_on { GoesOn S.LockSpace space.old self.old.context space.new self.new.context }
+        ensures goes_on { GoesOn S.LockSpace space.old self.old space.new self.new }
         ensures idle { self.new.context.wait ≡ None }
     {
         let standing = match self.read(space, ticket) {
@@ -191,9 +191,9 @@ impl<S: LockSpace> Player<S> {
         columns: &Columns,
         ticket: TicketId,
     ) -> Result<(), Ending>
-        requires ready { IsReady S.LockSpace space.old self.old.context }
+        requires ready { IsReady S.LockSpace space.old self.old }
         ensures run { IsStep S.joins (make_table columns.now ticket) space.old self.old result space.new self.new }
-        ensures goes_on { GoesOn S.LockSpace space.old self.old.context space.new self.new.context }
+        ensures goes_on { GoesOn S.LockSpace space.old self.old space.new self.new }
         ensures idle { self.new.context.wait ≡ None }
     {
         match columns.clone() {
@@ -212,9 +212,9 @@ impl<S: LockSpace> Player<S> {
         at: Creating<'s>,
         ticket: TicketId,
     ) -> Played<'s>
-        requires ready { IsReady S.LockSpace space.old self.old.context }
+        requires ready { IsReady S.LockSpace space.old self.old }
         ensures run { IsPlayed S.joins (rest_of_creating at.entry ticket) space.old self.old result space.new self.new }
-        ensures goes_on { GoesOn S.LockSpace space.old self.old.context space.new self.new.context }
+        ensures goes_on { GoesOn S.LockSpace space.old self.old space.new self.new }
         ensures idle { IdleUnlessPlayed result self.new }
     {
         match at {

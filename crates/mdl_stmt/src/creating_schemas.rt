@@ -21,9 +21,9 @@ use mdl_syntax::Name;
 impl<S: LockSpace> Player<S> {
     /// Creates a schema, once no transaction is open.
     pub(crate) fn create_schema<'s>(&mut self, space: &mut S, name: &'s Name) -> Played<'s>
-        requires ready { IsReady S.LockSpace space.old self.old.context }
+        requires ready { IsReady S.LockSpace space.old self.old }
         ensures run { IsPlayed S.joins (create_schema_after_commit name.now) space.old self.old result space.new self.new }
-        ensures goes_on { GoesOn S.LockSpace space.old self.old.context space.new self.new.context }
+        ensures goes_on { GoesOn S.LockSpace space.old self.old space.new self.new }
         ensures idle { IdleUnlessPlayed result self.new }
     {
         let writes = Key::global(self.alloc);
@@ -45,9 +45,9 @@ impl<S: LockSpace> Player<S> {
 
     /// Locks a schema under the lock of all writes, and creates it.
     pub(crate) fn lock_and_create_schema<'s>(&mut self, space: &mut S, name: &'s Name) -> Played<'s>
-        requires ready { IsReady S.LockSpace space.old self.old.context }
+        requires ready { IsReady S.LockSpace space.old self.old }
         ensures run { IsPlayed S.joins (lock_and_create_schema name.now) space.old self.old result space.new self.new }
-        ensures goes_on { GoesOn S.LockSpace space.old self.old.context space.new self.new.context }
+        ensures goes_on { GoesOn S.LockSpace space.old self.old space.new self.new }
         ensures idle { IdleUnlessPlayed result self.new }
     {
         let Ok(schema) = Key::schema(self.alloc, name.as_str()) else {
@@ -71,9 +71,9 @@ impl<S: LockSpace> Player<S> {
 
     /// Creates a schema under its lock.
     pub(crate) fn create_schema_under<'s>(&mut self, space: &mut S, ticket: TicketId) -> Played<'s>
-        requires ready { IsReady S.LockSpace space.old self.old.context }
+        requires ready { IsReady S.LockSpace space.old self.old }
         ensures run { IsPlayed S.joins (create_schema_under ticket) space.old self.old result space.new self.new }
-        ensures goes_on { GoesOn S.LockSpace space.old self.old.context space.new self.new.context }
+        ensures goes_on { GoesOn S.LockSpace space.old self.old space.new self.new }
         ensures idle { IdleUnlessPlayed result self.new }
     {
         if let Err(ending) = self.check_new_schema(space, ticket) {
@@ -87,9 +87,9 @@ impl<S: LockSpace> Player<S> {
 
     /// Looks whether a schema can be created.
     fn check_new_schema(&mut self, space: &mut S, ticket: TicketId) -> Result<(), Ending>
-        requires ready { IsReady S.LockSpace space.old self.old.context }
+        requires ready { IsReady S.LockSpace space.old self.old }
         ensures run { IsStep S.joins (check_new_schema ticket) space.old self.old result space.new self.new }
-        ensures goes_on { GoesOn S.LockSpace space.old self.old.context space.new self.new.context }
+        ensures goes_on { GoesOn S.LockSpace space.old self.old space.new self.new }
         ensures idle { self.new.context.wait ≡ None }
     {
         let standing = match self.read(space, ticket) {
@@ -112,9 +112,9 @@ impl<S: LockSpace> Player<S> {
         at: CreatingSchema<'s>,
         ticket: TicketId,
     ) -> Played<'s>
-        requires ready { IsReady S.LockSpace space.old self.old.context }
+        requires ready { IsReady S.LockSpace space.old self.old }
         ensures run { IsPlayed S.joins (rest_of_creating_schema at.entry ticket) space.old self.old result space.new self.new }
-        ensures goes_on { GoesOn S.LockSpace space.old self.old.context space.new self.new.context }
+        ensures goes_on { GoesOn S.LockSpace space.old self.old space.new self.new }
         ensures idle { IdleUnlessPlayed result self.new }
     {
         match at {

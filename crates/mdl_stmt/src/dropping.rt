@@ -23,9 +23,9 @@ use mdl_syntax::Tables;
 impl<S: LockSpace> Player<S> {
     /// Drops tables, once no transaction is open.
     pub(crate) fn drop_tables<'s>(&mut self, space: &mut S, tables: &'s Tables) -> Played<'s>
-        requires ready { IsReady S.LockSpace space.old self.old.context }
+        requires ready { IsReady S.LockSpace space.old self.old }
         ensures run { IsPlayed S.joins (drop_after_commit tables.now) space.old self.old result space.new self.new }
-        ensures goes_on { GoesOn S.LockSpace space.old self.old.context space.new self.new.context }
+        ensures goes_on { GoesOn S.LockSpace space.old self.old space.new self.new }
         ensures idle { IdleUnlessPlayed result self.new }
     {
         match scopes_of(self.alloc, tables.as_slice()) {
@@ -41,9 +41,9 @@ impl<S: LockSpace> Player<S> {
         tables: &'s Tables,
         locks: LockList,
     ) -> Played<'s>
-        requires ready { IsReady S.LockSpace space.old self.old.context }
+        requires ready { IsReady S.LockSpace space.old self.old }
         ensures run { IsPlayed S.joins (lock_rest locks (λ scopes. lock_and_drop tables.now)) space.old self.old result space.new self.new }
-        ensures goes_on { GoesOn S.LockSpace space.old self.old.context space.new self.new.context }
+        ensures goes_on { GoesOn S.LockSpace space.old self.old space.new self.new }
         ensures idle { IdleUnlessPlayed result self.new }
     {
         match self.lock_all(space, locks) {
@@ -57,9 +57,9 @@ impl<S: LockSpace> Player<S> {
 
     /// Locks tables under the locks of their schemas, and drops them.
     pub(crate) fn lock_and_drop<'s>(&mut self, space: &mut S, tables: &'s Tables) -> Played<'s>
-        requires ready { IsReady S.LockSpace space.old self.old.context }
+        requires ready { IsReady S.LockSpace space.old self.old }
         ensures run { IsPlayed S.joins (lock_and_drop tables.now) space.old self.old result space.new self.new }
-        ensures goes_on { GoesOn S.LockSpace space.old self.old.context space.new self.new.context }
+        ensures goes_on { GoesOn S.LockSpace space.old self.old space.new self.new }
         ensures idle { IdleUnlessPlayed result self.new }
     {
         match in_key_order(self.alloc, tables.as_slice()) {
@@ -70,9 +70,9 @@ impl<S: LockSpace> Player<S> {
 
     /// Gets the locks of tables that are left, and drops the tables.
     pub(crate) fn lock_tables<'s>(&mut self, space: &mut S, locks: LockList) -> Played<'s>
-        requires ready { IsReady S.LockSpace space.old self.old.context }
+        requires ready { IsReady S.LockSpace space.old self.old }
         ensures run { IsPlayed S.joins (lock_rest locks drop_under) space.old self.old result space.new self.new }
-        ensures goes_on { GoesOn S.LockSpace space.old self.old.context space.new self.new.context }
+        ensures goes_on { GoesOn S.LockSpace space.old self.old space.new self.new }
         ensures idle { IdleUnlessPlayed result self.new }
     {
         match self.lock_all(space, locks) {
@@ -88,9 +88,9 @@ impl<S: LockSpace> Player<S> {
 
     /// Drops tables under their locks: all, or none where one is missing.
     fn drop_under<'s>(&mut self, space: &mut S, tickets: &[TicketId]) -> Played<'s>
-        requires ready { IsReady S.LockSpace space.old self.old.context }
+        requires ready { IsReady S.LockSpace space.old self.old }
         ensures run { IsPlayed S.joins (drop_under tickets.now) space.old self.old result space.new self.new }
-        ensures goes_on { GoesOn S.LockSpace space.old self.old.context space.new self.new.context }
+        ensures goes_on { GoesOn S.LockSpace space.old self.old space.new self.new }
         ensures idle { IdleUnlessPlayed result self.new }
     {
         if let Err(ending) = self.all_stand(space, tickets) {
@@ -107,9 +107,9 @@ impl<S: LockSpace> Player<S> {
 
     /// Looks whether there are all these tables.
     pub(crate) fn all_stand(&mut self, space: &mut S, tickets: &[TicketId]) -> Result<(), Ending>
-        requires ready { IsReady S.LockSpace space.old self.old.context }
+        requires ready { IsReady S.LockSpace space.old self.old }
         ensures run { IsStep S.joins (for_each stands tickets.now) space.old self.old result space.new self.new }
-        ensures goes_on { GoesOn S.LockSpace space.old self.old.context space.new self.new.context }
+        ensures goes_on { GoesOn S.LockSpace space.old self.old space.new self.new }
         ensures idle { self.new.context.wait ≡ None }
     {
         for ticket in tickets {
@@ -122,9 +122,9 @@ impl<S: LockSpace> Player<S> {
 
     /// Looks whether there is such a table.
     fn stands(&mut self, space: &mut S, ticket: TicketId) -> Result<(), Ending>
-        requires ready { IsReady S.LockSpace space.old self.old.context }
+        requires ready { IsReady S.LockSpace space.old self.old }
         ensures run { IsStep S.joins (stands ticket) space.old self.old result space.new self.new }
-        ensures goes_on { GoesOn S.LockSpace space.old self.old.context space.new self.new.context }
+        ensures goes_on { GoesOn S.LockSpace space.old self.old space.new self.new }
         ensures idle { self.new.context.wait ≡ None }
     {
         match self.exists(space, ticket) {
@@ -139,9 +139,9 @@ impl<S: LockSpace> Player<S> {
         space: &mut S,
         tickets: &[TicketId],
     ) -> Result<(), Ending>
-        requires ready { IsReady S.LockSpace space.old self.old.context }
+        requires ready { IsReady S.LockSpace space.old self.old }
         ensures run { IsStep S.joins (for_each can_change tickets.now) space.old self.old result space.new self.new }
-        ensures goes_on { GoesOn S.LockSpace space.old self.old.context space.new self.new.context }
+        ensures goes_on { GoesOn S.LockSpace space.old self.old space.new self.new }
         ensures idle { self.new.context.wait ≡ None }
     {
         for ticket in tickets {
@@ -154,9 +154,9 @@ impl<S: LockSpace> Player<S> {
 
     /// Looks whether a table can be changed once more.
     pub(crate) fn can_change(&mut self, space: &mut S, ticket: TicketId) -> Result<(), Ending>
-        requires ready { IsReady S.LockSpace space.old self.old.context }
+        requires ready { IsReady S.LockSpace space.old self.old }
         ensures run { IsStep S.joins (can_change ticket) space.old self.old result space.new self.new }
-        ensures goes_on { GoesOn S.LockSpace space.old self.old.context space.new self.new.context }
+        ensures goes_on { GoesOn S.LockSpace space.old self.old space.new self.new }
         ensures idle { self.new.context.wait ≡ None }
     {
         match self.read(space, ticket) {
@@ -172,9 +172,9 @@ impl<S: LockSpace> Player<S> {
 
     /// Lets none of these tables stand.
     pub(crate) fn drop_all(&mut self, space: &mut S, tickets: &[TicketId]) -> Result<(), Ending>
-        requires ready { IsReady S.LockSpace space.old self.old.context }
+        requires ready { IsReady S.LockSpace space.old self.old }
         ensures run { IsStep S.joins (for_each (λ ticket. redefine ticket change.Drop) tickets.now) space.old self.old result space.new self.new }
-        ensures goes_on { GoesOn S.LockSpace space.old self.old.context space.new self.new.context }
+        ensures goes_on { GoesOn S.LockSpace space.old self.old space.new self.new }
         ensures idle { self.new.context.wait ≡ None }
     {
         for ticket in tickets {
@@ -192,9 +192,9 @@ impl<S: LockSpace> Player<S> {
         at: Dropping<'s>,
         ticket: TicketId,
     ) -> Played<'s>
-        requires ready { IsReady S.LockSpace space.old self.old.context }
+        requires ready { IsReady S.LockSpace space.old self.old }
         ensures run { IsPlayed S.joins (rest_of_dropping at.entry ticket) space.old self.old result space.new self.new }
-        ensures goes_on { GoesOn S.LockSpace space.old self.old.context space.new self.new.context }
+        ensures goes_on { GoesOn S.LockSpace space.old self.old space.new self.new }
         ensures idle { IdleUnlessPlayed result self.new }
     {
         match at {

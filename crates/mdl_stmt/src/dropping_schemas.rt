@@ -20,9 +20,9 @@ use mdl_syntax::Name;
 impl<S: LockSpace> Player<S> {
     /// Drops a schema, once no transaction is open.
     pub(crate) fn drop_schema<'s>(&mut self, space: &mut S, name: &'s Name) -> Played<'s>
-        requires ready { IsReady S.LockSpace space.old self.old.context }
+        requires ready { IsReady S.LockSpace space.old self.old }
         ensures run { IsPlayed S.joins (drop_schema_after_commit name.now) space.old self.old result space.new self.new }
-        ensures goes_on { GoesOn S.LockSpace space.old self.old.context space.new self.new.context }
+        ensures goes_on { GoesOn S.LockSpace space.old self.old space.new self.new }
         ensures idle { IdleUnlessPlayed result self.new }
     {
         let writes = Key::global(self.alloc);
@@ -44,9 +44,9 @@ impl<S: LockSpace> Player<S> {
 
     /// Locks a schema under the lock of all writes, and drops it.
     pub(crate) fn lock_and_drop_schema<'s>(&mut self, space: &mut S, name: &'s Name) -> Played<'s>
-        requires ready { IsReady S.LockSpace space.old self.old.context }
+        requires ready { IsReady S.LockSpace space.old self.old }
         ensures run { IsPlayed S.joins (lock_and_drop_schema name.now) space.old self.old result space.new self.new }
-        ensures goes_on { GoesOn S.LockSpace space.old self.old.context space.new self.new.context }
+        ensures goes_on { GoesOn S.LockSpace space.old self.old space.new self.new }
         ensures idle { IdleUnlessPlayed result self.new }
     {
         let Ok(schema) = Key::schema(self.alloc, name.as_str()) else {
@@ -75,9 +75,9 @@ impl<S: LockSpace> Player<S> {
         name: &'s Name,
         schema: TicketId,
     ) -> Played<'s>
-        requires ready { IsReady S.LockSpace space.old self.old.context }
+        requires ready { IsReady S.LockSpace space.old self.old }
         ensures run { IsPlayed S.joins (drop_schema_under name.now schema) space.old self.old result space.new self.new }
-        ensures goes_on { GoesOn S.LockSpace space.old self.old.context space.new self.new.context }
+        ensures goes_on { GoesOn S.LockSpace space.old self.old space.new self.new }
         ensures idle { IdleUnlessPlayed result self.new }
     {
         if let Err(ending) = self.check_schema(space, schema) {
@@ -95,9 +95,9 @@ impl<S: LockSpace> Player<S> {
 
     /// The tables of a schema that have a definition, in key order.
     fn tables_in(&mut self, space: &mut S, name: &Name) -> Result<Vec<Key>, Ending>
-        requires ready { IsReady S.LockSpace space.old self.old.context }
+        requires ready { IsReady S.LockSpace space.old self.old }
         ensures run { IsStep S.joins (tables_in name.now) space.old self.old (items_told result) space.new self.new }
-        ensures goes_on { GoesOn S.LockSpace space.old self.old.context space.new self.new.context }
+        ensures goes_on { GoesOn S.LockSpace space.old self.old space.new self.new }
         ensures idle { self.new.context.wait ≡ None }
     {
         match self.tables_of(space, name.as_str()) {
@@ -108,9 +108,9 @@ impl<S: LockSpace> Player<S> {
 
     /// The keys of places, in their order.
     fn keys_of(&mut self, space: &mut S, places: &[Place]) -> Result<Vec<Key>, Ending>
-        requires ready { IsReady S.LockSpace space.old self.old.context }
+        requires ready { IsReady S.LockSpace space.old self.old }
         ensures run { IsStep S.joins (keys_of [] places.now) space.old self.old (items_told result) space.new self.new }
-        ensures goes_on { GoesOn S.LockSpace space.old self.old.context space.new self.new.context }
+        ensures goes_on { GoesOn S.LockSpace space.old self.old space.new self.new }
         ensures idle { self.new.context.wait ≡ None }
     {
         let mut keys = Vec::new(self.alloc);
@@ -133,9 +133,9 @@ impl<S: LockSpace> Player<S> {
         schema: TicketId,
         locks: LockList,
     ) -> Played<'s>
-        requires ready { IsReady S.LockSpace space.old self.old.context }
+        requires ready { IsReady S.LockSpace space.old self.old }
         ensures run { IsPlayed S.joins (lock_rest locks (drop_with schema)) space.old self.old result space.new self.new }
-        ensures goes_on { GoesOn S.LockSpace space.old self.old.context space.new self.new.context }
+        ensures goes_on { GoesOn S.LockSpace space.old self.old space.new self.new }
         ensures idle { IdleUnlessPlayed result self.new }
     {
         match self.lock_all(space, locks) {
@@ -153,9 +153,9 @@ impl<S: LockSpace> Player<S> {
 
     /// Drops a schema behind its tables, under all their locks.
     fn drop_with<'s>(&mut self, space: &mut S, schema: TicketId, tables: &[TicketId]) -> Played<'s>
-        requires ready { IsReady S.LockSpace space.old self.old.context }
+        requires ready { IsReady S.LockSpace space.old self.old }
         ensures run { IsPlayed S.joins (drop_with schema tables.now) space.old self.old result space.new self.new }
-        ensures goes_on { GoesOn S.LockSpace space.old self.old.context space.new self.new.context }
+        ensures goes_on { GoesOn S.LockSpace space.old self.old space.new self.new }
         ensures idle { IdleUnlessPlayed result self.new }
     {
         if let Err(ending) = self.all_can_change(space, tables) {
@@ -180,9 +180,9 @@ impl<S: LockSpace> Player<S> {
         at: DroppingSchema<'s>,
         ticket: TicketId,
     ) -> Played<'s>
-        requires ready { IsReady S.LockSpace space.old self.old.context }
+        requires ready { IsReady S.LockSpace space.old self.old }
         ensures run { IsPlayed S.joins (rest_of_dropping_schema at.entry ticket) space.old self.old result space.new self.new }
-        ensures goes_on { GoesOn S.LockSpace space.old self.old.context space.new self.new.context }
+        ensures goes_on { GoesOn S.LockSpace space.old self.old space.new self.new }
         ensures idle { IdleUnlessPlayed result self.new }
     {
         match at {

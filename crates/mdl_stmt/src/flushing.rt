@@ -22,9 +22,9 @@ use mdl_syntax::Statement;
 impl<S: LockSpace> Player<S> {
     /// Performs a statement that is refused where tables are locked, and before which an open transaction is committed.
     pub(crate) fn flush<'s>(&mut self, space: &mut S, statement: &'s Statement) -> Played<'s>
-        requires ready { IsReady S.LockSpace space.old self.old.context }
+        requires ready { IsReady S.LockSpace space.old self.old }
         ensures run { IsPlayed S.joins (flush_first (after_commit statement.now)) space.old self.old result space.new self.new }
-        ensures goes_on { GoesOn S.LockSpace space.old self.old.context space.new self.new.context }
+        ensures goes_on { GoesOn S.LockSpace space.old self.old space.new self.new }
         ensures idle { IdleUnlessPlayed result self.new }
     {
         if self.explicit.has_locked() {
@@ -35,9 +35,9 @@ impl<S: LockSpace> Player<S> {
 
     /// Gets the global read lock, once no transaction is open, unless the session has it.
     pub(crate) fn flush_after_commit<'s>(&mut self, space: &mut S) -> Played<'s>
-        requires ready { IsReady S.LockSpace space.old self.old.context }
+        requires ready { IsReady S.LockSpace space.old self.old }
         ensures run { IsPlayed S.joins flush_after_commit space.old self.old result space.new self.new }
-        ensures goes_on { GoesOn S.LockSpace space.old self.old.context space.new self.new.context }
+        ensures goes_on { GoesOn S.LockSpace space.old self.old space.new self.new }
         ensures idle { IdleUnlessPlayed result self.new }
     {
         if self.explicit.has_read_lock() {
@@ -48,9 +48,9 @@ impl<S: LockSpace> Player<S> {
 
     /// Locks all writes, and then all commits.
     fn get_read_lock<'s>(&mut self, space: &mut S) -> Played<'s>
-        requires ready { IsReady S.LockSpace space.old self.old.context }
+        requires ready { IsReady S.LockSpace space.old self.old }
         ensures run { IsPlayed S.joins get_read_lock space.old self.old result space.new self.new }
-        ensures goes_on { GoesOn S.LockSpace space.old self.old.context space.new self.new.context }
+        ensures goes_on { GoesOn S.LockSpace space.old self.old space.new self.new }
         ensures idle { IdleUnlessPlayed result self.new }
     {
         let writes = Key::global(self.alloc);
@@ -68,9 +68,9 @@ impl<S: LockSpace> Player<S> {
 
     /// Locks all commits beside all writes.
     pub(crate) fn lock_commits<'s>(&mut self, space: &mut S, global: TicketId) -> Played<'s>
-        requires ready { IsReady S.LockSpace space.old self.old.context }
+        requires ready { IsReady S.LockSpace space.old self.old }
         ensures run { IsPlayed S.joins (lock_commits global) space.old self.old result space.new self.new }
-        ensures goes_on { GoesOn S.LockSpace space.old self.old.context space.new self.new.context }
+        ensures goes_on { GoesOn S.LockSpace space.old self.old space.new self.new }
         ensures idle { IdleUnlessPlayed result self.new }
     {
         self.explicit.lock_writes(global);
@@ -89,9 +89,9 @@ impl<S: LockSpace> Player<S> {
 
     /// Notes that the session has the global read lock, with this ticket of the COMMIT lock.
     pub(crate) fn read_lock_under(&mut self, space: &mut S, commit: TicketId) -> Ending
-        requires ready { IsReady S.LockSpace space.old self.old.context }
+        requires ready { IsReady S.LockSpace space.old self.old }
         ensures run { IsPlayed S.joins (read_lock_under commit) space.old self.old (played.Ends result) space.new self.new }
-        ensures goes_on { GoesOn S.LockSpace space.old self.old.context space.new self.new.context }
+        ensures goes_on { GoesOn S.LockSpace space.old self.old space.new self.new }
         ensures idle { self.new.context.wait ≡ None }
     {
         self.explicit.lock_commits(commit);
@@ -100,9 +100,9 @@ impl<S: LockSpace> Player<S> {
 
     /// Gives up the lock of all writes that was to become the global read lock, as a statement ends before it had the other one.
     pub(crate) fn drop_half(&mut self, space: &mut S, ending: &Ending)
-        requires ready { IsReady S.LockSpace space.old self.old.context }
+        requires ready { IsReady S.LockSpace space.old self.old }
         ensures run { IsWithoutHalf S.joins ending.now space.old self.old space.new self.new }
-        ensures goes_on { GoesOn S.LockSpace space.old self.old.context space.new self.new.context }
+        ensures goes_on { GoesOn S.LockSpace space.old self.old space.new self.new }
         ensures idle { self.new.context.wait ≡ None }
     {
         match self.half_lock(ending) {
@@ -132,9 +132,9 @@ impl<S: LockSpace> Player<S> {
         at: Flushing,
         ticket: TicketId,
     ) -> Played<'s>
-        requires ready { IsReady S.LockSpace space.old self.old.context }
+        requires ready { IsReady S.LockSpace space.old self.old }
         ensures run { IsPlayed S.joins (rest_of_flushing at ticket) space.old self.old result space.new self.new }
-        ensures goes_on { GoesOn S.LockSpace space.old self.old.context space.new self.new.context }
+        ensures goes_on { GoesOn S.LockSpace space.old self.old space.new self.new }
         ensures idle { IdleUnlessPlayed result self.new }
     {
         match at {

@@ -1,8 +1,7 @@
 //! Statements that are over or wait, and are kept only in part while they wait.
 ghost use Rattle.std.specs.Prelude.{◌≡◌, None, Some};
 ghost use Rattle.mdl_calls.specs.Words.{Runs};
-ghost use Rattle.mdl_context.specs.Contexts.{Attends};
-ghost use Rattle.mdl_stmt.specs.Attendance.{GoesOn, IsReady};
+ghost use Rattle.mdl_stmt.specs.Attendance.{AttendsWith, GoesOn, IsReady};
 ghost use Rattle.mdl_rows.specs.Endings.{Begins_to_wait};
 ghost use Rattle.mdl_stmt.specs.Gets.{at_rest, ran, IdleUnlessPlayed};
 ghost use Rattle.mdl_rows.specs.Keepings.{going_on_kept, keeping, play_kept, starting_kept};
@@ -32,9 +31,9 @@ pub struct Turn {
 impl<S: LockSpace> Player<S> {
     /// Starts a statement.
     pub(crate) fn start_kept(&mut self, space: &mut S, statement: &Statement) -> Turn
-        requires ready { IsReady S.LockSpace space.old self.old.context }
+        requires ready { IsReady S.LockSpace space.old self.old }
         ensures run { Runs S.joins space.old (starting_kept statement.now (at_rest self.old)) (ran result.progress (session_with self.new result.work)) space.new }
-        ensures goes_on { GoesOn S.LockSpace space.old self.old.context space.new self.new.context }
+        ensures goes_on { GoesOn S.LockSpace space.old self.old space.new self.new }
         ensures idle { result.work ≡ None → self.new.context.wait ≡ None }
     {
         let mark = self.context.savepoint();
@@ -44,9 +43,9 @@ impl<S: LockSpace> Player<S> {
 
     /// Goes on with a statement that waits.
     pub(crate) fn go_on_kept(&mut self, space: &mut S, work: KeptWork) -> Turn
-        requires attends { Attends S.LockSpace space.old self.old.context }
+        requires attends { AttendsWith S.LockSpace space.old self.old.context self.old.cache }
         ensures run { Runs S.joins space.old (going_on_kept (session_with self.old (Some work))) (ran result.progress (session_with self.new result.work)) space.new }
-        ensures goes_on { GoesOn S.LockSpace space.old self.old.context space.new self.new.context }
+        ensures goes_on { GoesOn S.LockSpace space.old self.old space.new self.new }
         ensures idle { result.work ≡ None → self.new.context.wait ≡ None }
     {
         match self.context.resume(space) {
@@ -72,9 +71,9 @@ impl<S: LockSpace> Player<S> {
         ticket: TicketId,
         mark: Mark,
     ) -> Turn
-        requires ready { IsReady S.LockSpace space.old self.old.context }
+        requires ready { IsReady S.LockSpace space.old self.old }
         ensures run { Runs S.joins space.old (play_kept (rest_of_kept stage ticket) mark (at_rest self.old)) (ran result.progress (session_with self.new result.work)) space.new }
-        ensures goes_on { GoesOn S.LockSpace space.old self.old.context space.new self.new.context }
+        ensures goes_on { GoesOn S.LockSpace space.old self.old space.new self.new }
         ensures idle { result.work ≡ None → self.new.context.wait ≡ None }
     {
         match stage {
@@ -113,9 +112,9 @@ impl<S: LockSpace> Player<S> {
         ticket: TicketId,
         mark: Mark,
     ) -> Turn
-        requires ready { IsReady S.LockSpace space.old self.old.context }
+        requires ready { IsReady S.LockSpace space.old self.old }
         ensures run { Runs S.joins space.old (play_kept (rest_of_kept_dropping at ticket) mark (at_rest self.old)) (ran result.progress (session_with self.new result.work)) space.new }
-        ensures goes_on { GoesOn S.LockSpace space.old self.old.context space.new self.new.context }
+        ensures goes_on { GoesOn S.LockSpace space.old self.old space.new self.new }
         ensures idle { result.work ≡ None → self.new.context.wait ≡ None }
     {
         match at {
@@ -137,9 +136,9 @@ impl<S: LockSpace> Player<S> {
         ticket: TicketId,
         mark: Mark,
     ) -> Turn
-        requires ready { IsReady S.LockSpace space.old self.old.context }
+        requires ready { IsReady S.LockSpace space.old self.old }
         ensures run { Runs S.joins space.old (play_kept (rest_of_kept_dropping_schema at ticket) mark (at_rest self.old)) (ran result.progress (session_with self.new result.work)) space.new }
-        ensures goes_on { GoesOn S.LockSpace space.old self.old.context space.new self.new.context }
+        ensures goes_on { GoesOn S.LockSpace space.old self.old space.new self.new }
         ensures idle { result.work ≡ None → self.new.context.wait ≡ None }
     {
         match at {
@@ -160,9 +159,9 @@ impl<S: LockSpace> Player<S> {
 
     // Goes on with a statement at a stage.
     fn proceed_at(&mut self, space: &mut S, stage: Stage<'_>, ticket: TicketId, mark: Mark) -> Turn
-        requires ready { IsReady S.LockSpace space.old self.old.context }
+        requires ready { IsReady S.LockSpace space.old self.old }
         ensures run { Runs S.joins space.old (play_kept (rest_of stage.entry ticket) mark (at_rest self.old)) (ran result.progress (session_with self.new result.work)) space.new }
-        ensures goes_on { GoesOn S.LockSpace space.old self.old.context space.new self.new.context }
+        ensures goes_on { GoesOn S.LockSpace space.old self.old space.new self.new }
         ensures idle { result.work ≡ None → self.new.context.wait ≡ None }
     {
         let played = self.proceed(space, stage, ticket);
@@ -171,10 +170,10 @@ impl<S: LockSpace> Player<S> {
 
     /// Ends a statement that came so far, or keeps what is left of it while it waits.
     pub(crate) fn settle(&mut self, space: &mut S, played: Played<'_>, mark: Mark) -> Turn
-        requires attends { Attends S.LockSpace space.old self.old.context }
+        requires attends { AttendsWith S.LockSpace space.old self.old.context self.old.cache }
         requires idle { IdleUnlessPlayed played self.old }
         ensures run { IsSettled S.joins played.entry mark space.old self.old result space.new self.new }
-        ensures goes_on { GoesOn S.LockSpace space.old self.old.context space.new self.new.context }
+        ensures goes_on { GoesOn S.LockSpace space.old self.old space.new self.new }
         ensures idle { result.work ≡ None → self.new.context.wait ≡ None }
     {
         match played {
@@ -195,10 +194,10 @@ impl<S: LockSpace> Player<S> {
         stage: Stage<'_>,
         mark: Mark,
     ) -> Turn
-        requires attends { Attends S.LockSpace space.old self.old.context }
+        requires attends { AttendsWith S.LockSpace space.old self.old.context self.old.cache }
         ensures run { Runs S.joins space.old (keeping (Begins_to_wait key mode (with_left (at_rest self.old) (record { rest = rest_of stage.entry; mark = mark }))))
             (ran result.progress (session_with self.new result.work)) space.new }
-        ensures goes_on { GoesOn S.LockSpace space.old self.old.context space.new self.new.context }
+        ensures goes_on { GoesOn S.LockSpace space.old self.old space.new self.new }
         ensures idle { result.work ≡ None → self.new.context.wait ≡ None }
     {
         match KeptStage::keep(self.alloc, stage) {

@@ -2,7 +2,7 @@
 ghost use Rattle.std.specs.Prelude.{◌≡◌, None, []};
 ghost use Rattle.mdl_calls.specs.Words.{Runs};
 ghost use Rattle.mdl_context.specs.Contexts.{Attends};
-ghost use Rattle.mdl_stmt.specs.Attendance.{GoesOn};
+ghost use Rattle.mdl_stmt.specs.Attendance.{ContextGoesOn};
 ghost use Rattle.mdl_rows.specs.Leavings.{leaving_from};
 
 use mdl_context::Context;
@@ -14,7 +14,7 @@ pub(crate) fn give_all_up<S: LockSpace>(context: &mut Context<S>, space: &mut S)
     ensures run { Runs S.joins space.old (leaving_from context.old.wait context.old) tt space.new }
     ensures kept { context.new.kept ≡ [] }
     ensures wait { context.new.wait ≡ None }
-    ensures goes_on { GoesOn S.LockSpace space.old context.old space.new context.new }
+    ensures goes_on { ContextGoesOn S.LockSpace space.old context.old space.new context.new }
 {
     if context.wish().is_some() {
         let _end = context.give_up(space);

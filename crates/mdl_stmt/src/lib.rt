@@ -13,7 +13,9 @@
 //!     let Ok(mut space) = CoreSpace::new(alloc, 256, 64) else {
 //!         return None;
 //!     };
-//!     let mut runner = Runner::new(alloc, 1);
+//!     let Ok(mut runner) = Runner::new(alloc, 1, 64) else {
+//!         return None;
+//!     };
 //!     let mut last = None;
 //!     for line in lines {
 //!         if runner.is_waiting() {

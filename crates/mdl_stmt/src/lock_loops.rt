@@ -16,9 +16,9 @@ use mdl_space::LockSpace;
 impl<S: LockSpace> Player<S> {
     /// Gets the locks that are left of a list, for a change of definitions.
     pub(crate) fn lock_all(&mut self, space: &mut S, locks: LockList) -> Listed
-        requires ready { IsReady S.LockSpace space.old self.old.context }
+        requires ready { IsReady S.LockSpace space.old self.old }
         ensures run { IsListed S.joins locks space.old self.old result space.new self.new }
-        ensures goes_on { GoesOn S.LockSpace space.old self.old.context space.new self.new.context }
+        ensures goes_on { GoesOn S.LockSpace space.old self.old space.new self.new }
         ensures idle { IdleUnlessListed result self.new }
         ensures keys { KeepsKeys locks result }
     {
@@ -32,9 +32,9 @@ impl<S: LockSpace> Player<S> {
         locking: Locking<'_>,
         locks: LockList,
     ) -> Listed
-        requires ready { IsReady S.LockSpace space.old self.old.context }
+        requires ready { IsReady S.LockSpace space.old self.old }
         ensures run { IsListedBy S.joins (wish_by locking.entry) locks space.old self.old result space.new self.new }
-        ensures goes_on { GoesOn S.LockSpace space.old self.old.context space.new self.new.context }
+        ensures goes_on { GoesOn S.LockSpace space.old self.old space.new self.new }
         ensures idle { IdleUnlessListed result self.new }
         ensures keys { KeepsKeys locks result }
     {

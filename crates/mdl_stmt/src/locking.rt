@@ -26,9 +26,9 @@ impl<S: LockSpace> Player<S> {
         statement: &'s Statement,
         tables: &TableLocks,
     ) -> Played<'s>
-        requires ready { IsReady S.LockSpace space.old self.old.context }
+        requires ready { IsReady S.LockSpace space.old self.old }
         ensures run { IsPlayed S.joins (lock_first tables.now (after_commit statement.now)) space.old self.old result space.new self.new }
-        ensures goes_on { GoesOn S.LockSpace space.old self.old.context space.new self.new.context }
+        ensures goes_on { GoesOn S.LockSpace space.old self.old space.new self.new }
         ensures idle { IdleUnlessPlayed result self.new }
     {
         if self.locks_out(tables) {
@@ -46,9 +46,9 @@ impl<S: LockSpace> Player<S> {
 
     /// Gives up tables that were locked before, and locks these, once no transaction is open.
     pub(crate) fn lock_these<'s>(&mut self, space: &mut S, tables: &'s TableLocks) -> Played<'s>
-        requires ready { IsReady S.LockSpace space.old self.old.context }
+        requires ready { IsReady S.LockSpace space.old self.old }
         ensures run { IsPlayed S.joins (lock_tables_after_commit tables.now) space.old self.old result space.new self.new }
-        ensures goes_on { GoesOn S.LockSpace space.old self.old.context space.new self.new.context }
+        ensures goes_on { GoesOn S.LockSpace space.old self.old space.new self.new }
         ensures idle { IdleUnlessPlayed result self.new }
     {
         self.unlock_tables(space);
@@ -65,9 +65,9 @@ impl<S: LockSpace> Player<S> {
         tables: &'s TableLocks,
         locks: LockList,
     ) -> Played<'s>
-        requires ready { IsReady S.LockSpace space.old self.old.context }
+        requires ready { IsReady S.LockSpace space.old self.old }
         ensures run { IsPlayed S.joins (lock_rest locks (lock_named tables.now)) space.old self.old result space.new self.new }
-        ensures goes_on { GoesOn S.LockSpace space.old self.old.context space.new self.new.context }
+        ensures goes_on { GoesOn S.LockSpace space.old self.old space.new self.new }
         ensures idle { IdleUnlessPlayed result self.new }
     {
         match self.lock_all(space, locks) {
@@ -86,9 +86,9 @@ impl<S: LockSpace> Player<S> {
         tables: &'s TableLocks,
         scopes: Vec<TicketId>,
     ) -> Played<'s>
-        requires ready { IsReady S.LockSpace space.old self.old.context }
+        requires ready { IsReady S.LockSpace space.old self.old }
         ensures run { IsPlayed S.joins (lock_named tables.now scopes.items) space.old self.old result space.new self.new }
-        ensures goes_on { GoesOn S.LockSpace space.old self.old.context space.new self.new.context }
+        ensures goes_on { GoesOn S.LockSpace space.old self.old space.new self.new }
         ensures idle { IdleUnlessPlayed result self.new }
     {
         match named_in_order(self.alloc, tables.as_slice()) {
@@ -105,9 +105,9 @@ impl<S: LockSpace> Player<S> {
         scopes: Vec<TicketId>,
         locks: LockList,
     ) -> Played<'s>
-        requires ready { IsReady S.LockSpace space.old self.old.context }
+        requires ready { IsReady S.LockSpace space.old self.old }
         ensures run { IsPlayed S.joins (lock_rest_by (table_lock tables.now) locks (keep_locked tables.now locks.keys scopes.items)) space.old self.old result space.new self.new }
-        ensures goes_on { GoesOn S.LockSpace space.old self.old.context space.new self.new.context }
+        ensures goes_on { GoesOn S.LockSpace space.old self.old space.new self.new }
         ensures idle { IdleUnlessPlayed result self.new }
     {
         match self.lock_each(space, Locking::Tables(tables), locks) {
@@ -131,9 +131,9 @@ impl<S: LockSpace> Player<S> {
         scopes: Vec<TicketId>,
         locks: LockList,
     ) -> Ending
-        requires ready { IsReady S.LockSpace space.old self.old.context }
+        requires ready { IsReady S.LockSpace space.old self.old }
         ensures run { IsPlayed S.joins (keep_locked tables.now locks.keys scopes.items locks.tickets) space.old self.old (played.Ends result) space.new self.new }
-        ensures goes_on { GoesOn S.LockSpace space.old self.old.context space.new self.new.context }
+        ensures goes_on { GoesOn S.LockSpace space.old self.old space.new self.new }
         ensures idle { self.new.context.wait ≡ None }
     {
         if let Err(ending) = self.all_stand(space, locks.tickets()) {
@@ -158,9 +158,9 @@ impl<S: LockSpace> Player<S> {
         at: LockingTables,
         ticket: TicketId,
     ) -> Played<'s>
-        requires ready { IsReady S.LockSpace space.old self.old.context }
+        requires ready { IsReady S.LockSpace space.old self.old }
         ensures run { IsPlayed S.joins (rest_of_locking tables.now at ticket) space.old self.old result space.new self.new }
-        ensures goes_on { GoesOn S.LockSpace space.old self.old.context space.new self.new.context }
+        ensures goes_on { GoesOn S.LockSpace space.old self.old space.new self.new }
         ensures idle { IdleUnlessPlayed result self.new }
     {
         match at {

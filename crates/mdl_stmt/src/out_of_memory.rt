@@ -2,7 +2,8 @@
 use std::alloc::AllocError;
 
 /// A statement found no memory, and has ended: what it had gained is given up. What it needs of memory it asks for before its first
-/// change of a definition; so one that changes no more than one definition has changed none.
+/// change of a definition; so one that changes no more than one definition has changed none. Or there was no memory for the cache of a
+/// new session.
 #[derive(Clone, Copy, Debug, PartialEq, Eq)]
 pub struct OutOfMemory;
 

@@ -1,7 +1,8 @@
 //! Statements of a session that doesn't keep them.
-ghost use Rattle.std.specs.Prelude.{◌≡◌, None, IsSome, is_some, []};
+ghost use Rattle.std.specs.Prelude.{◌≡◌, None, IfOk, IsSome, is_some, []};
 ghost use Rattle.mdl_calls.specs.Words.{Runs};
 ghost use Rattle.mdl_context.specs.Contexts.{Attends, LeavesOthers};
+ghost use Rattle.mdl_stmt.specs.Attendance.{AttendsWith, IsCapacity};
 ghost use Rattle.mdl_stmt.specs.Gets.{ran};
 ghost use Rattle.mdl_rows.specs.Keepings.{going_on_kept, starting_kept};
 ghost use Rattle.mdl_stmt.specs.KeptStages.{session_kept};
@@ -33,20 +34,20 @@ impl<S: LockSpace> Model for OwnedRunner<S> {
 
     ghost Value = { OwnedView };
 
-    ghost view = { λ runner. record { context = runner.player.context; state = runner.player.state; work = runner.work } };
+    ghost view = { λ runner. record { context = runner.player.context; state = runner.player.state; work = runner.work; cache = runner.player.cache } };
 
     ghost invariant = { λ runner. runner.work ≡ None → runner.player.context.wait ≡ None };
 }
 
 impl<S: LockSpace> OwnedRunner<S> {
-    /// A session that has done nothing. It takes no memory.
-    pub fn new(alloc: Global, who: u16) -> OwnedRunner<S>
-        ensures { result ≡ record { context = record { who = who; kept = []; known = []; wait = None }; state = at_first; work = None } }
+    /// A session that has done nothing. Its cache keeps at most so many definitions that its statements read: 1 to
+    /// [`MOST_KEPT`](mdl_defs::MOST_KEPT). Memory is taken for the empty cache.
+    pub fn new(alloc: Global, who: u16, cache: u16) -> Result<OwnedRunner<S>, OutOfMemory>
+        requires capacity { IsCapacity cache }
+        ensures made { IfOk result (λ runner. runner ≡ record { context = record { who = who; kept = []; known = []; wait = None }; state = at_first; work = None; cache = record { kept = []; capacity = cache } }) }
     {
-        OwnedRunner {
-            player: Player::new(alloc, who),
-            work: None,
-        }
+        let player = Player::new(alloc, who, cache)?;
+        Ok(OwnedRunner { player, work: None })
     }
 
     /// Whether a statement of the session waits.
@@ -61,12 +62,13 @@ impl<S: LockSpace> OwnedRunner<S> {
     /// If the statement begins to wait and there is no memory for the copy, its wait is given up, and the statement ends for want of
     /// memory.
     pub fn start(&mut self, space: &mut S, statement: &Statement) -> Result<Progress, OutOfMemory>
-        requires attends { Attends S.LockSpace space.old self.old.context }
+        requires attends { AttendsWith S.LockSpace space.old self.old.context self.old.cache }
         requires idle { self.old.work ≡ None }
         ensures run { Runs S.joins space.old (starting_kept statement.now (session_kept self.old)) (ran result (session_kept self.new)) space.new }
-        ensures attends { Attends S.LockSpace space.new self.new.context }
+        ensures attends { AttendsWith S.LockSpace space.new self.new.context self.new.cache }
         ensures others { LeavesOthers S.LockSpace self.old.context.who space.old space.new }
         ensures who { self.new.context.who ≡ self.old.context.who }
+        ensures capacity { self.new.cache.capacity ≡ self.old.cache.capacity }
     {
         let turn = self.player.start_kept(space, statement);
         self.work = turn.work;
@@ -77,12 +79,13 @@ impl<S: LockSpace> OwnedRunner<S> {
     ///
     /// If the statement begins to wait again, what it needs is copied again.
     pub fn go_on(&mut self, space: &mut S) -> Result<Progress, OutOfMemory>
-        requires attends { Attends S.LockSpace space.old self.old.context }
+        requires attends { AttendsWith S.LockSpace space.old self.old.context self.old.cache }
         requires waits { IsSome self.old.work }
         ensures run { Runs S.joins space.old (going_on_kept (session_kept self.old)) (ran result (session_kept self.new)) space.new }
-        ensures attends { Attends S.LockSpace space.new self.new.context }
+        ensures attends { AttendsWith S.LockSpace space.new self.new.context self.new.cache }
         ensures others { LeavesOthers S.LockSpace self.old.context.who space.old space.new }
         ensures who { self.new.context.who ≡ self.old.context.who }
+        ensures capacity { self.new.cache.capacity ≡ self.old.cache.capacity }
     {
         let work = self.work.take().unwrap();
         let turn = self.player.go_on_kept(space, work);
@@ -90,7 +93,8 @@ impl<S: LockSpace> OwnedRunner<S> {
         turn.progress
     }
 
-    /// Ends the session: a statement that waits is lost, and all that the session holds is given up. It takes no memory.
+    /// Ends the session: a statement that waits is lost, and all that the session holds is given up. It takes no memory,
+    /// unless a wait for an upgrade is granted already; all is given up in any case.
     pub fn leave(self, space: &mut S)
         requires attends { Attends S.LockSpace space.old self.context }
         ensures run { Runs S.joins space.old (leaving (session_kept self)) tt space.new }

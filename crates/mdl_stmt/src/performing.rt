@@ -21,9 +21,9 @@ use mdl_syntax::Statement;
 impl<S: LockSpace> Player<S> {
     /// Performs a statement, up to its end or to a wait.
     pub(crate) fn perform<'s>(&mut self, space: &mut S, statement: &'s Statement) -> Played<'s>
-        requires ready { IsReady S.LockSpace space.old self.old.context }
+        requires ready { IsReady S.LockSpace space.old self.old }
         ensures run { IsPlayed S.joins (row_of statement.now) space.old self.old result space.new self.new }
-        ensures goes_on { GoesOn S.LockSpace space.old self.old.context space.new self.new.context }
+        ensures goes_on { GoesOn S.LockSpace space.old self.old space.new self.new }
         ensures idle { IdleUnlessPlayed result self.new }
     {
         match statement {
@@ -58,9 +58,9 @@ impl<S: LockSpace> Player<S> {
 
     // Performs a statement that changes definitions. No transaction is open when it does, and nothing is locked as a whole.
     fn define<'s>(&mut self, space: &mut S, statement: &'s Statement) -> Played<'s>
-        requires ready { IsReady S.LockSpace space.old self.old.context }
+        requires ready { IsReady S.LockSpace space.old self.old }
         ensures run { IsPlayed S.joins (ddl_first (after_commit statement.now)) space.old self.old result space.new self.new }
-        ensures goes_on { GoesOn S.LockSpace space.old self.old.context space.new self.new.context }
+        ensures goes_on { GoesOn S.LockSpace space.old self.old space.new self.new }
         ensures idle { IdleUnlessPlayed result self.new }
     {
         if self.explicit.has_read_lock() {
@@ -79,9 +79,9 @@ impl<S: LockSpace> Player<S> {
         stage: Stage<'s>,
         ticket: TicketId,
     ) -> Played<'s>
-        requires ready { IsReady S.LockSpace space.old self.old.context }
+        requires ready { IsReady S.LockSpace space.old self.old }
         ensures run { IsPlayed S.joins (rest_of stage.entry ticket) space.old self.old result space.new self.new }
-        ensures goes_on { GoesOn S.LockSpace space.old self.old.context space.new self.new.context }
+        ensures goes_on { GoesOn S.LockSpace space.old self.old space.new self.new }
         ensures idle { IdleUnlessPlayed result self.new }
     {
         match stage {
@@ -109,9 +109,9 @@ impl<S: LockSpace> Player<S> {
         ending: Ending,
         mark: Mark,
     ) -> Result<Progress, OutOfMemory>
-        requires ready { IsReady S.LockSpace space.old self.old.context }
+        requires ready { IsReady S.LockSpace space.old self.old }
         ensures run { Runs S.joins space.old (closing ending mark (at_rest self.old)) (ran result (at_rest self.new)) space.new }
-        ensures goes_on { GoesOn S.LockSpace space.old self.old.context space.new self.new.context }
+        ensures goes_on { GoesOn S.LockSpace space.old self.old space.new self.new }
         ensures idle { self.new.context.wait ≡ None }
     {
         self.drop_half(space, &ending);
@@ -131,9 +131,9 @@ impl<S: LockSpace> Player<S> {
 
     /// Lets the tickets go that go as a statement ends.
     fn let_go(&mut self, space: &mut S, ending: &Ending, mark: Mark)
-        requires ready { IsReady S.LockSpace space.old self.old.context }
+        requires ready { IsReady S.LockSpace space.old self.old }
         ensures run { Runs S.joins space.old (giving_up (gone_at ending.now self.old.state.is_open mark self.old.context.kept) self.old.context) (Ok tt, self.new.context) space.new }
-        ensures goes_on { GoesOn S.LockSpace space.old self.old.context space.new self.new.context }
+        ensures goes_on { GoesOn S.LockSpace space.old self.old space.new self.new }
         ensures idle { self.new.context.wait ≡ None }
         ensures state { self.new.state ≡ self.old.state }
     {

@@ -1,25 +1,25 @@
 //! What a session is asked for, one thing after the other.
-ghost use Rattle.std.specs.Prelude.{◌≡◌, None, Ok, []};
-ghost use Rattle.mdl_context.specs.Contexts.{Attends};
-ghost use Rattle.mdl_stmt.specs.Attendance.{GoesOn, IsReady};
+ghost use Rattle.std.specs.Prelude.{◌≡◌, None, Ok, IfOk, []};
+ghost use Rattle.mdl_stmt.specs.Attendance.{AttendsWith, GoesOn, IsCapacity, IsReady};
 ghost use Rattle.mdl_context.specs.Wishes.{Wish, wish_of};
 ghost use Rattle.mdl_rows.specs.Endings.{closing, ending_of_error, ending_of_refusal, ending_of_loss};
 ghost use Rattle.mdl_stmt.specs.Gets.{at_rest, IsDropped, IsGot, IsRaised, IsStep, IsTold, IdleUnlessGot};
 ghost use Rattle.mdl_rows.specs.Rows.{downgrade};
 ghost use Rattle.mdl_rows.specs.States.{at_first};
 
-use crate::ErrorNumber;
 use crate::explicit::ExplicitLocks;
 use crate::got::Got;
 use crate::savepoint::Savepoints;
+use crate::{ErrorNumber, OutOfMemory};
 use mdl_context::{Acquire, Context, ContextError, Request, Resume};
+use mdl_defs::{CacheError, DefCache};
 use mdl_key::{Key, Mode};
 use mdl_rows::Ending;
 use mdl_space::{LockSpace, Settled, SpaceError, TicketId};
 use std::alloc::Global;
 use std::marker::Model;
 
-/// A session's tickets, its transaction, and what it keeps until it gives it up.
+/// A session's tickets, its transaction, what it keeps until it gives it up, and the definitions that it read.
 #[derive(Drop)]
 pub(crate) struct Player<S: LockSpace> {
     pub(crate) alloc: Global,
@@ -28,6 +28,7 @@ pub(crate) struct Player<S: LockSpace> {
     pub(crate) has_written: bool,
     pub(crate) savepoints: Savepoints,
     pub(crate) explicit: ExplicitLocks,
+    pub(crate) cache: DefCache,
 }
 
 impl<S: LockSpace> Model for Player<S> {
@@ -35,29 +36,35 @@ impl<S: LockSpace> Model for Player<S> {
 
     ghost Value = { PlayerView };
 
-    ghost view = { λ player. player_of player.explicit player.context player.is_open player.has_written player.savepoints };
+    ghost view = { λ player. player_of player.cache player.explicit player.context player.is_open player.has_written player.savepoints };
 }
 
 impl<S: LockSpace> Player<S> {
-    /// A session that has done nothing. It takes no memory.
-    pub(crate) fn new(alloc: Global, who: u16) -> Player<S>
-        ensures { result ≡ record { context = record { who = who; kept = []; known = []; wait = None }; state = at_first } }
+    /// A session that has done nothing, with a cache for at most so many definitions. It keeps none yet.
+    pub(crate) fn new(alloc: Global, who: u16, cache: u16) -> Result<Player<S>, OutOfMemory>
+        requires capacity { IsCapacity cache }
+        ensures made { IfOk result (λ player. player ≡ record { context = record { who = who; kept = []; known = []; wait = None }; state = at_first; cache = record { kept = []; capacity = cache } }) }
     {
-        Player {
-            alloc,
-            context: Context::new(alloc, who),
-            is_open: false,
-            has_written: false,
-            savepoints: Savepoints::new(alloc),
-            explicit: ExplicitLocks::new(alloc),
+        match DefCache::new(alloc, cache) {
+            Ok(cache) => Ok(Player {
+                alloc,
+                context: Context::new(alloc, who),
+                is_open: false,
+                has_written: false,
+                savepoints: Savepoints::new(alloc),
+                explicit: ExplicitLocks::new(alloc),
+                cache,
+            }),
+            Err(CacheError::OutOfMemory) => Err(OutOfMemory),
+            Err(CacheError::BadCapacity) => unreachable!(),
         }
     }
 
     /// Asks for a lock.
     pub(crate) fn get(&mut self, space: &mut S, request: Request<'_>) -> Got<TicketId>
-        requires ready { IsReady S.LockSpace space.old self.old.context }
+        requires ready { IsReady S.LockSpace space.old self.old }
         ensures run { IsGot S.joins (wish_of request.entry) space.old self.old result space.new self.new }
-        ensures goes_on { GoesOn S.LockSpace space.old self.old.context space.new self.new.context }
+        ensures goes_on { GoesOn S.LockSpace space.old self.old space.new self.new }
         ensures idle { IdleUnlessGot result self.new }
     {
         match self.context.acquire(space, request) {
@@ -75,9 +82,9 @@ impl<S: LockSpace> Player<S> {
         key: &Key,
         mode: Mode,
     ) -> Got<TicketId>
-        requires ready { IsReady S.LockSpace space.old self.old.context }
+        requires ready { IsReady S.LockSpace space.old self.old }
         ensures run { IsRaised S.joins ticket key.now mode space.old self.old result space.new self.new }
-        ensures goes_on { GoesOn S.LockSpace space.old self.old.context space.new self.new.context }
+        ensures goes_on { GoesOn S.LockSpace space.old self.old space.new self.new }
         ensures idle { IdleUnlessGot result self.new }
     {
         match self.context.upgrade(space, ticket, mode) {
@@ -89,9 +96,9 @@ impl<S: LockSpace> Player<S> {
 
     /// Gives a ticket a weaker mode.
     pub(crate) fn lower(&mut self, space: &mut S, ticket: TicketId, mode: Mode)
-        requires ready { IsReady S.LockSpace space.old self.old.context }
+        requires ready { IsReady S.LockSpace space.old self.old }
         ensures run { IsStep S.joins (downgrade ticket mode) space.old self.old (Ok tt) space.new self.new }
-        ensures goes_on { GoesOn S.LockSpace space.old self.old.context space.new self.new.context }
+        ensures goes_on { GoesOn S.LockSpace space.old self.old space.new self.new }
         ensures idle { self.new.context.wait ≡ None }
     {
         let _lowered = self.context.downgrade(space, ticket, mode);
@@ -99,9 +106,9 @@ impl<S: LockSpace> Player<S> {
 
     /// Tells that a wait has begun, or gives it up where there is no memory for that.
     pub(crate) fn tell_wait(&mut self, space: &mut S, key: &Key) -> Got<TicketId>
-        requires attends { Attends S.LockSpace space.old self.old.context }
+        requires attends { AttendsWith S.LockSpace space.old self.old.context self.old.cache }
         ensures run { IsTold S.joins key.now space.old self.old result space.new self.new }
-        ensures goes_on { GoesOn S.LockSpace space.old self.old.context space.new self.new.context }
+        ensures goes_on { GoesOn S.LockSpace space.old self.old space.new self.new }
         ensures idle { IdleUnlessGot result self.new }
     {
         match key.clone() {
@@ -115,9 +122,9 @@ impl<S: LockSpace> Player<S> {
 
     /// Gives up a wait that can't be told or kept. A ticket that it had gained is released.
     pub(crate) fn drop_wait(&mut self, space: &mut S)
-        requires attends { Attends S.LockSpace space.old self.old.context }
+        requires attends { AttendsWith S.LockSpace space.old self.old.context self.old.cache }
         ensures run { IsDropped S.joins space.old self.old space.new self.new }
-        ensures goes_on { GoesOn S.LockSpace space.old self.old.context space.new self.new.context }
+        ensures goes_on { GoesOn S.LockSpace space.old self.old space.new self.new }
         ensures idle { self.new.context.wait ≡ None }
     {
         let Ok(end) = self.context.give_up(space) else {

@@ -23,14 +23,14 @@ pub(crate) fn failing(number: ErrorNumber) -> Ending
 }
 
 impl<S: LockSpace> Player<S> {
-    /// What stands under the key of a ticket.
+    /// What stands under the key of a ticket. The cache may have it.
     pub(crate) fn read(&mut self, space: &mut S, ticket: TicketId) -> Result<Standing, Ending>
-        requires ready { IsReady S.LockSpace space.old self.old.context }
+        requires ready { IsReady S.LockSpace space.old self.old }
         ensures run { IsStep S.joins (read ticket) space.old self.old result space.new self.new }
-        ensures goes_on { GoesOn S.LockSpace space.old self.old.context space.new self.new.context }
+        ensures goes_on { GoesOn S.LockSpace space.old self.old space.new self.new }
         ensures idle { self.new.context.wait ≡ None }
     {
-        match space.read_definition(self.context.who(), ticket) {
+        match space.read_kept(self.context.who(), ticket, &mut self.cache) {
             Ok(standing) => Ok(standing),
             Err(refusal) => Err(ending_of_refusal(refusal)),
         }
@@ -43,9 +43,9 @@ impl<S: LockSpace> Player<S> {
         ticket: TicketId,
         change: &Change,
     ) -> Result<(), Ending>
-        requires ready { IsReady S.LockSpace space.old self.old.context }
+        requires ready { IsReady S.LockSpace space.old self.old }
         ensures run { IsStep S.joins (redefine ticket change.now) space.old self.old result space.new self.new }
-        ensures goes_on { GoesOn S.LockSpace space.old self.old.context space.new self.new.context }
+        ensures goes_on { GoesOn S.LockSpace space.old self.old space.new self.new }
         ensures idle { self.new.context.wait ≡ None }
     {
         match space.change_definition(self.context.who(), ticket, change) {
@@ -56,9 +56,9 @@ impl<S: LockSpace> Player<S> {
 
     /// The places of a schema's tables that have a definition, in key order.
     pub(crate) fn tables_of(&mut self, space: &mut S, schema: &str) -> Result<Vec<Place>, Ending>
-        requires ready { IsReady S.LockSpace space.old self.old.context }
+        requires ready { IsReady S.LockSpace space.old self.old }
         ensures run { IsStep S.joins (tables_within schema.now) space.old self.old (items_told result) space.new self.new }
-        ensures goes_on { GoesOn S.LockSpace space.old self.old.context space.new self.new.context }
+        ensures goes_on { GoesOn S.LockSpace space.old self.old space.new self.new }
         ensures idle { self.new.context.wait ≡ None }
     {
         match space.tables_of(self.context.who(), schema) {
@@ -69,9 +69,9 @@ impl<S: LockSpace> Player<S> {
 
     /// The key of a place.
     pub(crate) fn key_of(&mut self, space: &mut S, place: Place) -> Result<Key, Ending>
-        requires ready { IsReady S.LockSpace space.old self.old.context }
+        requires ready { IsReady S.LockSpace space.old self.old }
         ensures run { IsStep S.joins (key_of place) space.old self.old result space.new self.new }
-        ensures goes_on { GoesOn S.LockSpace space.old self.old.context space.new self.new.context }
+        ensures goes_on { GoesOn S.LockSpace space.old self.old space.new self.new }
         ensures idle { self.new.context.wait ≡ None }
     {
         match space.key_of(self.context.who(), place) {
@@ -82,9 +82,9 @@ impl<S: LockSpace> Player<S> {
 
     /// Kills the wait that a session has.
     pub(crate) fn kill(&mut self, space: &mut S, target: u16)
-        requires ready { IsReady S.LockSpace space.old self.old.context }
+        requires ready { IsReady S.LockSpace space.old self.old }
         ensures run { IsStep S.joins (kill target) space.old self.old (Ok tt) space.new self.new }
-        ensures goes_on { GoesOn S.LockSpace space.old self.old.context space.new self.new.context }
+        ensures goes_on { GoesOn S.LockSpace space.old self.old space.new self.new }
         ensures idle { self.new.context.wait ≡ None }
     {
         if let Some(number) = space.wait_of(target) {
@@ -94,9 +94,9 @@ impl<S: LockSpace> Player<S> {
 
     /// What stands under the key of a table's ticket, if there is such a table.
     pub(crate) fn exists(&mut self, space: &mut S, ticket: TicketId) -> Result<Standing, Ending>
-        requires ready { IsReady S.LockSpace space.old self.old.context }
+        requires ready { IsReady S.LockSpace space.old self.old }
         ensures run { IsStep S.joins (exists ticket) space.old self.old result space.new self.new }
-        ensures goes_on { GoesOn S.LockSpace space.old self.old.context space.new self.new.context }
+        ensures goes_on { GoesOn S.LockSpace space.old self.old space.new self.new }
         ensures idle { self.new.context.wait ≡ None }
     {
         let standing = match self.read(space, ticket) {
@@ -117,9 +117,9 @@ impl<S: LockSpace> Player<S> {
         table: &Key,
         ticket: TicketId,
     ) -> Result<TablesShown, Ending>
-        requires ready { IsReady S.LockSpace space.old self.old.context }
+        requires ready { IsReady S.LockSpace space.old self.old }
         ensures run { IsStep S.joins (show shown table.now ticket) space.old self.old result space.new self.new }
-        ensures goes_on { GoesOn S.LockSpace space.old self.old.context space.new self.new.context }
+        ensures goes_on { GoesOn S.LockSpace space.old self.old space.new self.new }
         ensures idle { self.new.context.wait ≡ None }
     {
         let standing = match self.exists(space, ticket) {

@@ -26,9 +26,9 @@ use std::alloc::AllocError;
 impl<S: LockSpace> Player<S> {
     /// Renames a table, once no transaction is open.
     pub(crate) fn rename<'s>(&mut self, space: &mut S, from: &'s Key, to: &'s Key) -> Played<'s>
-        requires ready { IsReady S.LockSpace space.old self.old.context }
+        requires ready { IsReady S.LockSpace space.old self.old }
         ensures run { IsPlayed S.joins (rename_after_commit from.now to.now) space.old self.old result space.new self.new }
-        ensures goes_on { GoesOn S.LockSpace space.old self.old.context space.new self.new.context }
+        ensures goes_on { GoesOn S.LockSpace space.old self.old space.new self.new }
         ensures idle { IdleUnlessPlayed result self.new }
     {
         let Ok(names) = both(from, to) else {
@@ -48,9 +48,9 @@ impl<S: LockSpace> Player<S> {
         to: &'s Key,
         locks: LockList,
     ) -> Played<'s>
-        requires ready { IsReady S.LockSpace space.old self.old.context }
+        requires ready { IsReady S.LockSpace space.old self.old }
         ensures run { IsPlayed S.joins (rename_scopes from.now to.now locks locks.keys) space.old self.old result space.new self.new }
-        ensures goes_on { GoesOn S.LockSpace space.old self.old.context space.new self.new.context }
+        ensures goes_on { GoesOn S.LockSpace space.old self.old space.new self.new }
         ensures idle { IdleUnlessPlayed result self.new }
     {
         match self.lock_all(space, locks) {
@@ -71,9 +71,9 @@ impl<S: LockSpace> Player<S> {
         to: &'s Key,
         scopes: &LockList,
     ) -> Played<'s>
-        requires ready { IsReady S.LockSpace space.old self.old.context }
+        requires ready { IsReady S.LockSpace space.old self.old }
         ensures run { IsPlayed S.joins (lock_and_rename from.now to.now (ticket_of (schema_of to.now) scopes.now.keys scopes.now.tickets)) space.old self.old result space.new self.new }
-        ensures goes_on { GoesOn S.LockSpace space.old self.old.context space.new self.new.context }
+        ensures goes_on { GoesOn S.LockSpace space.old self.old space.new self.new }
         ensures idle { IdleUnlessPlayed result self.new }
     {
         let Ok(schema) = schema_of(self.alloc, to) else {
@@ -98,9 +98,9 @@ impl<S: LockSpace> Player<S> {
         schema: TicketId,
         locks: LockList,
     ) -> Played<'s>
-        requires ready { IsReady S.LockSpace space.old self.old.context }
+        requires ready { IsReady S.LockSpace space.old self.old }
         ensures run { IsPlayed S.joins (rename_names from.now to.now schema locks locks.keys) space.old self.old result space.new self.new }
-        ensures goes_on { GoesOn S.LockSpace space.old self.old.context space.new self.new.context }
+        ensures goes_on { GoesOn S.LockSpace space.old self.old space.new self.new }
         ensures idle { IdleUnlessPlayed result self.new }
     {
         match self.lock_all(space, locks) {
@@ -123,9 +123,9 @@ impl<S: LockSpace> Player<S> {
         from: TicketId,
         to: TicketId,
     ) -> Played<'s>
-        requires ready { IsReady S.LockSpace space.old self.old.context }
+        requires ready { IsReady S.LockSpace space.old self.old }
         ensures run { IsPlayed S.joins (rename_under schema from to) space.old self.old result space.new self.new }
-        ensures goes_on { GoesOn S.LockSpace space.old self.old.context space.new self.new.context }
+        ensures goes_on { GoesOn S.LockSpace space.old self.old space.new self.new }
         ensures idle { IdleUnlessPlayed result self.new }
     {
         if let Err(ending) = self.is_free(space, to) {
@@ -143,9 +143,9 @@ impl<S: LockSpace> Player<S> {
 
     /// Looks whether there is no table of a name.
     fn is_free(&mut self, space: &mut S, ticket: TicketId) -> Result<(), Ending>
-        requires ready { IsReady S.LockSpace space.old self.old.context }
+        requires ready { IsReady S.LockSpace space.old self.old }
         ensures run { IsStep S.joins (is_free ticket) space.old self.old result space.new self.new }
-        ensures goes_on { GoesOn S.LockSpace space.old self.old.context space.new self.new.context }
+        ensures goes_on { GoesOn S.LockSpace space.old self.old space.new self.new }
         ensures idle { self.new.context.wait ≡ None }
     {
         match self.read(space, ticket) {
@@ -161,9 +161,9 @@ impl<S: LockSpace> Player<S> {
 
     /// The definition of a table, if there is such a table.
     fn definition_under(&mut self, space: &mut S, ticket: TicketId) -> Result<Definition, Ending>
-        requires ready { IsReady S.LockSpace space.old self.old.context }
+        requires ready { IsReady S.LockSpace space.old self.old }
         ensures run { IsStep S.joins (definition_under ticket) space.old self.old result space.new self.new }
-        ensures goes_on { GoesOn S.LockSpace space.old self.old.context space.new self.new.context }
+        ensures goes_on { GoesOn S.LockSpace space.old self.old space.new self.new }
         ensures idle { self.new.context.wait ≡ None }
     {
         match self.read(space, ticket) {
@@ -180,9 +180,9 @@ impl<S: LockSpace> Player<S> {
         from: TicketId,
         to: TicketId,
     ) -> Played<'s>
-        requires ready { IsReady S.LockSpace space.old self.old.context }
+        requires ready { IsReady S.LockSpace space.old self.old }
         ensures run { IsPlayed S.joins (move_definition definition from to) space.old self.old result space.new self.new }
-        ensures goes_on { GoesOn S.LockSpace space.old self.old.context space.new self.new.context }
+        ensures goes_on { GoesOn S.LockSpace space.old self.old space.new self.new }
         ensures idle { IdleUnlessPlayed result self.new }
     {
         if let Err(ending) = self.all_can_change(space, &[to, from]) {
@@ -206,9 +206,9 @@ impl<S: LockSpace> Player<S> {
         at: Renaming,
         ticket: TicketId,
     ) -> Played<'s>
-        requires ready { IsReady S.LockSpace space.old self.old.context }
+        requires ready { IsReady S.LockSpace space.old self.old }
         ensures run { IsPlayed S.joins (rest_of_renaming from.now to.now at ticket) space.old self.old result space.new self.new }
-        ensures goes_on { GoesOn S.LockSpace space.old self.old.context space.new self.new.context }
+        ensures goes_on { GoesOn S.LockSpace space.old self.old space.new self.new }
         ensures idle { IdleUnlessPlayed result self.new }
     {
         match at {

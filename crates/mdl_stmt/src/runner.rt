@@ -1,12 +1,13 @@
 //! Statements of a session, one after the other.
-ghost use Rattle.std.specs.Prelude.{◌≡◌, None, IsSome, IfSome, is_some, []};
+ghost use Rattle.std.specs.Prelude.{◌≡◌, None, IfOk, IsSome, IfSome, is_some, []};
 ghost use Rattle.mdl_calls.specs.Words.{Runs};
 ghost use Rattle.mdl_context.specs.Contexts.{Attends, LeavesOthers};
-ghost use Rattle.mdl_stmt.specs.Attendance.{GoesOn, IsReady};
+ghost use Rattle.mdl_stmt.specs.Attendance.{AttendsWith, GoesOn, IsCapacity, IsReady};
 ghost use Rattle.mdl_rows.specs.Endings.{closing};
 ghost use Rattle.mdl_stmt.specs.Gets.{ran};
 ghost use Rattle.mdl_rows.specs.Leavings.{leaving};
 ghost use Rattle.mdl_rows.specs.Playing.{play, starting, going_on};
+ghost use Rattle.mdl_stmt.specs.Players.{player_in};
 ghost use Rattle.mdl_stmt.specs.Stages.{session_of, rest_of};
 ghost use Rattle.mdl_rows.specs.States.{at_first};
 
@@ -42,20 +43,20 @@ impl<'s, S: LockSpace> Model for Runner<'s, S> {
 
     ghost Value = { RunnerView };
 
-    ghost view = { λ runner. record { context = runner.player.context; state = runner.player.state; work = runner.work } };
+    ghost view = { λ runner. record { context = runner.player.context; state = runner.player.state; work = runner.work; cache = runner.player.cache } };
 
     ghost invariant = { λ runner. runner.work ≡ None → runner.player.context.wait ≡ None };
 }
 
 impl<'s, S: LockSpace> Runner<'s, S> {
-    /// A session that has done nothing. It takes no memory.
-    pub fn new(alloc: Global, who: u16) -> Runner<'s, S>
-        ensures { result ≡ record { context = record { who = who; kept = []; known = []; wait = None }; state = at_first; work = None } }
+    /// A session that has done nothing. Its cache keeps at most so many definitions that its statements read: 1 to
+    /// [`MOST_KEPT`](mdl_defs::MOST_KEPT). Memory is taken for the empty cache.
+    pub fn new(alloc: Global, who: u16, cache: u16) -> Result<Runner<'s, S>, OutOfMemory>
+        requires capacity { IsCapacity cache }
+        ensures made { IfOk result (λ runner. runner ≡ record { context = record { who = who; kept = []; known = []; wait = None }; state = at_first; work = None; cache = record { kept = []; capacity = cache } }) }
     {
-        Runner {
-            player: Player::new(alloc, who),
-            work: None,
-        }
+        let player = Player::new(alloc, who, cache)?;
+        Ok(Runner { player, work: None })
     }
 
     /// Whether a statement of the session waits.
@@ -71,12 +72,13 @@ impl<'s, S: LockSpace> Runner<'s, S> {
         space: &mut S,
         statement: &'s Statement,
     ) -> Result<Progress, OutOfMemory>
-        requires attends { Attends S.LockSpace space.old self.old.context }
+        requires attends { AttendsWith S.LockSpace space.old self.old.context self.old.cache }
         requires idle { self.old.work ≡ None }
         ensures run { Runs S.joins space.old (starting statement.now (session_of self.old)) (ran result (session_of self.new)) space.new }
-        ensures attends { Attends S.LockSpace space.new self.new.context }
+        ensures attends { AttendsWith S.LockSpace space.new self.new.context self.new.cache }
         ensures others { LeavesOthers S.LockSpace self.old.context.who space.old space.new }
         ensures who { self.new.context.who ≡ self.old.context.who }
+        ensures capacity { self.new.cache.capacity ≡ self.old.cache.capacity }
     {
         let mark = self.player.context.savepoint();
         match self.player.perform(space, statement) {
@@ -90,12 +92,13 @@ impl<'s, S: LockSpace> Runner<'s, S> {
 
     /// Goes on with the statement that waits. One has to be waiting.
     pub fn go_on(&mut self, space: &mut S) -> Result<Progress, OutOfMemory>
-        requires attends { Attends S.LockSpace space.old self.old.context }
+        requires attends { AttendsWith S.LockSpace space.old self.old.context self.old.cache }
         requires waits { IsSome self.old.work }
         ensures run { Runs S.joins space.old (going_on (session_of self.old)) (ran result (session_of self.new)) space.new }
-        ensures attends { Attends S.LockSpace space.new self.new.context }
+        ensures attends { AttendsWith S.LockSpace space.new self.new.context self.new.cache }
         ensures others { LeavesOthers S.LockSpace self.old.context.who space.old space.new }
         ensures who { self.new.context.who ≡ self.old.context.who }
+        ensures capacity { self.new.cache.capacity ≡ self.old.cache.capacity }
     {
         match self.player.context.resume(space) {
             Ok(Resume::Waiting) => Ok(Progress::Pending),
@@ -105,7 +108,8 @@ impl<'s, S: LockSpace> Runner<'s, S> {
         }
     }
 
-    /// Ends the session: a statement that waits is lost, and all that the session holds is given up. It takes no memory.
+    /// Ends the session: a statement that waits is lost, and all that the session holds is given up. It takes no memory,
+    /// unless a wait for an upgrade is granted already; all is given up in any case.
     ///
     /// After MySQL 5.7, `THD::cleanup` of `sql/sql_class.cc`.
     pub fn leave(self, space: &mut S)
@@ -122,10 +126,10 @@ impl<'s, S: LockSpace> Runner<'s, S> {
 
     // Ends the statement that waited.
     fn end_with(&mut self, space: &mut S, ending: Ending) -> Result<Progress, OutOfMemory>
-        requires ready { IsReady S.LockSpace space.old self.old.context }
+        requires ready { IsReady S.LockSpace space.old (player_in self.old) }
         requires waited { IsSome self.old.work }
         ensures run { IfSome self.old.work (λ work. Runs S.joins space.old (closing ending work.mark (session_of self.old)) (ran result (session_of self.new)) space.new) }
-        ensures goes_on { GoesOn S.LockSpace space.old self.old.context space.new self.new.context }
+        ensures goes_on { GoesOn S.LockSpace space.old (player_in self.old) space.new (player_in self.new) }
     {
         let work = self.work.take().unwrap();
         self.player.close(space, ending, work.mark)
@@ -133,10 +137,10 @@ impl<'s, S: LockSpace> Runner<'s, S> {
 
     // Goes on with a statement that has the lock that it waited for.
     fn go_on_with(&mut self, space: &mut S, ticket: TicketId) -> Result<Progress, OutOfMemory>
-        requires ready { IsReady S.LockSpace space.old self.old.context }
+        requires ready { IsReady S.LockSpace space.old (player_in self.old) }
         requires waited { IsSome self.old.work }
         ensures run { IfSome self.old.work (λ work. Runs S.joins space.old (play (rest_of work.stage ticket) work.mark (session_of (record self.old { work = None }))) (ran result (session_of self.new)) space.new) }
-        ensures goes_on { GoesOn S.LockSpace space.old self.old.context space.new self.new.context }
+        ensures goes_on { GoesOn S.LockSpace space.old (player_in self.old) space.new (player_in self.new) }
     {
         let Work { stage, mark } = self.work.take().unwrap();
         match self.player.proceed(space, stage, ticket) {

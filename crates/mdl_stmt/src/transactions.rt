@@ -18,9 +18,9 @@ use mdl_syntax::{Name, Statement};
 impl<S: LockSpace> Player<S> {
     /// Ends the transaction: its tickets go, and those of the statement.
     pub(crate) fn end_transaction(&mut self, space: &mut S)
-        requires ready { IsReady S.LockSpace space.old self.old.context }
+        requires ready { IsReady S.LockSpace space.old self.old }
         ensures run { IsStep S.joins end_transaction space.old self.old (Ok tt) space.new self.new }
-        ensures goes_on { GoesOn S.LockSpace space.old self.old.context space.new self.new.context }
+        ensures goes_on { GoesOn S.LockSpace space.old self.old space.new self.new }
         ensures idle { self.new.context.wait ≡ None }
     {
         self.context.finish_transaction(space);
@@ -31,9 +31,9 @@ impl<S: LockSpace> Player<S> {
 
     /// Ends the transaction under the COMMIT lock, which goes then.
     pub(crate) fn end_under(&mut self, space: &mut S, lock: TicketId)
-        requires ready { IsReady S.LockSpace space.old self.old.context }
+        requires ready { IsReady S.LockSpace space.old self.old }
         ensures run { IsStep S.joins (end_under lock) space.old self.old (Ok tt) space.new self.new }
-        ensures goes_on { GoesOn S.LockSpace space.old self.old.context space.new self.new.context }
+        ensures goes_on { GoesOn S.LockSpace space.old self.old space.new self.new }
         ensures idle { self.new.context.wait ≡ None }
     {
         self.end_transaction(space);
@@ -42,9 +42,9 @@ impl<S: LockSpace> Player<S> {
 
     /// Commits a transaction that wrote.
     pub(crate) fn commit_writes(&mut self, space: &mut S) -> Got<()>
-        requires ready { IsReady S.LockSpace space.old self.old.context }
+        requires ready { IsReady S.LockSpace space.old self.old }
         ensures run { IsCommitted S.joins commit_writes space.old self.old result space.new self.new }
-        ensures goes_on { GoesOn S.LockSpace space.old self.old.context space.new self.new.context }
+        ensures goes_on { GoesOn S.LockSpace space.old self.old space.new self.new }
         ensures idle { IdleUnlessGot result self.new }
     {
         let key = Key::commit(self.alloc);
@@ -65,9 +65,9 @@ impl<S: LockSpace> Player<S> {
 
     /// Commits an open transaction.
     fn commit(&mut self, space: &mut S) -> Got<()>
-        requires ready { IsReady S.LockSpace space.old self.old.context }
+        requires ready { IsReady S.LockSpace space.old self.old }
         ensures run { IsCommitted S.joins commit space.old self.old result space.new self.new }
-        ensures goes_on { GoesOn S.LockSpace space.old self.old.context space.new self.new.context }
+        ensures goes_on { GoesOn S.LockSpace space.old self.old space.new self.new }
         ensures idle { IdleUnlessGot result self.new }
     {
         if !self.is_open {
@@ -82,9 +82,9 @@ impl<S: LockSpace> Player<S> {
 
     /// Commits an open transaction, and then does what is left of the statement.
     pub(crate) fn commit_first<'s>(&mut self, space: &mut S, statement: &'s Statement) -> Played<'s>
-        requires ready { IsReady S.LockSpace space.old self.old.context }
+        requires ready { IsReady S.LockSpace space.old self.old }
         ensures run { IsPlayed S.joins (commit_first (after_commit statement.now)) space.old self.old result space.new self.new }
-        ensures goes_on { GoesOn S.LockSpace space.old self.old.context space.new self.new.context }
+        ensures goes_on { GoesOn S.LockSpace space.old self.old space.new self.new }
         ensures idle { IdleUnlessPlayed result self.new }
     {
         match self.commit(space) {
@@ -96,9 +96,9 @@ impl<S: LockSpace> Player<S> {
 
     /// Does what is left of a statement once the transaction that was open is committed.
     pub(crate) fn after_commit<'s>(&mut self, space: &mut S, statement: &'s Statement) -> Played<'s>
-        requires ready { IsReady S.LockSpace space.old self.old.context }
+        requires ready { IsReady S.LockSpace space.old self.old }
         ensures run { IsPlayed S.joins (after_commit statement.now) space.old self.old result space.new self.new }
-        ensures goes_on { GoesOn S.LockSpace space.old self.old.context space.new self.new.context }
+        ensures goes_on { GoesOn S.LockSpace space.old self.old space.new self.new }
         ensures idle { IdleUnlessPlayed result self.new }
     {
         match statement {
@@ -117,9 +117,9 @@ impl<S: LockSpace> Player<S> {
 
     /// Opens a transaction: tables that are locked are given up.
     fn begin(&mut self, space: &mut S) -> Ending
-        requires ready { IsReady S.LockSpace space.old self.old.context }
+        requires ready { IsReady S.LockSpace space.old self.old }
         ensures run { IsPlayed S.joins begin_after_commit space.old self.old (played.Ends result) space.new self.new }
-        ensures goes_on { GoesOn S.LockSpace space.old self.old.context space.new self.new.context }
+        ensures goes_on { GoesOn S.LockSpace space.old self.old space.new self.new }
         ensures idle { self.new.context.wait ≡ None }
     {
         self.unlock_tables(space);
@@ -129,9 +129,9 @@ impl<S: LockSpace> Player<S> {
 
     /// Rolls an open transaction back.
     pub(crate) fn rollback(&mut self, space: &mut S)
-        requires ready { IsReady S.LockSpace space.old self.old.context }
+        requires ready { IsReady S.LockSpace space.old self.old }
         ensures run { IsStep S.joins rollback space.old self.old (Ok tt) space.new self.new }
-        ensures goes_on { GoesOn S.LockSpace space.old self.old.context space.new self.new.context }
+        ensures goes_on { GoesOn S.LockSpace space.old self.old space.new self.new }
         ensures idle { self.new.context.wait ≡ None }
     {
         if self.is_open {
@@ -141,9 +141,9 @@ impl<S: LockSpace> Player<S> {
 
     /// Marks the session's place in an open transaction by a name.
     pub(crate) fn save(&mut self, space: &mut S, name: &Name) -> Ending
-        requires ready { IsReady S.LockSpace space.old self.old.context }
+        requires ready { IsReady S.LockSpace space.old self.old }
         ensures run { IsPlayed S.joins (save name.now) space.old self.old (played.Ends result) space.new self.new }
-        ensures goes_on { GoesOn S.LockSpace space.old self.old.context space.new self.new.context }
+        ensures goes_on { GoesOn S.LockSpace space.old self.old space.new self.new }
         ensures idle { self.new.context.wait ≡ None }
     {
         if !self.is_open {
@@ -158,9 +158,9 @@ impl<S: LockSpace> Player<S> {
 
     /// Goes back to the savepoint of a name.
     pub(crate) fn rollback_to(&mut self, space: &mut S, name: &Name) -> Ending
-        requires ready { IsReady S.LockSpace space.old self.old.context }
+        requires ready { IsReady S.LockSpace space.old self.old }
         ensures run { IsPlayed S.joins (rollback_to name.now) space.old self.old (played.Ends result) space.new self.new }
-        ensures goes_on { GoesOn S.LockSpace space.old self.old.context space.new self.new.context }
+        ensures goes_on { GoesOn S.LockSpace space.old self.old space.new self.new }
         ensures idle { self.new.context.wait ≡ None }
     {
         match self.savepoints.go_back(name) {

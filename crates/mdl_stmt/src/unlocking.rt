@@ -1,10 +1,10 @@
 //! UNLOCK TABLES, and what else a session gives up that it has kept until then.
 ghost use Rattle.std.specs.Prelude.{◌≡◌, [], None, Ok, map};
-ghost use Rattle.mdl_stmt.specs.Attendance.{GoesOn, IsReady};
+ghost use Rattle.mdl_stmt.specs.Attendance.{ContextGoesOn, GoesOn, IsIdle, IsReady};
 ghost use Rattle.mdl_stmt.specs.Gets.{IsPlayed, IsStep};
 ghost use Rattle.mdl_rows.specs.Rows.{for_each, release};
 ghost use Rattle.mdl_rows.specs.Statements.{give_up_read_lock, release_commits, release_read_lock, unlock, unlock_tables};
-ghost use Rattle.mdl_rows.specs.States.{State};
+ghost use Rattle.mdl_stmt.specs.Players.{PlayerView};
 ghost use Rattle.mdl_stmt.specs.declared.got.Played.TheVariants as played;
 
 use crate::Reply;
@@ -16,9 +16,9 @@ use mdl_space::{LockSpace, TicketId};
 impl<S: LockSpace> Player<S> {
     /// Gives locked tables up, with their scopes.
     pub(crate) fn unlock_tables(&mut self, space: &mut S)
-        requires ready { IsReady S.LockSpace space.old self.old.context }
+        requires ready { IsReady S.LockSpace space.old self.old }
         ensures run { IsStep S.joins unlock_tables space.old self.old (Ok tt) space.new self.new }
-        ensures goes_on { GoesOn S.LockSpace space.old self.old.context space.new self.new.context }
+        ensures goes_on { GoesOn S.LockSpace space.old self.old space.new self.new }
         ensures idle { self.new.context.wait ≡ None }
         ensures unlocked { (self.new.state.locked ≡ []) × (self.new.state.scopes ≡ []) }
     {
@@ -29,9 +29,9 @@ impl<S: LockSpace> Player<S> {
 
     /// Gives locked tables up, and the global read lock.
     pub(crate) fn unlock(&mut self, space: &mut S) -> Ending
-        requires ready { IsReady S.LockSpace space.old self.old.context }
+        requires ready { IsReady S.LockSpace space.old self.old }
         ensures run { IsPlayed S.joins unlock space.old self.old (played.Ends result) space.new self.new }
-        ensures goes_on { GoesOn S.LockSpace space.old self.old.context space.new self.new.context }
+        ensures goes_on { GoesOn S.LockSpace space.old self.old space.new self.new }
         ensures idle { self.new.context.wait ≡ None }
     {
         self.unlock_tables(space);
@@ -41,9 +41,9 @@ impl<S: LockSpace> Player<S> {
 
     /// Gives the global read lock up.
     fn give_up_read_lock(&mut self, space: &mut S)
-        requires ready { IsReady S.LockSpace space.old self.old.context }
+        requires ready { IsReady S.LockSpace space.old self.old }
         ensures run { IsStep S.joins give_up_read_lock space.old self.old (Ok tt) space.new self.new }
-        ensures goes_on { GoesOn S.LockSpace space.old self.old.context space.new self.new.context }
+        ensures goes_on { GoesOn S.LockSpace space.old self.old space.new self.new }
         ensures idle { self.new.context.wait ≡ None }
     {
         let lock = self.explicit.read_lock();
@@ -53,9 +53,9 @@ impl<S: LockSpace> Player<S> {
 
     /// Releases the tickets of a global read lock.
     fn release_read_lock(&mut self, space: &mut S, lock: Option<ReadLock>)
-        requires ready { IsReady S.LockSpace space.old self.old.context }
+        requires ready { IsReady S.LockSpace space.old self.old }
         ensures run { IsStep S.joins (release_read_lock lock) space.old self.old (Ok tt) space.new self.new }
-        ensures goes_on { GoesOn S.LockSpace space.old self.old.context space.new self.new.context }
+        ensures goes_on { GoesOn S.LockSpace space.old self.old space.new self.new }
         ensures idle { self.new.context.wait ≡ None }
     {
         if let Some(lock) = lock {
@@ -66,9 +66,9 @@ impl<S: LockSpace> Player<S> {
 
     /// Releases the ticket of the COMMIT lock, if there is one.
     fn release_commits(&mut self, space: &mut S, commit: Option<TicketId>)
-        requires ready { IsReady S.LockSpace space.old self.old.context }
+        requires ready { IsReady S.LockSpace space.old self.old }
         ensures run { IsStep S.joins (release_commits commit) space.old self.old (Ok tt) space.new self.new }
-        ensures goes_on { GoesOn S.LockSpace space.old self.old.context space.new self.new.context }
+        ensures goes_on { GoesOn S.LockSpace space.old self.old space.new self.new }
         ensures idle { self.new.context.wait ≡ None }
     {
         if let Some(commit) = commit {
@@ -78,9 +78,9 @@ impl<S: LockSpace> Player<S> {
 
     /// Releases a ticket.
     fn release(&mut self, space: &mut S, ticket: TicketId)
-        requires ready { IsReady S.LockSpace space.old self.old.context }
+        requires ready { IsReady S.LockSpace space.old self.old }
         ensures run { IsStep S.joins (release ticket) space.old self.old (Ok tt) space.new self.new }
-        ensures goes_on { GoesOn S.LockSpace space.old self.old.context space.new self.new.context }
+        ensures goes_on { GoesOn S.LockSpace space.old self.old space.new self.new }
         ensures idle { self.new.context.wait ≡ None }
     {
         let _released = self.context.release(space, ticket);
@@ -89,9 +89,9 @@ impl<S: LockSpace> Player<S> {
 
 // Releases the tickets of locked tables, one after the other.
 fn release_tables<S: LockSpace>(context: &mut Context<S>, space: &mut S, tables: &[Locked])
-    requires ready { IsReady S.LockSpace space.old context.old }
-    ensures run { (state : State) → IsStep S.joins (for_each release (map (λ table. table.ticket) tables.now)) space.old (record { context = context.old; state = state }) (Ok tt) space.new (record { context = context.new; state = state }) }
-    ensures goes_on { GoesOn S.LockSpace space.old context.old space.new context.new }
+    requires ready { IsIdle S.LockSpace space.old context.old }
+    ensures run { (player : PlayerView) → IsStep S.joins (for_each release (map (λ table. table.ticket) tables.now)) space.old (record player { context = context.old }) (Ok tt) space.new (record player { context = context.new }) }
+    ensures goes_on { ContextGoesOn S.LockSpace space.old context.old space.new context.new }
     ensures idle { context.new.wait ≡ None }
 {
     for table in tables {
@@ -101,9 +101,9 @@ fn release_tables<S: LockSpace>(context: &mut Context<S>, space: &mut S, tables:
 
 // Releases tickets, one after the other.
 fn release_each<S: LockSpace>(context: &mut Context<S>, space: &mut S, tickets: &[TicketId])
-    requires ready { IsReady S.LockSpace space.old context.old }
-    ensures run { (state : State) → IsStep S.joins (for_each release tickets.now) space.old (record { context = context.old; state = state }) (Ok tt) space.new (record { context = context.new; state = state }) }
-    ensures goes_on { GoesOn S.LockSpace space.old context.old space.new context.new }
+    requires ready { IsIdle S.LockSpace space.old context.old }
+    ensures run { (player : PlayerView) → IsStep S.joins (for_each release tickets.now) space.old (record player { context = context.old }) (Ok tt) space.new (record player { context = context.new }) }
+    ensures goes_on { ContextGoesOn S.LockSpace space.old context.old space.new context.new }
     ensures idle { context.new.wait ≡ None }
 {
     for ticket in tickets {

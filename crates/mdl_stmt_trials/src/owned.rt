@@ -2,12 +2,13 @@
 //! stages, and is done after that session has released the lock.
 ghost use Rattle.std.specs.Prelude.{◌≡◌};
 ghost use Rattle.mdl_space.specs.CoreMembers.{core_space};
-ghost use Rattle.mdl_context.specs.Contexts.{Attends, LeavesOthers};
+ghost use Rattle.mdl_context.specs.Contexts.{LeavesOthers};
+ghost use Rattle.mdl_stmt.specs.Attendance.{AttendsWith};
 
-use crate::room::{Lock, OTHER, Outcome, held, leave, outcome_of, place, take};
+use crate::room::{CACHE, Lock, OTHER, Outcome, held, leave, outcome_of, place, take};
 use mdl_key::Mode;
 use mdl_space::{CoreSpace, NewError, Place, TicketId};
-use mdl_stmt::{OwnedRunner, Statement};
+use mdl_stmt::{OutOfMemory, OwnedRunner, Statement};
 use mdl_syntax::{Script, parse};
 use std::alloc::Global;
 use std::marker::Model;
@@ -27,18 +28,21 @@ impl Model for OwnedRoom {
 
     ghost view = { λ _. tt };
 
-    ghost invariant = { λ room. ServesBoth room.space room.runner.context };
+    ghost invariant = { λ room. ServesBoth room.space room.runner.context room.runner.cache };
 }
 
 impl OwnedRoom {
     // Nobody has asked for anything.
     fn new(alloc: Global) -> Result<OwnedRoom, NewError> {
         let space = CoreSpace::new(alloc, PLACES, OTHER)?;
-        Ok(OwnedRoom {
-            alloc,
-            space,
-            runner: OwnedRunner::new(alloc, 1),
-        })
+        match OwnedRunner::new(alloc, 1, CACHE) {
+            Ok(runner) => Ok(OwnedRoom {
+                alloc,
+                space,
+                runner,
+            }),
+            Err(OutOfMemory) => Err(NewError::OutOfMemory),
+        }
     }
 
     // Starts a statement, which is dropped then.
@@ -121,8 +125,8 @@ fn start(
     runner: &mut OwnedRunner<CoreSpace>,
     statement: &Statement,
 ) -> Option<Outcome>
-    requires { Attends core_space space.old runner.old.context }
-    ensures attends { Attends core_space space.new runner.new.context }
+    requires { AttendsWith core_space space.old runner.old.context runner.old.cache }
+    ensures attends { AttendsWith core_space space.new runner.new.context runner.new.cache }
     ensures who { runner.new.context.who ≡ runner.old.context.who }
     ensures others { LeavesOthers core_space runner.old.context.who space.old space.new }
 {
@@ -133,8 +137,8 @@ fn start(
 }
 
 fn go_on(space: &mut CoreSpace, runner: &mut OwnedRunner<CoreSpace>) -> Option<Outcome>
-    requires { Attends core_space space.old runner.old.context }
-    ensures attends { Attends core_space space.new runner.new.context }
+    requires { AttendsWith core_space space.old runner.old.context runner.old.cache }
+    ensures attends { AttendsWith core_space space.new runner.new.context runner.new.cache }
     ensures who { runner.new.context.who ≡ runner.old.context.who }
     ensures others { LeavesOthers core_space runner.old.context.who space.old space.new }
 {

@@ -1,7 +1,8 @@
 //! A lock space with a session whose statements are tried, and another one that has locks.
 ghost use Rattle.std.specs.Prelude.{◌≡◌};
 ghost use Rattle.mdl_space.specs.CoreMembers.{core_space};
-ghost use Rattle.mdl_context.specs.Contexts.{Attends, LeavesOthers};
+ghost use Rattle.mdl_context.specs.Contexts.{LeavesOthers};
+ghost use Rattle.mdl_stmt.specs.Attendance.{AttendsWith};
 
 use mdl_defs::Change;
 use mdl_key::{Key, KeyError, Mode};
@@ -43,6 +44,9 @@ impl Lock {
     }
 }
 
+/// How many definitions a session's cache keeps.
+pub(crate) const CACHE: u16 = 64;
+
 /// The session that has locks.
 pub(crate) const OTHER: u16 = 2;
 
@@ -61,18 +65,21 @@ impl<'s> Model for Room<'s> {
 
     ghost view = { λ _. tt };
 
-    ghost invariant = { λ room. ServesBoth room.space room.runner.context };
+    ghost invariant = { λ room. ServesBoth room.space room.runner.context room.runner.cache };
 }
 
 impl<'s> Room<'s> {
     /// Nobody has asked for anything.
     pub(crate) fn new(alloc: Global, places: u16) -> Result<Room<'s>, NewError> {
         let space = CoreSpace::new(alloc, places, OTHER)?;
-        Ok(Room {
-            alloc,
-            space,
-            runner: Runner::new(alloc, 1),
-        })
+        match Runner::new(alloc, 1, CACHE) {
+            Ok(runner) => Ok(Room {
+                alloc,
+                space,
+                runner,
+            }),
+            Err(OutOfMemory) => Err(NewError::OutOfMemory),
+        }
     }
 
     /// What comes of a statement.
@@ -117,8 +124,8 @@ fn say<'s>(
     runner: &mut Runner<'s, CoreSpace>,
     statement: &'s Statement,
 ) -> Outcome
-    requires { Attends core_space space.old runner.old.context }
-    ensures attends { Attends core_space space.new runner.new.context }
+    requires { AttendsWith core_space space.old runner.old.context runner.old.cache }
+    ensures attends { AttendsWith core_space space.new runner.new.context runner.new.cache }
     ensures who { runner.new.context.who ≡ runner.old.context.who }
     ensures others { LeavesOthers core_space runner.old.context.who space.old space.new }
 {

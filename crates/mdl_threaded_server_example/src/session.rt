@@ -1,6 +1,6 @@
 //! A session, from its pass to the end of its requests.
 ghost use Rattle.std.specs.Prelude.{◌≡◌, [], None, IsSome};
-ghost use Rattle.mdl_context.specs.Contexts.{Attends};
+ghost use Rattle.mdl_stmt.specs.Attendance.{AttendsWith};
 ghost use Rattle.mdl_shared.specs.Passes.{pass_table, table_of};
 ghost use Rattle.mdl_shared.specs.SessionViews.{space_of};
 
@@ -17,6 +17,9 @@ use std::thread;
 
 // How often a session looks at a wait before that times out.
 const PATIENCE: u32 = 1_000_000;
+
+// How many definitions the cache of a session keeps.
+const CACHE: u16 = 64;
 
 /// Opens the session of a pass, answers its requests, and closes it.
 pub fn serve<R: Wait>(
@@ -56,7 +59,7 @@ fn work<S: LockSpace>(
     requires nothing { S.own space.old who ≡ record { held = []; wait = None } }
     ensures { S.own space.new who ≡ record { held = []; wait = None } }
 {
-    let mut runner = OwnedRunner::new(alloc, who);
+    let mut runner = OwnedRunner::new(alloc, who, CACHE)?;
     let text = answer_all(alloc, space, &mut runner, who, requests);
     runner.leave(space);
     text
@@ -70,9 +73,9 @@ fn answer_all<S: LockSpace>(
     who: u16,
     requests: &[Request<'_>],
 ) -> Result<String, AllocError>
-    requires attends { Attends S.LockSpace space.old runner.old.context }
+    requires attends { AttendsWith S.LockSpace space.old runner.old.context runner.old.cache }
     requires who { runner.old.context.who ≡ who }
-    ensures attends { Attends S.LockSpace space.new runner.new.context }
+    ensures attends { AttendsWith S.LockSpace space.new runner.new.context runner.new.cache }
     ensures who { runner.new.context.who ≡ who }
 {
     let mut text = String::new(alloc);
@@ -91,9 +94,9 @@ fn answer<S: LockSpace>(
     request: &Request<'_>,
     text: &mut String,
 ) -> Result<(), AllocError>
-    requires attends { Attends S.LockSpace space.old runner.old.context }
+    requires attends { AttendsWith S.LockSpace space.old runner.old.context runner.old.cache }
     requires who { runner.old.context.who ≡ who }
-    ensures attends { Attends S.LockSpace space.new runner.new.context }
+    ensures attends { AttendsWith S.LockSpace space.new runner.new.context runner.new.cache }
     ensures who { runner.new.context.who ≡ who }
 {
     write!(text, "session {who}, line {}: ", request.number)?;
@@ -114,8 +117,8 @@ fn start<S: LockSpace>(
     runner: &mut OwnedRunner<S>,
     request: &[u8],
 ) -> Result<Progress, Fault>
-    requires { Attends S.LockSpace space.old runner.old.context }
-    ensures attends { Attends S.LockSpace space.new runner.new.context }
+    requires { AttendsWith S.LockSpace space.old runner.old.context runner.old.cache }
+    ensures attends { AttendsWith S.LockSpace space.new runner.new.context runner.new.cache }
     ensures who { runner.new.context.who ≡ runner.old.context.who }
 {
     let script = parse(alloc, request)?;
@@ -135,9 +138,9 @@ fn finish<S: LockSpace>(
     who: u16,
     progress: Progress,
 ) -> Result<Progress, OutOfMemory>
-    requires attends { Attends S.LockSpace space.old runner.old.context }
+    requires attends { AttendsWith S.LockSpace space.old runner.old.context runner.old.cache }
     requires who { runner.old.context.who ≡ who }
-    ensures attends { Attends S.LockSpace space.new runner.new.context }
+    ensures attends { AttendsWith S.LockSpace space.new runner.new.context runner.new.cache }
     ensures who { runner.new.context.who ≡ who }
 {
     let mut progress = progress;
@@ -156,10 +159,10 @@ fn wait_out<S: LockSpace>(
     runner: &mut OwnedRunner<S>,
     who: u16,
 ) -> Result<Progress, OutOfMemory>
-    requires attends { Attends S.LockSpace space.old runner.old.context }
+    requires attends { AttendsWith S.LockSpace space.old runner.old.context runner.old.cache }
     requires who { runner.old.context.who ≡ who }
     requires waits { IsSome runner.old.work }
-    ensures attends { Attends S.LockSpace space.new runner.new.context }
+    ensures attends { AttendsWith S.LockSpace space.new runner.new.context runner.new.cache }
     ensures who { runner.new.context.who ≡ who }
 {
     for _poll in 0..PATIENCE {

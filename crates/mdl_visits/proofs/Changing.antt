@@ -24,12 +24,12 @@ use Rattle.mdl_steps.specs.Layout.{latch_word, version_word}
 use Rattle.mdl_steps.specs.Plays.{Mine, IsFresh, latched, redefined, restood, unlatched}
 use Rattle.mdl_steps.specs.SeatStates.{AtItsTable, SeatState}
 use Rattle.mdl_steps.specs.Seats.{Holds, HasExclusive, HasRedefined, IsRising, MayPut, written}
+use Rattle.mdl_steps.specs.VersionPlays.{Follows}
 use Rattle.mdl_steps.proofs.Hands.{holds_written, elsewhere-redefined}
 use Rattle.mdl_steps.proofs.Tickets.{and_false}
 use Rattle.mdl_steps.proofs.Views.{by_bool, held_at-first, held_at-changed}
 use Rattle.mdl_visits.specs.Leavings.{Learns, knowing}
 use Rattle.mdl_visits.specs.Numbers.{numbered, is_ask_apart}
-use Rattle.mdl_visits.specs.Readings.{Follows}
 use Rattle.mdl_visits.specs.Redefinitions.{HasExclusiveAt, IsNamed, IsRefusedFor, MeetsFault, Redefines, redefined_and_put}
 use Rattle.mdl_visits.specs.Visits.{AreStepsOf, IsInside, and_made, TakesLatch}
 use Rattle.mdl_visits.proofs.Gathering.{as_reads, gives_back, holds_there, no_steps}

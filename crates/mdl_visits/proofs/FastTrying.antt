@@ -12,7 +12,7 @@ use Rattle.mdl_steps.specs.FastPlays.{MayGrantFast, granted_fast, met_word, miss
 use Rattle.mdl_steps.specs.Layout.{lock_word}
 use Rattle.mdl_steps.specs.Lists.{Each}
 use Rattle.mdl_steps.specs.Plays.{Mine}
-use Rattle.mdl_visits.specs.FastTries.{AllMiss, GrantsAtLast, GrantsFast, Misses, last_found, with_fast}
+use Rattle.mdl_visits.specs.FastTries.{AllMiss, GrantsAtLast, GrantsFast, Misses, MissesAfter, last_found, with_fast}
 use Rattle.mdl_visits.specs.Visits.{StaysOn, StaysThere, and_made, gives_back, raises_flags}
 use Rattle.mdl_visits.proofs.Steps.{each_append, none_then}
 
@@ -22,10 +22,10 @@ met_at kind ds place found m = record { kind = kind; deeds = ds; word = lock_wor
 
 -- ---- steps that missed
 
-miss_push : (place before : ℕ) (tries : List Met) (e : Met) → AllMiss place before tries → e.kind ≡ MissFast → e.word ≡ lock_word place → e.found ≢ last_found before tries
+miss_push : (place before : ℕ) (tries : List Met) (e : Met) → AllMiss place before tries → MissesAfter place (last_found before tries) e
     → AllMiss place before (tries ++ e ∷ [])
-miss_push place before [] e all kind word other = (record { kind = kind; word = word; other = other }, tt)
-miss_push place before (x ∷ xs) e all kind word other = (all.0, miss_push place x.found xs e all.1 kind word other)
+miss_push place before [] e all miss = (miss, tt)
+miss_push place before (x ∷ xs) e all miss = (all.0, miss_push place x.found xs e all.1 miss)
 
 last_push : (before : ℕ) (tries : List Met) (e : Met) → last_found before (tries ++ e ∷ []) ≡ e.found
 last_push before [] e = refl
@@ -58,8 +58,8 @@ module _ {place count word : ℕ} {m m′ : Mine} (missed : Misses place count w
       (record { idle = may.idle; counted_so = may.counted_so; few = may.few; noted_there = may.noted_there })
 
   -- it missed once more
-  pub missed_again : (found : ℕ) (m″ : Mine) → m″ ≡ missed_fast place found m′ → found ≢ word → Misses place (count + 1) found m m″
-  missed_again found m″ is other =
+  pub missed_again : (found : ℕ) (m″ : Mine) → m″ ≡ missed_fast place found m′ → obtrusive_flag word ≡ false → found ≢ word → Misses place (count + 1) found m m″
+  missed_again found m″ is clear other =
       let e = met_at MissFast [] place found m in
       let often = missed.often in
       let longer = length-append missed.tries (e ∷ []) in
@@ -69,7 +69,8 @@ module _ {place count word : ℕ} {m m′ : Mine} (missed : Misses place count w
         now = is ∙ ap (missed_fast place found) missed.now ∙ (λ i. (record m.0 { log = append_assoc m.0.log (missed.read ∷ missed.tries) (e ∷ []) i }, m.1));
         did = none_then (missed.read ∷ missed.tries) (e ∷ []) [] missed.did refl;
         reads = missed.reads;
-        miss = miss_push place missed.read.found missed.tries e missed.miss refl refl (λ same. other (same ∙ missed.last));
+        miss = miss_push place missed.read.found missed.tries e missed.miss
+            (record { kind = refl; word = refl; clear = ap obtrusive_flag missed.last ∙ clear; other = λ same. other (same ∙ missed.last) });
         often = omega arith;
         last = last_push missed.read.found missed.tries e;
       }

@@ -1,8 +1,9 @@
--- The keys that a session looked up: found by the key, and by the place through an index.
-use Rattle.std.proofs.Common.{◌≡◌, ◌≢◌, ℕ, zero, suc, ◌<◌, ◌≤◌, true, false, List, [], ◌∷◌, ◌++◌, get_or, length, set, map, Some, None, refl, sym, ap, subst, ltb, ◌∙◌, arith}
+-- The keys that a session looked up: found by the key, and by the place through an index, and the kinds of their locks.
+use Rattle.std.proofs.Common.{◌≡◌, ◌≢◌, ℕ, zero, suc, ◌<◌, ◌≤◌, true, false, List, [], ◌∷◌, ◌++◌, get_or, length, set, map, Option, Some, None, refl, sym, ap, subst, ltb, ◌∙◌, arith}
 use Rattle.std.specs.Prelude.{◌==◌, is_some, slice_get}
 use Rattle.std.specs.Map.{lookup}
 use Rattle.std.specs.List.{list_all}
+use Rattle.std.specs.Option.{option_and_then}
 use Rattle.std.proofs.lemmas.List.{length-append, length-set}
 use Rattle.std.proofs.lemmas.List.Folds.{list_all-append}
 use Rattle.std.proofs.lemmas.Bool.{and_parts, eq-eqb, eqb-true}
@@ -11,13 +12,14 @@ use Rattle.std.proofs.lemmas.Option.{slice_get-get_or, slice_get_within}
 use Rattle.indexmap.specs.IndexMap.{IndexMap, insert_entry}
 use Rattle.indexmap.proofs.CallerLemmas.{insert_entry-new}
 use Rattle.indexmap.proofs.IndexTableLemmas.Probe.{pigeonhole}
-use Rattle.mdl_key.specs.Words.{KeyName, key_eq}
+use Rattle.mdl_key.specs.declared.namespace.Kind.{Kind}
+use Rattle.mdl_key.specs.Words.{KeyName, key_eq, kind_of}
 use Rattle.mdl_steps.specs.declared.view.Known.{Known}
 use Rattle.mdl_steps.specs.Schemas.{is_known}
 use Rattle.mdl_steps.proofs.KeyLemmas.{key-Decides}
 use Rattle.mdl_steps.proofs.Views.{by_bool}
-use Rattle.mdl_visits.specs.KnownLists.{are_apart, are_two, is_known_place, key_known, place_known}
-use Rattle.mdl_visits.specs.OwnKeys.{AreIndexed, known_of}
+use Rattle.mdl_visits.specs.KnownLists.{are_apart, are_two, is_known_place, key_known, kind_known, place_known}
+use Rattle.mdl_visits.specs.OwnKeys.{AreIndexed, AreKinds, known_of}
 
 -- ---- by the key
 
@@ -130,6 +132,34 @@ indexed_more entries indexes key place indexed new inside at e stands =
           let there : place ≡ e.1 = (let is = last.1 in let both : (key, place) ≡ e = cc in ap (λ (x : KeyName × ℕ). x.1) both) in
           rw (← there) (get_set indexes place (length entries) inside ∙ ap (λ (i : ℕ). Some i) (sym last.0))
     ] refl
+
+-- the kind of the new key's lock is at its place
+kind_new : (entries : List (KeyName × ℕ)) (key : KeyName) (place : ℕ) → is_known_place (map known_of entries) place ≡ false
+    → kind_known place (map known_of (entries ++ (key, place) ∷ [])) ≡ Some (kind_of key.namespace)
+kind_new [] key place new = rw (eq-eqb place place refl) refl
+kind_new (e ∷ es) key place new =
+    by_bool (e.1 == place)
+    (λ hit. absurd (grind (arith, nat_tests)))
+    (λ miss. rw miss (kind_new es key place (grind (arith, nat_tests))))
+
+-- and those at the others stay
+kind_old : (entries : List (KeyName × ℕ)) (key : KeyName) (place q : ℕ) → (place == q) ≡ false
+    → kind_known q (map known_of (entries ++ (key, place) ∷ [])) ≡ kind_known q (map known_of entries)
+kind_old [] key place q other = rw other refl
+kind_old (e ∷ es) key place q other =
+    by_bool (e.1 == q)
+    (λ hit. rw hit refl)
+    (λ miss. rw miss (kind_old es key place q other))
+
+pub kinds_more : (entries : List (KeyName × ℕ)) (kinds : List (Option Kind)) (key : KeyName) (place : ℕ) → AreKinds entries kinds
+    → is_known_place (map known_of entries) place ≡ false → place < length kinds
+    → AreKinds (entries ++ (key, place) ∷ []) (set kinds place (Some (kind_of key.namespace)))
+kinds_more entries kinds key place are new inside q =
+    by_bool (place == q)
+    (λ hit. (let here = eqb-true place q hit in
+    rw (← here) (ap (option_and_then (λ (kind : Option Kind). kind)) (get_set kinds place (Some (kind_of key.namespace)) inside) ∙ sym (kind_new entries key place new))))
+    (λ miss. ap (option_and_then (λ (kind : Option Kind). kind)) (get_other kinds place q (Some (kind_of key.namespace)) (grind (arith, nat_tests)))
+    ∙ are q ∙ sym (kind_old entries key place q miss))
 
 -- there are fewer keys than places: each place has one index, and none the new key's
 pub fewer_keys : (entries : List (KeyName × ℕ)) (indexes : List ℕ) (key : KeyName) (place : ℕ) → AreIndexed entries indexes

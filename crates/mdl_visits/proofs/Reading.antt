@@ -10,8 +10,9 @@ use Rattle.mdl_steps.specs.declared.view.Met.{Met}
 use Rattle.mdl_steps.specs.Cells.{held_at}
 use Rattle.mdl_steps.specs.Layout.{latch_word}
 use Rattle.mdl_steps.specs.Plays.{Mine, IsFresh, latched, read_and_put}
+use Rattle.mdl_steps.specs.VersionPlays.{Follows}
 use Rattle.mdl_visits.specs.Leavings.{Learns, MeetsStanding, knowing}
-use Rattle.mdl_visits.specs.Readings.{Follows, WasHeld, WereHeld}
+use Rattle.mdl_visits.specs.Readings.{WasHeld, WereHeld}
 use Rattle.mdl_visits.specs.Visits.{AllQuiet, IsInside, IsStepOf, StaysQuiet, and_made}
 use Rattle.mdl_visits.proofs.Leaving.{own_found}
 use Rattle.mdl_visits.proofs.Steps.{none_then, quiet_on, quiet_one, quiet_taken}

@@ -35,10 +35,11 @@ pub record MeetsClear (place : ℕ) (deed : Deed) (e : Met) : Type 0 where
 
 -- ---- it isn't
 
--- a fast grant that missed: it found another word of the place than the step before it
+-- a fast grant that missed: the word that the step before it found had the flag OBTRUSIVE down, and it found another word of the place
 pub record MissesAfter (place before : ℕ) (e : Met) : Type 0 where
   pub kind : e.kind ≡ MissFast
   pub word : e.word ≡ lock_word place
+  pub clear : obtrusive_flag before ≡ false
   pub other : e.found ≢ before
 
 -- each of these steps is a fast grant that missed. The step before the first one found this word

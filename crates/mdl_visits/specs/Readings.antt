@@ -1,19 +1,12 @@
 -- What a session read, between two of its views, of what stands under keys. Who writes a version has read what stands then, so that a session
 -- that read nothing changed nothing of it either.
-use Rattle.std.specs.Prelude.{◌≡◌, ◌≤◌, ℕ, true, [], ◌∷◌, ◌++◌, is_some, Some}
-use lib.ListN.{get_elem?}
-use mathlib.Core.Option.{some}
+use Rattle.std.specs.Prelude.{◌≡◌, ℕ, true, [], ◌∷◌, ◌++◌, is_some, Some}
 use Rattle.mdl_defs.specs.declared.standing.Standing.{Standing}
-use Rattle.mdl_defs.specs.Standings.{MayStand}
 use Rattle.mdl_book.specs.Tickets.{ticket_of}
 use Rattle.mdl_steps.specs.declared.view.LatchRecord.{LatchRecord}
-use Rattle.mdl_steps.specs.declared.view.Known.{Known}
 use Rattle.mdl_steps.specs.declared.view.Met.{Met}
-use Rattle.mdl_steps.specs.declared.view.Own.{Own}
-use Rattle.mdl_steps.specs.declared.view.Read.{Read}
-use Rattle.mdl_steps.specs.Cells.{held_at, own_at, reads_at}
+use Rattle.mdl_steps.specs.Cells.{held_at}
 use Rattle.mdl_steps.specs.Deeds.{NotWaited}
-use Rattle.mdl_steps.specs.Lists.{Each}
 use Rattle.mdl_steps.specs.Plays.{Mine}
 use Rattle.mdl_steps.specs.SeatStates.{SeatState}
 use Rattle.mdl_visits.specs.Leavings.{HasTicket, Learns, MeetsStanding}
@@ -45,12 +38,3 @@ ReadsStanding place standing s s′ =
 -- a step that gave the latch of a place back, by whose record this was defined there and the session's ticket of this number was granted
 abbrev pub MeetsRead : ℕ → ℕ → ℕ → Standing → Met → Type 0
 MeetsRead place session number standing e = MeetsStanding place session standing e × WasHeld place session number e
-
--- this stands at a place after what the session read and noted there: no version that it read is newer, what it read of this one is just that, and
--- this is the version that it noted under a ticket there. So what it reads under a ticket twice is the same, unless it changed that itself. And it may
--- stand under each key that the session knows to be there
-pub record Follows (place : ℕ) (standing : Standing) (m : Mine) : Type 0 where
-  pub reads : Each (λ (r : Read). (r.standing.version ≤ standing.version) × (r.standing.version ≡ standing.version → r.standing ≡ standing)) (reads_at place m.0.reads)
-  pub fits : (i : ℕ) (k : Known) → get_elem? m.0.known i ≡ some k → k.place ≡ place → MayStand k.key.namespace standing
-  pub noted : Each (λ (t : Own). (version : ℕ) → t.noted ≡ Some version → version ≡ standing.version) (own_at place m.0.slow)
-  pub fast_noted : Each (λ (t : Own). (version : ℕ) → t.noted ≡ Some version → version ≡ standing.version) (own_at place m.0.fast)

@@ -22,8 +22,8 @@ use Rattle.mdl_steps.specs.declared.view.Own.{Own}
 use Rattle.mdl_steps.specs.Cells.{held_at}
 use Rattle.mdl_steps.specs.Layout.{latch_word, version_word}
 use Rattle.mdl_steps.specs.Plays.{Mine, redefined, restood, unlatched}
+use Rattle.mdl_steps.specs.VersionPlays.{Follows}
 use Rattle.mdl_visits.specs.Numbers.{numbered}
-use Rattle.mdl_visits.specs.Readings.{Follows}
 use Rattle.mdl_visits.specs.Visits.{AreStepsOf, IsStepOf}
 
 -- why nothing is changed under a ticket: there is none, or it isn't exclusive

@@ -4,7 +4,7 @@ ghost use Rattle.std.specs.Option.{is_some, option_copied};
 ghost use Rattle.mdl_steps.specs.Schemas.{is_known, unknown};
 ghost use Rattle.mdl_visits.specs.Tables.{AreWithin};
 ghost use Rattle.mdl_visits.specs.KnownLists.{are_apart, is_known_place, key_known, kind_known, place_known};
-ghost use Rattle.mdl_visits.specs.OwnKeys.{IsNarrow};
+ghost use Rattle.mdl_visits.specs.OwnKeys.{IsNarrow, kind_in};
 
 use indexmap::IndexMap;
 use mdl_key::{Key, Kind};
@@ -14,26 +14,33 @@ use std::marker::Model;
 
 /// The keys that a session looked up, with their places, in order of the look-ups.
 ///
-/// The place of a key is found by a hash of the key, and the key of a place by an array, so neither walks the keys. The key that was learnt
-/// last is compared first, without a hash.
+/// The place of a key is found by a hash of the key, and the key of a place and its kind by arrays, so none walks the keys. The key that was
+/// learnt last is compared first, without a hash.
 #[derive(Drop)]
 pub struct KnownKeys {
     places: IndexMap<Key, usize>,
+    // By places: the kind of the lock, if its key is known. There are as many as there are indexes, or more.
+    kinds: Vec<Option<Kind>>,
     // By places: where the key of a place stands among the keys. A place that isn't known has any number. Places are numbers of 16 bits.
     indexes: Vec<u16>,
 }
 
 impl Model for KnownKeys {
-    ghost use Rattle.std.specs.Prelude.{length, map};
+    ghost use Rattle.std.specs.Prelude.{◌≤◌, length, map};
     ghost use Rattle.indexmap.specs.IndexMap.{spare};
     ghost use Rattle.mdl_visits.specs.KnownLists.{KnownList};
-    ghost use Rattle.mdl_visits.specs.OwnKeys.{AreIndexed, IsNarrow, known_of};
+    ghost use Rattle.mdl_visits.specs.OwnKeys.{AreIndexed, AreKinds, IsNarrow, known_of};
 
     ghost Value = { KnownList };
 
     ghost view = { λ s. record { known = map known_of s.places.entries; room = spare s.places; reach = length s.indexes.items } };
 
-    ghost invariant = { λ s. AreIndexed s.places.entries s.indexes.items × IsNarrow s.indexes.items };
+    ghost invariant = { λ s. record {
+      indexed : AreIndexed s.places.entries s.indexes.items;
+      narrow : IsNarrow s.indexes.items;
+      kinds : AreKinds s.places.entries s.kinds.items;
+      enough : length s.indexes.items ≤ length s.kinds.items;
+    } };
 }
 
 impl KnownKeys {
@@ -43,6 +50,7 @@ impl KnownKeys {
     {
         KnownKeys {
             places: IndexMap::new(alloc),
+            kinds: Vec::new(alloc),
             indexes: Vec::new(alloc),
         }
     }
@@ -75,7 +83,7 @@ impl KnownKeys {
     pub fn kind_at(&self, place: usize) -> Option<Kind>
         ensures { result ≡ kind_known place self.now.known }
     {
-        self.key_at(place).map(|key| key.kind())
+        kind_in(&self.kinds, place)
     }
 
     /// Makes room for so many more keys at places below this one.
@@ -85,6 +93,7 @@ impl KnownKeys {
         ensures room { OnOk result ((n ≤ self.new.room) × (slots ≤ self.new.reach)) }
     {
         self.places.reserve(n)?;
+        reach_kinds(&mut self.kinds, slots)?;
         reach(&mut self.indexes, slots)
     }
 
@@ -96,6 +105,7 @@ impl KnownKeys {
         ensures known { self.new.known ≡ self.old.known ++ record { key = key; place = place } ∷ [] }
         ensures room { (self.old.room ≤ self.new.room + 1) × (self.new.reach ≡ self.old.reach) }
     {
+        self.kinds[place] = Some(key.kind());
         self.indexes[place] = self.places.len() as u16;
         self.places.insert(key, place).unwrap();
     }
@@ -129,6 +139,13 @@ fn keep_unknown(known: &KnownKeys, tables: &mut Vec<Known>)
     tables.retain(|table| !known.is_known(&table.key));
 }
 
+// The kind of the lock at a place, if its key is known.
+fn kind_in(kinds: &[Option<Kind>], place: usize) -> Option<Kind>
+    ensures { result ≡ kind_in place kinds.now }
+{
+    *kinds.get(place)?
+}
+
 // The index under a place, if there is the place.
 fn index_under(indexes: &[u16], place: usize) -> Option<u16>
     ensures { result ≡ slice_get indexes.now place }
@@ -136,11 +153,24 @@ fn index_under(indexes: &[u16], place: usize) -> Option<u16>
     indexes.get(place).copied()
 }
 
+// Adds places without a kind until there are so many, all at once.
+fn reach_kinds(kinds: &mut Vec<Option<Kind>>, slots: usize) -> Result<(), AllocError>
+    ensures length { length kinds.old.items ≤ length kinds.new.items }
+    ensures reach { OnOk result (slots ≤ length kinds.new.items) }
+    ensures same { (place : ℕ) → kind_in place kinds.new.items ≡ kind_in place kinds.old.items }
+{
+    if kinds.len() < slots {
+        kinds.resize(slots, None)?;
+    }
+    Ok(())
+}
+
 // Adds places until there are so many, all at once. What stands under the others stays.
 fn reach(indexes: &mut Vec<u16>, slots: usize) -> Result<(), AllocError>
     requires narrow { (slots ≤ 65536) × IsNarrow indexes.old.items }
     ensures narrow { IsNarrow indexes.new.items }
     ensures reach { OnOk result (slots ≤ length indexes.new.items) }
+    ensures no_more { (most : ℕ) → slots ≤ most → length indexes.old.items ≤ most → length indexes.new.items ≤ most }
     ensures same { (place at : ℕ) → slice_get indexes.old.items place ≡ Some at → slice_get indexes.new.items place ≡ Some at }
 {
     if indexes.len() < slots {

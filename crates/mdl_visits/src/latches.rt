@@ -8,6 +8,7 @@ use std::sync::Wait;
 use std::thread;
 
 /// Takes the latch of a place, and waits for it as long as another session holds it.
+#[inline]
 pub(crate) fn await_latch<R: Wait>(rt: &R, seat: &mut TableSeat, place: usize) -> Latched
     requires at { MayVisit place seat.old }
     ensures place { result.place ≡ place }

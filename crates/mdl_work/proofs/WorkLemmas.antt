@@ -5,10 +5,12 @@ use Rattle.std.proofs.lemmas.Bool.{eq-eqb, ne_eqb}
 use Rattle.std.proofs.lemmas.List.{append-nil, append_assoc, drop_more, map-append}
 use Rattle.std.specs.Option.{option_map}
 use Rattle.mdl_key.specs.Keys.{KeyName}
+use Rattle.mdl_defs.specs.Caches.{CacheView}
 use Rattle.mdl_calls.specs.Words.{Answer, Call, Done, Unpin, Pending, Poll_wait, Settle_timeout, caller, own_after, Program, Give, Runs, ◌>>◌}
+use Rattle.mdl_calls.proofs.CacheLemmas.{still-met}
 use Rattle.mdl_calls.proofs.RunLemmas.{runs_bind}
 use Rattle.mdl_calls.specs.declared.lock_space.LockSpace.{Ghosts}
-use Rattle.mdl_context.specs.Contexts.{ContextView, Attends}
+use Rattle.mdl_context.specs.Contexts.{ContextView, Attends, KeepsMet}
 use Rattle.mdl_context.proofs.AttendLemmas.{attends-still}
 use Rattle.mdl_context.proofs.OthersLemmas.{IsFor}
 use Rattle.mdl_syntax.specs.declared.script.Line.{Line}
@@ -16,6 +18,7 @@ use Rattle.mdl_stmt.specs.declared.progress.Progress.{Progress}
 use Rattle.mdl_stmt.specs.declared.progress.Progress.TheVariants as came
 use Rattle.mdl_rows.specs.declared.reply.Reply.{Reply}
 use Rattle.mdl_rows.specs.Endings.{Pause, Ends, Faults}
+use Rattle.mdl_stmt.specs.Attendance.{AttendsWith}
 use Rattle.mdl_stmt.specs.Gets.{paused}
 use Rattle.mdl_rows.specs.Leavings.{leaving}
 use Rattle.mdl_rows.specs.Sessions.{Session}
@@ -73,6 +76,14 @@ module _ {S : Type 0} (members : Ghosts S)
   attends-waited (suc polls) context a b attends (answer, mid, step, run) =
       let now = attends-still members keeps changes remembers a mid (Poll_wait context.who) answer context attends refl refl refl step in
       after-looked (λ (s : S). Attends members s context) (waiting_out context.who polls) answer mid b now (attends-waited polls context mid b now) run
+
+-- what its cache keeps was met, and stays so over what others and the session itself do
+pub attends-with : {S : Type 0} (members : Ghosts S) (context : ContextView) (cache : CacheView) (a b : S) → Attends members b context → KeepsMet members a b → AttendsWith members a context cache →
+    AttendsWith members b context cache
+attends-with members context cache a b now keeps was = record {
+  attends = now;
+  met = still-met (members.has_met a context.who) (members.has_met b context.who) cache.kept (keeps context.who was.attends.speaks).1 was.met;
+}
 
 -- ---- statements
 
@@ -227,17 +238,17 @@ numbers-on line left rest reply answers whole same so =
 
 -- ---- from the first line to the end
 
--- lines were worked off, and then all was given up
+-- there was memory for the cache, lines were worked off, and then all was given up
 pub worked-off : {S E Z : Type 0} (joins : S → Call → Answer → S → Type 0) (patience : ℕ) (lines : List Line) (before after : Session) (result : Result (Vec (ℕ × Reply) Z) E) (a mid b : S) →
     Runs joins a (working patience lines before) (worked_as result after) mid → Runs joins mid (leaving after) tt b →
     IfOk result (λ answers. Runs joins a (working_off patience lines before) (Some answers.items) b) × OnErr result (Runs joins a (working_off patience lines before) None b)
 worked-off joins patience lines before after (Ok answers) a mid b run left = (
-  runs_bind joins (working patience lines before) (λ (worked : Worked). leaving worked.session >> Give worked.answers) a mid b (record { answers = Some answers.items; session = after }) (Some answers.items) run
-      (runs_bind joins (leaving after) (λ _. Give (Some answers.items)) mid b b tt (Some answers.items) left (refl, refl)),
+  inr (runs_bind joins (working patience lines before) (λ (worked : Worked). leaving worked.session >> Give worked.answers) a mid b (record { answers = Some answers.items; session = after }) (Some answers.items) run
+      (runs_bind joins (leaving after) (λ _. Give (Some answers.items)) mid b b tt (Some answers.items) left (refl, refl))),
   tt,
 )
 worked-off joins patience lines before after (Err error) a mid b run left = (
   tt,
-  runs_bind joins (working patience lines before) (λ (worked : Worked). leaving worked.session >> Give worked.answers) a mid b (starved after) None run
-      (runs_bind joins (leaving after) (λ _. Give None) mid b b tt None left (refl, refl)),
+  inr (runs_bind joins (working patience lines before) (λ (worked : Worked). leaving worked.session >> Give worked.answers) a mid b (starved after) None run
+      (runs_bind joins (leaving after) (λ _. Give None) mid b b tt None left (refl, refl))),
 )

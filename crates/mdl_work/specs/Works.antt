@@ -92,6 +92,8 @@ unfoldable pub working : ℕ → List Line → Session → Program Worked
 working patience [] session = Give (record { answers = Some []; session = session })
 working patience (line ∷ lines) session = making patience line.statement session >>= noted line.number (working patience lines)
 
--- a session works off its lines, and then gives up all that it has
+-- a session works off its lines, and then gives up all that it has. First it takes memory for its cache of definitions: where that is
+-- wanting it asks for nothing
 abbrev pub working_off : ℕ → List Line → Session → Program (Option (List (ℕ × Reply)))
-working_off patience lines session = working patience lines session >>= (λ worked. leaving worked.session >> Give worked.answers)
+working_off patience lines session =
+    Grow (Give None) (working patience lines session >>= (λ worked. leaving worked.session >> Give worked.answers))

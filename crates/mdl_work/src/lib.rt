@@ -12,7 +12,8 @@
 //! let text = b"1 CREATE SCHEMA shop\n2 BEGIN\n1 DROP SCHEMA shop\n";
 //! let script = parse(alloc, text)?;
 //! let mut space = CoreSpace::new(alloc, 256, 64)?;
-//! let answers = work(alloc, &mut space, 1, &script, 100, &OpenGate)?;
+//! // With a wait it is patient for 100 looks, and its cache keeps 64 definitions.
+//! let answers = work(alloc, &mut space, 1, &script, 100, 64, &OpenGate)?;
 //! // Lines 1 and 3 are those of session 1.
 //! assert_eq!(rt; answers.len(), 2);
 //! assert!(rt; matches!(answers.last(), Some((_, Reply::Ok))));

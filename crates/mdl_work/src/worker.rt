@@ -2,6 +2,7 @@
 ghost use Rattle.std.specs.Prelude.{◌≡◌, [], map, None, IsSome, IfOk, OnOk};
 ghost use Rattle.mdl_calls.specs.Words.{Runs};
 ghost use Rattle.mdl_context.specs.Contexts.{Attends, LeavesOthers};
+ghost use Rattle.mdl_stmt.specs.Attendance.{AttendsWith, IsCapacity};
 ghost use Rattle.mdl_stmt.specs.Gets.{paused, ran};
 ghost use Rattle.mdl_rows.specs.Leavings.{leaving};
 ghost use Rattle.mdl_stmt.specs.Stages.{session_of};
@@ -28,18 +29,26 @@ pub(crate) struct Worker<'s, S: LockSpace> {
 }
 
 impl<'s, S: LockSpace> Worker<'s, S> {
-    /// A session that was asked for nothing yet. It takes no memory.
-    pub(crate) fn new(alloc: Global, who: u16, patience: u32) -> Worker<'s, S>
-        ensures session { session_of result.runner ≡ newcomer who }
-        ensures idle { result.runner.work ≡ None }
-        ensures who { result.who ≡ who }
-        ensures patience { result.patience ≡ patience }
+    /// A session that was asked for nothing yet. Memory is taken for its cache, which keeps nothing.
+    pub(crate) fn new(
+        alloc: Global,
+        who: u16,
+        patience: u32,
+        cache: u16,
+    ) -> Result<Worker<'s, S>, OutOfMemory>
+        requires capacity { IsCapacity cache }
+        ensures session { IfOk result (λ worker. session_of worker.runner ≡ newcomer who) }
+        ensures idle { IfOk result (λ worker. worker.runner.work ≡ None) }
+        ensures cache { IfOk result (λ worker. worker.runner.cache ≡ record { kept = []; capacity = cache }) }
+        ensures who { IfOk result (λ worker. worker.who ≡ who) }
+        ensures patience { IfOk result (λ worker. worker.patience ≡ patience) }
     {
-        Worker {
-            runner: Runner::new(alloc, who),
+        let runner = Runner::new(alloc, who, cache)?;
+        Ok(Worker {
+            runner,
             who,
             patience,
-        }
+        })
     }
 
     /// Makes the session's statements among these lines, in order, and keeps what they answer.
@@ -50,12 +59,12 @@ impl<'s, S: LockSpace> Worker<'s, S> {
         lines: &'s [Line],
         gate: &G,
     ) -> Result<Vec<(u64, Reply)>, AllocError>
-        requires attends { Attends S.LockSpace space.old self.old.runner.context }
+        requires attends { AttendsWith S.LockSpace space.old self.old.runner.context self.old.runner.cache }
         requires who { self.old.runner.context.who ≡ self.old.who }
         requires idle { self.old.runner.work ≡ None }
         ensures run { Runs S.joins space.old (working self.old.patience (lines_of self.old.who lines.now) (session_of self.old.runner)) (worked_as result (session_of self.new.runner)) space.new }
         ensures lines { IfOk result (λ answers. map (λ answer. answer.0) answers.items ≡ map (λ line. line.number) (lines_of self.old.who lines.now)) }
-        ensures attends { Attends S.LockSpace space.new self.new.runner.context }
+        ensures attends { AttendsWith S.LockSpace space.new self.new.runner.context self.new.runner.cache }
         ensures others { LeavesOthers S.LockSpace self.old.who space.old space.new }
         ensures who { self.new.runner.context.who ≡ self.old.who }
     {
@@ -84,12 +93,12 @@ impl<'s, S: LockSpace> Worker<'s, S> {
 
     /// Makes a statement, and waits whatever it waits for.
     fn answer(&mut self, space: &mut S, statement: &'s Statement) -> Result<Reply, OutOfMemory>
-        requires attends { Attends S.LockSpace space.old self.old.runner.context }
+        requires attends { AttendsWith S.LockSpace space.old self.old.runner.context self.old.runner.cache }
         requires who { self.old.runner.context.who ≡ self.old.who }
         requires idle { self.old.runner.work ≡ None }
         ensures run { Runs S.joins space.old (making self.old.patience statement.now (session_of self.old.runner))
             (came_to result (session_of self.new.runner)) space.new }
-        ensures attends { Attends S.LockSpace space.new self.new.runner.context }
+        ensures attends { AttendsWith S.LockSpace space.new self.new.runner.context self.new.runner.cache }
         ensures others { LeavesOthers S.LockSpace self.old.who space.old space.new }
         ensures who { self.new.runner.context.who ≡ self.old.who }
         ensures idle { OnOk result (self.new.runner.work ≡ None) }
@@ -102,12 +111,12 @@ impl<'s, S: LockSpace> Worker<'s, S> {
 
     /// Brings a statement that came so far to its end.
     fn finish(&mut self, space: &mut S, progress: Progress) -> Result<Reply, OutOfMemory>
-        requires attends { Attends S.LockSpace space.old self.old.runner.context }
+        requires attends { AttendsWith S.LockSpace space.old self.old.runner.context self.old.runner.cache }
         requires who { self.old.runner.context.who ≡ self.old.who }
         requires left { LeftWhileWaiting (paused progress (session_of self.old.runner)) }
         ensures run { Runs S.joins space.old (finishing self.old.patience most_waits (paused progress (session_of self.old.runner)))
             (came_to result (session_of self.new.runner)) space.new }
-        ensures attends { Attends S.LockSpace space.new self.new.runner.context }
+        ensures attends { AttendsWith S.LockSpace space.new self.new.runner.context self.new.runner.cache }
         ensures others { LeavesOthers S.LockSpace self.old.who space.old space.new }
         ensures who { self.new.runner.context.who ≡ self.old.who }
         ensures idle { OnOk result (self.new.runner.work ≡ None) }
@@ -129,11 +138,11 @@ impl<'s, S: LockSpace> Worker<'s, S> {
 
     /// Waits the wait of a statement out, and goes on with it.
     fn go_further(&mut self, space: &mut S) -> Result<Progress, OutOfMemory>
-        requires attends { Attends S.LockSpace space.old self.old.runner.context }
+        requires attends { AttendsWith S.LockSpace space.old self.old.runner.context self.old.runner.cache }
         requires who { self.old.runner.context.who ≡ self.old.who }
         requires waits { IsSome self.old.runner.work }
         ensures run { Runs S.joins space.old (going_further self.old.patience (session_of self.old.runner)) (ran result (session_of self.new.runner)) space.new }
-        ensures attends { Attends S.LockSpace space.new self.new.runner.context }
+        ensures attends { AttendsWith S.LockSpace space.new self.new.runner.context self.new.runner.cache }
         ensures others { LeavesOthers S.LockSpace self.old.who space.old space.new }
         ensures who { self.new.runner.context.who ≡ self.old.who }
         ensures left { LeftWhileWaiting (ran result (session_of self.new.runner)) }

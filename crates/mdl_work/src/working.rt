@@ -2,6 +2,7 @@
 ghost use Rattle.std.specs.Prelude.{◌≡◌, [], map, None, Some, IfOk, OnErr};
 ghost use Rattle.mdl_calls.specs.Words.{Runs};
 ghost use Rattle.mdl_context.specs.Contexts.{LeavesOthers};
+ghost use Rattle.mdl_stmt.specs.Attendance.{IsCapacity};
 ghost use Rattle.mdl_work.specs.Works.{lines_of, newcomer, working_off};
 
 use crate::Gate;
@@ -16,16 +17,20 @@ use std::alloc::{AllocError, Global};
 /// Each of its statements is made; it waits whatever it waits for, looking at the wait as often as `patience` says before that times
 /// out. What a statement answers is kept under the number of its line. At the end the session gives up all that it has.
 ///
-/// Where memory is wanting, in a statement or to keep its answer, no further statement is made, the session gives up all that it has,
-/// and its answers are lost.
+/// The session reads by a cache of its own, which keeps at most so many definitions as `cache` says.
+///
+/// Where memory is wanting, for that cache, in a statement or to keep its answer, no further statement is made, the session gives up all
+/// that it has, and its answers are lost.
 pub fn work<S: LockSpace, G: Gate>(
     alloc: Global,
     space: &mut S,
     who: u16,
     script: &Script,
     patience: u32,
+    cache: u16,
     gate: &G,
 ) -> Result<Vec<(u64, Reply)>, AllocError>
+    requires capacity { IsCapacity cache }
     requires speaks { S.speaks_for space.old who }
     requires nothing { S.own space.old who ≡ record { held = []; wait = None } }
     ensures answered { IfOk result (λ answers. Runs S.joins space.old (working_off patience (lines_of who script.now) (newcomer who)) (Some answers.items) space.new) }
@@ -35,7 +40,7 @@ pub fn work<S: LockSpace, G: Gate>(
     ensures speaks { S.speaks_for space.new who }
     ensures others { LeavesOthers S.LockSpace who space.old space.new }
 {
-    work_lines(alloc, space, who, script.lines(), patience, gate)
+    work_lines(alloc, space, who, script.lines(), patience, cache, gate)
 }
 
 /// The same of lines, among which those of other sessions are left to these.
@@ -45,8 +50,10 @@ pub fn work_lines<S: LockSpace, G: Gate>(
     who: u16,
     lines: &[Line],
     patience: u32,
+    cache: u16,
     gate: &G,
 ) -> Result<Vec<(u64, Reply)>, AllocError>
+    requires capacity { IsCapacity cache }
     requires speaks { S.speaks_for space.old who }
     requires nothing { S.own space.old who ≡ record { held = []; wait = None } }
     ensures answered { IfOk result (λ answers. Runs S.joins space.old (working_off patience (lines_of who lines.now) (newcomer who)) (Some answers.items) space.new) }
@@ -56,7 +63,7 @@ pub fn work_lines<S: LockSpace, G: Gate>(
     ensures speaks { S.speaks_for space.new who }
     ensures others { LeavesOthers S.LockSpace who space.old space.new }
 {
-    let mut worker = Worker::new(alloc, who, patience);
+    let mut worker = Worker::new(alloc, who, patience, cache)?;
     let answers = worker.answer_lines(alloc, space, lines, gate);
     worker.leave(space);
     answers

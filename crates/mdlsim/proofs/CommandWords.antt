@@ -13,12 +13,12 @@ use Rattle.clap.specs.Faults.{defaults_fault, built_fault, entered_fault, fault_
 use Rattle.mdl_key.specs.declared.namespace.Kind.TheVariants.{Scoped, Object}
 use Rattle.mdl_program.specs.declared.program.Run.{Run}
 use Rattle.mdl_program.specs.declared.program.Run.TheVariants.{Lock, Matrix, Replay, Threads}
-use Rattle.mdlsim.specs.CommandLine.{AreWordsOf, AskForPatience, Asks, mdlsim}
+use Rattle.mdlsim.specs.CommandLine.{AreWordsOf, AskForThreads, Asks, mdlsim}
 use Rattle.clap.proofs.OnLiterals.{clap_on_literals}
 use Rattle.clap.proofs.WalkLemmas.{walk_stopped}
 use Rattle.mdlsim.proofs.LevelWords.{IsEnd, dash, neither, plain_asks, refuses, start, top, turn_by}
-use Rattle.mdlsim.proofs.PatienceFound.{patience_found}
-use Rattle.mdlsim.proofs.PatienceWords.{flags, run, run_asks, run_level}
+use Rattle.mdlsim.proofs.OptionWords.{flags, run, run_asks, run_level}
+use Rattle.mdlsim.proofs.OptionsFound.{options_found}
 use Rattle.mdlsim.proofs.ScopedWords.{lock, lock_asks, lock_level, scoped}
 
 abbrev pub matrix : Text
@@ -40,10 +40,10 @@ top_passes [] seen = refl
 top_passes (x ∷ xs) seen = top_passes xs (seen ++ x ∷ [])
 
 -- the words of a run on threads, and what closes them
-pub threads_words : (words : List Text) (n : ℕ) → Asks words (Threads n)
-    → (options : List Text) × (end : List Text) × AskForPatience n options × IsEnd end × (words ≡ run ∷ (options ++ end))
-threads_words words n (inl (options, is, asks)) = (options, [], asks, inl refl, is ∙ ap (λ xs. run ∷ xs) (sym (append-nil options)))
-threads_words words n (inr (front, closes, (options, is, asks))) = (options, dash ∷ [], asks, inr refl, closes ∙ ap (λ xs. xs ++ dash ∷ []) is)
+pub threads_words : (words : List Text) (p c : ℕ) → Asks words (Threads p c)
+    → (options : List Text) × (end : List Text) × AskForThreads p c options × IsEnd end × (words ≡ run ∷ (options ++ end))
+threads_words words p c (inl (options, is, asks)) = (options, [], asks, inl refl, is ∙ ap (λ xs. run ∷ xs) (sym (append-nil options)))
+threads_words words p c (inr (front, closes, (options, is, asks))) = (options, dash ∷ [], asks, inr refl, closes ∙ ap (λ xs. xs ++ dash ∷ []) is)
 
 -- ---- what is taken
 
@@ -66,9 +66,9 @@ taken_from words Matrix (inl e) = ap (λ rest. takes mdlsim (lock ∷ rest)) e
 taken_from words Matrix (inr (front, is, e)) = ap (λ rest. takes mdlsim (lock ∷ rest)) (is ∙ ap (λ xs. xs ++ dash ∷ []) e)
 taken_from words Replay (inl e) = ap (λ rest. takes mdlsim (lock ∷ rest)) e
 taken_from words Replay (inr (front, is, e)) = ap (λ rest. takes mdlsim (lock ∷ rest)) (is ∙ ap (λ xs. xs ++ dash ∷ []) e)
-taken_from words (Threads n) asked =
-    let (options, end, asks, ends, is) = threads_words words n asked in
-    ap (λ rest. takes mdlsim (lock ∷ rest)) is ∙ run_taken (options ++ end) (patience_found n options end asks ends).2.0
+taken_from words (Threads p c) asked =
+    let (options, end, asks, ends, is) = threads_words words p c asked in
+    ap (λ rest. takes mdlsim (lock ∷ rest)) is ∙ run_taken (options ++ end) (options_found p c options end asks ends).0
 
 -- what is found of `run`
 pub run_entered : (rest : List Text) → subcommand_of mdlsim (codes "mdlsim" ∷ run ∷ rest) ≡ Some (run, rows_after flags [] rest)
@@ -149,10 +149,10 @@ replay_first rest e = plain_first Replay replay rest refl (plain_asks replay res
 run_first : (rest : List Text) → built_fault (built mdlsim) nothing_held (run ∷ rest) ≡ [] → (run : Run) × Asks (codes "run" ∷ rest) run
 unfolding walked
 run_first rest e =
-    let (n, asks) = run_asks rest (below run rest refl e) in
+    let (p, c, asks) = run_asks rest (below run rest refl e) in
     elim asks [
-      | inl asked ↦ (Threads n, inl (rest, refl, asked))
-      | inr closed ↦ (Threads n, inr (run ∷ closed.0, ap (λ xs. run ∷ xs) closed.1, (closed.0, refl, closed.2)))
+      | inl asked ↦ (Threads p c, inl (rest, refl, asked))
+      | inr closed ↦ (Threads p c, inr (run ∷ closed.0, ap (λ xs. run ∷ xs) closed.1, (closed.0, refl, closed.2)))
     ]
 
 asks_from : (words : List Text) → built_fault (built mdlsim) nothing_held words ≡ [] → (run : Run) × Asks words run

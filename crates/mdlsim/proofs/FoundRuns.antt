@@ -3,6 +3,7 @@ use Rattle.std.proofs.Common.{◌≡◌, ◌∙◌, ◌⊎◌, inl, inr, ap, ref
 use Rattle.std.specs.Prelude.{Box, option_and_then, unwrap_or}
 use Rattle.std.specs.Box.{box_value}
 use Rattle.std.specs.Str.{bytes_eq}
+use Rattle.clap.specs.Lexer.{without_minus}
 use Rattle.clap.specs.Walk.{Row, Text, one_of, rows_of}
 use Rattle.clap.specs.Simple.{App, HasMatchesOf, is_simple, subcommand_of, subcommand_rows}
 use Rattle.clap.specs.Matches.{found_of, one_text, subcommand_name_of}
@@ -13,13 +14,13 @@ use Rattle.mdl_key.specs.declared.namespace.Kind.{Kind}
 use Rattle.mdl_key.specs.declared.namespace.Kind.TheVariants.{Scoped, Object}
 use Rattle.mdl_program.specs.declared.program.Run.{Run}
 use Rattle.mdl_program.specs.declared.program.Run.TheVariants.{Lock, Matrix, Replay, Threads}
-use Rattle.mdlsim.specs.CommandLine.{Asks, Finds, HasPatience, mdlsim}
+use Rattle.mdlsim.specs.CommandLine.{Asks, Finds, HasNumber, NumberOption, WritesNumber, cache_option, mdlsim, patience_option}
 use Rattle.clap.proofs.OnLiterals.{clap_on_literals}
 use Rattle.clap.proofs.WalkLemmas.{one_text-rows}
 use Rattle.mdlsim.proofs.CommandWords.{matrix, replay, run_entered, threads_words}
 use Rattle.mdlsim.proofs.LevelWords.{dash}
-use Rattle.mdlsim.proofs.PatienceFound.{patience_found}
-use Rattle.mdlsim.proofs.PatienceWords.{patience, run as run_name}
+use Rattle.mdlsim.proofs.OptionWords.{run as run_name}
+use Rattle.mdlsim.proofs.OptionsFound.{options_found}
 use Rattle.mdlsim.proofs.ScopedWords.{lock}
 
 -- of a command with the shape of `mdlsim`
@@ -38,7 +39,7 @@ abbrev subcommand_of_run : Run → Text
 subcommand_of_run (Lock kind) = lock
 subcommand_of_run Matrix = matrix
 subcommand_of_run Replay = replay
-subcommand_of_run (Threads n) = run_name
+subcommand_of_run (Threads p c) = run_name
 
 -- the name and the rows of the subcommand that the words name
 abbrev named_by : List Text → Option Text
@@ -57,8 +58,8 @@ name_found words Matrix (inl e) = ap named_by e
 name_found words Matrix (inr (front, is, e)) = ap named_by (is ∙ ap (λ xs. xs ++ dash ∷ []) e)
 name_found words Replay (inl e) = ap named_by e
 name_found words Replay (inr (front, is, e)) = ap named_by (is ∙ ap (λ xs. xs ++ dash ∷ []) e)
-name_found words (Threads n) asked =
-    let (options, end, asks, ends, is) = threads_words words n asked in
+name_found words (Threads p c) asked =
+    let (options, end, asks, ends, is) = threads_words words p c asked in
     ap named_by is ∙ ap (option_map (λ (p : Text × List Row). p.0)) (run_entered (options ++ end))
 
 named : (run : Run) (m : ArgMatches) → Finds run m → subcommand_name_of m ≡ Some (subcommand_of_run run)
@@ -99,26 +100,26 @@ is_lock Replay m options kind finds name rows scoped object = absurd (other (nam
   where
     other : Some lock ≡ Some replay → ⊥
     other e = cc
-is_lock (Threads n) m options kind finds name rows scoped object = absurd (other (name ∙ named (Threads n) m finds))
+is_lock (Threads p c) m options kind finds name rows scoped object = absurd (other (name ∙ named (Threads p c) m finds))
   where
     other : Some lock ≡ Some run_name → ⊥
     other e = cc
 
+-- the text that is found of an option has its number
+number_found : (option : NumberOption) (n : ℕ) (m options : ArgMatches) (rows : Option (List Row)) → AreOptionsOf m options
+    → option_map (λ (p : Text × List Row). p.1) (subcommand_rows (out-ArgMatches m).subcommand) ≡ rows
+    → (t : Text) × WritesNumber option t n × (option_and_then (one_of option.name) rows ≡ Some (without_minus t)) → HasNumber option options n
+number_found option n m options rows are is (t, writes, found) =
+    (t, writes, one_text-rows (found_of options) option.name ∙ ap (option_and_then (one_of option.name)) (are ∙ is) ∙ found)
+
 pub is_threads : (run : Run) (m options : ArgMatches) → Finds run m → Some run_name ≡ subcommand_name_of m → AreOptionsOf m options
-    → (n : ℕ) × HasPatience options n × (run ≡ Threads n)
-is_threads (Threads n) m options (words, asked, is) name rows =
-    let (front, end, asks, ends, spelt) = threads_words words n asked in
-    let (t, writes, found) = patience_found n front end asks ends in
-    let entered = ap (λ w. rows_by w) spelt ∙ ap (option_map (λ (p : Text × List Row). p.1)) (run_entered (front ++ end)) in (
-      n,
-      (
-        t,
-        writes,
-        one_text-rows (found_of options) patience
-            ∙ ap (option_and_then (one_of patience)) (rows ∙ ap (option_map (λ (p : Text × List Row). p.1)) is ∙ entered) ∙ found.1,
-      ),
-      refl,
-    )
+    → (p c : ℕ) × HasNumber patience_option options p × HasNumber cache_option options c × (Threads p c ≡ run)
+is_threads (Threads p c) m options (words, asked, is) name rows =
+    let (front, end, asks, ends, spelt) = threads_words words p c asked in
+    let (passes, patience, cache) = options_found p c front end asks ends in
+    let entered = ap (λ w. rows_by w) spelt ∙ ap (option_map (λ (p : Text × List Row). p.1)) (run_entered (front ++ end)) in
+    let are = ap (option_map (λ (p : Text × List Row). p.1)) is ∙ entered in
+    (p, c, number_found patience_option p m options _ rows are patience, number_found cache_option c m options _ rows are cache, refl)
 is_threads (Lock kind) m options finds name rows = absurd (other (name ∙ named (Lock kind) m finds))
   where
     other : Some run_name ≡ Some lock → ⊥
@@ -146,11 +147,11 @@ is_plain asked run m plain is name = same run (sym plain ∙ ap plain_run (name 
     same (Lock kind) e = absurd (cc)
     same Matrix e = ap (λ o. unwrap_or o asked) e
     same Replay e = ap (λ o. unwrap_or o asked) e
-    same (Threads n) e = absurd (cc)
+    same (Threads p c) e = absurd (cc)
 
 pub is_one : (run : Run) (m : ArgMatches) → Finds run m
     → (subcommand_name_of m ≡ Some lock) ⊎ ((subcommand_name_of m ≡ Some matrix) ⊎ ((subcommand_name_of m ≡ Some replay) ⊎ (subcommand_name_of m ≡ Some run_name)))
 is_one (Lock kind) m is = inl (named (Lock kind) m is)
 is_one Matrix m is = inr (inl (named Matrix m is))
 is_one Replay m is = inr (inr (inl (named Replay m is)))
-is_one (Threads n) m is = inr (inr (inr (named (Threads n) m is)))
+is_one (Threads p c) m is = inr (inr (inr (named (Threads p c) m is)))

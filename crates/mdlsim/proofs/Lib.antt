@@ -2,6 +2,6 @@ pub mod CommandWords
 pub mod FoundRuns
 pub mod LevelWords
 pub mod LongOptions
-pub mod PatienceFound
-pub mod PatienceWords
+pub mod OptionWords
+pub mod OptionsFound
 pub mod ScopedWords

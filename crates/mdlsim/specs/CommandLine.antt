@@ -9,23 +9,44 @@ use Rattle.clap.specs.Simple.{App, new_app, new_rule, new_shape, on_top, subcomm
 use Rattle.clap.specs.declared.builder.action.ArgAction.TheVariants.{Set, SetTrue}
 use Rattle.clap.specs.declared.builder.value_parser.ValueParser.TheVariants.{Signed}
 use Rattle.clap.specs.declared.parser.matches.ArgMatches.{ArgMatches}
+use Rattle.mdl_defs.specs.Caches.{most_kept}
 use Rattle.mdl_key.specs.declared.namespace.Kind.TheVariants.{Scoped, Object}
 use Rattle.mdl_program.specs.declared.program.Run.{Run}
 use Rattle.mdl_program.specs.declared.program.Run.TheVariants.{Lock, Matrix, Replay, Threads}
 
--- the text writes this patience, a number of 32 bits, in decimal digits, perhaps behind a sign; behind a `-` there are only zeros
-abbrev pub WritesPatience : List ℕ → ℕ → Type 0
-WritesPatience text patience = IsSignedIn (pos 0) (pos 4294967295) text × (signed_digits_value 10 text ≡ pos patience)
+-- an option of `run` with a number: its name, the least number and the most, and the text of the number where none is given
+pub record NumberOption : Type 0 where
+  pub name : List ℕ
+  pub least : ℕ
+  pub most : ℕ
+  pub default : List ℕ
 
--- the words that give `--patience` this text: in the same word, behind a `=`, or in the next, where no `-` begins it
-abbrev pub GivePatience : List ℕ → List (List ℕ) → Type 0
-GivePatience text words = (words ≡ (codes "--patience=" ++ text) ∷ [])
-    ⊎ ((words ≡ codes "--patience" ∷ text ∷ []) × (starts_with_minus text ≡ false))
+-- how often a waiting statement looks again, a number of 32 bits
+abbrev pub patience_option : NumberOption
+patience_option = record { name = codes "patience"; least = 0; most = 4294967295; default = codes "1000000" }
 
--- the words behind `run` that ask for this patience: 1,000,000 is that of a run to which none is given
-abbrev pub AskForPatience : ℕ → List (List ℕ) → Type 0
-AskForPatience patience words = ((words ≡ []) × (patience ≡ 1000000))
-    ⊎ ((text : List ℕ) × WritesPatience text patience × GivePatience text words)
+-- how many definitions each session keeps in a cache
+abbrev pub cache_option : NumberOption
+cache_option = record { name = codes "cache"; least = 1; most = most_kept; default = codes "64" }
+
+module _ (option : NumberOption) where
+  -- the text writes this number within the option's limits, in decimal digits, perhaps behind a sign; behind a `-` there are only zeros
+  abbrev pub WritesNumber : List ℕ → ℕ → Type 0
+  WritesNumber text number = IsSignedIn (pos option.least) (pos option.most) text × (signed_digits_value 10 text ≡ pos number)
+
+  -- the words that give the option this text: in the same word, behind a `=`, or in the next, where no `-` begins it
+  abbrev pub GiveText : List ℕ → List (List ℕ) → Type 0
+  GiveText text words = (words ≡ (codes "--" ++ option.name ++ codes "=" ++ text) ∷ [])
+      ⊎ ((words ≡ (codes "--" ++ option.name) ∷ text ∷ []) × (starts_with_minus text ≡ false))
+
+  -- the words that ask for this number: they give its text, or there are none, and its text is the default
+  abbrev pub AskForNumber : ℕ → List (List ℕ) → Type 0
+  AskForNumber number words = (text : List ℕ) × WritesNumber text number × (GiveText text words ⊎ ((words ≡ []) × (text ≡ option.default)))
+
+-- the words behind `run` that ask for this patience and this cache, in either order
+abbrev pub AskForThreads : ℕ → ℕ → List (List ℕ) → Type 0
+AskForThreads patience cache words = (first next : List (List ℕ)) × AskForNumber patience_option patience first × AskForNumber cache_option cache next
+    × ((words ≡ first ++ next) ⊎ (words ≡ next ++ first))
 
 -- the words of a run, behind the program's name
 abbrev pub AreWordsOf : Run → List (List ℕ) → Type 0
@@ -33,7 +54,7 @@ AreWordsOf (Lock Object) words = words ≡ codes "lock" ∷ []
 AreWordsOf (Lock Scoped) words = words ≡ codes "lock" ∷ codes "--scoped" ∷ []
 AreWordsOf Matrix words = words ≡ codes "matrix" ∷ []
 AreWordsOf Replay words = words ≡ codes "replay" ∷ []
-AreWordsOf (Threads patience) words = (options : List (List ℕ)) × (words ≡ codes "run" ∷ options) × AskForPatience patience options
+AreWordsOf (Threads patience cache) words = (options : List (List ℕ)) × (words ≡ codes "run" ∷ options) × AskForThreads patience cache options
 
 -- the words behind the program's name ask for this run; a closing `--` says no more than that the options end
 abbrev pub Asks : List (List ℕ) → Run → Type 0
@@ -55,18 +76,18 @@ scoped_flag = record (new_rule (codes "scoped")) { long = Some (codes "scoped");
 abbrev pub lock_subcommand : App
 lock_subcommand = with_rule (new_app (codes "lock")) scoped_flag
 
--- what a parse reads of the option `--patience`, and of `run`, which has it
-abbrev pub patience_option : Rule
-patience_option = record (new_rule (codes "patience")) {
-  long = Some (codes "patience");
+-- what a parse reads of an option with a number, and of `run`, which has two
+abbrev pub number_rule : NumberOption → Rule
+number_rule option = record (new_rule option.name) {
+  long = Some option.name;
   action = Some Set;
   value_names = 1;
-  parser = Some (Signed (pos 0) (pos 4294967295));
-  defaults = codes "1000000" ∷ [];
+  parser = Some (Signed (pos option.least) (pos option.most));
+  defaults = option.default ∷ [];
 }
 
 abbrev pub run_subcommand : App
-run_subcommand = with_rule (new_app (codes "run")) patience_option
+run_subcommand = with_rule (with_rule (new_app (codes "run")) (number_rule patience_option)) (number_rule cache_option)
 
 -- the program without its subcommands: it wants one
 abbrev pub without_subcommands : App
@@ -84,6 +105,6 @@ mdlsim = with_subcommand with_scripts run_subcommand.top
 abbrev pub Finds : Run → ArgMatches → Type 0
 Finds run matches = (words : List (List ℕ)) × Asks words run × (subcommand_rows_of matches ≡ subcommand_of mdlsim (codes "mdlsim" ∷ words))
 
--- what was found of the options of `run` is this patience; of a text behind a `-`, what follows it is found
-abbrev pub HasPatience : ArgMatches → ℕ → Type 0
-HasPatience options patience = (text : List ℕ) × WritesPatience text patience × (one_text (found_of options) (codes "patience") ≡ Some (without_minus text))
+-- what was found of an option of `run` is this number; of a text behind a `-`, what follows it is found
+abbrev pub HasNumber : NumberOption → ArgMatches → ℕ → Type 0
+HasNumber option matches number = (text : List ℕ) × WritesNumber option text number × (one_text (found_of matches) option.name ≡ Some (without_minus text))

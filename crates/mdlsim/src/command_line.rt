@@ -1,9 +1,9 @@
 //! What the command line asks for.
-ghost use Rattle.std.specs.Prelude.{◌≡◌, ◌↔◌, ℕ, IfErr, IfOk, IsTrue, Some, codes, drop, map};
-ghost use Rattle.clap.specs.Words.{app_of, found_of, kind_of, one_text};
+ghost use Rattle.std.specs.Prelude.{◌≡◌, ◌↔◌, ℕ, IfErr, IfOk, IsTrue, Some, codes, drop, false, map};
+ghost use Rattle.clap.specs.Words.{app_of, found_of, kind_of, one_text, rule_of};
 ghost use Rattle.mdl_program.specs.declared.program.Run.{Run};
 ghost use Rattle.mdlsim.specs.CommandLine as spec;
-ghost use Rattle.mdlsim.specs.CommandLine.{AskForVersion, Asks, Finds, HasPatience, mdlsim};
+ghost use Rattle.mdlsim.specs.CommandLine.{AskForVersion, Asks, Finds, HasNumber, mdlsim, number_rule};
 
 use clap::error::ErrorKind;
 use clap::{Arg, ArgAction, ArgMatches, Command, Error, value_parser};
@@ -41,7 +41,7 @@ fn run_found(matches: &ArgMatches) -> Run
         Some(("lock", options)) => Run::Lock(kind_found(options)),
         Some(("matrix", _)) => Run::Matrix,
         Some(("replay", _)) => Run::Replay,
-        Some(("run", options)) => Run::Threads(patience_found(options)),
+        Some(("run", options)) => Run::Threads(patience_found(options), cache_found(options)),
         _ => unreachable!(),
     }
 }
@@ -60,11 +60,22 @@ fn kind_found(options: &ArgMatches) -> Kind
 
 // The patience that the options of `run` ask for.
 fn patience_found(options: &ArgMatches) -> u32
-    requires { (patience : ℕ) × HasPatience options.now patience }
-    ensures { (patience : ℕ) → HasPatience options.now patience → result ≡ patience }
+    requires { (patience : ℕ) × HasNumber spec.patience_option options.now patience }
+    ensures { (patience : ℕ) → HasNumber spec.patience_option options.now patience → result ≡ patience }
 {
     match options.get_one::<u32>("patience") {
         Some(patience) => patience,
+        None => unreachable!(),
+    }
+}
+
+// The capacity of the caches that the options of `run` ask for.
+fn cache_found(options: &ArgMatches) -> u16
+    requires { (cache : ℕ) × HasNumber spec.cache_option options.now cache }
+    ensures { (cache : ℕ) → HasNumber spec.cache_option options.now cache → result ≡ cache }
+{
+    match options.get_one::<u16>("cache") {
+        Some(cache) => cache,
         None => unreachable!(),
     }
 }
@@ -100,20 +111,42 @@ fn lock_subcommand<'a>(alloc: Global) -> Result<Command<'a>, AllocError>
         .arg(scoped)
 }
 
-// The subcommand `run`, with its option.
+// The subcommand `run`, with its options.
 fn run_subcommand<'a>(alloc: Global) -> Result<Command<'a>, AllocError>
     ensures { IfOk result (λ c. app_of c ≡ spec.run_subcommand) }
 {
-    let patience = Arg::new(alloc, "patience")
+    Command::new(alloc, "run")
+        .about(
+            "Plays a script of statements read from standard input, each session on a thread of its own",
+        )
+        .arg(patience_option(alloc))?
+        .arg(cache_option(alloc))
+}
+
+// The option `--patience`.
+fn patience_option<'a>(alloc: Global) -> Arg<'a>
+    ensures rule { rule_of result ≡ number_rule spec.patience_option }
+    ensures local { result.global ≡ false }
+{
+    Arg::new(alloc, "patience")
         .long("patience")
         .value_name("N")
         .action(ArgAction::Set)
         .value_parser(value_parser!(u32))
         .default_value("1000000")
-        .help("How often a statement that waits looks again before it times out");
-    Command::new(alloc, "run")
-        .about(
-            "Plays a script of statements read from standard input, each session on a thread of its own",
-        )
-        .arg(patience)
+        .help("How often a statement that waits looks again before it times out")
+}
+
+// The option `--cache`.
+fn cache_option<'a>(alloc: Global) -> Arg<'a>
+    ensures rule { rule_of result ≡ number_rule spec.cache_option }
+    ensures local { result.global ≡ false }
+{
+    Arg::new(alloc, "cache")
+        .long("cache")
+        .value_name("N")
+        .action(ArgAction::Set)
+        .value_parser(value_parser!(u16).range(1..=4096))
+        .default_value("64")
+        .help("How many definitions each session keeps in a cache, from 1 to 4096")
 }

@@ -12,7 +12,7 @@ use Rattle.mdl_calls.specs.declared.answers.Held.{Held}
 use Rattle.mdl_calls.specs.declared.answers.Settled.{Settled}
 use Rattle.mdl_calls.specs.declared.answers.Settled.TheVariants.{Killed, Victim}
 use Rattle.mdl_system.specs.Strength.{covers}
-use Rattle.mdl_calls.specs.Words.{Call, Resolve, Search, End_wait, Wait_of, Kill, Read_definition, Change_definition, Upgrade_now, Tables_of, Key_of, Read_kept, Unpin, caller, Answer, At_place, Would_wait, Key_is, Tables, Victim_is, Has_wait, Has_killed, Reads, Changed, Holds, is_answer_of, Own, Numbers, own_after, wait_number, is_waiting, ticket_held, IsRising, Draws, IsExplained, told, IsToldOf, HoldsAt, IsChangeOf, is_table_of, redefined_place}
+use Rattle.mdl_calls.specs.Words.{Call, Resolve, Search, End_wait, Wait_of, Kill, Read_definition, Read_kept, Change_definition, Upgrade_now, Tables_of, Key_of, Read_kept, Unpin, caller, Answer, At_place, Would_wait, Key_is, Tables, Victim_is, Has_wait, Has_killed, Reads, Changed, Holds, is_answer_of, Own, Numbers, own_after, wait_number, is_waiting, ticket_held, IsRising, Draws, IsExplained, told, IsToldOf, HoldsAt, IsChangeOf, is_table_of, redefined_place}
 
 -- what is known of such a space: its session and its key, what the session has, how its wait is settled, the last numbers
 -- that its tickets and waits were given, and what stands under the key
@@ -92,7 +92,6 @@ Pins a who place = (who ≡ a.who) × (place ≡ 1)
 
 -- whether the space has a call. The others are still to come.
 abbrev pub has_call : Call → Bool
-has_call (Read_kept _ _) = false
 has_call (Unpin _ _) = false
 has_call _ = true
 
@@ -118,6 +117,7 @@ IsTold a (Kill target number) (Has_killed true) b =
 IsTold a (Kill target number) (Has_killed false) b =
     target ≡ a.who → wait_number a.own ≡ Some number → is_some b.settled ≡ true
 IsTold a (Read_definition who id) (Reads version definition) b = b.standing ≡ record { version = version; definition = definition }
+IsTold a (Read_kept who id) (Reads version definition) b = b.standing ≡ record { version = version; definition = definition }
 IsTold a (Upgrade_now who id mode) Would_wait b =
     (ticket : Held) → ticket_held id a.own ≡ Some ticket → covers ticket.mode mode ≡ false
 IsTold a (Change_definition who id change) answer b = IsRedefined a id change answer b

@@ -12,7 +12,7 @@ use crate::{
     Attempt, Begun, Ended, Held, LockSpace, Place, Poll, Search, SpaceError, TicketId, TimedOut,
     Upgrade,
 };
-use mdl_defs::{Change, Standing};
+use mdl_defs::{Change, DefCache, Standing};
 use mdl_key::{Key, Mode};
 
 impl LockSpace for CoreSpace {
@@ -27,6 +27,8 @@ impl LockSpace for CoreSpace {
     ghost numbers = { numbers_at };
 
     ghost has_read = { HasRead };
+
+    ghost has_met = { λ _ _ _ _. Unit {0} };
 
     ghost has_seen = { HasSeen };
 
@@ -93,6 +95,15 @@ impl LockSpace for CoreSpace {
     }
 
     fn read_definition(&mut self, who: u16, id: TicketId) -> Result<Standing, SpaceError> {
+        self.read_held(who, id)
+    }
+
+    fn read_kept(
+        &mut self,
+        who: u16,
+        id: TicketId,
+        _cache: &mut DefCache,
+    ) -> Result<Standing, SpaceError> {
         self.read_held(who, id)
     }
 
@@ -184,6 +195,10 @@ impl LockSpace for CoreSpace {
     ghost seen_stays = { core-seen_stays };
 
     ghost seen_below = { core-seen_below };
+
+    ghost meets = { λ a w place standing speaks read. tt };
+
+    ghost met_stays = { λ a b call answer w place standing speaks joins met. tt };
 
     ghost upgrades = { core-upgrades };
 

@@ -4,7 +4,7 @@ ghost use Rattle.mdl_calls.specs.Tests.LoneSessions.{LoneSpeaks, Knows, IsSettle
 ghost use Rattle.mdl_calls.proofs.LoneLemmas.{lone-tells_key, lone-tells_tables, held-at_one, wait-at_one, settled-how, lone-reads, lone-redefines, lone-redefines_so, lone-stands, lone-reads_fit, lone-sees, lone-seen_stays, lone-seen_below, lone-upgrades, has_not};
 
 use super::{LoneSession, Waiting};
-use mdl_defs::{Change, Standing};
+use mdl_defs::{Change, DefCache, Standing};
 use mdl_key::{Key, Mode};
 use mdl_space::{
     Attempt, Begun, Ended, Held, LockSpace, Place, Poll, Search, Settled, SpaceError, TicketId,
@@ -24,6 +24,8 @@ impl LockSpace for LoneSession {
     ghost numbers = { λ a _. a.numbers };
 
     ghost has_read = { HasRead };
+
+    ghost has_met = { λ _ _ _ _. Unit {0} };
 
     ghost has_seen = { HasSeen };
 
@@ -100,6 +102,10 @@ impl LockSpace for LoneSession {
     ghost seen_stays = { lone-seen_stays };
 
     ghost seen_below = { lone-seen_below };
+
+    ghost meets = { λ a w place standing speaks read. tt };
+
+    ghost met_stays = { λ a b call answer w place standing speaks joins met. tt };
 
     ghost upgrades = { lone-upgrades };
 
@@ -325,13 +331,16 @@ impl LockSpace for LoneSession {
     }
 
     fn read_definition(&mut self, _who: u16, id: TicketId) -> Result<Standing, SpaceError> {
-        if self.ticket(id).is_none() {
-            return Err(SpaceError::NotHeld);
-        }
-        match self.standing.clone() {
-            Ok(standing) => Ok(standing),
-            Err(_) => Err(SpaceError::OutOfMemory),
-        }
+        self.read_held(id)
+    }
+
+    fn read_kept(
+        &mut self,
+        _who: u16,
+        id: TicketId,
+        _cache: &mut DefCache,
+    ) -> Result<Standing, SpaceError> {
+        self.read_held(id)
     }
 
     fn change_definition(

@@ -1,7 +1,8 @@
 //! The definition of a key is read under the latch of its place.
 ghost use Rattle.std.specs.Prelude.{◌≡◌, [], IfOk, OnErr};
 ghost use Rattle.mdl_steps.specs.SeatStates.{AtItsTable};
-ghost use Rattle.mdl_visits.specs.Readings.{Follows, ReadsStanding};
+ghost use Rattle.mdl_steps.specs.VersionPlays.{Follows};
+ghost use Rattle.mdl_visits.specs.Readings.{ReadsStanding};
 ghost use Rattle.mdl_visits.specs.Visits.{MayVisit, StaysQuiet, Visits};
 
 use crate::latches::await_latch;

@@ -1,6 +1,6 @@
 -- The call leaves the other sessions as they were.
 use Rattle.std.proofs.Common.{refl}
-use Rattle.mdl_stmt_trials.proofs.RoomLemmas.{one_call}
+use Rattle.mdl_context.proofs.OthersLemmas.{leaves-call}
 use Rattle.mdl_stmt_trials.proofs.room.leave.Goals as goal
 
 pub returns-clause-speaks : goal.returns-clause-speaks
@@ -9,4 +9,4 @@ returns-clause-speaks g c = g.met.S.LockSpace.keeps _ _ _ _ _ c.requires c.relea
 pub returns-clause-others : goal.returns-clause-others
 returns-clause-others g c =
     let laws = g.met.S.LockSpace in
-    one_call g.S.LockSpace laws.keeps laws.others laws.remembers _ _ _ _ _ refl c.release.ensures
+    leaves-call g.S.LockSpace laws.keeps laws.others laws.remembers laws.met_stays _ _ _ _ _ refl c.release.ensures

@@ -1,11 +1,11 @@
 -- The space attends to the session, and a statement waits.
 use Rattle.std.proofs.Common.{◌≡◌, IsSome}
-use Rattle.mdl_context.specs.Contexts.{Attends}
+use Rattle.mdl_stmt.specs.Attendance.{AttendsWith}
 use Rattle.mdl_threaded_server_example.proofs.session.wait_out.Given as goal
 
 abbrev pub invariant-loop-poll : goal.invariant-loop-poll
 invariant-loop-poll g l = record {
-  attends : Attends g.S.LockSpace l.space l.runner.context;
+  attends : AttendsWith g.S.LockSpace l.space l.runner.context l.runner.cache;
   who : l.runner.context.who ≡ l.who;
   waits : IsSome l.runner.work;
 }

@@ -1,5 +1,5 @@
--- What is found names the run's subcommand, and says of `--scoped` whether it was there, and what `--patience` has.
-use Rattle.std.proofs.Common.{◌∙◌, ap, refl, rules, sym, inl, inr}
+-- What is found names the run's subcommand, and says of `--scoped` whether it was there, and what `--patience` and `--cache` have.
+use Rattle.std.proofs.Common.{◌∙◌, ap₂, refl, rules, inl, inr}
 use Rattle.mdl_program.specs.declared.program.Run.TheVariants.{Matrix, Replay, Threads}
 use Rattle.mdlsim.proofs.FoundRuns.{is_lock, is_one, is_plain, is_threads}
 use Rattle.mdlsim.proofs.command_line.run_found.Goals as goal
@@ -29,10 +29,15 @@ returns-in-Some-replay-default c run is = is_plain Replay run c.args.matches.now
 
 pub patience_found-requires : goal.patience_found-requires
 patience_found-requires c =
-    let (n, found, is) = is_threads c.requires.0 c.args.matches.now c.in-Some-run-default.options.now c.requires.1 (search rules) (search rules) in
-    (n, found)
+    let (p, n, patience, cache, is) = is_threads c.requires.0 c.args.matches.now c.in-Some-run-default.options.now c.requires.1 (search rules) (search rules) in
+    (p, patience)
+
+pub cache_found-requires : goal.cache_found-requires
+cache_found-requires c =
+    let (p, n, patience, cache, is) = is_threads c.requires.0 c.args.matches.now c.in-Some-run-default.options.now c.requires.1 (search rules) (search rules) in
+    (n, cache)
 
 pub returns-in-Some-run-default : goal.returns-in-Some-run-default
 returns-in-Some-run-default c run finds =
-    let (n, found, is) = is_threads run c.args.matches.now c.in-Some-run-default.options.now finds (search rules) (search rules) in
-    ap Threads (c.patience_found.ensures n found) ∙ sym is
+    let (p, n, patience, cache, is) = is_threads run c.args.matches.now c.in-Some-run-default.options.now finds (search rules) (search rules) in
+    ap₂ Threads (c.patience_found.ensures p patience) (c.cache_found.ensures n cache) ∙ is

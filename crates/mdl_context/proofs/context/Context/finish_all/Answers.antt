@@ -22,6 +22,6 @@ pub returns-clause-others : goal.returns-clause-others
 returns-clause-others g c =
     let laws = g.met.S.LockSpace in
     let lock = g.S.LockSpace in
-    let second = leaves g.S.LockSpace laws.keeps laws.others laws.remembers _ _ _ _ _ (for_all _ _) c.release_beyond.ensures.run in
+    let second = leaves g.S.LockSpace laws.keeps laws.others laws.remembers laws.met_stays _ _ _ _ _ (for_all _ _) c.release_beyond.ensures.run in
     both-leave lock c.args.self.now.who c.args.space.now c.return_to.new.space c.release_beyond.new.space c.return_to.ensures.others
     (subst (λ who. LeavesOthers lock who c.return_to.new.space c.release_beyond.new.space) c.return_to.ensures.who second)

@@ -45,4 +45,4 @@ returns-clause-attends g c =
 pub returns-clause-others : goal.returns-clause-others
 returns-clause-others g c =
     let laws = g.met.S.LockSpace in
-    rw (← c.self.view_is) (leaves g.S.LockSpace laws.keeps laws.others laws.remembers _ _ _ _ _ (for_all _ _) c.release_all.ensures.run)
+    rw (← c.self.view_is) (leaves g.S.LockSpace laws.keeps laws.others laws.remembers laws.met_stays _ _ _ _ _ (for_all _ _) c.release_all.ensures.run)

@@ -35,20 +35,20 @@ search_on-requires-clause-attends g c =
 pub returns-in-Some-true-clause-others : goal.returns-in-Some-true-clause-others
 returns-in-Some-true-clause-others g c =
     let laws = g.met.S.LockSpace in
-    leaves g.S.LockSpace laws.keeps laws.others laws.remembers c.args.self.now.who (looking c.args.self.now) _ _ (c.look.result, c.look.new.self) (for_looking c.args.self.now) c.look.ensures.run
+    leaves g.S.LockSpace laws.keeps laws.others laws.remembers laws.met_stays c.args.self.now.who (looking c.args.self.now) _ _ (c.look.result, c.look.new.self) (for_looking c.args.self.now) c.look.ensures.run
 
 pub returns-in-Pending-clause-others : goal.returns-in-Pending-clause-others
 returns-in-Pending-clause-others g c =
     let same : c.self.inside.who ≡ c.args.self.now.who = ap (λ (v : ContextView). v.who) c.self.view_is in
     let laws = g.met.S.LockSpace in
-    leaves g.S.LockSpace laws.keeps laws.others laws.remembers c.args.self.now.who (Ask (Poll_wait c.args.self.now.who) (λ _. searching_on c.args.self.now)) _ _ (c.search_on.result, c.search_on.new.self) (refl, λ _. for_searching_on c.args.self.now)
+    leaves g.S.LockSpace laws.keeps laws.others laws.remembers laws.met_stays c.args.self.now.who (Ask (Poll_wait c.args.self.now.who) (λ _. searching_on c.args.self.now)) _ _ (c.search_on.result, c.search_on.new.self) (refl, λ _. for_searching_on c.args.self.now)
     (_, _, rw same at c.poll_wait.ensures, c.search_on.ensures.run)
 
 pub returns-in-Settled-clause-others : goal.returns-in-Settled-clause-others
 returns-in-Settled-clause-others g c =
     let same : c.self.inside.who ≡ c.args.self.now.who = ap (λ (v : ContextView). v.who) c.self.view_is in
     let laws = g.met.S.LockSpace in
-    leaves g.S.LockSpace laws.keeps laws.others laws.remembers c.args.self.now.who (Ask (Poll_wait c.args.self.now.who) (λ _. ending c.args.self.now)) _ _ (c.end_wait.result, c.end_wait.new.self) (refl, λ _. for_ending c.args.self.now)
+    leaves g.S.LockSpace laws.keeps laws.others laws.remembers laws.met_stays c.args.self.now.who (Ask (Poll_wait c.args.self.now.who) (λ _. ending c.args.self.now)) _ _ (c.end_wait.result, c.end_wait.new.self) (refl, λ _. for_ending c.args.self.now)
     (_, _, rw same at c.poll_wait.ensures, c.end_wait.ensures.run)
 
 pub returns-in-Pending-clause-outcome : goal.returns-in-Pending-clause-outcome

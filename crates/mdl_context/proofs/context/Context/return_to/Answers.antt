@@ -15,7 +15,7 @@ pub returns-clause-others : goal.returns-clause-others
 returns-clause-others g c =
     let laws = g.met.S.LockSpace in
     let lock = g.S.LockSpace in
-    let first = leaves g.S.LockSpace laws.keeps laws.others laws.remembers _ _ _ _ _ (for_all _ _) c.release_beyond.ensures.run in
-    let second = leaves g.S.LockSpace laws.keeps laws.others laws.remembers _ _ _ _ _ (for_all _ _) c.release_beyond-2.ensures.run in
+    let first = leaves g.S.LockSpace laws.keeps laws.others laws.remembers laws.met_stays _ _ _ _ _ (for_all _ _) c.release_beyond.ensures.run in
+    let second = leaves g.S.LockSpace laws.keeps laws.others laws.remembers laws.met_stays _ _ _ _ _ (for_all _ _) c.release_beyond-2.ensures.run in
     both-leave lock c.args.self.now.who c.args.space.now c.release_beyond.new.space c.release_beyond-2.new.space first
     (subst (λ who. LeavesOthers lock who c.release_beyond.new.space c.release_beyond-2.new.space) (ap (λ (v : ContextView). v.who) c.release_beyond.ensures.kept) second)

@@ -88,7 +88,7 @@ returns-in-Ok-WouldWait-clause-run g c =
 pub returns-in-Ok-WouldWait-clause-others : goal.returns-in-Ok-WouldWait-clause-others
 returns-in-Ok-WouldWait-clause-others g c =
     let laws = g.met.S.LockSpace in
-    leaves g.S.LockSpace laws.keeps laws.others laws.remembers c.args.self.now.who (upgrading c.args.id c.args.mode c.args.self.now) _ _ (c.wait_to_upgrade.result, c.wait_to_upgrade.new.self)
+    leaves g.S.LockSpace laws.keeps laws.others laws.remembers laws.met_stays c.args.self.now.who (upgrading c.args.id c.args.mode c.args.self.now) _ _ (c.wait_to_upgrade.result, c.wait_to_upgrade.new.self)
     (for_upgrading c.args.id c.args.mode c.args.self.now) (returns-in-Ok-WouldWait-clause-run g c)
 
 pub returns-in-Err-clause-refused : goal.returns-in-Err-clause-refused

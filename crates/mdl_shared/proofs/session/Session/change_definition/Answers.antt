@@ -74,7 +74,7 @@ invariant_of-member-2 g c =
     let its = held-seen m c.args.id c.get.result c.get.ensures.found ∙ c.in-Some.is in
     let own : t.mode ≡ X = search (rules, c.ne.ensures, c.if-ne.false) in
     let changed = c.in-Ok.ensures.changed in
-    let noted = noted-by m.seat c.change_definition.new.seat m.sessions changed.0.0 changed.1.2 in
+    let noted = noted-by changed.1.0 m.seat c.change_definition.new.seat m.sessions changed.0.0 changed.1.2 in
     let joins = change-joins is c.args.id t its (session_at c.change_definition.new.seat m.sessions c.note_all.new.self.room) c.args.change.now (ap (λ (mode : Mode). same_mode mode X) own) changed.1.0 c.in-Ok.version noted changed.1.1 changed.0.1 in
     record {
       lawful = ∣ kept is (noted-order noted is) joins ∣₁;
@@ -89,6 +89,6 @@ returns-clause-joined g c =
     let its = held-seen m c.args.id c.get.result c.get.ensures.found ∙ c.in-Some.is in
     let own : t.mode ≡ X = search (rules, c.ne.ensures, c.if-ne.false) in
     let changed = c.in-Ok.ensures.changed in
-    let noted = noted-by m.seat c.change_definition.new.seat m.sessions changed.0.0 changed.1.2 in
+    let noted = noted-by changed.1.0 m.seat c.change_definition.new.seat m.sessions changed.0.0 changed.1.2 in
     rw (← c.self.view_is)
     (change-joins (member m) c.args.id t its (session_at c.change_definition.new.seat m.sessions c.note_all.new.self.room) c.args.change.now (ap (λ (mode : Mode). same_mode mode X) own) changed.1.0 c.in-Ok.version noted changed.1.1 changed.0.1)

@@ -68,7 +68,7 @@ invariant_of-member-2 g c =
     let is = member m in
     let its = held-seen m c.args.id c.get.result c.get.ensures.found ∙ c.in-Some.is in
     let did = c.in-Ok.ensures in
-    let noted = noted-by m.seat c.read_definition.new.seat m.sessions did.quiet.0 did.learnt.0 in
+    let noted = noted-by c.in-Ok.standing m.seat c.read_definition.new.seat m.sessions did.quiet.0 did.learnt.0 in
     record {
       lawful = ∣ kept is (noted-order noted is) (read-joins is c.args.id c.in-Some.held its c.in-Ok.standing noted did.follows) ∣₁;
       lists = lists-noted m noted refl c.note_all.ensures.noted;
@@ -84,7 +84,7 @@ returns g c =
     let its = held-seen m id c.get.result c.get.ensures.found ∙ c.in-Some.is in
     let did = c.in-Ok.ensures in
     let step = did.learnt.1 in
-    let noted = noted-by m.seat c.read_definition.new.seat m.sessions did.quiet.0 did.learnt.0 in
+    let noted = noted-by c.in-Ok.standing m.seat c.read_definition.new.seat m.sessions did.quiet.0 did.learnt.0 in
     rw (← c.self.view_is) (record {
       joined = read-joins is id t its c.in-Ok.standing noted did.follows;
       shown = read-shows is id t its c.in-Ok.standing noted did.follows (does_learns m.seat.me c.read_definition.new.seat.me t.place c.in-Ok.standing did.learnt.0) did.quiet.1

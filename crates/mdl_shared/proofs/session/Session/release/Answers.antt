@@ -1,11 +1,14 @@
 -- The ticket goes, be it slow or fast, or there is none.
-use Rattle.std.proofs.Common.{◌≡◌, ℕ, [], ◌∷◌, Some, None, false, inr, is_some, refl, sym, ap, subst, ◌∙◌}
+use Rattle.std.proofs.Common.{◌≡◌, ℕ, Bool, [], ◌∷◌, Some, None, false, inr, is_some, refl, sym, ap, subst, ◌∙◌}
+use Rattle.std.specs.Option.{option_map}
 use Rattle.mdl_calls.specs.declared.space_error.SpaceError.TheVariants.{NotHeld}
 use Rattle.mdl_calls.specs.Words.{Release}
 use Rattle.mdl_steps.specs.declared.deed.Deed.TheVariants.{Lose}
+use Rattle.mdl_steps.specs.declared.view.Own.{Own}
 use Rattle.mdl_steps.specs.Deeds.{NotWaited}
 use Rattle.mdl_visits.specs.Numbers.{numbered}
 use Rattle.mdl_visits.proofs.Numbers.{has_number}
+use Rattle.mdl_shared.specs.OwnTickets.{fast_found}
 use Rattle.mdl_shared.specs.Passes.{view_of}
 use Rattle.mdl_shared.specs.SessionViews.{tickets_seen}
 use Rattle.mdl_shared.proofs.HeldTickets.{holds-ticket}
@@ -24,25 +27,25 @@ pub give_up_fast-requires : goal.give_up_fast-requires
 give_up_fast-requires g c =
     let t = c.in-Some.held in
     let fast = c.self.inside.member.tickets.fast in
-    let its : numbered c.args.id fast ≡ Some t = sym c.get_fast.ensures.found ∙ c.in-Some.is in
+    let its : numbered c.args.id fast ≡ Some t = sym c.find.ensures.fast ∙ ap fast_found c.in-Some.is ∙ rw c.if-fast.true refl in
     record { held = subst (λ (n : ℕ). numbered n fast ≡ Some t) (sym (has_number c.args.id t fast its)) its }
 
-pub returns-in-Some : goal.returns-in-Some
-returns-in-Some g c =
+pub returns-then-fast : goal.returns-then-fast
+returns-then-fast g c =
     let m = c.self.inside.member in
     let t = c.in-Some.held in
-    let its = fast-seen m c.args.id (Some t) (sym c.in-Some.is ∙ c.get_fast.ensures.found) in
+    let its = fast-seen m c.args.id (Some t) (sym (ap fast_found c.in-Some.is ∙ rw c.if-fast.true refl) ∙ c.find.ensures.fast) in
     let gone = c.give_up_fast.ensures in
     let both = released-fast c.args.id t (member m) its gone.lost gone.did gone.given_up gone.room in
     rw (← c.self.view_is) (record { joined = both.0; shown = both.1 })
 
 -- ---- none
 
-pub returns-in_default-get-clause-joined : goal.returns-in_default-get-clause-joined
-returns-in_default-get-clause-joined g c =
+pub returns-in_default-clause-joined : goal.returns-in_default-clause-joined
+returns-in_default-clause-joined g c =
     let m = c.self.inside.member in
     let s = view_of m in
-    let none = held-seen m c.args.id c.get.result c.get.ensures.found ∙ c.in_default-get.is in
+    let none = held-seen m c.args.id None (sym (ap (option_map (λ (f : Own × Bool). f.0)) c.in_default.is) ∙ c.find.ensures.found) in
     rw (← c.self.view_is)
     (refused s s (Release s.me.0.number c.args.id) NotHeld (same-stays s) (speaks (member m)) refl refl
     (holds-told c.args.id (tickets_seen s.me.0) false (ap is_some none)) (λ state how is. cc) tt)
@@ -53,10 +56,10 @@ pub release-requires : goal.release-requires
 release-requires g c =
     let m = c.self.inside.member in
     let id = c.args.id in
-    let t = c.in-Some-get.held in
-    let none = fast-seen m id None (sym c.in_default.is ∙ c.get_fast.ensures.found) in
-    let its = held-seen m id c.get.result c.get.ensures.found ∙ c.in-Some-get.is in
-    let held = holds-ticket m id t (sym c.get.ensures.found ∙ c.in-Some-get.is) in record {
+    let t = c.in-Some.held in
+    let none = fast-seen m id None (sym (ap fast_found c.in-Some.is ∙ rw c.if-fast.false refl) ∙ c.find.ensures.fast) in
+    let its = held-seen m id (Some t) (sym (ap (option_map (λ (f : Own × Bool). f.0)) c.in-Some.is) ∙ c.find.ensures.found) in
+    let held = holds-ticket m id t (sym c.find.ensures.found ∙ ap (option_map (λ (f : Own × Bool). f.0)) c.in-Some.is) in record {
       at = held.at;
       known = held.known;
       unwaited = subst (NotWaited m.seat.me.0) held.number held.unwaited;
@@ -68,9 +71,9 @@ invariant_of-member g c =
     let m = c.self.inside.member in
     let is = member m in
     let id = c.args.id in
-    let t = c.in-Some-get.held in
-    let none = fast-seen m id None (sym c.in_default.is ∙ c.get_fast.ensures.found) in
-    let its = held-seen m id c.get.result c.get.ensures.found ∙ c.in-Some-get.is in
+    let t = c.in-Some.held in
+    let none = fast-seen m id None (sym (ap fast_found c.in-Some.is ∙ rw c.if-fast.false refl) ∙ c.find.ensures.fast) in
+    let its = held-seen m id (Some t) (sym (ap (option_map (λ (f : Own × Bool). f.0)) c.in-Some.is) ∙ c.find.ensures.found) in
     let slow = slow-else is id t none its in
     let visit = c.release.ensures.released in
     let done = rescheduled m.seat c.release.new.seat m.sessions {room′ = c.strike.new.self.room} (loses-slow is t.place id t slow) visit in
@@ -85,8 +88,8 @@ returns g c =
     let m = c.self.inside.member in
     let is = member m in
     let id = c.args.id in
-    let t = c.in-Some-get.held in
-    let none = fast-seen m id None (sym c.in_default.is ∙ c.get_fast.ensures.found) in
-    let its = held-seen m id c.get.result c.get.ensures.found ∙ c.in-Some-get.is in
+    let t = c.in-Some.held in
+    let none = fast-seen m id None (sym (ap fast_found c.in-Some.is ∙ rw c.if-fast.false refl) ∙ c.find.ensures.fast) in
+    let its = held-seen m id (Some t) (sym (ap (option_map (λ (f : Own × Bool). f.0)) c.in-Some.is) ∙ c.find.ensures.found) in
     let both = released-slow m.seat c.release.new.seat m.sessions id {room′ = c.strike.new.self.room} t is its (slow-else is id t none its) none c.release.ensures.released c.release.ensures.step c.strike.ensures.room in
     rw (← c.self.view_is) (record { joined = both.0; shown = both.1 })

@@ -28,7 +28,7 @@ returns-in-Misses-clause-run g c =
 pub returns-in-Falls-clause-run : goal.returns-in-Falls-clause-run
 returns-in-Falls-clause-run g c =
     let after : Ending → Session = λ e. record { context = c.let_go.new.self.context; state = state_after e c.let_go.new.self.state; left = None } in
-    subst (λ (s : List Savepoint). Runs g.S.LockSpace.joins c.args.space.now (closing c.args.ending c.args.mark (at_rest c.args.self.now)) (Ends (reply.Error Deadlock) (at_rest (player_of c.self.inside.explicit c.self.inside.context false false s))) c.let_go.new.space) (sym c.clear.ensures)
+    subst (λ (s : List Savepoint). Runs g.S.LockSpace.joins c.args.space.now (closing c.args.ending c.args.mark (at_rest c.args.self.now)) (Ends (reply.Error Deadlock) (at_rest (player_of c.self.inside.cache c.self.inside.explicit c.self.inside.context false false s))) c.let_go.new.space) (sym c.clear.ensures)
     (subst (λ (p : PlayerView). Runs g.S.LockSpace.joins c.args.space.now (closing c.args.ending c.args.mark (at_rest c.args.self.now)) (Ends (reply.Error Deadlock) (record { context = p.context; state = closed p.state; left = None })) c.let_go.new.space) (sym c.self.view_is)
     (subst (λ (e : Ending). Runs g.S.LockSpace.joins c.args.space.now (closing c.args.ending c.args.mark (at_rest c.args.self.now)) (ended e (after e)) c.let_go.new.space) c.in-Falls.is
     (c.drop_half.ensures.run c.args.mark _ _ (closes g.S.LockSpace.joins c.args.ending c.args.mark c.drop_half.new.self c.let_go.new.self _ _ c.let_go.ensures.state c.let_go.ensures.run))))

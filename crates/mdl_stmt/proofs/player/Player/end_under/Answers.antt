@@ -9,8 +9,8 @@ use Rattle.mdl_stmt.proofs.player.Player.end_under.Goals as goal
 
 pub returns-clause-run : goal.returns-clause-run
 returns-clause-run g c = λ rest.
-    let middle : PlayerView = player_of c.self.inside.explicit c.self.inside.context c.self.inside.is_open c.self.inside.has_written c.self.inside.savepoints in
-    let after : PlayerView = player_of c.self.inside.explicit c.release-released.new.self c.self.inside.is_open c.self.inside.has_written c.self.inside.savepoints in
+    let middle : PlayerView = player_of c.self.inside.cache c.self.inside.explicit c.self.inside.context c.self.inside.is_open c.self.inside.has_written c.self.inside.savepoints in
+    let after : PlayerView = player_of c.self.inside.cache c.self.inside.explicit c.release-released.new.self c.self.inside.is_open c.self.inside.has_written c.self.inside.savepoints in
     comes-then
     (c.end_transaction.ensures.run (λ _. row.Release c.args.lock (rest tt)))
     (subst (λ (p : PlayerView). Comes g.S.LockSpace.joins c.end_transaction.new.space p (play (row.Release c.args.lock (rest tt))) c.release-released.new.space after (play (rest tt))) c.self.view_is

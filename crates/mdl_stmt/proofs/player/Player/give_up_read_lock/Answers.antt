@@ -21,7 +21,7 @@ returns-clause-run g c = λ rest.
     let here = play (give_up_read_lock >>= rest) in
     let other = play (release_read_lock lock >>= (λ _. set without_read_lock >>= rest)) in
     let inside = c.self-2.inside in
-    let after : ExplicitLocks → PlayerView = λ explicit. player_of explicit inside.context inside.is_open inside.has_written inside.savepoints in
+    let after : ExplicitLocks → PlayerView = λ explicit. player_of inside.cache explicit inside.context inside.is_open inside.has_written inside.savepoints in
     comes-then (comes-as here other
     (λ mark. sym (ap (λ (l : Option ReadLock). play ((release_read_lock l >> set without_read_lock) >>= rest) mark (at_rest x)) found
     ∙ ap (λ (r : Row Reply). play r mark (at_rest x)) (bind-assoc (release_read_lock lock) (λ _. set without_read_lock) rest)))

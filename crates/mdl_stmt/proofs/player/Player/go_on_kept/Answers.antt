@@ -14,20 +14,20 @@ use Rattle.mdl_stmt.proofs.player.Player.go_on_kept.Goals as goal
 
 pub returns-in-Ok-Waiting-clause-run : goal.returns-in-Ok-Waiting-clause-run
 returns-in-Ok-Waiting-clause-run g c =
-    let seat : ContextView → PlayerView = λ context. player_of c.self.inside.explicit context c.self.inside.is_open c.self.inside.has_written c.self.inside.savepoints in
+    let seat : ContextView → PlayerView = λ context. player_of c.self.inside.cache c.self.inside.explicit context c.self.inside.is_open c.self.inside.has_written c.self.inside.savepoints in
     subst (λ (before : PlayerView). Runs g.S.LockSpace.joins c.args.space.now (going_on_kept (session_with before (Some c.args.work))) (Waits_on (session_with (seat c.resume.new.self) (Some c.args.work))) c.resume.new.space) c.self.view_is
     (goes-on-kept g.S.LockSpace.joins (seat c.self.inside.context) c.args.work c.resume.new.self (Ok resume.Waiting) _ _ _ _ (rw (c.in-Ok-Waiting.is, c.in-Ok-Waiting.field-0-is) at c.resume.ensures.run) (refl, refl))
 
 pub returns-in-Ok-Acquired-clause-run : goal.returns-in-Ok-Acquired-clause-run
 returns-in-Ok-Acquired-clause-run g c =
-    let seat : ContextView → PlayerView = λ context. player_of c.self.inside.explicit context c.self.inside.is_open c.self.inside.has_written c.self.inside.savepoints in
+    let seat : ContextView → PlayerView = λ context. player_of c.self.inside.cache c.self.inside.explicit context c.self.inside.is_open c.self.inside.has_written c.self.inside.savepoints in
     let turn = c.proceed_kept.result in
     subst (λ (before : PlayerView). Runs g.S.LockSpace.joins c.args.space.now (going_on_kept (session_with before (Some c.args.work))) (ran turn.progress (session_with c.proceed_kept.new.self turn.work)) c.proceed_kept.new.space) c.self.view_is
     (goes-on-kept g.S.LockSpace.joins (seat c.self.inside.context) c.args.work c.resume.new.self (Ok (resume.Acquired c.in-Ok-Acquired.ticket)) _ _ _ _ (rw (c.in-Ok-Acquired.is, c.in-Ok-Acquired.field-0-is) at c.resume.ensures.run) c.proceed_kept.ensures.run)
 
 pub returns-in-Ok-Lost-clause-run : goal.returns-in-Ok-Lost-clause-run
 returns-in-Ok-Lost-clause-run g c =
-    let seat : ContextView → PlayerView = λ context. player_of c.self.inside.explicit context c.self.inside.is_open c.self.inside.has_written c.self.inside.savepoints in
+    let seat : ContextView → PlayerView = λ context. player_of c.self.inside.cache c.self.inside.explicit context c.self.inside.is_open c.self.inside.has_written c.self.inside.savepoints in
     let turn = c.settle.result in
     subst (λ (before : PlayerView). Runs g.S.LockSpace.joins c.args.space.now (going_on_kept (session_with before (Some c.args.work))) (ran turn.progress (session_with c.settle.new.self turn.work)) c.settle.new.space) c.self.view_is
     (goes-on-kept g.S.LockSpace.joins (seat c.self.inside.context) c.args.work c.resume.new.self (Ok (resume.Lost c.in-Ok-Lost.how)) _ _ _ _ (rw (c.in-Ok-Lost.is, c.in-Ok-Lost.field-0-is) at c.resume.ensures.run)
@@ -36,7 +36,7 @@ returns-in-Ok-Lost-clause-run g c =
 
 pub returns-in-Err-clause-run : goal.returns-in-Err-clause-run
 returns-in-Err-clause-run g c =
-    let seat : ContextView → PlayerView = λ context. player_of c.self.inside.explicit context c.self.inside.is_open c.self.inside.has_written c.self.inside.savepoints in
+    let seat : ContextView → PlayerView = λ context. player_of c.self.inside.cache c.self.inside.explicit context c.self.inside.is_open c.self.inside.has_written c.self.inside.savepoints in
     let turn = c.settle-in-Err.result in
     subst (λ (before : PlayerView). Runs g.S.LockSpace.joins c.args.space.now (going_on_kept (session_with before (Some c.args.work))) (ran turn.progress (session_with c.settle-in-Err.new.self turn.work)) c.settle-in-Err.new.space) c.self.view_is
     (goes-on-kept g.S.LockSpace.joins (seat c.self.inside.context) c.args.work c.resume.new.self (Err c.in-Err.error) _ _ _ _ (rw c.in-Err.is at c.resume.ensures.run)

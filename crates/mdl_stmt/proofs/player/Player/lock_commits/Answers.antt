@@ -17,7 +17,7 @@ use Rattle.mdl_stmt.proofs.player.Player.lock_commits.Goals as goal
 pub returns-in-Had-clause-run : goal.returns-in-Had-clause-run
 returns-in-Had-clause-run g c =
     let inside = c.self.inside in
-    let after : ExplicitLocks → PlayerView = λ explicit. player_of explicit inside.context inside.is_open inside.has_written inside.savepoints in
+    let after : ExplicitLocks → PlayerView = λ explicit. player_of inside.cache explicit inside.context inside.is_open inside.has_written inside.savepoints in
     let wish : KeyName → Wish = λ k. record { key = k; mode = S; duration = Explicit } in
     let got : IsGot g.S.LockSpace.joins (wish commit_key) c.args.space.now (after c.lock_writes.new.self) c.get.result c.get.new.space c.get.new.self =
     subst (λ (k : KeyName). IsGot g.S.LockSpace.joins (wish k) c.args.space.now (after c.lock_writes.new.self) c.get.result c.get.new.space c.get.new.self) c.commit-commits.ensures c.get.ensures.run in
@@ -31,7 +31,7 @@ returns-in-Had-clause-run g c =
 pub returns-in-Waits-clause-run : goal.returns-in-Waits-clause-run
 returns-in-Waits-clause-run g c =
     let inside = c.self.inside in
-    let after : ExplicitLocks → PlayerView = λ explicit. player_of explicit inside.context inside.is_open inside.has_written inside.savepoints in
+    let after : ExplicitLocks → PlayerView = λ explicit. player_of inside.cache explicit inside.context inside.is_open inside.has_written inside.savepoints in
     let wish : KeyName → Wish = λ k. record { key = k; mode = S; duration = Explicit } in
     let got : IsGot g.S.LockSpace.joins (wish commit_key) c.args.space.now (after c.lock_writes.new.self) c.get.result c.get.new.space c.get.new.self =
     subst (λ (k : KeyName). IsGot g.S.LockSpace.joins (wish k) c.args.space.now (after c.lock_writes.new.self) c.get.result c.get.new.space c.get.new.self) c.commit-commits.ensures c.get.ensures.run in
@@ -45,7 +45,7 @@ returns-in-Waits-clause-run g c =
 pub returns-clause-run : goal.returns-clause-run
 returns-clause-run g c =
     let inside = c.self.inside in
-    let after : ExplicitLocks → PlayerView = λ explicit. player_of explicit inside.context inside.is_open inside.has_written inside.savepoints in
+    let after : ExplicitLocks → PlayerView = λ explicit. player_of inside.cache explicit inside.context inside.is_open inside.has_written inside.savepoints in
     let wish : KeyName → Wish = λ k. record { key = k; mode = S; duration = Explicit } in
     let got : IsGot g.S.LockSpace.joins (wish commit_key) c.args.space.now (after c.lock_writes.new.self) c.get.result c.get.new.space c.get.new.self =
     subst (λ (k : KeyName). IsGot g.S.LockSpace.joins (wish k) c.args.space.now (after c.lock_writes.new.self) c.get.result c.get.new.space c.get.new.self) c.commit-commits.ensures c.get.ensures.run in

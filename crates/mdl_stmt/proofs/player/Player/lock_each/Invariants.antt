@@ -11,7 +11,7 @@ use Rattle.mdl_stmt.proofs.player.Player.lock_each.Given as goal
 abbrev pub invariant-loop-key : goal.invariant-loop-key
 invariant-loop-key g l = record {
   idle : l.self.context.wait ≡ None;
-  goes_on : GoesOn g.S.LockSpace l.fn.space l.fn.self.context l.space l.self.context;
+  goes_on : GoesOn g.S.LockSpace l.fn.space l.fn.self l.space l.self;
   keys : l.locks.keys ≡ l.fn.locks.keys;
   run : (rest : List ℕ → Row Reply) → Comes g.S.LockSpace.joins l.fn.space l.fn.self (play (lock_rest_by (wish_by l.fn.locking) l.fn.locks rest)) l.space l.self (play (lock_rest_by (wish_by l.fn.locking) l.locks rest));
 }

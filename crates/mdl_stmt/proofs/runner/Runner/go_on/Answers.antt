@@ -11,7 +11,7 @@ use Rattle.mdl_stmt.proofs.runner.Runner.go_on.Goals as goal
 
 pub returns-in-Ok-Waiting-clause-run : goal.returns-in-Ok-Waiting-clause-run
 returns-in-Ok-Waiting-clause-run g c =
-    let before : RunnerView = record { context = c.self-inside.inside.0.0.context; state = state_of c.self-inside.inside.0.0.explicit c.self-inside.inside.0.0.is_open c.self-inside.inside.0.0.has_written c.self-inside.inside.0.0.savepoints; work = c.self-inside.inside.0.1.0 } in
+    let before : RunnerView = record { context = c.self-inside.inside.0.0.context; state = state_of c.self-inside.inside.0.0.explicit c.self-inside.inside.0.0.is_open c.self-inside.inside.0.0.has_written c.self-inside.inside.0.0.savepoints; work = c.self-inside.inside.0.1.0; cache = c.self-inside.inside.0.0.cache } in
     let same : before ≡ c.args.self.now = search rules in
     let some : IsSome before.work = subst (λ (r : RunnerView). IsSome r.work) (sym same) c.requires.waits in
     subst (λ (r : RunnerView). Runs g.S.LockSpace.joins c.args.space.now (going_on (session_of r)) (Waits_on (session_of (record before { context = c.resume.new.self }))) c.resume.new.space) same
@@ -19,7 +19,7 @@ returns-in-Ok-Waiting-clause-run g c =
 
 pub returns-in-Ok-Acquired-clause-run : goal.returns-in-Ok-Acquired-clause-run
 returns-in-Ok-Acquired-clause-run g c =
-    let before : RunnerView = record { context = c.self-inside.inside.0.0.context; state = state_of c.self-inside.inside.0.0.explicit c.self-inside.inside.0.0.is_open c.self-inside.inside.0.0.has_written c.self-inside.inside.0.0.savepoints; work = c.self-inside.inside.0.1.0 } in
+    let before : RunnerView = record { context = c.self-inside.inside.0.0.context; state = state_of c.self-inside.inside.0.0.explicit c.self-inside.inside.0.0.is_open c.self-inside.inside.0.0.has_written c.self-inside.inside.0.0.savepoints; work = c.self-inside.inside.0.1.0; cache = c.self-inside.inside.0.0.cache } in
     let same : before ≡ c.args.self.now = search rules in
     let some : IsSome before.work = subst (λ (r : RunnerView). IsSome r.work) (sym same) c.requires.waits in
     subst (λ (r : RunnerView). Runs g.S.LockSpace.joins c.args.space.now (going_on (session_of r)) (ran c.go_on_with.result (session_of c.go_on_with.new.self)) c.go_on_with.new.space) same
@@ -27,7 +27,7 @@ returns-in-Ok-Acquired-clause-run g c =
 
 pub returns-in-Ok-Lost-clause-run : goal.returns-in-Ok-Lost-clause-run
 returns-in-Ok-Lost-clause-run g c =
-    let before : RunnerView = record { context = c.self-inside.inside.0.0.context; state = state_of c.self-inside.inside.0.0.explicit c.self-inside.inside.0.0.is_open c.self-inside.inside.0.0.has_written c.self-inside.inside.0.0.savepoints; work = c.self-inside.inside.0.1.0 } in
+    let before : RunnerView = record { context = c.self-inside.inside.0.0.context; state = state_of c.self-inside.inside.0.0.explicit c.self-inside.inside.0.0.is_open c.self-inside.inside.0.0.has_written c.self-inside.inside.0.0.savepoints; work = c.self-inside.inside.0.1.0; cache = c.self-inside.inside.0.0.cache } in
     let same : before ≡ c.args.self.now = search rules in
     let some : IsSome before.work = subst (λ (r : RunnerView). IsSome r.work) (sym same) c.requires.waits in
     subst (λ (r : RunnerView). Runs g.S.LockSpace.joins c.args.space.now (going_on (session_of r)) (ran c.end_with.result (session_of c.end_with.new.self)) c.end_with.new.space) same
@@ -35,7 +35,7 @@ returns-in-Ok-Lost-clause-run g c =
 
 pub returns-in-Err-clause-run : goal.returns-in-Err-clause-run
 returns-in-Err-clause-run g c =
-    let before : RunnerView = record { context = c.self-inside.inside.0.0.context; state = state_of c.self-inside.inside.0.0.explicit c.self-inside.inside.0.0.is_open c.self-inside.inside.0.0.has_written c.self-inside.inside.0.0.savepoints; work = c.self-inside.inside.0.1.0 } in
+    let before : RunnerView = record { context = c.self-inside.inside.0.0.context; state = state_of c.self-inside.inside.0.0.explicit c.self-inside.inside.0.0.is_open c.self-inside.inside.0.0.has_written c.self-inside.inside.0.0.savepoints; work = c.self-inside.inside.0.1.0; cache = c.self-inside.inside.0.0.cache } in
     let same : before ≡ c.args.self.now = search rules in
     let some : IsSome before.work = subst (λ (r : RunnerView). IsSome r.work) (sym same) c.requires.waits in
     subst (λ (r : RunnerView). Runs g.S.LockSpace.joins c.args.space.now (going_on (session_of r)) (ran c.end_with-in-Err.result (session_of c.end_with-in-Err.new.self)) c.end_with-in-Err.new.space) same

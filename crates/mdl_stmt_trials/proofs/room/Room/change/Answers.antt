@@ -3,4 +3,4 @@ use Rattle.mdl_stmt_trials.proofs.RoomLemmas.{other_then}
 use Rattle.mdl_stmt_trials.proofs.room.Room.change.Goals as goal
 
 pub invariant_of-self : goal.invariant_of-self
-invariant_of-self c = other_then _ _ _ c.self.invariant c.changed.ensures.speaks c.changed.ensures.others
+invariant_of-self c = other_then _ _ _ _ c.self.invariant c.changed.ensures.speaks c.changed.ensures.others

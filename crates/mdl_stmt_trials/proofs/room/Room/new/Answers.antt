@@ -7,5 +7,5 @@ use Rattle.mdl_stmt_trials.proofs.room.Room.new.Goals as goal
 pub invariant_of-result : goal.invariant_of-result
 invariant_of-result c =
     let speaks = c.in_ok-space.ensures.speaks in
-    fresh_both c.in_ok-space.space _ (ap (λ r. r.context) c.new-2.ensures) (speaks 1 (omega arith) (omega arith)) (speaks 2 (omega arith) (omega arith))
+    fresh_both c.in_ok-space.space _ _ (ap (λ r. r.context) c.in-Ok.ensures.made) (ap (λ r. r.cache.kept) c.in-Ok.ensures.made) (speaks 1 (omega arith) (omega arith)) (speaks 2 (omega arith) (omega arith))
     (ap (λ s. own_at s 1) c.in_ok-space.ensures.made)

@@ -3,7 +3,7 @@ use Rattle.std.proofs.Common.{◌≡◌, ℕ, refl, sym, ap, ◌∙◌, subst}
 use Rattle.mdl_defs.specs.declared.standing.Standing.{Standing}
 use Rattle.mdl_steps.specs.Plays.{Mine, read_and_put}
 use Rattle.mdl_steps.specs.SeatStates.{SeatState}
-use Rattle.mdl_visits.specs.Readings.{Follows}
+use Rattle.mdl_steps.specs.VersionPlays.{Follows}
 use Rattle.mdl_visits.proofs.Gathering.{as_reads, back_steps, carried_there, may_put, no_steps}
 use Rattle.mdl_visits.proofs.Reading.{follows, learns, meets_standing, quiet_read}
 use Rattle.mdl_visits.proofs.Seats.{mine, table_of}

@@ -29,7 +29,8 @@ loop-preserved c =
     let inv = c.loop.invariant in
     let tried = c.grant_fast-found in
     let missed = tried.ensures.missed c.if-found-word.false in
-    record { table = table_of missed ∙ inv.table; missed = missed_again inv.missed tried.result.0 tried.new.self.me (mine missed) c.if-found-word.false }
+    let clear = sym c.obtrusive.ensures.any_number ∙ c.if-obtrusive.false in
+    record { table = table_of missed ∙ inv.table; missed = missed_again inv.missed tried.result.0 tried.new.self.me (mine missed) clear c.if-found-word.false }
 
 -- ---- what came of it
 

@@ -1,8 +1,9 @@
 -- To work off the lines that are left from here, behind the answers so far, is to work all off from the start.
 use Rattle.std.proofs.Common.{◌≡◌, ◌++◌, None, drop, map}
 use Rattle.mdl_calls.specs.Words.{Runs}
-use Rattle.mdl_context.specs.Contexts.{Attends, LeavesOthers}
+use Rattle.mdl_context.specs.Contexts.{LeavesOthers}
 use Rattle.mdl_syntax.specs.declared.script.Line.{Line}
+use Rattle.mdl_stmt.specs.Attendance.{AttendsWith}
 use Rattle.mdl_stmt.specs.Stages.{session_of}
 use Rattle.mdl_work.specs.Works.{Worked, lines_of, working}
 use Rattle.mdl_work.proofs.WorkLemmas.{ahead}
@@ -14,7 +15,7 @@ invariant-loop-line g l =
     let rest = lines_of session (drop l.line-index l.lines) in
     let whole = lines_of session l.lines in
     record {
-      attends : Attends g.S.LockSpace l.space l.self.runner.context;
+      attends : AttendsWith g.S.LockSpace l.space l.self.runner.context l.self.runner.cache;
       others : LeavesOthers g.S.LockSpace session l.fn.space l.space;
       who : l.self.runner.context.who ≡ session;
       idle : l.self.runner.work ≡ None;

@@ -1,8 +1,9 @@
 -- To bring a statement to its end from here, with the waits that are left, is to bring it there from the start.
 use Rattle.std.proofs.Common.{◌≡◌, ◌-◌}
 use Rattle.mdl_calls.specs.Words.{Runs}
-use Rattle.mdl_context.specs.Contexts.{Attends, LeavesOthers}
+use Rattle.mdl_context.specs.Contexts.{LeavesOthers}
 use Rattle.mdl_rows.specs.Endings.{Pause}
+use Rattle.mdl_stmt.specs.Attendance.{AttendsWith}
 use Rattle.mdl_stmt.specs.Gets.{paused}
 use Rattle.mdl_stmt.specs.Stages.{session_of}
 use Rattle.mdl_work.specs.Paces.{LeftWhileWaiting}
@@ -11,7 +12,7 @@ use Rattle.mdl_work.proofs.worker.Worker.finish.Given as goal
 
 abbrev pub invariant-loop-wait : goal.invariant-loop-wait
 invariant-loop-wait g l = record {
-  attends : Attends g.S.LockSpace l.space l.self.runner.context;
+  attends : AttendsWith g.S.LockSpace l.space l.self.runner.context l.self.runner.cache;
   others : LeavesOthers g.S.LockSpace l.fn.self.who l.fn.space l.space;
   who : l.self.runner.context.who ≡ l.fn.self.who;
   left : LeftWhileWaiting (paused l.progress (session_of l.self.runner));

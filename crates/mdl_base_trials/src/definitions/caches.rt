@@ -1,0 +1,164 @@
+//! Caches of definitions, step by step.
+use super::{What, X, X_Y, Y, definition, standing};
+use crate::texts::first_misprinted;
+use mdl_defs::{CacheError, DefCache};
+use std::alloc::Global;
+
+// What is done with a cache: a definition is kept, or looked for and found so.
+#[derive(Clone, Copy)]
+enum Call {
+    Keep(u16, u64, What),
+    Look(u16, u64, Option<What>),
+}
+
+// A call, and how many definitions are kept then.
+type Step = (Call, usize);
+
+const OF_TWO: &[Step] = &[
+    (Call::Look(1, 1, None), 0),
+    (Call::Keep(1, 1, X), 1),
+    (Call::Look(1, 2, None), 1),
+    (Call::Look(2, 1, None), 1),
+    (Call::Keep(1, 2, X_Y), 2),
+    (Call::Look(1, 1, Some(X)), 2),
+    // Version 2 of place 1 was used less recently than version 1.
+    (Call::Keep(2, 1, Y), 2),
+    (Call::Look(1, 2, None), 2),
+    (Call::Look(1, 1, Some(X)), 2),
+    (Call::Look(2, 1, Some(Y)), 2),
+    // What is kept of a version that was kept takes its place, and comes first.
+    (Call::Keep(1, 1, What::Schema), 2),
+    (Call::Look(2, 1, Some(Y)), 2),
+    (Call::Look(1, 1, Some(What::Schema)), 2),
+    (Call::Keep(2, 1, X_Y), 2),
+    (Call::Keep(3, 7, X), 2),
+    (Call::Look(1, 1, None), 2),
+    (Call::Look(2, 1, Some(X_Y)), 2),
+    (Call::Look(3, 7, Some(X)), 2),
+];
+
+// A look saves what is kept of one place from what is kept of others.
+const OF_TWO_PLACES: &[Step] = &[
+    (Call::Keep(1, 1, X), 1),
+    (Call::Keep(2, 1, Y), 2),
+    (Call::Look(1, 1, Some(X)), 2),
+    (Call::Keep(3, 1, X_Y), 2),
+    (Call::Look(2, 1, None), 2),
+    (Call::Look(1, 1, Some(X)), 2),
+    (Call::Look(3, 1, Some(X_Y)), 2),
+];
+
+// The next version of a place drops the one before.
+const OF_ONE_PLACE: &[Step] = &[
+    (Call::Keep(1, 1, X), 1),
+    (Call::Keep(1, 2, X_Y), 1),
+    (Call::Look(1, 1, None), 1),
+    (Call::Look(1, 2, Some(X_Y)), 1),
+];
+
+const OF_ONE: &[Step] = &[
+    (Call::Keep(1, 1, X), 1),
+    (Call::Keep(1, 1, Y), 1),
+    (Call::Look(1, 1, Some(Y)), 1),
+    (Call::Keep(256, u64::MAX, X_Y), 1),
+    (Call::Look(1, 1, None), 1),
+    (Call::Look(256, u64::MAX, Some(X_Y)), 1),
+];
+
+// Whether just this is found.
+fn finds(
+    alloc: Global,
+    cache: &mut DefCache,
+    place: u16,
+    version: u64,
+    want: Option<What>,
+) -> bool {
+    let wanted = standing(alloc, want);
+    match (cache.look(place, version), &wanted) {
+        (Some(found), Some(wanted)) => found == wanted,
+        (None, None) => want.is_none(),
+        _ => false,
+    }
+}
+
+// Keeps a definition: whether there was memory for it.
+fn keeps(alloc: Global, cache: &mut DefCache, place: u16, version: u64, what: What) -> bool {
+    match definition(alloc, what) {
+        Some(definition) => cache.keep(place, version, definition).is_ok(),
+        None => false,
+    }
+}
+
+// Whether a call goes as its row says.
+fn goes_so(alloc: Global, cache: &mut DefCache, (call, kept): Step) -> bool {
+    let is_so = match call {
+        Call::Keep(place, version, what) => keeps(alloc, cache, place, version, what),
+        Call::Look(place, version, want) => finds(alloc, cache, place, version, want),
+    };
+    is_so && cache.len() == kept
+}
+
+// The first call that goes wrong in a cache of so many.
+fn first_wrong(alloc: Global, capacity: u16, steps: &[Step]) -> Option<usize> {
+    let Ok(mut cache) = DefCache::new(alloc, capacity) else {
+        return Some(steps.len());
+    };
+    for (place, step) in steps.iter().enumerate() {
+        if !goes_so(alloc, &mut cache, *step) {
+            return Some(place);
+        }
+    }
+    None
+}
+
+#[test]
+fn caches_keep_what_was_used_last(rt: HostRuntime) {
+    let wrong = first_wrong(rt.alloc(), 2, OF_TWO);
+    assert!(rt; wrong.is_none(), "of two: {wrong:?}");
+    let wrong = first_wrong(rt.alloc(), 2, OF_TWO_PLACES);
+    assert!(rt; wrong.is_none(), "of two places: {wrong:?}");
+    let wrong = first_wrong(rt.alloc(), 1, OF_ONE);
+    assert!(rt; wrong.is_none(), "of one: {wrong:?}");
+    let wrong = first_wrong(rt.alloc(), 1, OF_ONE_PLACE);
+    assert!(rt; wrong.is_none(), "of one place: {wrong:?}");
+}
+
+// Why there is no cache of so many.
+fn refusal(alloc: Global, capacity: u16) -> Option<CacheError> {
+    match DefCache::new(alloc, capacity) {
+        Ok(cache) => {
+            if cache.len() == 0 {
+                None
+            } else {
+                Some(CacheError::OutOfMemory)
+            }
+        }
+        Err(error) => Some(error),
+    }
+}
+
+#[test]
+fn caches_keep_1_to_4096(rt: HostRuntime) {
+    for capacity in [1, 2, 4_095, 4_096] {
+        assert!(rt; refusal(rt.alloc(), capacity).is_none(), "{capacity}");
+    }
+    for capacity in [0, 4_097, u16::MAX] {
+        assert!(rt;
+            refusal(rt.alloc(), capacity) == Some(CacheError::BadCapacity),
+            "{capacity}"
+        );
+    }
+}
+
+const CAUSES: [(CacheError, &str); 2] = [
+    (
+        CacheError::BadCapacity,
+        "a cache keeps 1 to 4096 definitions",
+    ),
+    (CacheError::OutOfMemory, "out of memory"),
+];
+
+#[test]
+fn tells_why_there_is_no_cache(rt: HostRuntime) {
+    assert!(rt; first_misprinted(rt.alloc(), &CAUSES).is_none());
+}

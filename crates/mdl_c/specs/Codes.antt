@@ -1,0 +1,119 @@
+-- The codes that C is told: below 16 they are answers, and from 16 on refusals. Those from 32 on are the refusals of a lock space, in their order.
+use Rattle.std.specs.Prelude.{ℕ, ◌==◌, true, false, Option, Some, None, if◌then◌else◌}
+use Rattle.mdl_key.specs.declared.mode.Mode.{Mode}
+use Rattle.mdl_key.specs.declared.mode.Mode.TheVariants.{IX, S, SH, SR, SW, SWLP, SU, SRO, SNW, SNRW, X}
+use Rattle.mdl_key.specs.declared.key_error.KeyError.{KeyError}
+use Rattle.mdl_key.specs.declared.key_error.KeyError.TheVariants as name
+use Rattle.mdl_calls.specs.declared.answers.Settled.{Settled}
+use Rattle.mdl_calls.specs.declared.answers.Settled.TheVariants as settled
+use Rattle.mdl_calls.specs.declared.answers.TimedOut.TheVariants as timeout
+use Rattle.mdl_calls.specs.declared.new_error.NewError.{NewError}
+use Rattle.mdl_calls.specs.declared.new_error.NewError.TheVariants as new
+use Rattle.mdl_calls.specs.declared.space_error.SpaceError.{SpaceError}
+use Rattle.mdl_calls.specs.declared.space_error.SpaceError.TheVariants.{NoPlace, NotHeld, NotUpgradable, NotExclusive, AlreadyWaiting, BadMode, VersionFull, NoWait, Unsettled, CounterFull, Full, Def, WrongKind, OutOfMemory, InUse}
+use Rattle.mdl_calls.specs.Words.{Answer, Refused, At_place, Granted, Would_wait, Waits, Victim_is, Pending, Is_settled, Timed_out, Lost, Has_killed}
+
+-- there is no manager; there is one already; it has no such session; there is no such mode
+abbrev pub closed : ℕ
+closed = 16
+
+abbrev pub is_open_already : ℕ
+is_open_already = 17
+
+abbrev pub no_session : ℕ
+no_session = 18
+
+abbrev pub no_mode : ℕ
+no_mode = 21
+
+-- the byte of a name is none that names have
+abbrev pub bad_byte : ℕ
+bad_byte = 24
+
+-- memory ran out
+abbrev pub no_memory : ℕ
+no_memory = 45
+
+-- the mode of a number: their order is that of MySQL 5.7
+abbrev pub mode_at : ℕ → Option Mode
+mode_at number =
+    if number == 0 then Some IX
+    else (if number == 1 then Some S
+    else (if number == 2 then Some SH
+    else (if number == 3 then Some SR
+    else (if number == 4 then Some SW
+    else (if number == 5 then Some SWLP
+    else (if number == 6 then Some SU
+    else (if number == 7 then Some SRO
+    else (if number == 8 then Some SNW
+    else (if number == 9 then Some SNRW
+    else (if number == 10 then Some X else None))))))))))
+
+-- why a manager can't be made
+abbrev pub new_code : NewError → ℕ
+new_code new.BadPlaces = 19
+new_code new.BadSessions = 20
+new_code new.OutOfMemory = no_memory
+
+-- why a key can't be made
+abbrev pub name_code : KeyError → ℕ
+name_code name.EmptyName = 22
+name_code name.LongName = 23
+name_code (name.BadByte _) = bad_byte
+name_code name.OutOfMemory = no_memory
+
+-- why a call of the space is refused
+abbrev pub cause_code : SpaceError → ℕ
+cause_code NoPlace = 32
+cause_code NotHeld = 33
+cause_code NotUpgradable = 34
+cause_code NotExclusive = 35
+cause_code AlreadyWaiting = 36
+cause_code BadMode = 37
+cause_code VersionFull = 38
+cause_code NoWait = 39
+cause_code Unsettled = 40
+cause_code CounterFull = 41
+cause_code Full = 42
+cause_code (Def _) = 43
+cause_code WrongKind = 44
+cause_code OutOfMemory = no_memory
+cause_code InUse = 46
+
+-- how a wait is settled
+abbrev pub settled_code : Settled → ℕ
+settled_code settled.Granted = 0
+settled_code settled.Victim = 3
+settled_code settled.Timeout = 4
+settled_code settled.Killed = 5
+
+-- what a call of the space answers
+abbrev pub code_of : Answer → ℕ
+code_of (Refused cause) = cause_code cause
+code_of Would_wait = 1
+code_of (Waits _) = 2
+code_of Pending = 2
+code_of (Victim_is _) = 3
+code_of (Is_settled how) = settled_code how
+code_of (Timed_out timeout.ByThisCall) = 4
+code_of (Timed_out (timeout.Already how)) = settled_code how
+code_of (Lost how) = settled_code how
+code_of (Has_killed false) = 6
+code_of _ = 0
+
+-- the number that is told with an answer: a place, a ticket, a wait or a session. Where there is none, the old one stays.
+abbrev pub told : Answer → ℕ → ℕ
+told (At_place place) old = place
+told (Granted id) old = id
+told (Waits number) old = number
+told (Victim_is session) old = session
+told _ old = old
+
+-- the same, where there may be no such session
+abbrev pub code_at : Option Answer → ℕ
+code_at None = no_session
+code_at (Some answer) = code_of answer
+
+abbrev pub told_at : Option Answer → ℕ → ℕ
+told_at None old = old
+told_at (Some answer) old = told answer old

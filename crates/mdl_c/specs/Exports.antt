@@ -1,0 +1,57 @@
+-- What a call of C does to the manager behind its handle, and what C is told.
+use Rattle.std.specs.Prelude.{◌≡◌, ◌⊎◌, ℕ, false, Option, Some, None, MatchOption}
+use Rattle.mdl_calls.specs.declared.new_error.NewError.{NewError}
+use Rattle.mdl_calls.specs.Words.{Answer, Call, new_fault}
+use Rattle.mdl_c.specs.Codes.{closed, code_of, is_open_already, new_code, no_memory, no_session, told_at}
+use Rattle.mdl_c.specs.Managers.{Managed, Joins, JoinsFor, has_member, new_manager}
+
+-- C is told this code, and the manager, if there is one, stays as it is
+abbrev pub Tells : ℕ → Option Managed → ℕ → Option Managed → Type 0
+Tells wanted before code after = (code ≡ wanted) × (after ≡ before)
+
+-- what C is told beside the code: this of the answer, if the manager was asked
+abbrev pub Beside : Type 1
+Beside = Option Answer → Type 0
+
+-- nothing
+abbrev pub Nothing : Beside
+Nothing _ = Unit {0}
+
+-- a number in the place of an older one
+abbrev pub Number : ℕ → ℕ → Beside
+Number old new answer = new ≡ told_at answer old
+
+-- the manager answers a call, and then there is this one
+abbrev pub Answers : (Answer → Managed → Managed → Type 0) → Managed → ℕ → Option Managed → Beside → Type 0
+Answers joins before code after beside =
+    (answer : Answer) × (next : Managed) × (after ≡ Some next) × joins answer before next × (code ≡ code_of answer) × beside (Some answer)
+
+-- the call of a session
+abbrev pub Serves : ℕ → Call → Option Managed → ℕ → Option Managed → Beside → Type 0
+Serves who call None code after beside = Tells closed None code after × beside None
+Serves who call (Some manager) code after beside =
+    ((has_member who manager ≡ false) × Tells no_session (Some manager) code after × beside None)
+    ⊎ Answers (JoinsFor who call) manager code after beside
+
+-- the call of nobody
+abbrev pub ServesAnybody : Call → Option Managed → ℕ → Option Managed → Type 0
+ServesAnybody call None code after = Tells closed None code after
+ServesAnybody call (Some manager) code after = Answers (Joins call) manager code after Nothing
+
+-- a call whose words can be no wish is refused by this code before all else
+abbrev pub ServesWish : {W : Type 0} → ℕ → Option W → (W → Call) → ℕ → Option Managed → ℕ → Option Managed → Beside → Type 0
+ServesWish wrong None call who before code after beside = Tells wrong before code after × beside None
+ServesWish wrong (Some wish) call who before code after beside = Serves who (call wish) before code after beside
+
+-- a manager is made, where there is none
+abbrev pub Opens : ℕ → ℕ → Option Managed → ℕ → Option Managed → Type 0
+Opens places sessions (Some manager) code after = Tells is_open_already (Some manager) code after
+Opens places sessions None code after =
+    MatchOption (new_fault places sessions)
+    (((code ≡ 0) × (after ≡ Some (new_manager places sessions))) ⊎ Tells no_memory None code after)
+    (λ (fault : NewError). Tells (new_code fault) None code after)
+
+-- the manager is let go
+abbrev pub Closes : Option Managed → ℕ → Option Managed → Type 0
+Closes None code after = Tells closed None code after
+Closes (Some manager) code after = (code ≡ 0) × (after ≡ None)

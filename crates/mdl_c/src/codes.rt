@@ -1,0 +1,268 @@
+//! The codes that C is told.
+ghost use Rattle.std.specs.Prelude.{◌≡◌, Option};
+ghost use Rattle.std.specs.Option.{option_map};
+ghost use Rattle.mdl_calls.specs.Words.{Has_killed, attempted, begun, cloned, done, ended, placed, polled, searched, timed_out, upgrade_tried};
+ghost use Rattle.mdl_c.specs.Codes.{cause_code, code_at, code_of, mode_at, name_code, new_code, settled_code, told_at};
+
+use mdl_key::{KeyError, Mode};
+use mdl_space::{
+    Attempt, Begun, Ended, NewError, Place, Poll, Search, Settled, SpaceError, TicketId, TimedOut,
+    Upgrade,
+};
+
+pub const DONE: u32 = 0;
+
+pub const WOULD_WAIT: u32 = 1;
+
+pub const WAITING: u32 = 2;
+
+pub const VICTIM: u32 = 3;
+
+pub const TIMEOUT: u32 = 4;
+
+pub const KILLED: u32 = 5;
+
+pub const NOT_KILLED: u32 = 6;
+
+pub const CLOSED: u32 = 16;
+
+pub const IS_OPEN: u32 = 17;
+
+pub const NO_SESSION: u32 = 18;
+
+pub const NO_MODE: u32 = 21;
+
+pub const BAD_BYTE: u32 = 24;
+
+pub const NO_MEMORY: u32 = 45;
+
+/// The mode of a number.
+pub fn mode_of(number: u8) -> Option<Mode>
+    ensures { result ≡ mode_at number }
+{
+    match number {
+        0 => Some(Mode::IX),
+        1 => Some(Mode::S),
+        2 => Some(Mode::SH),
+        3 => Some(Mode::SR),
+        4 => Some(Mode::SW),
+        5 => Some(Mode::SWLP),
+        6 => Some(Mode::SU),
+        7 => Some(Mode::SRO),
+        8 => Some(Mode::SNW),
+        9 => Some(Mode::SNRW),
+        10 => Some(Mode::X),
+        _ => None,
+    }
+}
+
+/// Why a manager can't be made.
+pub fn new_code(why: NewError) -> u32
+    ensures { result ≡ new_code why }
+{
+    match why {
+        NewError::BadPlaces => 19,
+        NewError::BadSessions => 20,
+        NewError::OutOfMemory => NO_MEMORY,
+    }
+}
+
+/// Why a key can't be made.
+pub fn name_code(why: KeyError) -> u32
+    ensures { result ≡ name_code why }
+{
+    match why {
+        KeyError::EmptyName => 22,
+        KeyError::LongName => 23,
+        KeyError::BadByte(_) => BAD_BYTE,
+        KeyError::OutOfMemory => NO_MEMORY,
+    }
+}
+
+/// Why a call of the space is refused.
+pub fn cause_code(cause: SpaceError) -> u32
+    ensures { result ≡ cause_code cause }
+{
+    match cause {
+        SpaceError::NoPlace => 32,
+        SpaceError::NotHeld => 33,
+        SpaceError::NotUpgradable => 34,
+        SpaceError::NotExclusive => 35,
+        SpaceError::AlreadyWaiting => 36,
+        SpaceError::BadMode => 37,
+        SpaceError::VersionFull => 38,
+        SpaceError::NoWait => 39,
+        SpaceError::Unsettled => 40,
+        SpaceError::CounterFull => 41,
+        SpaceError::Full => 42,
+        SpaceError::Def(_) => 43,
+        SpaceError::WrongKind => 44,
+        SpaceError::OutOfMemory => NO_MEMORY,
+        SpaceError::InUse => 46,
+    }
+}
+
+/// How a wait is settled.
+pub fn settled_code(how: Settled) -> u32
+    ensures { result ≡ settled_code how }
+{
+    match how {
+        Settled::Granted => DONE,
+        Settled::Victim => VICTIM,
+        Settled::Timeout => TIMEOUT,
+        Settled::Killed => KILLED,
+    }
+}
+
+/// The place of a key.
+pub fn place_code(answer: Option<Result<Place, SpaceError>>, place: &mut u16) -> u32
+    ensures code { result ≡ code_at (option_map placed answer) }
+    ensures told { place.new ≡ told_at (option_map placed answer) place.old }
+{
+    match answer {
+        Some(Ok(found)) => {
+            *place = found;
+            DONE
+        }
+        Some(Err(cause)) => cause_code(cause),
+        None => NO_SESSION,
+    }
+}
+
+/// A lock, or none.
+pub fn attempt_code(answer: Option<Result<Attempt, SpaceError>>, ticket: &mut u64) -> u32
+    ensures code { result ≡ code_at (option_map attempted answer) }
+    ensures told { ticket.new ≡ told_at (option_map attempted answer) ticket.old }
+{
+    match answer {
+        Some(Ok(Attempt::Granted(id))) => {
+            *ticket = id;
+            DONE
+        }
+        Some(Ok(Attempt::WouldWait)) => WOULD_WAIT,
+        Some(Err(cause)) => cause_code(cause),
+        None => NO_SESSION,
+    }
+}
+
+/// A lock, or a wait for it.
+pub fn begun_code(answer: Option<Result<Begun, SpaceError>>, number: &mut u64) -> u32
+    ensures code { result ≡ code_at (option_map begun answer) }
+    ensures told { number.new ≡ told_at (option_map begun answer) number.old }
+{
+    match answer {
+        Some(Ok(Begun::Granted(id))) => {
+            *number = id;
+            DONE
+        }
+        Some(Ok(Begun::Waiting(wait))) => {
+            *number = wait;
+            WAITING
+        }
+        Some(Err(cause)) => cause_code(cause),
+        None => NO_SESSION,
+    }
+}
+
+/// A deadlock's victim, or none.
+pub fn search_code(answer: Option<Result<Search, SpaceError>>, victim: &mut u16) -> u32
+    ensures code { result ≡ code_at (option_map searched answer) }
+    ensures told { victim.new ≡ told_at (option_map searched answer) victim.old }
+{
+    match answer {
+        Some(Ok(Search::NoCycle)) => DONE,
+        Some(Ok(Search::Victim(session))) => {
+            *victim = session;
+            VICTIM
+        }
+        Some(Err(cause)) => cause_code(cause),
+        None => NO_SESSION,
+    }
+}
+
+/// How a wait stands.
+pub fn poll_code(answer: Option<Result<Poll, SpaceError>>) -> u32
+    ensures { result ≡ code_at (option_map polled answer) }
+{
+    match answer {
+        Some(Ok(Poll::Pending)) => WAITING,
+        Some(Ok(Poll::Settled(how))) => settled_code(how),
+        Some(Err(cause)) => cause_code(cause),
+        None => NO_SESSION,
+    }
+}
+
+/// How a wait is settled, at the latest by a timeout.
+pub fn timeout_code(answer: Option<Result<TimedOut, SpaceError>>) -> u32
+    ensures { result ≡ code_at (option_map timed_out answer) }
+{
+    match answer {
+        Some(Ok(TimedOut::ByThisCall)) => TIMEOUT,
+        Some(Ok(TimedOut::Already(how))) => settled_code(how),
+        Some(Err(cause)) => cause_code(cause),
+        None => NO_SESSION,
+    }
+}
+
+/// How a wait has ended, and the ticket where it was granted.
+pub fn end_code(answer: Option<Result<Ended, SpaceError>>, ticket: &mut u64) -> u32
+    ensures code { result ≡ code_at (option_map ended answer) }
+    ensures told { ticket.new ≡ told_at (option_map ended answer) ticket.old }
+{
+    match answer {
+        Some(Ok(Ended::Granted(id))) => {
+            *ticket = id;
+            DONE
+        }
+        Some(Ok(Ended::Victim)) => VICTIM,
+        Some(Ok(Ended::Timeout)) => TIMEOUT,
+        Some(Ok(Ended::Killed)) => KILLED,
+        Some(Err(cause)) => cause_code(cause),
+        None => NO_SESSION,
+    }
+}
+
+/// Whether a wait was killed.
+pub fn kill_code(has_killed: bool) -> u32
+    ensures { result ≡ code_of (Has_killed has_killed) }
+{
+    if has_killed { DONE } else { NOT_KILLED }
+}
+
+/// Done, or refused.
+pub fn done_code(answer: Option<Result<(), SpaceError>>) -> u32
+    ensures { result ≡ code_at (option_map done answer) }
+{
+    match answer {
+        Some(Ok(())) => DONE,
+        Some(Err(cause)) => cause_code(cause),
+        None => NO_SESSION,
+    }
+}
+
+/// A second ticket.
+pub fn clone_code(answer: Option<Result<TicketId, SpaceError>>, ticket: &mut u64) -> u32
+    ensures code { result ≡ code_at (option_map cloned answer) }
+    ensures told { ticket.new ≡ told_at (option_map cloned answer) ticket.old }
+{
+    match answer {
+        Some(Ok(id)) => {
+            *ticket = id;
+            DONE
+        }
+        Some(Err(cause)) => cause_code(cause),
+        None => NO_SESSION,
+    }
+}
+
+/// A stronger mode, or not yet.
+pub fn upgrade_code(answer: Option<Result<Upgrade, SpaceError>>) -> u32
+    ensures { result ≡ code_at (option_map upgrade_tried answer) }
+{
+    match answer {
+        Some(Ok(Upgrade::Upgraded)) => DONE,
+        Some(Ok(Upgrade::WouldWait)) => WOULD_WAIT,
+        Some(Err(cause)) => cause_code(cause),
+        None => NO_SESSION,
+    }
+}

@@ -1,0 +1,43 @@
+//! Keys of names that are bytes of C's.
+ghost use Rattle.std.specs.Prelude.{◌≡◌, None, MatchResult};
+ghost use Rattle.std.specs.Str.{IsUtf8};
+ghost use Rattle.mdl_key.specs.Keys.{name_fault, schema_key, table_fault, table_key};
+ghost use Rattle.mdl_c.specs.Names.{IsNameCode};
+
+use crate::codes::{BAD_BYTE, name_code};
+use mdl_key::Key;
+use std::alloc::Global;
+use std::str;
+
+/// The key of a table, or the code of why there is none.
+pub fn table_of(alloc: Global, schema: &[u8], table: &[u8]) -> Result<Key, u32>
+    ensures { MatchResult result
+        (λ key. (IsUtf8 schema.now × IsUtf8 table.now) × (table_fault schema.now table.now ≡ None) × (key ≡ table_key schema.now table.now))
+        (λ code. IsNameCode (IsUtf8 schema.now × IsUtf8 table.now) (table_fault schema.now table.now) code) }
+{
+    let Ok(schema) = str::from_utf8(schema) else {
+        return Err(BAD_BYTE);
+    };
+    let Ok(table) = str::from_utf8(table) else {
+        return Err(BAD_BYTE);
+    };
+    match Key::table(alloc, schema, table) {
+        Ok(key) => Ok(key),
+        Err(why) => Err(name_code(why)),
+    }
+}
+
+/// The key of a schema, or the code of why there is none.
+pub fn schema_of(alloc: Global, schema: &[u8]) -> Result<Key, u32>
+    ensures { MatchResult result
+        (λ key. IsUtf8 schema.now × (name_fault schema.now ≡ None) × (key ≡ schema_key schema.now))
+        (λ code. IsNameCode (IsUtf8 schema.now) (name_fault schema.now) code) }
+{
+    let Ok(schema) = str::from_utf8(schema) else {
+        return Err(BAD_BYTE);
+    };
+    match Key::schema(alloc, schema) {
+        Ok(key) => Ok(key),
+        Err(why) => Err(name_code(why)),
+    }
+}

@@ -1,0 +1,125 @@
+//! Locks that are had at once, and what becomes of held tickets.
+ghost use Rattle.std.specs.Prelude.{◌≡◌};
+ghost use Rattle.mdl_calls.specs.Words.{Clone_ticket, Downgrade, Merge, Release, Try_now, Upgrade_now};
+ghost use Rattle.mdl_c.specs.Codes.{mode_at, no_mode};
+ghost use Rattle.mdl_c.specs.Exports.{Nothing, Number, Serves, ServesWish};
+
+use crate::codes::{CLOSED, NO_MODE, attempt_code, clone_code, done_code, mode_of, upgrade_code};
+use crate::handle::Space;
+use std::alloc::Global;
+
+/// Asks for a lock, without waiting.
+#[unsafe(no_mangle)]
+pub extern "C" fn mdl_try(
+    alloc: Global,
+    space: &mut Space,
+    who: u16,
+    place: u16,
+    mode: u8,
+    ticket: &mut u64,
+) -> u32
+    ensures { ServesWish no_mode (mode_at mode) (Try_now who place) who space.old.handle.manager result space.new.handle.manager (Number ticket.old ticket.new) }
+{
+    let Some(mode) = mode_of(mode) else {
+        return NO_MODE;
+    };
+    let Some(mut manager) = space.take(alloc) else {
+        return CLOSED;
+    };
+    let code = attempt_code(manager.try_now(who, place, mode), ticket);
+    space.put(manager);
+    code
+}
+
+/// Gives a ticket up.
+#[unsafe(no_mangle)]
+pub extern "C" fn mdl_release(alloc: Global, space: &mut Space, who: u16, ticket: u64) -> u32
+    ensures { Serves who (Release who ticket) space.old.handle.manager result space.new.handle.manager Nothing }
+{
+    let Some(mut manager) = space.take(alloc) else {
+        return CLOSED;
+    };
+    let code = done_code(manager.release(who, ticket));
+    space.put(manager);
+    code
+}
+
+/// Asks for a stronger mode of a held ticket, without waiting.
+#[unsafe(no_mangle)]
+pub extern "C" fn mdl_upgrade(
+    alloc: Global,
+    space: &mut Space,
+    who: u16,
+    ticket: u64,
+    mode: u8,
+) -> u32
+    ensures { ServesWish no_mode (mode_at mode) (Upgrade_now who ticket) who space.old.handle.manager result space.new.handle.manager Nothing }
+{
+    let Some(mode) = mode_of(mode) else {
+        return NO_MODE;
+    };
+    let Some(mut manager) = space.take(alloc) else {
+        return CLOSED;
+    };
+    let code = upgrade_code(manager.upgrade_now(who, ticket, mode));
+    space.put(manager);
+    code
+}
+
+/// Lets a held ticket have a weaker mode.
+#[unsafe(no_mangle)]
+pub extern "C" fn mdl_downgrade(
+    alloc: Global,
+    space: &mut Space,
+    who: u16,
+    ticket: u64,
+    mode: u8,
+) -> u32
+    ensures { ServesWish no_mode (mode_at mode) (Downgrade who ticket) who space.old.handle.manager result space.new.handle.manager Nothing }
+{
+    let Some(mode) = mode_of(mode) else {
+        return NO_MODE;
+    };
+    let Some(mut manager) = space.take(alloc) else {
+        return CLOSED;
+    };
+    let code = done_code(manager.downgrade(who, ticket, mode));
+    space.put(manager);
+    code
+}
+
+/// A second ticket of a held one's place.
+#[unsafe(no_mangle)]
+pub extern "C" fn mdl_clone(
+    alloc: Global,
+    space: &mut Space,
+    who: u16,
+    ticket: u64,
+    mode: u8,
+    copy: &mut u64,
+) -> u32
+    ensures { ServesWish no_mode (mode_at mode) (Clone_ticket who ticket) who space.old.handle.manager result space.new.handle.manager (Number copy.old copy.new) }
+{
+    let Some(mode) = mode_of(mode) else {
+        return NO_MODE;
+    };
+    let Some(mut manager) = space.take(alloc) else {
+        return CLOSED;
+    };
+    let code = clone_code(manager.clone_ticket(who, ticket, mode), copy);
+    space.put(manager);
+    code
+}
+
+/// Lets a held ticket have the mode of another one of its place, which is given up.
+#[unsafe(no_mangle)]
+pub extern "C" fn mdl_merge(alloc: Global, space: &mut Space, who: u16, kept: u64, gone: u64) -> u32
+    ensures { Serves who (Merge who kept gone) space.old.handle.manager result space.new.handle.manager Nothing }
+{
+    let Some(mut manager) = space.take(alloc) else {
+        return CLOSED;
+    };
+    let code = done_code(manager.merge(who, kept, gone));
+    space.put(manager);
+    code
+}

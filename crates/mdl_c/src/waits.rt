@@ -1,0 +1,99 @@
+//! Locks that are waited for.
+ghost use Rattle.std.specs.Prelude.{◌≡◌};
+ghost use Rattle.mdl_calls.specs.Words.{Begin_wait, End_wait, Kill, Poll_wait, Search, Settle_timeout};
+ghost use Rattle.mdl_c.specs.Codes.{mode_at, no_mode};
+ghost use Rattle.mdl_c.specs.Exports.{Nothing, Number, Serves, ServesAnybody, ServesWish};
+
+use crate::codes::{
+    CLOSED, NO_MODE, begun_code, end_code, kill_code, mode_of, poll_code, search_code, timeout_code,
+};
+use crate::handle::Space;
+use std::alloc::Global;
+
+/// Asks for a lock, and begins to wait for it where it can't be had now.
+#[unsafe(no_mangle)]
+pub extern "C" fn mdl_begin(
+    alloc: Global,
+    space: &mut Space,
+    who: u16,
+    place: u16,
+    mode: u8,
+    number: &mut u64,
+) -> u32
+    ensures { ServesWish no_mode (mode_at mode) (Begin_wait who place) who space.old.handle.manager result space.new.handle.manager (Number number.old number.new) }
+{
+    let Some(mode) = mode_of(mode) else {
+        return NO_MODE;
+    };
+    let Some(mut manager) = space.take(alloc) else {
+        return CLOSED;
+    };
+    let code = begun_code(manager.begin_wait(who, place, mode), number);
+    space.put(manager);
+    code
+}
+
+/// Looks for a deadlock that the session is part of. Where there is one, the wait of its victim is settled, and C is told which that is.
+#[unsafe(no_mangle)]
+pub extern "C" fn mdl_search(alloc: Global, space: &mut Space, who: u16, victim: &mut u16) -> u32
+    ensures { Serves who (Search who) space.old.handle.manager result space.new.handle.manager (Number victim.old victim.new) }
+{
+    let Some(mut manager) = space.take(alloc) else {
+        return CLOSED;
+    };
+    let code = search_code(manager.seek(who), victim);
+    space.put(manager);
+    code
+}
+
+/// How a session's wait stands.
+#[unsafe(no_mangle)]
+pub extern "C" fn mdl_poll(alloc: Global, space: &mut Space, who: u16) -> u32
+    ensures { Serves who (Poll_wait who) space.old.handle.manager result space.new.handle.manager Nothing }
+{
+    let Some(mut manager) = space.take(alloc) else {
+        return CLOSED;
+    };
+    let code = poll_code(manager.poll_wait(who));
+    space.put(manager);
+    code
+}
+
+/// Ends a session's wait, which is settled.
+#[unsafe(no_mangle)]
+pub extern "C" fn mdl_end(alloc: Global, space: &mut Space, who: u16, ticket: &mut u64) -> u32
+    ensures { Serves who (End_wait who) space.old.handle.manager result space.new.handle.manager (Number ticket.old ticket.new) }
+{
+    let Some(mut manager) = space.take(alloc) else {
+        return CLOSED;
+    };
+    let code = end_code(manager.end_wait(who), ticket);
+    space.put(manager);
+    code
+}
+
+/// Settles a session's wait as a timeout, unless it is settled. C is told how it is settled then.
+#[unsafe(no_mangle)]
+pub extern "C" fn mdl_time_out(alloc: Global, space: &mut Space, who: u16) -> u32
+    ensures { Serves who (Settle_timeout who) space.old.handle.manager result space.new.handle.manager Nothing }
+{
+    let Some(mut manager) = space.take(alloc) else {
+        return CLOSED;
+    };
+    let code = timeout_code(manager.settle_timeout(who));
+    space.put(manager);
+    code
+}
+
+/// Settles any session's wait of this number as killed, unless it is settled, or there is none.
+#[unsafe(no_mangle)]
+pub extern "C" fn mdl_kill(alloc: Global, space: &mut Space, target: u16, number: u64) -> u32
+    ensures { ServesAnybody (Kill target number) space.old.handle.manager result space.new.handle.manager }
+{
+    let Some(mut manager) = space.take(alloc) else {
+        return CLOSED;
+    };
+    let code = kill_code(manager.kill(target, number));
+    space.put(manager);
+    code
+}

@@ -1,0 +1,46 @@
+//! Sessions of a space that threads share, which are opened and closed on one thread here.
+ghost use Rattle.std.specs.Prelude.{◌≡◌, length, IfOk};
+ghost use Rattle.mdl_shared.specs.Passes.{ArePasses, table_of};
+
+use mdl_shared::{HoldsTickets, Manager, NewError, Pass, Session};
+use std::alloc::Global;
+use std::sync::Wait;
+
+/// A space of so many places and the passes of its three sessions, at the second try, where memory was refused to the first.
+pub(crate) fn new_passes(alloc: Global, places: u16) -> Result<(Manager, Vec<Pass>), NewError>
+    ensures { IfOk result (λ made. (length made.1.items ≡ 3) × ArePasses (table_of made.0) made.1.items) }
+{
+    match Manager::new(alloc, places, 3) {
+        Err(NewError::OutOfMemory) => Manager::new(alloc, places, 3),
+        outcome => outcome,
+    }
+}
+
+/// Closes a session, which gives up what it has before. Whether it had nothing.
+pub(crate) fn closes<R: Wait + Drop>(rt: &impl Wait, session: Session<R>) -> bool {
+    let mut session = session;
+    let mut had_nothing = true;
+    for _ in rt.forever() {
+        match session.close() {
+            Ok(_pass) => return had_nothing,
+            Err(HoldsTickets(open)) => {
+                session = open;
+                give_up(&mut session);
+                had_nothing = false;
+            }
+        }
+    }
+    unreachable!()
+}
+
+// Gives up a wait and a ticket, of what a session has.
+fn give_up<R: Wait>(session: &mut Session<R>) {
+    let _settled = session.settle_timeout();
+    let _ended = session.end_wait();
+    let Ok(held) = session.held() else {
+        return;
+    };
+    if let Some(ticket) = held.first() {
+        let _released = session.release(ticket.id);
+    }
+}

@@ -1,0 +1,262 @@
+-- What a session's read with a cache shows, and what the cache keeps then.
+use Rattle.std.proofs.Common.{◌≡◌, ◌⊎◌, ℕ, is_some, map, List, [], ◌∷◌, ◌++◌, Contains, MatchOption, Option, Some, None, if◌then◌else◌, inl, inr, refl, sym, ap, subst, ◌∙◌, arith}
+use Rattle.std.proofs.lemmas.Bool.Decides.{nat_tests}
+use Rattle.mdl_defs.specs.declared.definition.Definition.{Definition}
+use Rattle.mdl_defs.specs.declared.standing.Standing.{Standing}
+use Rattle.mdl_defs.specs.Caches.{CacheView, Kept, kept_of, looked_at}
+use Rattle.mdl_calls.specs.declared.answers.Held.{Held}
+use Rattle.mdl_calls.specs.declared.space_error.SpaceError.{SpaceError}
+use Rattle.mdl_calls.specs.declared.space_error.SpaceError.TheVariants.{NotHeld, OutOfMemory}
+use Rattle.mdl_calls.specs.Words.{Answer, AreMet, Call, OfHeld, Own as Has, Read_definition, Read_kept, Reads, Refused, ticket_held}
+use Rattle.mdl_steps.specs.declared.view.Own.{Own}
+use Rattle.mdl_steps.specs.declared.view.Read.{Read}
+use Rattle.mdl_steps.specs.SeatStates.{SeatState}
+use Rattle.mdl_steps.specs.VersionPlays.{ReadNoneNewer, ReadOneStanding, met_version, noted_version}
+use Rattle.mdl_system.proofs.MemberLemmas.{Contains-map}
+use Rattle.mdl_system.proofs.OrderLemmas.{middle}
+use Rattle.mdl_session_laws.specs.SessionJoins.{Joins, ReadsThere as Read_so}
+use Rattle.mdl_session_laws.specs.SessionSpaces.{HasMet, Space}
+use Rattle.mdl_session_laws.proofs.ReadLaws.{session-met_stays}
+use Rattle.mdl_visits.specs.Numbers.{numbered}
+use Rattle.mdl_visits.specs.Visits.{Visits}
+use Rattle.mdl_visits.proofs.Steps.{does_then, quiet_on}
+use Rattle.mdl_shared.specs.declared.member.Member.{Member}
+use Rattle.mdl_shared.specs.KeptReads.{MayKeep, kept_standing}
+use Rattle.mdl_shared.specs.Members.{IsMember, holding_fault}
+use Rattle.mdl_shared.specs.Passes.{view_of}
+use Rattle.mdl_shared.specs.SessionViews.{Lists, SessionView, lists_seen, session_at, space_of, tickets_of, tickets_seen}
+use Rattle.mdl_shared.specs.Showings.{FindsVersion, MissesVersion, OfTicket, ReadsByLatch, Shows}
+use Rattle.mdl_shared.specs.TicketLists.{KeepsRoom, Room}
+use Rattle.mdl_shared.proofs.CacheEntries.{kept-met, met-first, met-looked, none-looked}
+use Rattle.mdl_shared.proofs.Faults.{if-clear}
+use Rattle.mdl_shared.proofs.MemberFacts.{speaks}
+use Rattle.mdl_shared.proofs.Props.{member}
+use Rattle.mdl_shared.proofs.Rooms.{keeps-before, keeps-same}
+use Rattle.mdl_shared.proofs.SameSpace.{reading_of}
+use Rattle.mdl_shared.proofs.VersionCalls.{finds-joins, finds-version, found-does, found-now, found-quiet, kept-joins, read-directory, read-does, read-lists, read-quiet, read-sessions, read-settles, read-space, read-table, read-told, unkept-joins, version-missed}
+
+-- the number of a ticket
+pub numbered-is : (id : ℕ) (tickets : List Own) (t : Own) → numbered id tickets ≡ Some t → t.number ≡ id
+numbered-is id [] t its = cc
+numbered-is id (x ∷ xs) t its = grind (arith, nat_tests, numbered-is id xs t)
+
+-- what is so of a held ticket, where it is said more weakly
+map-held : (id : ℕ) (own : Has) (P Q : Held → Type 0) → ((h : Held) → P h → Q h) → OfHeld id own P → OfHeld id own Q
+map-held id own P Q weaker = elim (ticket_held id own) as (λ o. MatchOption o ⊥ P → MatchOption o ⊥ Q) [
+  | None ↦ λ none. none
+  | Some h ↦ λ so. weaker h so
+]
+
+module _ (s : SessionView) (id : ℕ) (t : Own) (its : numbered id (tickets_seen s.me.0) ≡ Some t) where
+  clear : holding_fault id (tickets_seen s.me.0) ≡ None
+  clear = ap (λ (o : Option Own). if is_some o then None else Some NotHeld) its
+
+  -- ---- what a cache keeps was read
+
+  module _ {s′ : SessionView} (standing : Standing) (finds : FindsVersion t.place standing s s′) where
+    pub hit-shows : Shows (Read_kept s.me.0.number id) (Reads standing.version standing.definition) s s′
+    hit-shows = record {
+      table = ap (λ (x : SessionView). x.table) (found-now finds);
+      sessions = ap (λ (x : SessionView). x.sessions) (found-now finds);
+      refused = if-clear _ (holding_fault id (tickets_seen s.me.0)) clear;
+      did = found-does finds;
+      settled = ap (λ (x : SessionView). x.me.0.settles) (found-now finds);
+      told = ap (λ (x : SessionView). x.me.0.told) (found-now finds);
+      steps = found-quiet finds;
+      met = (t, its, inl finds);
+      room = finds.room;
+    }
+
+    -- but memory ran out
+    pub full-shows : Shows (Read_kept s.me.0.number id) (Refused OutOfMemory) s s′
+    full-shows = record {
+      table = ap (λ (x : SessionView). x.table) (found-now finds);
+      sessions = ap (λ (x : SessionView). x.sessions) (found-now finds);
+      refused = if-clear _ (holding_fault id (tickets_seen s.me.0)) clear;
+      did = found-does finds;
+      settled = ap (λ (x : SessionView). x.me.0.settles) (found-now finds);
+      told = ap (λ (x : SessionView). x.me.0.told) (found-now finds);
+      steps = found-quiet finds;
+      met = inr (refl, (t, its, inl (standing, finds)));
+      room = finds.room;
+    }
+
+    pub full-joins : Joins (space_of s) (Read_kept s.me.0.number id) (Reads standing.version standing.definition) (space_of s′)
+        → Joins (space_of s) (Read_kept s.me.0.number id) (Refused OutOfMemory) (space_of s′)
+    full-joins joins = record {
+      mine = joins.mine;
+      has = refl;
+      fits = refl;
+      number = joins.number;
+      own = joins.own;
+      numbers = joins.numbers;
+      explained = tt;
+      gained = tt;
+      learns = joins.learns;
+      agreed = joins.agreed;
+      told = joins.told;
+      settled = joins.settled;
+      reads = inr (
+        refl,
+        map-held id (space_of s).own (λ (h : Held). Read_so standing (space_of s) (space_of s′) h.place)
+            (λ (h : Held). (x : Standing) × ((space_of s′).reads ≡ (space_of s).reads) × Read_so x (space_of s) (space_of s′) h.place)
+            (λ h there. (standing, ap (λ (x : SessionView). (space_of x).reads) (found-now finds), there)) joins.reads,
+      );
+      truly = tt;
+    }
+
+  -- ---- none of the version is kept, and what stands there is read under the latch
+
+  module _ (mid s′ : SessionView) {found : ℕ} (reads : MissesVersion t.place found s mid) where
+    miss-ticket : (u : Own) → numbered id (tickets_seen mid.me.0) ≡ Some u → t ≡ u
+    miss-ticket u other =
+        let same : ◌≡◌ {A = Option Own} (Some t) (Some u) = sym its ∙ ap (λ (l : Lists). numbered id (tickets_of l)) (sym (read-lists reads)) ∙ other in
+        cc
+
+    pub miss-joins : (version : ℕ) (definition : Option Definition) → Joins (space_of mid) (Read_definition mid.me.0.number id) (Reads version definition) (space_of s′)
+        → Joins (space_of s) (Read_kept s.me.0.number id) (Reads version definition) (space_of s′)
+    miss-joins version definition joins =
+        kept-joins (space_of s) (space_of s′) s.me.0.number id version definition
+        (subst (λ (a : Space). Joins a (Read_definition a.number id) (Reads version definition) (space_of s′)) (read-space reads) joins)
+
+    pub miss-latch : (standing : Standing) → Shows (Read_definition mid.me.0.number id) (Reads standing.version standing.definition) mid s′
+        → ReadsByLatch id t standing mid s′
+    miss-latch standing shows =
+        subst (λ (u : Own). ReadsByLatch id u standing mid s′) (sym (miss-ticket shows.met.0 shows.met.1)) shows.met.2
+
+    pub miss-shows : (standing : Standing) → Shows (Read_definition mid.me.0.number id) (Reads standing.version standing.definition) mid s′
+        → Shows (Read_kept s.me.0.number id) (Reads standing.version standing.definition) s s′
+    miss-shows standing shows = record {
+      table = shows.table ∙ read-table reads;
+      sessions = shows.sessions ∙ read-sessions reads;
+      refused = if-clear _ (holding_fault id (tickets_seen s.me.0)) clear;
+      did = does_then [] [] s.me mid.me s′.me (read-does reads) shows.did;
+      settled = shows.settled ∙ read-settles reads;
+      told = shows.told ∙ read-told reads;
+      steps = quiet_on s.me mid.me s′.me (read-quiet reads) (read-directory reads) shows.steps;
+      met = (t, its, inr (found, mid, reads, miss-latch standing shows));
+      room = keeps-before 0 s.room mid.room s′.room reads.room shows.room;
+    }
+
+    -- or memory runs out
+    pub miss-why : (why : SpaceError) → Shows (Read_definition mid.me.0.number id) (Refused why) mid s′
+        → (why ≡ OutOfMemory) × Visits t.place [] mid.me s′.me
+    miss-why why shows = by shows.met
+      where
+        by : (holding_fault id (tickets_seen mid.me.0) ≡ Some why) ⊎ ((why ≡ OutOfMemory) × OfTicket id (lists_seen mid.me.0) (λ u. Visits u.place [] mid.me s′.me))
+            → (why ≡ OutOfMemory) × Visits t.place [] mid.me s′.me
+        by (inl fault) =
+            let none : ◌≡◌ {A = Option SpaceError} None (Some why) = sym clear ∙ ap (λ (l : Lists). holding_fault id (tickets_of l)) (sym (read-lists reads)) ∙ fault in
+            cc
+        by (inr met) = (met.0, subst (λ (u : Own). Visits u.place [] mid.me s′.me) (sym (miss-ticket met.1.0 met.1.1)) met.1.2)
+
+    pub miss-full_joins : Joins (space_of mid) (Read_definition mid.me.0.number id) (Refused OutOfMemory) (space_of s′)
+        → Joins (space_of s) (Read_kept s.me.0.number id) (Refused OutOfMemory) (space_of s′)
+    miss-full_joins joins =
+        unkept-joins (space_of s) (space_of s′) s.me.0.number id
+        (subst (λ (a : Space). Joins a (Read_definition a.number id) (Refused OutOfMemory) (space_of s′)) (read-space reads) joins)
+
+    pub miss-full_shows : Visits t.place [] mid.me s′.me → Shows (Read_definition mid.me.0.number id) (Refused OutOfMemory) mid s′
+        → Shows (Read_kept s.me.0.number id) (Refused OutOfMemory) s s′
+    miss-full_shows visits shows = record {
+      table = shows.table ∙ read-table reads;
+      sessions = shows.sessions ∙ read-sessions reads;
+      refused = if-clear _ (holding_fault id (tickets_seen s.me.0)) clear;
+      did = does_then [] [] s.me mid.me s′.me (read-does reads) shows.did;
+      settled = shows.settled ∙ read-settles reads;
+      told = shows.told ∙ read-told reads;
+      steps = quiet_on s.me mid.me s′.me (read-quiet reads) (read-directory reads) shows.steps;
+      met = inr (refl, (t, its, inr (found, mid, reads, visits)));
+      room = keeps-before 0 s.room mid.room s′.room reads.room shows.room;
+    }
+
+-- ---- what a session met
+
+-- it has met after a call
+pub met-after : {s : SessionView} (is : IsMember s) (b : Space) (call : Call) (answer : Answer) (kept : List Kept) → Joins (space_of s) call answer b
+    → AreMet (HasMet (space_of s) s.me.0.number) kept → AreMet (HasMet b b.number) kept
+met-after {s} is b call answer kept joins all one among =
+    session-met_stays (space_of s) b call answer s.me.0.number one.0.0 (kept_standing one.0.1 one.1) (speaks is) joins (all one among)
+
+-- and what it read last
+pub met-read : (a b : SessionView) (place : ℕ) (standing : Standing) → b.me.0.reads ≡ a.me.0.reads ++ record { place = place; standing = standing } ∷ []
+    → HasMet (space_of b) b.me.0.number place standing
+met-read a b place standing reads =
+    subst (λ (l : List Read). Contains (map reading_of l) (record { place = place; standing = standing })) (sym reads)
+    (Contains-map reading_of _ (record { place = place; standing = standing }) (middle a.me.0.reads [] _))
+
+-- ---- where a definition is kept of the version that a step found
+
+module _ {s s′ : SessionView} (is : IsMember s) (id : ℕ) (t : Own) (its : numbered id (tickets_seen s.me.0) ≡ Some t) (kept : List Kept)
+    (met : AreMet (HasMet (space_of s) s.me.0.number) kept) (version : ℕ) (d : Definition) (hit : kept_of t.place version kept ≡ Some d)
+    (newest : ReadNoneNewer t.place version s.me) (one : ReadOneStanding t.place version s.me)
+    (now : s′.me ≡ noted_version t.place version s.me) (same : s′ ≡ record s { me = s′.me; room = s′.room }) (keeps : KeepsRoom 0 s.room s′.room) where
+  was-met : HasMet (space_of s) s.me.0.number t.place (kept_standing version d)
+  was-met = kept-met (HasMet (space_of s) s.me.0.number) t.place version kept d met hit
+
+  pub hit-finds : FindsVersion t.place (kept_standing version d) s s′
+  hit-finds = finds-version is id t its (kept_standing version d) was-met newest one now same keeps
+
+  pub hit-joins : Joins (space_of s) (Read_definition s.me.0.number id) (Reads version (Some d)) (space_of s′)
+  hit-joins = finds-joins is id t its (kept_standing version d) was-met newest one hit-finds
+
+-- where it was found by a session's seat
+module _ (m : Member) (id : ℕ) (t : Own) (its : numbered id (tickets_seen m.seat.me.0) ≡ Some t) (kept : List Kept)
+    (met : AreMet (HasMet (space_of (view_of m)) m.seat.me.0.number) kept) (seat′ : SeatState) (version : ℕ) (d : Definition)
+    (hit : kept_of t.place version kept ≡ Some d) (newest : ReadNoneNewer t.place version m.seat.me) (one : ReadOneStanding t.place version m.seat.me)
+    (made : seat′ ≡ record m.seat { me = noted_version t.place version m.seat.me }) (room′ : Room) (keeps : KeepsRoom 0 m.tickets.room room′) where
+  abbrev pub after : SessionView
+  after = session_at seat′ m.sessions room′
+
+  now : seat′.me ≡ noted_version t.place version m.seat.me
+  now = ap (λ (x : SeatState). x.me) made
+
+  same : after ≡ record (view_of m) { me = seat′.me; room = room′ }
+  same = λ i. record { table = (made i).table; sessions = m.sessions; me = seat′.me; room = room′ }
+
+  pub seat-finds : FindsVersion t.place (kept_standing version d) (view_of m) after
+  seat-finds = hit-finds {s′ = after} (member m) id t its kept met version d hit newest one now same keeps
+
+  pub seat-joins : Joins (space_of (view_of m)) (Read_kept m.seat.me.0.number id) (Reads version (Some d)) (space_of after)
+  seat-joins = kept-joins (space_of (view_of m)) (space_of after) m.seat.me.0.number id version (Some d)
+      (hit-joins {s′ = after} (member m) id t its kept met version d hit newest one now same keeps)
+
+  -- and each definition that the cache keeps was met still, after the look
+  pub seat-met : AreMet (HasMet (space_of after) seat′.me.0.number) (looked_at t.place version kept)
+  seat-met = met-looked (HasMet (space_of after) seat′.me.0.number) t.place version kept
+      (met-after (member m) (space_of after) (Read_kept m.seat.me.0.number id) (Reads version (Some d)) kept seat-joins met)
+
+-- where none is kept of the version that a session's seat found
+module _ (m : Member) (id : ℕ) (t : Own) (its : numbered id (tickets_seen m.seat.me.0) ≡ Some t) (kept : List Kept)
+    (met : AreMet (HasMet (space_of (view_of m)) m.seat.me.0.number) kept) (seat′ : SeatState) (version : ℕ)
+    (none : kept_of t.place version kept ≡ None) (newest : ReadNoneNewer t.place version m.seat.me)
+    (made : seat′ ≡ record m.seat { me = met_version t.place version m.seat.me }) where
+  abbrev pub between : SessionView
+  between = session_at seat′ m.sessions m.tickets.room
+
+  pub seat-reads : MissesVersion t.place version (view_of m) between
+  seat-reads = version-missed m.seat seat′ m.sessions t.place version made newest (keeps-same m.tickets.room)
+
+  -- each definition that the cache keeps was met still
+  pub unfound-met : AreMet (HasMet (space_of between) seat′.me.0.number) kept
+  unfound-met = subst (λ (b : Space). AreMet (HasMet b b.number) kept) (sym (read-space seat-reads)) met
+
+  -- and after a read under the latch
+  pub missed-met : (s′ : SessionView) (answer : Answer) → Joins (space_of between) (Read_definition seat′.me.0.number id) answer (space_of s′)
+      → AreMet (HasMet (space_of s′) s′.me.0.number) kept
+  missed-met s′ answer joins =
+      met-after (member m) (space_of s′) (Read_definition m.seat.me.0.number id) answer kept
+      (subst (λ (a : Space). Joins a (Read_definition a.number id) answer (space_of s′)) (read-space seat-reads) joins) met
+
+  -- the look left the cache as it was
+  pub looked-same : (before after : CacheView) → before.kept ≡ kept → after ≡ record { kept = looked_at t.place version kept; capacity = before.capacity }
+      → after ≡ before
+  looked-same before after is now = now ∙ (λ i. record { kept = (none-looked t.place version kept none ∙ sym is) i; capacity = before.capacity })
+
+-- and after one more may be kept, of what was met
+pub kept-still : (has : ℕ → Standing → Type 0) (place : ℕ) (standing : Standing) (before after : CacheView) → MayKeep place standing before after
+    → AreMet has before.kept → has place standing → AreMet has after.kept
+kept-still has place standing before after (inl same) all its = subst (λ (x : CacheView). AreMet has x.kept) (sym same) all
+kept-still has place standing before after (inr more) all its =
+    let is : standing ≡ kept_standing standing.version more.0 = λ i. record { version = standing.version; definition = more.1 i } in
+    subst (λ (x : CacheView). AreMet has x.kept) (sym more.2) (met-first has place standing.version more.0 before all (subst (has place) is its))

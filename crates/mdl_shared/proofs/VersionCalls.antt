@@ -1,0 +1,230 @@
+-- A session's step that reads the version of a place without the latch: the session knows no more than before, or it notes the version of what it read.
+use Rattle.std.proofs.Common.{◌≡◌, ℕ, true, [], ◌∷◌, ◌++◌, map, Option, Some, inl, inr, refl, sym, ap, ◌∙◌}
+use Rattle.mdl_defs.specs.declared.definition.Definition.{Definition}
+use Rattle.mdl_defs.specs.declared.standing.Standing.{Standing}
+use Rattle.mdl_calls.specs.declared.space_error.SpaceError.TheVariants.{OutOfMemory}
+use Rattle.mdl_calls.specs.Words.{Read_definition, Read_kept, Reads, Refused}
+use Rattle.mdl_steps.specs.declared.step_kind.StepKind.TheVariants as step
+use Rattle.mdl_steps.specs.declared.view.Met.{Met}
+use Rattle.mdl_steps.specs.declared.view.Own.{Own}
+use Rattle.mdl_steps.specs.Layout.{version_word}
+use Rattle.mdl_steps.specs.Plays.{Mine, noting_version}
+use Rattle.mdl_steps.specs.SeatStates.{SeatState}
+use Rattle.mdl_steps.specs.VersionPlays.{LearnsVersion, ReadNoneNewer, ReadOneStanding, learnt_version, met_version, noted_version}
+use Rattle.mdl_session_laws.specs.SessionJoins.{Joins}
+use Rattle.mdl_session_laws.specs.SessionSpaces.{HasMet, Space, is_known}
+use Rattle.mdl_session_laws.proofs.KeptSound.{learns-sound}
+use Rattle.mdl_session_laws.proofs.KeyLists.{is-known}
+use Rattle.mdl_session_laws.proofs.ReadAfter.{HasLearnt, meets-fits}
+use Rattle.mdl_visits.specs.Numbers.{numbered}
+use Rattle.mdl_visits.specs.Visits.{Does, StaysQuiet}
+use Rattle.mdl_visits.proofs.Steps.{quiet_one}
+use Rattle.mdl_shared.specs.Members.{IsMember}
+use Rattle.mdl_shared.specs.OwnLists.{told_of}
+use Rattle.mdl_shared.specs.SessionViews.{SessionView, lists_seen, session_at, space_of, tickets_seen}
+use Rattle.mdl_shared.specs.Showings.{FindsVersion, MissesVersion, ReadsVersion}
+use Rattle.mdl_shared.specs.TicketLists.{KeepsRoom, Room}
+use Rattle.mdl_shared.proofs.LastReads.{follows-last, is-last, was-read}
+use Rattle.mdl_shared.proofs.Members.{HasDone, in-order}
+use Rattle.mdl_shared.proofs.ReadCalls.{HasNoted, NotesAll, last-joins, noted-order, noted-tickets}
+use Rattle.mdl_shared.proofs.SpaceNotes.{noted-in, noted_under, noting-all, noting-elsewhere, noting-told}
+use Rattle.mdl_shared.proofs.SpaceReads.{meets-there, read-last}
+use Rattle.mdl_shared.proofs.WaitSteps.{quietly}
+
+-- the step
+abbrev met-at : ℕ → ℕ → SessionView → Met
+met-at place version s =
+    record { kind = step.ReadVersion; deeds = []; word = version_word place; found = version; held = s.me.0.latches; directory = s.me.0.directory }
+
+-- ---- the version was met, and nothing else changed
+
+pub version-lists : (seat seat′ : SeatState) (place version : ℕ) → seat′ ≡ record seat { me = met_version place version seat.me } → lists_seen seat′.me.0 ≡ lists_seen seat.me.0
+version-lists seat seat′ place version made = ap (λ (x : SeatState). lists_seen x.me.0) made
+
+module _ (seat seat′ : SeatState) (sessions : ℕ) {room room′ : Room} (place version : ℕ) (made : seat′ ≡ record seat { me = met_version place version seat.me }) where
+  pub version-done : HasDone 0 [] (session_at seat sessions room) (session_at seat′ sessions room′)
+  version-done =
+      quietly {seat = seat} {seat′ = seat′} {log = _} {told = seat.me.0.told} {settles = seat.me.0.settles} sessions (ap (λ (x : SeatState). x.table) made)
+      (ap (λ (x : SeatState). x.me) made) (λ state told. told) (λ none. refl)
+
+  pub version-missed : ReadNoneNewer place version seat.me → KeepsRoom 0 room room′ → MissesVersion place version (session_at seat sessions room) (session_at seat′ sessions room′)
+  version-missed newest keeps = record {
+    now = ap (λ (x : SeatState). x.me) made;
+    same = λ i. record { table = (made i).table; sessions = sessions; me = seat′.me; room = room′ };
+    room = keeps;
+    newest = newest;
+  }
+
+-- the session as a lock space is the same
+module _ {place version : ℕ} {a b : SessionView} (reads : MissesVersion place version a b) where
+  read-now : b ≡ record a { me = met_version place version a.me; room = b.room }
+  read-now = reads.same ∙ ap (λ (m : Mine). record a { me = m; room = b.room }) reads.now
+
+  pub read-space : space_of b ≡ space_of a
+  read-space = ap space_of read-now
+
+  pub read-lists : lists_seen b.me.0 ≡ lists_seen a.me.0
+  read-lists = ap (λ (x : SessionView). lists_seen x.me.0) read-now
+
+  pub read-table : b.table ≡ a.table
+  read-table = ap (λ (x : SessionView). x.table) read-now
+
+  pub read-sessions : b.sessions ≡ a.sessions
+  read-sessions = ap (λ (x : SessionView). x.sessions) read-now
+
+  pub read-settles : b.me.0.settles ≡ a.me.0.settles
+  read-settles = ap (λ (x : SessionView). x.me.0.settles) read-now
+
+  pub read-told : b.me.0.told ≡ a.me.0.told
+  read-told = ap (λ (x : SessionView). x.me.0.told) read-now
+
+  pub read-number : b.me.0.number ≡ a.me.0.number
+  read-number = ap (λ (x : SessionView). x.me.0.number) read-now
+
+  pub read-directory : b.me.0.directory ≡ a.me.0.directory
+  read-directory = ap (λ (x : SessionView). x.me.0.directory) read-now
+
+  pub read-log : b.me.0.log ≡ a.me.0.log ++ met-at place version a ∷ []
+  read-log = ap (λ (x : SessionView). x.me.0.log) read-now
+
+  pub read-does : Does [] a.me b.me
+  read-does = (met-at place version a ∷ [], read-log, refl)
+
+  pub read-quiet : StaysQuiet a.me b.me
+  read-quiet = quiet_one (met-at place version a) a.me b.me read-log (refl, refl)
+
+-- ---- the version of what was read was met, and is noted
+
+-- what the session has then
+module _ {place : ℕ} {standing : Standing} {a b : SessionView} (finds : FindsVersion place standing a b) where
+  pub found-now : b ≡ record a { me = noted_version place standing.version a.me; room = b.room }
+  found-now = finds.same ∙ ap (λ (m : Mine). record a { me = m; room = b.room }) finds.now
+
+  pub found-noted : NotesAll place standing.version a.me.0.reads a b
+  found-noted = record { log = _; room = b.room; now = found-now }
+
+  pub found-log : b.me.0.log ≡ a.me.0.log ++ met-at place standing.version a ∷ []
+  found-log = ap (λ (x : SessionView). x.me.0.log) found-now
+
+  pub found-does : Does [] a.me b.me
+  found-does = (met-at place standing.version a ∷ [], found-log, refl)
+
+  pub found-quiet : StaysQuiet a.me b.me
+  found-quiet = quiet_one (met-at place standing.version a) a.me b.me found-log (refl, refl)
+
+module _ {s s′ : SessionView} (is : IsMember s) (id : ℕ) (t : Own) (its : numbered id (tickets_seen s.me.0) ≡ Some t) (standing : Standing)
+    (met : HasMet (space_of s) s.me.0.number t.place standing) (newest : ReadNoneNewer t.place standing.version s.me) (one : ReadOneStanding t.place standing.version s.me) where
+  pub finds-version : s′.me ≡ noted_version t.place standing.version s.me → s′ ≡ record s { me = s′.me; room = s′.room } → KeepsRoom 0 s.room s′.room
+      → FindsVersion t.place standing s s′
+  finds-version now same keeps = record {
+    now = now;
+    same = same;
+    room = keeps;
+    read = was-read is id t its standing met newest one;
+    follows = follows-last is id t its standing met newest one;
+  }
+
+  pub finds-joins : FindsVersion t.place standing s s′ → Joins (space_of s) (Read_definition s.me.0.number id) (Reads standing.version standing.definition) (space_of s′)
+  finds-joins finds =
+      let noted = found-noted finds in
+      last-joins is id t its standing noted finds.follows
+      (inr (ap (λ (x : SessionView). (space_of x).reads) noted.now, is-last is id t its standing met newest one))
+
+-- ---- the version is read, and what is defined in it counts as read
+
+abbrev pub version-reads : {place version : ℕ} (seat seat′ : SeatState) (sessions : ℕ) {room room′ : Room} → seat′ ≡ record seat { me = seat′.me }
+    → LearnsVersion place version seat.me seat′.me → KeepsRoom 0 room room′
+    → ReadsVersion place version (session_at seat sessions room) (session_at seat′ sessions room′)
+version-reads seat seat′ sessions {room′ = room′} same learns keeps = record {
+  learnt = learns;
+  same = λ i. record { table = (same i).table; sessions = sessions; me = seat′.me; room = room′ };
+  room = keeps;
+}
+
+module _ {place version : ℕ} {s s′ : SessionView} (reads : ReadsVersion place version s s′) where
+  abbrev pub learnt-found : Standing
+  learnt-found = reads.learnt.standing
+
+  learnt-now : s′ ≡ record s { me = learnt_version place learnt-found s.me; room = s′.room }
+  learnt-now = reads.same ∙ ap (λ (m : Mine). record s { me = m; room = s′.room }) reads.learnt.now
+
+  pub learnt-noted : HasNoted place learnt-found s s′
+  learnt-noted = record { log = _; room = s′.room; now = learnt-now }
+
+  module _ (is : IsMember s) (known : is_known place (space_of s).known ≡ true) where
+    learnt-all : HasLearnt (space_of s) (space_of s′)
+    learnt-all =
+        let tickets = tickets_seen s.me.0 in
+        let n = learnt-found.version in
+        let key = is-known (space_of s).known place known in
+        let meets = meets-there s place learnt-found reads.learnt.follows in
+        record {
+          place = place;
+          standing = learnt-found;
+          newest = meets.newest;
+          fits = meets-fits (space_of s) place learnt-found key.0 key.1 meets;
+          last = read-last s s′ place learnt-found (ap (λ (x : SessionView). x.me.0.reads) learnt-now);
+          here = λ v noted.
+              let under = sym (ap (noted_under place) (noted-tickets learnt-noted)) ∙ noted in
+              let one = noted-in place v (Some n) (noting_version place n tickets) (noting-all place n tickets) under in
+              cc;
+          elsewhere = λ other apart. ap (noted_under other) (noted-tickets learnt-noted) ∙ noting-elsewhere place n other tickets apart;
+        }
+
+    learnt-rest : space_of s′ ≡ record (space_of s) { notes = (space_of s′).notes; reads = (space_of s′).reads }
+    learnt-rest =
+        let held : map told_of (tickets_seen s′.me.0) ≡ map told_of (tickets_seen s.me.0) =
+        ap (map told_of) (noted-tickets learnt-noted) ∙ noting-told place learnt-found.version (tickets_seen s.me.0) in
+        λ i. record {
+          number = ap (λ (x : SessionView). (space_of x).number) learnt-now i;
+          own = record { held = held i; wait = ap (λ (x : SessionView). (space_of x).own.wait) learnt-now i };
+          numbers = ap (λ (x : SessionView). (space_of x).numbers) learnt-now i;
+          known = ap (λ (x : SessionView). (space_of x).known) learnt-now i;
+          settled = ap (λ (x : SessionView). (space_of x).settled) learnt-now i;
+          notes = (space_of s′).notes;
+          reads = (space_of s′).reads;
+        }
+
+    pub learnt-member : IsMember s′
+    learnt-member =
+        in-order is (noted-order learnt-noted is) (ap (λ (x : SessionView). x.me.0.number) learnt-now)
+        (learns-sound (space_of s) (space_of s′) is.sound learnt-all learnt-rest)
+
+-- ---- a read with a cache joins as one without it
+
+pub kept-joins : (a b : Space) (who id version : ℕ) (definition : Option Definition) → Joins a (Read_definition who id) (Reads version definition) b
+    → Joins a (Read_kept who id) (Reads version definition) b
+kept-joins a b who id version definition joins = record {
+  mine = joins.mine;
+  has = refl;
+  fits = refl;
+  number = joins.number;
+  own = joins.own;
+  numbers = joins.numbers;
+  explained = joins.explained;
+  gained = joins.gained;
+  learns = joins.learns;
+  agreed = joins.agreed;
+  told = joins.told;
+  settled = joins.settled;
+  reads = joins.reads;
+  truly = joins.truly;
+}
+
+pub unkept-joins : (a b : Space) (who id : ℕ) → Joins a (Read_definition who id) (Refused OutOfMemory) b → Joins a (Read_kept who id) (Refused OutOfMemory) b
+unkept-joins a b who id joins = record {
+  mine = joins.mine;
+  has = refl;
+  fits = refl;
+  number = joins.number;
+  own = joins.own;
+  numbers = joins.numbers;
+  explained = joins.explained;
+  gained = joins.gained;
+  learns = joins.learns;
+  agreed = joins.agreed;
+  told = joins.told;
+  settled = joins.settled;
+  reads = inl joins.reads;
+  truly = joins.truly;
+}

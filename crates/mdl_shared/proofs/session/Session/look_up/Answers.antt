@@ -1,0 +1,104 @@
+-- The place of a key by the directory.
+use Rattle.std.proofs.Common.{◌≡◌, ◌≤◌, ℕ, List, [], ◌∷◌, ◌++◌, None, inr, refl, sym, ap, subst, ◌∙◌, arith}
+use Rattle.mdl_key.specs.Words.{KeyName}
+use Rattle.mdl_calls.specs.declared.space_error.SpaceError.TheVariants.{OutOfMemory}
+use Rattle.mdl_calls.specs.Words.{Resolve}
+use Rattle.mdl_steps.specs.declared.view.Known.{Known}
+use Rattle.mdl_shared.specs.Members.{is_known_place, place_known}
+use Rattle.mdl_shared.specs.Passes.{view_of}
+use Rattle.mdl_shared.specs.SessionViews.{Lists, session_at}
+use Rattle.mdl_shared.proofs.KeyCalls.{learnt-order, lists-learnt, lists-stepped, no_place-joins, resolve-joins, resolved, stepped}
+use Rattle.mdl_shared.proofs.MemberFacts.{speaks}
+use Rattle.mdl_shared.proofs.Members.{done-nothing, done-order, kept}
+use Rattle.mdl_shared.proofs.Props.{member}
+use Rattle.mdl_shared.proofs.SameSpace.{refused, same-stays}
+use Rattle.mdl_shared.proofs.session.Session.look_up.Goals as goal
+use Rattle.mdl_shared.proofs.session.Session.look_up.Goals.{in-NoPlace, in-OutOfMemory}
+
+pub returns-then-is_err-clause-joined : goal.returns-then-is_err-clause-joined
+returns-then-is_err-clause-joined g c =
+    let m = c.self.inside.member in
+    let s = view_of m in
+    rw (← c.self.view_is) (refused s s (Resolve s.me.0.number c.args.key.now) OutOfMemory (same-stays s) (speaks (member m)) refl refl tt (λ state how met. cc) tt)
+
+pub returns-in_default-clause-joined : goal.returns-in_default-clause-joined
+returns-in_default-clause-joined g c =
+    let m = c.self.inside.member in
+    let s = view_of m in
+    rw (← c.self.view_is) (refused s s (Resolve s.me.0.number c.args.key.now) OutOfMemory (same-stays s) (speaks (member m)) refl refl tt (λ state how met. cc) tt)
+
+pub reserve-requires : goal.reserve-requires
+reserve-requires g c = record { narrow = subst (λ (n : ℕ). n ≤ 65536) (sym c.slot_count-slots.ensures) (member c.self.inside.member).narrow.1 }
+
+pub resolve-requires : goal.resolve-requires
+resolve-requires g c = record { idle = (member c.self.inside.member).idle }
+
+pub invariant_of-member-in-Err-resolve : goal.invariant_of-member-in-Err-resolve
+invariant_of-member-in-Err-resolve g c =
+    let m = c.self.inside.member in
+    let s = view_of m in
+    let is = member m in
+    let done = stepped m.seat c.resolve.new.seat m.sessions c.in-Err.ensures.answer.2.0 c.in-Err.ensures.refused in record {
+      lawful = ∣ kept is (done-order done is (inr refl)) (refused s (session_at c.resolve.new.seat m.sessions m.tickets.room) (Resolve s.me.0.number c.args.key.now) OutOfMemory (done-nothing done) (speaks is) refl refl tt (λ state how met. cc) tt) ∣₁;
+      lists = ap (λ (ks : List Known). record { slow = m.tickets.slow; fast = m.tickets.fast; known = ks; next = m.next; asks = m.asks; waits = m.waits }) c.reserve.ensures.same ∙ m.lists ∙ sym (lists-stepped m.seat.me c.resolve.new.seat.me c.in-Err.ensures.refused);
+      room = m.room;
+    }
+
+pub returns-in-Err-clause-joined : goal.returns-in-Err-clause-joined
+returns-in-Err-clause-joined g c =
+    let m = c.self.inside.member in
+    let s = view_of m in
+    let is = member m in
+    let key = c.args.key.now in
+    let none : place_known key s.me.0.known ≡ None = rw (← c.self.view_is) at c.requires.unknown in
+    let stays = done-nothing (stepped m.seat c.resolve.new.seat m.sessions {room′ = m.tickets.room} c.in-Err.ensures.answer.2.0 c.in-Err.ensures.refused) in
+    rw (← c.self.view_is) (elim c.match-why.branch [
+      | in-NoPlace w ↦ rw w.result-is (no_place-joins is key none stays)
+      | in-OutOfMemory w ↦ rw w.result-is (
+          refused s (session_at c.resolve.new.seat m.sessions m.tickets.room) (Resolve s.me.0.number key) OutOfMemory stays (speaks is) refl refl tt (λ state how met. cc) tt
+          )
+    ])
+
+pub push_reserved-requires-clause-unknown : goal.push_reserved-requires-clause-unknown
+push_reserved-requires-clause-unknown g c =
+    let m = c.self.inside.member in
+    let key = c.args.key.now in
+    let place = c.in-Ok-resolve.place in
+    let none : place_known key m.seat.me.0.known ≡ None = rw (← c.self.view_is) at c.requires.unknown in
+    let own : place_known key m.known.known ≡ None = ap (λ (l : Lists). place_known key l.known) m.lists ∙ none in
+    let same = c.reserve.ensures.same in
+    let told = resolved m.seat c.resolve.new.seat m.sessions place {room = m.tickets.room} {room′ = m.tickets.room} key none c.in-Ok-resolve.ensures.known c.in-Ok-resolve.ensures.answer in (
+      ap (λ (k : KeyName). place_known k c.reserve.new.self.known) c.in-Ok.ensures.cases ∙ ap (place_known key) same ∙ own,
+      ap (λ (ks : List Known). is_known_place ks place) same ∙ ap (λ (l : Lists). is_known_place l.known place) m.lists ∙ told.2,
+    )
+
+pub invariant_of-member-2 : goal.invariant_of-member-2
+invariant_of-member-2 g c =
+    let m = c.self.inside.member in
+    let is = member m in
+    let key = c.args.key.now in
+    let place = c.in-Ok-resolve.place in
+    let none : place_known key m.seat.me.0.known ≡ None = rw (← c.self.view_is) at c.requires.unknown in
+    let told = resolved m.seat c.resolve.new.seat m.sessions place key none c.in-Ok-resolve.ensures.known c.in-Ok-resolve.ensures.answer in
+    record {
+      lawful = ∣ kept is (learnt-order told.0 is told.1) (resolve-joins is key none place told.2 told.0) ∣₁;
+      lists = lists-learnt m told.0 (c.push_reserved.ensures.known
+          ∙ ap (λ (k : KeyName). c.reserve.new.self.known ++ record { key = k; place = place } ∷ []) c.in-Ok.ensures.cases
+          ∙ ap (λ (ks : List Known). ks ++ record { key = key; place = place } ∷ []) c.reserve.ensures.same);
+      room = m.room;
+    }
+
+pub overflow_cast-result : goal.overflow_cast-result
+overflow_cast-result g c =
+    let within = c.in-Ok-resolve.ensures.known.1 in
+    let narrow = (member c.self.inside.member).narrow.1 in
+    omega (arith, within, narrow)
+
+pub returns-clause-joined : goal.returns-clause-joined
+returns-clause-joined g c =
+    let m = c.self.inside.member in
+    let key = c.args.key.now in
+    let place = c.in-Ok-resolve.place in
+    let none : place_known key m.seat.me.0.known ≡ None = rw (← c.self.view_is) at c.requires.unknown in
+    let told = resolved m.seat c.resolve.new.seat m.sessions place {room′ = m.tickets.room} key none c.in-Ok-resolve.ensures.known c.in-Ok-resolve.ensures.answer in
+    rw (← c.self.view_is) (resolve-joins (member m) key none place told.2 told.0)

@@ -1,0 +1,34 @@
+-- What becomes of a session's cache that lends a definition.
+use Rattle.std.specs.Prelude.{◌≡◌, ℕ, Result, Ok, Err, Some, ⊤}
+use Rattle.std.specs.Borrow.{Fml, MutBor, follows_so}
+use mathlib.Core.Option.{none}
+use Rattle.mdl_calls.specs.declared.space_error.SpaceError.{SpaceError}
+use Rattle.mdl_calls.specs.Words.{AreMet}
+use Rattle.mdl_defs.specs.Caches.{CacheView, kept_of, looked_at}
+use Rattle.mdl_defs.specs.contracts.def_cache.DefCache.{the_row}
+use Rattle.mdl_session_laws.specs.SessionSpaces.{HasMet}
+use Rattle.mdl_shared.specs.declared.cached.Cached.{Cached}
+use Rattle.mdl_shared.specs.declared.cached.Cached.TheVariants.{Hit, Stale}
+use Rattle.mdl_shared.specs.KeptReads.{kept_standing}
+use Rattle.mdl_shared.specs.SessionViews.{SessionView, lists_seen, space_of}
+use Rattle.mdl_shared.specs.Showings.{FindsVersion, OfTicket}
+
+-- what a session's look for the definition under the ticket of a number leaves in its cache: what was found comes first, and the rest stays in order; where
+-- nothing was found, all stays as it was
+abbrev pub LeavesOrder : ℕ → Result Cached SpaceError → SessionView → SessionView → CacheView → CacheView → Type 0
+LeavesOrder id (Ok (Hit definition)) a b before after =
+    OfTicket id (lists_seen a.me.0) (λ t. (version : ℕ) × (kept_of t.place version before.kept ≡ Some definition.now)
+    × FindsVersion t.place (kept_standing version definition.now) a b
+    × (after ≡ record { kept = looked_at t.place version before.kept; capacity = before.capacity }))
+LeavesOrder id (Ok Stale) a b before after = after ≡ before
+LeavesOrder id (Err why) a b before after = after ≡ before
+
+-- what the cache is after such a look: it has that order, and the session has met each definition in it
+pub record IsCacheAfter (id : ℕ) (result : Result Cached SpaceError) (a b : SessionView) (before after : CacheView) : Type 0 where
+  pub order : LeavesOrder id result a b before after
+  pub met : AreMet (HasMet (space_of b) b.me.0.number) after.kept
+
+-- at the end of the loan the cache is so
+abbrev pub EndsCached : MutBor CacheView → ℕ → Result Cached SpaceError → SessionView → SessionView → Fml
+EndsCached cache id result a b =
+    follows_so the_row the_row cache.ghost_name none (λ _ _. ⊤) (IsCacheAfter id result a b cache.now)

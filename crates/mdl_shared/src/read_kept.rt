@@ -1,0 +1,60 @@
+//! What stands under a ticket is read, from the session's cache where that keeps it.
+ghost use Rattle.std.specs.Prelude.{◌≡◌, ◌<◌, IfOk, OnErr};
+ghost use Rattle.mdl_calls.specs.Words.{AreMet, Read_kept, read};
+ghost use Rattle.mdl_session_laws.specs.SessionJoins.{Joins};
+ghost use Rattle.mdl_session_laws.specs.SessionSpaces.{HasMet};
+ghost use Rattle.mdl_shared.specs.KeptReads.{LeavesKept, MayKeep, ReadsKept};
+ghost use Rattle.mdl_shared.specs.SessionViews.{space_of};
+ghost use Rattle.mdl_shared.specs.Showings.{Shows};
+
+use crate::Session;
+use mdl_calls::{SpaceError, TicketId};
+use mdl_defs::{DefCache, Standing};
+use std::sync::Wait;
+
+impl<R: Wait> Session<R> {
+    /// As [`Session::read_definition`], but what the cache keeps of the version that stands there is read without the latch. What is read under the latch is kept,
+    /// if there is a definition and memory for it. Each definition in the cache has to be one that this session read in this space. If memory runs out for a copy of
+    /// what the cache keeps, the ticket notes its version, and it comes first in the cache.
+    pub fn read_kept(&mut self, id: TicketId, cache: &mut DefCache) -> Result<Standing, SpaceError>
+        requires met { AreMet (HasMet (space_of self.old) self.old.me.0.number) cache.old.kept }
+        ensures joined { Joins (space_of self.old) (Read_kept self.old.me.0.number id) (read result) (space_of self.new) }
+        ensures shown { Shows (Read_kept self.old.me.0.number id) (read result) self.old self.new }
+        ensures met { AreMet (HasMet (space_of self.new) self.new.me.0.number) cache.new.kept }
+        ensures capacity { cache.new.capacity ≡ cache.old.capacity }
+        ensures kept { IfOk result (λ standing. ReadsKept id standing self.old self.new cache.old cache.new) }
+        ensures left { OnErr result (LeavesKept id self.old self.new cache.old cache.new) }
+    {
+        let Some(held) = self.member.tickets.get(id) else {
+            return Err(SpaceError::NotHeld);
+        };
+        let member = &mut self.member;
+        let version = member.seat.read_version_kept(held.place, cache);
+        if let Some(definition) = cache.look(held.place as u16, version) {
+            member.tickets.note_all(held.place, version);
+            let Ok(definition) = definition.clone() else {
+                return Err(SpaceError::OutOfMemory);
+            };
+            return Ok(Standing {
+                version,
+                definition: Some(definition),
+            });
+        }
+        let standing = self.read_definition(id)?;
+        keep(cache, held.place, &standing);
+        Ok(standing)
+    }
+}
+
+// Keeps a copy of the definition of a place, if there is one and there is memory for it.
+fn keep(cache: &mut DefCache, place: usize, standing: &Standing)
+    requires within { place < 65536 }
+    ensures kept { MayKeep place standing.now cache.old cache.new }
+{
+    let Some(definition) = &standing.definition else {
+        return;
+    };
+    if let Ok(copy) = definition.clone() {
+        let _kept = cache.keep(place as u16, standing.version, copy);
+    }
+}

@@ -1,0 +1,25 @@
+//! The version of a place is read without its latch.
+ghost use Rattle.std.specs.Prelude.{◌≡◌, true};
+ghost use Rattle.mdl_session_laws.specs.SessionSpaces.{is_known};
+ghost use Rattle.mdl_shared.specs.SessionViews.{space_of};
+ghost use Rattle.mdl_shared.specs.Showings.{ReadsVersion};
+
+use crate::Session;
+use mdl_calls::Place;
+
+impl<R> Session<R> {
+    /// How often what stands at a place was changed, by one step without its latch. The session has resolved a key to the place. It takes no memory.
+    ///
+    /// What stands in this version counts as read: no later read of the session finds an older one. Without a ticket of the place, that may be changed
+    /// right after.
+    pub fn version(&mut self, place: Place) -> u64
+        requires known { is_known place (space_of self.old).known ≡ true }
+        ensures read { ReadsVersion place result self.old self.new }
+    {
+        let place = place as usize;
+        let member = &mut self.member;
+        let version = member.seat.read_version(place);
+        member.tickets.note_all(place, version);
+        version
+    }
+}

@@ -1,0 +1,43 @@
+-- Who is in whose way, and why, after MySQL 5.7: `MDL_lock::visit_subgraph` of sql/mdl.cc. That it is told ticket by ticket, and in
+-- which order, is this project's own choice.
+use Rattle.std.specs.Prelude.{ℕ, suc, Bool, not, ◌&&◌, List, [], ◌∷◌, ◌++◌, filter, flat_map, map}
+use Rattle.mdl_book.specs.declared.book_view.BookView.{BookView}
+use Rattle.mdl_book.specs.declared.ticket.Ticket.{Ticket}
+use Rattle.mdl_book.specs.Books.{lock_kind}
+use Rattle.mdl_book.specs.Granting.{stands_beside, overtakes}
+use Rattle.mdl_graph.specs.WaitsFor.{SessionTest, is_unsettled}
+use Rattle.mdl_view.specs.declared.blocking.Blocking.{Blocking}
+use Rattle.mdl_view.specs.declared.blocking.Reason.{Reason}
+use Rattle.mdl_view.specs.declared.blocking.Reason.TheVariants.{Holds, WaitsBefore}
+
+-- whether a granted ticket is in the way of a wish: it is another session's, and they clash
+abbrev pub holds_against : BookView → Ticket → Ticket → Bool
+holds_against book wish held = not (stands_beside (lock_kind book) wish.session wish.mode held)
+
+-- whether a waiting ticket is: it is another session's, whose wait isn't settled, and the wish waits behind it
+abbrev pub waits_before : SessionTest → BookView → Ticket → Ticket → Bool
+waits_before settled book wish pending =
+    is_unsettled settled pending.session && not (overtakes (lock_kind book) wish.session wish.mode pending)
+
+-- a ticket in the way of another one at the lock of this place
+abbrev pub blocking : ℕ → Ticket → Reason → Ticket → Blocking
+blocking place wish reason other = record { lock = place; waiter = wish; other = other; reason = reason }
+
+-- all tickets in the way of one that waits: those that are granted first, each in the order of its list
+abbrev pub blockings_of : SessionTest → ℕ → BookView → Ticket → List Blocking
+blockings_of settled place book wish =
+    map (blocking place wish Holds) (filter (holds_against book wish) book.granted)
+    ++ map (blocking place wish WaitsBefore) (filter (waits_before settled book wish) book.waiting)
+
+-- whether the session of a waiting ticket isn't settled
+abbrev pub has_open_wait : SessionTest → Ticket → Bool
+has_open_wait settled wish = is_unsettled settled wish.session
+
+-- all of the unsettled sessions that wait at a lock, in order of arrival
+abbrev pub blockings_at : SessionTest → ℕ → BookView → List Blocking
+blockings_at settled place book = flat_map (blockings_of settled place book) (filter (has_open_wait settled) book.waiting)
+
+-- all at these locks, the first of which has this place
+abbrev pub blockings_in : SessionTest → ℕ → List BookView → List Blocking
+blockings_in settled place [] = []
+blockings_in settled place (book ∷ books) = blockings_at settled place book ++ blockings_in settled (suc place) books

@@ -1,0 +1,4 @@
+pub mod Blockings
+pub mod Endings
+pub mod Roots
+pub mod ViewLaws

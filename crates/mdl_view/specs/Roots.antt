@@ -1,0 +1,28 @@
+-- Who is at the root of the waits. The word is this project's own.
+use Rattle.std.specs.Prelude.{ℕ, Bool, not, ◌&&◌, ◌==◌, List, filter}
+use Rattle.std.specs.List.{list_any, range_with_len}
+use Rattle.mdl_view.specs.declared.blocking.Blocking.{Blocking}
+
+-- whether somebody is in the way of a session
+abbrev pub is_blocked : List Blocking → ℕ → Bool
+is_blocked blockings session = list_any (λ blocking. blocking.waiter.session == session) blockings
+
+-- whether a session is in somebody's way
+abbrev pub is_in_a_way : List Blocking → ℕ → Bool
+is_in_a_way blockings session = list_any (λ blocking. blocking.other.session == session) blockings
+
+-- whether a session is in somebody's way and nobody in its own, by two tests
+abbrev pub is_between : (ℕ → Bool) → (ℕ → Bool) → ℕ → Bool
+is_between blocked in_a_way session = in_a_way session && not (blocked session)
+
+-- a root is in somebody's way, and nobody is in its own
+abbrev pub is_root : List Blocking → ℕ → Bool
+is_root blockings session = is_between (is_blocked blockings) (is_in_a_way blockings) session
+
+-- the roots among the sessions up to this one, in rising number
+unfoldable pub roots_up_to : ℕ → List Blocking → List ℕ
+roots_up_to most blockings = filter (is_root blockings) (range_with_len 1 most)
+
+-- all roots
+abbrev pub roots : List Blocking → List ℕ
+roots blockings = roots_up_to 1024 blockings

@@ -1,0 +1,34 @@
+-- What is told of who is in whose way, and what follows if a session ends, against the definitions of waits.
+use Rattle.std.specs.Prelude.{◌≡◌, ◌↔◌, ℕ, Bool, ◌&&◌, ◌==◌, List, None, IsTrue}
+use Rattle.std.specs.FinSet as set
+use Rattle.std.specs.List.{list_any}
+use Rattle.std.specs.Ordering.{nat_cmp}
+use Rattle.mdl_book.specs.declared.book_view.BookView.{BookView}
+use Rattle.mdl_graph.specs.WaitsFor.{SessionTest, WaitsFor, waits_for}
+use Rattle.mdl_view.specs.declared.blocking.Blocking.{Blocking}
+use Rattle.mdl_view.specs.Blockings.{blockings_in}
+use Rattle.mdl_view.specs.Endings.{next_waiter, grants_after}
+use Rattle.mdl_view.specs.Roots.{is_root}
+
+-- whether it is told that one session is in the way of another one
+abbrev pub is_told : List Blocking → ℕ → ℕ → Bool
+is_told blockings waiter other = list_any (λ blocking. blocking.waiter.session == waiter && blocking.other.session == other) blockings
+
+-- a pair is told exactly where the one session waits for the other
+abbrev pub BlockingsAreWaits : Type 0
+BlockingsAreWaits =
+    (settled : SessionTest) (books : List BookView) (waiter other : ℕ) →
+    is_told (blockings_in settled 0 books) waiter other ≡ waits_for settled books waiter other
+
+-- the roots are those for whom somebody waits, and who wait for nobody
+abbrev pub RootsWaitForNobody : Type 0
+RootsWaitForNobody =
+    (settled : SessionTest) (books : List BookView) (session : ℕ) →
+    IsTrue (is_root (blockings_in settled 0 books) session)
+    ↔ (((waiter : ℕ) × WaitsFor settled books waiter session) × ((other : ℕ) → WaitsFor settled books session other → ⊥))
+
+-- after the waiters that follow none can be granted
+abbrev pub EndingsForgetNobody : Type 0
+EndingsForgetNobody =
+    (unsettled : set.FinSet nat_cmp) (session : ℕ) (book : BookView) →
+    next_waiter unsettled (grants_after unsettled session book).book ≡ None

@@ -1,0 +1,153 @@
+//! Who is in whose way.
+ghost use Rattle.std.specs.Prelude.{◌≡◌, ◌++◌, ◌∷◌, [], map, filter, flat_map, OnOk, IfOk};
+ghost use Rattle.std.specs.FinSet as set;
+ghost use Rattle.mdl_view.specs.Blockings.{has_open_wait, holds_against, waits_before, blocking, blockings_of, blockings_at, blockings_in};
+
+use crate::lock::Lock;
+use mdl_book::{Sessions, Ticket};
+use mdl_key::{conflicts_granted, conflicts_waiting};
+use std::alloc::{AllocError, Global};
+
+/// Why a ticket is in the way of a wish.
+#[derive(Clone, Copy, Debug, PartialEq, Eq)]
+pub enum Reason {
+    /// It is granted, and the wish clashes with it.
+    Holds,
+    /// It waits, and the wish waits behind it.
+    WaitsBefore,
+}
+
+/// That a ticket of one session is in the way of a waiting ticket of another one.
+#[derive(Clone, Copy, Debug, PartialEq, Eq)]
+pub struct Blocking {
+    /// The place of the lock among those that were looked at, counted from 0.
+    pub lock: usize,
+    /// The ticket that waits.
+    pub waiter: Ticket,
+    /// The ticket that is in its way.
+    pub other: Ticket,
+    /// Why it is.
+    pub reason: Reason,
+}
+
+/// Each waiting ticket of an unsettled session with each ticket in its way: lock by lock, and there waiter by waiter in order of
+/// arrival, those that hold before those that wait.
+pub fn blockings(
+    alloc: Global,
+    settled: &Sessions,
+    locks: &[Lock],
+) -> Result<Vec<Blocking>, AllocError>
+    ensures { IfOk result (λ found. found.items ≡ blockings_in (set.contains settled.now) 0 locks.now) }
+{
+    let mut found = Vec::new(alloc);
+    for (place, lock) in locks.iter().enumerate() {
+        add_lock(&mut found, settled, place, lock)?;
+    }
+    Ok(found)
+}
+
+// Adds those of one lock.
+fn add_lock(
+    found: &mut Vec<Blocking>,
+    settled: &Sessions,
+    place: usize,
+    lock: &Lock,
+) -> Result<(), AllocError>
+    ensures { OnOk result (found.new.items ≡ found.old.items ++ blockings_at (set.contains settled.now) place lock.now) }
+{
+    for wish in lock.waiting() {
+        add_unsettled(found, settled, place, lock, *wish)?;
+    }
+    Ok(())
+}
+
+// Adds those of one waiting ticket, if its session is unsettled.
+fn add_unsettled(
+    found: &mut Vec<Blocking>,
+    settled: &Sessions,
+    place: usize,
+    lock: &Lock,
+    wish: Ticket,
+) -> Result<(), AllocError>
+    ensures { OnOk result (found.new.items ≡ found.old.items
+        ++ flat_map (blockings_of (set.contains settled.now) place lock.now) (filter (has_open_wait (set.contains settled.now)) (wish ∷ []))) }
+{
+    if settled.contains(wish.session) {
+        return Ok(());
+    }
+    add_wish(found, settled, place, lock, wish)
+}
+
+// Adds those of one waiting ticket.
+fn add_wish(
+    found: &mut Vec<Blocking>,
+    settled: &Sessions,
+    place: usize,
+    lock: &Lock,
+    wish: Ticket,
+) -> Result<(), AllocError>
+    ensures { OnOk result (found.new.items ≡ found.old.items ++ blockings_of (set.contains settled.now) place lock.now wish) }
+{
+    add_holders(found, place, lock, wish)?;
+    add_waiters(found, settled, place, lock, wish)
+}
+
+// Adds the granted tickets that are in the way of a wish.
+fn add_holders(
+    found: &mut Vec<Blocking>,
+    place: usize,
+    lock: &Lock,
+    wish: Ticket,
+) -> Result<(), AllocError>
+    ensures { OnOk result (found.new.items ≡ found.old.items ++ map (blocking place wish Reason.Holds) (filter (holds_against lock.now wish) lock.now.granted)) }
+{
+    let kind = lock.namespace().kind();
+    for held in lock.granted() {
+        if held.session != wish.session && conflicts_granted(kind, wish.mode, held.mode) {
+            add(found, place, wish, *held, Reason::Holds)?;
+        }
+    }
+    Ok(())
+}
+
+// Adds the waiting tickets that are.
+fn add_waiters(
+    found: &mut Vec<Blocking>,
+    settled: &Sessions,
+    place: usize,
+    lock: &Lock,
+    wish: Ticket,
+) -> Result<(), AllocError>
+    ensures { OnOk result (found.new.items ≡ found.old.items
+        ++ map (blocking place wish Reason.WaitsBefore) (filter (waits_before (set.contains settled.now) lock.now wish) lock.now.waiting)) }
+{
+    let kind = lock.namespace().kind();
+    for pending in lock.waiting() {
+        if !settled.contains(pending.session)
+            && pending.session != wish.session
+            && conflicts_waiting(kind, wish.mode, pending.mode)
+        {
+            add(found, place, wish, *pending, Reason::WaitsBefore)?;
+        }
+    }
+    Ok(())
+}
+
+// Adds one.
+fn add(
+    found: &mut Vec<Blocking>,
+    lock: usize,
+    waiter: Ticket,
+    other: Ticket,
+    reason: Reason,
+) -> Result<(), AllocError>
+    ensures { OnOk result (found.new.items ≡ found.old.items ++ blocking lock waiter reason other ∷ []) }
+{
+    found.push(Blocking {
+        lock,
+        waiter,
+        other,
+        reason,
+    })?;
+    Ok(())
+}

@@ -1,0 +1,17 @@
+//! Laws of what is told. Each is proved as the contract of a function that does nothing.
+ghost use Rattle.mdl_view.specs.ViewLaws.{BlockingsAreWaits, RootsWaitForNobody, EndingsForgetNobody};
+
+/// It is told that one session is in the way of another one exactly where the other waits for it.
+pub fn blockings_are_waits()
+    ensures { BlockingsAreWaits }
+{}
+
+/// The roots are those for whom somebody waits, and who wait for nobody.
+pub fn roots_wait_for_nobody()
+    ensures { RootsWaitForNobody }
+{}
+
+/// After the waiters that are granted when a session ends, none can be granted.
+pub fn endings_forget_nobody()
+    ensures { EndingsForgetNobody }
+{}

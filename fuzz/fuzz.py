@@ -1,0 +1,202 @@
+"""Plays random scripts with mdlsim, and checks each run.
+
+Each run has to end by itself, in time, with status 0, 1 or 3, and within memory in proportion to the script and its answers. Unless the
+status is 0 nothing is printed on standard output. A refused script is reported by its first refused line. The answers of `lock` and `replay`
+have to be those of plain programs, and `replay` has to print the same twice. `run` answers each line once, and a lone session as `replay`
+does; its last lines have to follow from the changes that were made. With too little memory a run reports only that.
+
+The same seed gives the same scripts. A script that fails is kept in fuzz/out/, named by the seed and its number; `--only NUMBER` runs it again.
+
+Usage, at the top of the repository: python3 fuzz/fuzz.py [--seconds 60] [--seed N] [--only NUMBER] [PROGRAM]
+The program is the one that was built last, MDLSIM, or the one that is named.
+"""
+
+import argparse
+import dataclasses
+import os
+import pathlib
+import random
+import sys
+import time
+import typing
+
+import language
+import locks
+import plays
+import runs
+import scripts
+from runner import Runner
+
+OUT = pathlib.Path(__file__).resolve().parent / "out"
+
+# The languages of the subcommands, and how a kept script is named.
+SUBCOMMANDS = {"lock": "object", "lock --scoped": "scoped", "replay": "statements", "run": "statements"}
+ENDINGS = {"lock": "lock", "lock --scoped": "scoped.lock", "replay": "replay", "run": "run"}
+
+MEGABYTE = 2**20
+
+
+@dataclasses.dataclass(frozen=True)
+class Case:
+    """A script, what is done with it, how often a session of `run` looks again, its other options, and the memory that the run has, if that is
+    little."""
+
+    subcommand: str
+    script: bytes
+    patience: int
+    options: tuple
+    memory: typing.Optional[int]
+
+    def words(self):
+        """Returns the words of the command line."""
+        return [*self.subcommand.split(" "), *(["--patience", f"{self.patience}", *self.options] if self.subcommand == "run" else [])]
+
+    def lines(self):
+        """Returns how many lines there are."""
+        return self.script.count(b"\n") + 1
+
+    def most_seconds(self):
+        """Returns how long the run may take, on a busy machine. A savepoint is looked for among those that there are, and who waits looks again."""
+        savepoints = self.script.count(b"SAVEPOINT")
+        polls = self.patience * 20e-6 if self.subcommand == "run" else 0
+        return 20 + self.lines() * (200e-6 + polls) + savepoints**2 * 1e-6
+
+    def most_memory(self, written):
+        """Returns how much memory the run may take. There is the text, which doubles as it grows, and is copied then; a record for each line, of
+        8 bytes or more, and for each name, of 2 with its space, which double too; and the answers, as records and as text. At most
+        256 keys and 64 sessions have a part of their own, and those of `run` a stack. An answer is at most 8 tables of 64 columns, some
+        34,000 bytes, to a line of 24, so all this is linear in the script."""
+        return 32 * MEGABYTE + 64 * len(self.script) + 4 * written
+
+
+def play(runner, case):
+    """Runs a case."""
+    return runner.run(case.words(), case.script, case.most_seconds(), case.memory)
+
+
+# ---- what is wrong with a run
+
+
+def wrong_end(case, seen):
+    """Tells what is wrong with how a run ended, and with what it took."""
+    if seen.is_late:
+        return f"takes more than {case.most_seconds():.0f} seconds"
+    if seen.status < 0:
+        return f"ends by signal {-seen.status}"
+    if seen.status not in (0, 1, 3):
+        return f"ends with status {seen.status}"
+    if seen.status and seen.written:
+        return f"has status {seen.status}, and writes {len(seen.written)} bytes"
+    if seen.memory > case.most_memory(len(seen.written)):
+        return f"takes {seen.memory} bytes, for {len(case.script)} read and {len(seen.written)} written"
+    if seen.status == 3 and (not case.memory or seen.told != b"fault: memory\n"):
+        return f"has status 3, and tells {seen.told}"
+    return None
+
+
+def wrong_answers(runner, case, lines, seen, matrices):
+    """Tells what is wrong with the answers to a script that isn't refused."""
+    if case.subcommand.startswith("lock"):
+        wanted = locks.answers_to(lines, SUBCOMMANDS[case.subcommand], matrices)
+        return None if seen.written == wanted else "the lock is answered otherwise"
+    if case.subcommand == "replay":
+        again = play(runner, dataclasses.replace(case, memory=None))
+        if again != dataclasses.replace(seen, memory=again.memory):
+            return "the second run is another one"
+        return None if seen.written == plays.answers_to(lines, matrices) else "a statement is answered otherwise"
+    wrong = runs.wrong_in_run(lines, seen.written) or runs.wrong_at_the_end(lines, seen.written) or runs.wrong_versions(seen.written)
+    if wrong or len({it.session for it in lines}) != 1:
+        return wrong
+    replayed = play(runner, dataclasses.replace(case, subcommand="replay", memory=None))
+    return runs.wrong_in_lone_run(lines, replayed.written, seen.written)
+
+
+def wrong(runner, case, matrices):
+    """Runs a case, and tells what is wrong with it."""
+    seen = play(runner, case)
+    found = wrong_end(case, seen)
+    if found or seen.status == 3:
+        return found
+    lines, refusal = language.read(case.script, SUBCOMMANDS[case.subcommand])
+    if (seen.status, seen.told) != ((1, refusal) if refusal else (0, b"")):
+        return f"has status {seen.status}, tells {seen.told[:100]}, and ought to tell {refusal}"
+    return None if refusal else wrong_answers(runner, case, lines, seen, matrices)
+
+
+# ---- cases by chance
+
+
+def least_memory(runner):
+    """Returns how much memory the program needs to print the matrices, or None where it doesn't run with little."""
+    return next((it * MEGABYTE for it in (8, 16, 32) if runner.run(["matrix"], b"", 20, it * MEGABYTE).status == 0), None)
+
+
+def has_cache(runner):
+    """Whether the sessions of `run` have a cache, of a size that can be chosen."""
+    return b"--cache " in runner.run(["help", "run"], b"", 20).told
+
+
+def case_of(seed, number, found, least, is_cached):
+    """Returns the case of a number."""
+    chance = random.Random(f"{seed} {number}")
+    subcommand = chance.choice([*SUBCOMMANDS, "replay", "replay"])
+    patience = chance.choice([0, 1, 7, 1_000, 20_000])
+    options = ("--cache", chance.choice(["1", "2", "64", "4096"])) if is_cached else ()
+    script = scripts.script_of(chance, SUBCOMMANDS[subcommand], found)
+    most = 40 * len(script) + (64 * MEGABYTE if subcommand == "run" else 1)
+    memory = least + chance.randrange(most) if least and chance.random() < 0.08 else None
+    return Case(subcommand, script, patience, options, memory)
+
+
+def keep(seed, number, case):
+    """Keeps a script, and returns the file."""
+    OUT.mkdir(exist_ok=True)
+    file = OUT / f"{seed}_{number}.{ENDINGS[case.subcommand]}"
+    file.write_bytes(case.script)
+    return file.relative_to(scripts.TOP)
+
+
+def look_at(runner, seed, numbers, most_seconds):
+    """Runs cases until the time is over, tells of those that are wrong, and returns how many were run, and how many of these are wrong."""
+    until = time.monotonic() + most_seconds
+    found, least, is_cached, matrices = scripts.seeds(), least_memory(runner), has_cache(runner), locks.matrices_of(runner.program)
+    count = failures = 0
+    for number in numbers:
+        if time.monotonic() > until:
+            break
+        case = case_of(seed, number, found, least, is_cached)
+        told = wrong(runner, case, matrices)
+        count += 1
+        if told:
+            failures += 1
+            limit = f", with {case.memory} bytes of memory" if case.memory else ""
+            print(f"{keep(seed, number, case)}: mdlsim {' '.join(case.words())}{limit} {told}", file=sys.stderr, flush=True)
+    return count, failures
+
+
+def read_words():
+    """Returns what the command line asks for."""
+    parser = argparse.ArgumentParser()
+    parser.add_argument("--seconds", type=float, default=60)
+    parser.add_argument("--seed", type=int, default=random.randrange(10**6))
+    parser.add_argument("--only", type=int)
+    parser.add_argument("program", nargs="?", default=os.environ.get("MDLSIM") or "crates/mdlsim/out/mdlsim")
+    return parser.parse_args()
+
+
+def main():
+    """Looks at cases, and returns the status to end with."""
+    asked = read_words()
+    if not os.access(asked.program, os.X_OK):
+        print(f"{asked.program} isn't there: make build, or MDLSIM=PATH", file=sys.stderr)
+        return 1
+    print(f"seed {asked.seed}", flush=True)
+    numbers = range(10**9) if asked.only is None else [asked.only]
+    with Runner(os.path.abspath(asked.program)) as runner:
+        count, failures = look_at(runner, asked.seed, numbers, asked.seconds)
+    print(f"{count} scripts were played, and {failures} of them failed")
+    return 1 if failures or not count else 0
+
+
+if __name__ == "__main__":
+    sys.exit(main())

@@ -1,0 +1,190 @@
+"""Scripts to be given to `mdlsim`: those of the examples and of the trials, changed by chance, and others that are made by chance."""
+
+import pathlib
+import re
+
+from language import MODES
+
+TOP = pathlib.Path(__file__).resolve().parent.parent
+
+# The numbers that lie at a limit of something, or beyond any.
+NUMBERS = [0, 1, 2, 8, 9, 63, 64, 65, 99, 100, 255, 256, 257, 999, 1000, 1023, 1024, 1025, 4096, 65535, 65536, 2**31, 2**32, 2**63, 2**64, 10**30]
+HOSTILE_WORDS = [
+    *(f"{it}".encode() for it in NUMBERS),
+    *(b"-1", b"+1", b"01", b"007", b"1.", b"1e3", b"0x1", b"1_0", b"\xd9\xa1", b"64a", b"a" * 64, b"a" * 65, b"a" * 3000, b"_", b"0"),
+    *(b"a.b", b"a.b.c", b".", b"..", b"a.", b".a", b"test.t", b"TEST.t", b"t-1", b"t;", b"'t'", b"t,u", b"*", b"#", b"\x00", b"\x7f", b"\x80"),
+    *(b"LOW_PRIORITY", b"low_priority", b"TO", b"to", b"READ", b"WRITE", b"TABLE", b"TABLES", b"SCHEMA", b"COPY", b"INPLACE", b"RELEASE"),
+    *(b"BEGIN", b"COMMIT", b"TIMEOUT", b"KILL QUERY 1", b"\xc3\xa9", b"\xef\xbb\xbf1", b"\x0b", b"\x0c", b"\xa0", b"\r"),
+]
+LINE_ENDS = [b"\n", b"\r\n", b"\r\r\n", b"\r", b"\n\n", b" \t\n", b"\x00\n", b"\n#\n", b""]
+
+# Statements by the words that they need: a table, several, a column, a name, a session.
+FORMS = [
+    *["SELECT {t}", "SELECT {ts}", "INSERT {t}", "UPDATE LOW_PRIORITY {t}", "BEGIN", "COMMIT", "DROP TABLE {ts}", "CREATE TABLE {t} {c}"] * 3,
+    *["ROLLBACK", "SAVEPOINT {n}", "ROLLBACK TO {n}", "ALTER TABLE {t} ADD {c} COPY", "ALTER TABLE {t} DROP {c} INPLACE", "TIMEOUT"] * 2,
+    *("RENAME TABLE {t} TO {u}", "CREATE SCHEMA {n}", "DROP SCHEMA {n}", "LOCK TABLES {t} READ", "LOCK TABLES {t} WRITE {u} READ"),
+    *("UNLOCK TABLES", "FLUSH TABLES WITH READ LOCK", "KILL QUERY {k}", "START TRANSACTION", "DELETE {t}"),
+]
+
+
+def rows_of(text):
+    """Returns the scripts of the rows of a file of trials, each with whether it is one of a scoped lock."""
+    for table in re.findall(r'const ROWS: &str = "\\\n(.*?)";', text, re.DOTALL):
+        for row in re.sub(r"\\\n\s*", "", table).split("\n"):
+            script = re.sub(r"\\u\{(\w+)\}", lambda it: chr(int(it[1], 16)), row.partition(" => ")[0]).replace("\\t", "\t")
+            text = "".join(f"{line}\n" for line in script.removeprefix("* ").split(" / "))
+            yield text.encode(), script.startswith("* ")
+
+
+def seeds():
+    """Returns the scripts that there are, by language."""
+    found = {"object": [], "scoped": [], "statements": []}
+    for file in sorted(TOP.glob("examples/*")):
+        language = {".lock": "scoped" if ".scoped." in file.name else "object", ".replay": "statements", ".run": "statements"}.get(file.suffix)
+        if language:
+            found[language].append(file.read_bytes())
+    for crate in ("mdl_lock_trials", "mdl_script_trials", "mdl_syntax_trials"):
+        text = TOP.joinpath("crates", crate, "src/scripts.rt").read_text()
+        for script, is_scoped in rows_of(text):
+            found["statements" if crate != "mdl_lock_trials" else "scoped" if is_scoped else "object"].append(script)
+    return found
+
+
+# ---- changes of a script
+
+
+def span(chance, script):
+    """Returns the two ends of a piece of a script."""
+    return sorted(chance.randrange(len(script) + 1) for _ in range(2))
+
+
+def cut(chance, script):
+    """The script ends early."""
+    return script[: chance.randrange(len(script) + 1)]
+
+
+def put_bytes(chance, script):
+    """Some bytes come in, or stand in the place of others."""
+    at = chance.randrange(len(script) + 1)
+    count = chance.choice([1, 1, 1, 2, 8, 40])
+    return script[:at] + chance.randbytes(count) + script[at + chance.choice([0, count]) :]
+
+
+def drop_piece(chance, script):
+    """A piece goes."""
+    start, end = span(chance, script)
+    return script[:start] + script[min(end, start + 30) :]
+
+
+def repeat_piece(chance, script):
+    """A piece comes again, once or many times."""
+    start, end = span(chance, script)
+    return script[:end] + script[start:end] * chance.choice([1, 1, 2, 5, 60]) + script[end:]
+
+
+def put_word(chance, script):
+    """A hostile word stands in the place of a word, or beside one."""
+    words = list(re.finditer(rb"[^\s]+", script))
+    if not words:
+        return chance.choice(HOSTILE_WORDS)
+    it = chance.choice(words)
+    word = chance.choice(HOSTILE_WORDS)
+    return script[: it.start()] + chance.choice([word, it[0] + b" " + word, word + b"\t" + it[0], it[0] + word]) + script[it.end() :]
+
+
+def move_lines(chance, script):
+    """The lines stand in another order, or a few of them do."""
+    lines = script.splitlines(keepends=True)
+    for _ in range(chance.choice([1, 2, len(lines)])):
+        lines.append(lines.pop(chance.randrange(len(lines)))) if lines else None
+    return b"".join(lines)
+
+
+def end_lines(chance, script):
+    """A line ends otherwise, or each does."""
+    end = chance.choice(LINE_ENDS)
+    return script.replace(b"\n", end, chance.choice([-1, 1, 2]))
+
+
+def lengthen(chance, script):
+    """A line is about as long as a line may be."""
+    lines = script.split(b"\n")
+    at = chance.randrange(len(lines))
+    length = chance.choice([4095, 4096, 4097, 4098, 8192])
+    filler = chance.choice([b" ", b"\t", b"x", b" x", b"\x80", b"#", b"\r"])
+    lines[at] = (lines[at] + filler * length)[:length] + chance.choice([b"", b"\r", b"\r\r"])
+    return b"\n".join(lines)
+
+
+CHANGES = [cut, put_bytes, drop_piece, repeat_piece, put_word, put_word, move_lines, end_lines, lengthen]
+
+
+def changed(chance, scripts):
+    """Returns a script that was changed a few times, or two of them, one behind the other."""
+    script = chance.choice(scripts)
+    if chance.random() < 0.3:
+        script += chance.choice(scripts)
+    for _ in range(chance.choice([1, 1, 2, 3, 6])):
+        script = chance.choice(CHANGES)(chance, script)[:200_000]
+    return script
+
+
+# ---- scripts by chance
+
+
+def by_chance(chance, language, count=None):
+    """Returns a script of lines that are read, of few sessions and few names, so that these meet."""
+    sessions = range(1, 1 + chance.choice([1, 2, 3, 3, 5, 64]))
+    names = [*"abcdefghijkl"[: chance.choice([2, 3, 4, 12])], *chance.choice([[], ["s.a", "s.b"]])]
+    words = [*MODES[language].split(" "), "RELEASE", "RELEASE", "TIMEOUT"] if language in MODES else FORMS
+    lines = ["1 CREATE SCHEMA s", *(f"1 CREATE TABLE {it} x y" for it in names)] if language not in MODES else []
+    for _ in range(count or chance.choice([5, 20, 60, 200])):
+        t, u, *_ = chance.sample(names, 2)
+        ts = " ".join(chance.sample(names, min(len(names), chance.randrange(1, 4))))
+        chosen = {"t": t, "u": u, "ts": ts, "c": chance.choice("xyz"), "n": chance.choice("pqs"), "k": chance.choice(sessions)}
+        lines.append(f"{chance.choice(sessions)} {chance.choice(words)}".format(**chosen))
+    return "".join(f"{it}\n" for it in lines).encode()
+
+
+def raw(chance):
+    """Returns bytes, of all kinds, or of those that scripts have."""
+    count = chance.choice([0, 1, 2, 5, 50, 500, 20_000])
+    if chance.random() < 0.5:
+        return chance.randbytes(count)
+    return bytes(chance.choices(b"0123456789 \t\r\n#.,_abtxyABCDEILNORSTUWX", k=count))
+
+
+def large(chance, language):
+    """Returns a script of many lines, of a very long one, or of all that there is room for."""
+    kind = chance.randrange(7)
+    if kind == 0:
+        return by_chance(chance, language, chance.choice([5_000, 30_000]))
+    if kind == 1:
+        return chance.choice([b"x", b" ", b"\n", b"#", b"\x80", b"\r"]) * chance.choice([100_000, 1_000_000, 4_000_000])
+    if kind == 2:
+        return b"".join(b"1 SAVEPOINT p%d\n" % it if it else b"1 BEGIN\n" for it in range(chance.choice([300, 3_000])))
+    if kind == 3:
+        columns = b" ".join(b"c" * 56 + b"%d" % it for it in range(10, 74))
+        tables = b"".join(b"1 CREATE TABLE %c %s\n" % (it, columns) for it in b"abcdefgh")
+        return tables + b"1 SELECT a b c d e f g h\n" * chance.choice([1, 30, 600])
+    if kind == 4:
+        return b"".join(b"%d SELECT t%d\n" % (chance.randrange(1, 65), it) for it in range(chance.choice([250, 255, 256, 300])))
+    if kind == 5:
+        waits = b"".join(b"%d DROP TABLE t\n" % it for it in range(2, 65))
+        return b"1 CREATE TABLE t x\n1 BEGIN\n1 SELECT t\n" + waits + chance.choice([b"", b"1 COMMIT\n", b"1 INSERT t\n"])
+    return chance.choice([b"1 SELECT a b c d e f g h\n", b"1 BEGIN\n", b"1 SR\n", b"1 IX\n1 RELEASE\n"]) * chance.choice([1_000, 40_000])
+
+
+def script_of(chance, language, scripts):
+    """Returns a script, most often in a language."""
+    way = chance.random()
+    if way < 0.05:
+        return raw(chance)
+    if way < 0.08:
+        return large(chance, language)
+    if way < 0.40:
+        return by_chance(chance, language)
+    if way < 0.45:
+        return changed(chance, [by_chance(chance, language)])
+    other = language if chance.random() < 0.9 else chance.choice(sorted(scripts))
+    return changed(chance, scripts[other])

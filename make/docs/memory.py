@@ -1,0 +1,152 @@
+"""Says what is wrong in docs/LIBRARY.md's table of the calls that may take memory, a line for each thing.
+
+A call of which the table says `none` is there, and can't be refused for want of memory. Either it answers no `Result`, or its error has no such
+case; or, of a call of `LockSpace`, no cause of a refusal is that; or the row names a clause of its contract by which all refusals are others; or
+the row names a law of what the call does. Each public call whose text says `It takes no memory.` has such a row, or it is a session's, and the
+call of `LockSpace` has one. (The pages of the inner crates say of all their calls at once which take memory.)
+
+Usage, at the top of the repository: python3 make/docs/memory.py < CALLS    (the public calls, a line each: CRATE FILE CALL)
+"""
+
+import dataclasses
+import pathlib
+import re
+import sys
+
+PAGE = pathlib.Path("docs/LIBRARY.md")
+CAUSES = pathlib.Path("crates/mdl_calls/specs/Causes.antt")
+HEAD = "| call | memory |"
+INNER_CRATES = {"mdl_steps", "mdl_visits"}
+
+# The sentence by which the text of a call says so.
+SAYS_NONE = re.compile(r"\b(?:It|This) takes no memory\.")
+
+# The error of a `Result`.
+ERROR = re.compile(r"-> Result<[^;{]*?, (\w+)(?:<\w+>)?>(?:\s|$)")
+
+# A clause, and how one begins that says just when a call is refused, and why.
+CLAUSE = re.compile(r"ensures (\w+) \{ (.*?) \}$", re.MULTILINE)
+DECIDES = re.compile(r"RefusesJust |result ≡ |IfErr result \(λ (\w+)\. \(\1 ≡ \w+\)")
+
+
+@dataclasses.dataclass(frozen=True)
+class Call:
+    """What stands at the head of a call: its text, and its signature with the contract. Each clause is a line."""
+
+    text: str
+    head: str
+
+    def program(self):
+        """Returns the name of what the call does, which its clause `run` cites."""
+        found = re.search(r"ensures run \{ Runs \S+ \S+ \((\w+) ", self.head)
+        return found and found[1]
+
+
+def call_of(file, name):
+    """Returns a call, by its file and its name without the type."""
+    lines = pathlib.Path(file).read_text().splitlines()
+    at = next(at for at, it in enumerate(lines) if re.match(rf" *(?:pub )?fn {name}\b", it))
+    start = at
+    while re.match(r" *(?:///|#\[)", lines[start - 1]):
+        start -= 1
+    end = next(end for end in range(at, len(lines)) if lines[end].endswith((";", " {")) or lines[end].strip() in ("{", "{}"))
+    text = " ".join(it.strip().removeprefix("///").strip() for it in lines[start:at] if "///" in it)
+    head = "\n".join(lines[at : end + 1]).removesuffix("{").rstrip()
+    return Call(text, re.sub(r"\n\s*(?!\s|ensures|requires)", " ", head))
+
+
+def rows():
+    """Returns the calls of the table, each with what it says of their memory, and what carries that."""
+    table = PAGE.read_text().partition(HEAD)[2].partition("\n\n")[0].splitlines()[2:]
+    for cells in (it.split("|") for it in table):
+        for name in re.findall(r"`([^`]+)`", cells[1]):
+            yield name, cells[2].strip(), cells[4].strip()
+
+
+def definitions():
+    """Returns the text of each definition of the specs, by its name."""
+    found = {}
+    for file in sorted(pathlib.Path("crates").glob("*/specs/*.antt")):
+        for block in file.read_text().split("\n\n"):
+            for name in set(re.findall(r"^(\w+) ", block, re.MULTILINE)):
+                found[name] = found.get(name, "") + block
+    return found
+
+
+def errors():
+    """Returns the text of each enum and struct of the code, by its name."""
+    text = "\n".join(it.read_text() for it in sorted(pathlib.Path("crates").glob("*/src/**/*.rt")))
+    return {it[1]: it[0] for it in re.finditer(r"^pub (?:enum|struct) (\w+).*?(?:;|^\})$", text, re.MULTILINE | re.DOTALL)}
+
+
+def may_be_for_memory(error, known):
+    """Whether an error may be want of memory, itself or by what it holds. One that isn't of this repository may be."""
+    text = known.get(error, "OutOfMemory")
+    held = set(re.findall(r"\((\w+Error)\b", text)) - {error}
+    return "OutOfMemory" in text or any(may_be_for_memory(it, known) for it in held)
+
+
+def is_ruled_out_by_causes(name):
+    """Whether no call of `LockSpace` of this name is refused for want of memory."""
+    cause = rf"^IsCause \w+ \({name.capitalize()} .*?OutOfMemory\)? \w+ = (.*)$"
+    return all(it == "⊥" for it in re.findall(cause, CAUSES.read_text(), re.MULTILINE))
+
+
+def with_faults(clause, defined):
+    """Returns the text of a clause, and of the definitions of faults that it stands on."""
+    texts, named = clause, set()
+    while more := set(re.findall(r"\b\w+_fault\b", texts)) - named:
+        named |= more
+        texts += "".join(defined.get(it, "OutOfMemory") for it in more)
+    return texts
+
+
+def is_ruled_out_by_clause(call, carried_by, defined):
+    """Whether a clause that the row names decides all refusals, and none is for memory."""
+    named = [clause for name, clause in CLAUSE.findall(call.head) if f"`{name}`" in carried_by]
+    return any(DECIDES.match(it) and "OutOfMemory" not in with_faults(it, defined) for it in named)
+
+
+def is_ruled_out_by_law(call, carried_by, defined):
+    """Whether the row names a law that speaks of what the call does, itself or by a definition that it cites."""
+    for law in re.findall(r"the law `(\w+)`", carried_by):
+        promised = defined.get("".join(it.title() for it in law.split("_")), "")
+        cited = "".join(defined.get(it, "") for it in set(re.findall(r"\b[A-Z]\w+", promised)))
+        if call.program() and re.search(rf"\b{call.program()}\b", promised + cited):
+            return True
+    return False
+
+
+def wrong_row(name, carried_by, call, defined, known):
+    """Tells what is wrong with a call that takes no memory by the table."""
+    if call is None:
+        return "there is no such call"
+    error = ERROR.search(call.head)
+    if not error or not may_be_for_memory(error[1], known):
+        return None
+    owner, _, own = name.rpartition("::")
+    if owner == "LockSpace":
+        return None if is_ruled_out_by_causes(own) else f"in {CAUSES} it has the cause OutOfMemory"
+    if is_ruled_out_by_clause(call, carried_by, defined) or is_ruled_out_by_law(call, carried_by, defined):
+        return None
+    return "by its contract it may be refused for want of memory, or its row doesn't name the clause or the law by which it may not"
+
+
+def main():
+    """Looks at the table."""
+    public = [it.split() for it in sys.stdin]
+    calls = {name: call_of(file, name.rpartition("::")[2]) for _, file, name in public}
+    frugal = {name: carried_by for name, memory, carried_by in rows() if memory == "none"}
+    defined, known = definitions(), errors()
+    for name, carried_by in frugal.items():
+        wrong = wrong_row(name, carried_by, calls.get(name), defined, known)
+        if wrong:
+            print(f"{PAGE}, table of memory, {name}: {wrong}")
+    for crate, _, name in public:
+        names = {name, name.replace("Session::", "LockSpace::")}
+        if crate not in INNER_CRATES and SAYS_NONE.search(calls[name].text) and not names & frugal.keys():
+            print(f"{PAGE}, table of memory: by its text {name} takes no memory, and no row says `none` of it")
+
+
+if __name__ == "__main__":
+    main()
