@@ -8,13 +8,16 @@ SCRIPT = crates/mdlsim/stdin
 SUBCOMMAND = $(if $(filter %.replay,$(SCRIPT)),replay,$(if $(filter %.run,$(SCRIPT)),run,lock))
 OPTIONS = $(if $(filter %.scoped.lock,$(SCRIPT)),--scoped)
 
-# Where `make install` puts the program, its manual page and its completions.
+# Where `make install` puts the program, its manual page, its completions, and the libraries for C.
 PREFIX = /usr/local
 
 # The programs that `make dist` packs. Each has a manual page, docs/NAME.1, and `--version`.
 PROGRAMS = mdlsim
 
 PROGRAM = crates/mdlsim/out/mdlsim
+
+# The libraries for C, which `make install` and `make dist` have, too.
+ARCHIVES = crates/mdl_c/out/libmdl_c.a crates/mdl_text/out/libmdl_text.a
 
 # How long `make fuzz` goes on, and from which number it makes its scripts: any, unless SEED=N names it. MDLSIM=PATH is another program.
 SECONDS = 60
@@ -37,13 +40,13 @@ help:
 	@echo 'make docs                  says what is stale in the docs'
 	@echo 'make examples              compares the answers to each example with those that lie beside it'
 	@echo 'make commands              compares what mdlsim, proved, does by its words with what it ought to do'
-	@echo 'make c                     builds the programs of examples/c over the library for C, proved, and compares what they print'
+	@echo 'make c                     builds programs of C, Rust and Python over the libraries for C, proved, and compares what they print'
 	@echo 'make fuzz [SECONDS=60]     plays random scripts with the mdlsim that was built last, and checks each run'
 	@echo 'make growths               refuses each growth of some short lives in turn'
 	@echo 'make wrong [CRATE=NAME]    has the prover refuse the wrong bodies, of all crates or of one'
 	@echo 'make bench                 times scripts and calls'
-	@echo 'make install [PREFIX=DIR]  builds mdlsim, proved, with its commit, and installs it with its manual page and completions'
-	@echo 'make dist                  packs the program that was built last, for machines without the kit, into dist/'
+	@echo 'make install [PREFIX=DIR]  builds mdlsim and the libraries for C, proved, and installs them, the program with its commit'
+	@echo 'make dist                  packs the program and the libraries for C that were built last, for machines without the kit'
 	@echo 'make dist-check            unpacks that into an empty folder, and tries it there without the kit'
 	@echo 'make dist-libraries        packs the libraries that were proved last, for checkouts that are to trust them, into dist/'
 	@echo 'make dist-libraries-check  unpacks those in a new clone, and builds mdlsim there'
@@ -103,7 +106,8 @@ examples: kit
 commands: build
 	@python3 commands/check.py $(PROGRAM)
 
-# The programs of examples/c give their answers, over the library for C as the prover passed it. Without gcc they aren't tried.
+# The programs of examples/c, examples/rust and examples/python give their answers, over the libraries for C as the prover passed them. Without gcc
+# they aren't tried, and without cargo those of Rust aren't.
 c: kit
 	@sh make/c.sh
 
@@ -125,11 +129,14 @@ build: kit
 	@sh make/build.sh mdlsim lock
 
 install: build
+	@python3 make/archive.py
 	@sh make/lay_out.sh "$(PREFIX)" mdlsim
+	@sh make/lay_out_c.sh "$(PREFIX)"
 
-# Packs what was built last, and builds only what isn't there: after `make test`, the program that it proved.
+# Packs what was built last, and builds only what isn't there: after `make test`, the program and the libraries that it proved.
 dist: kit
 	@test -x $(PROGRAM) || sh make/build.sh mdlsim lock
+	@for archive in $(ARCHIVES); do test -e "$$archive" || python3 make/archive.py || exit 1; done
 	@sh make/dist.sh $(PROGRAMS)
 
 dist-check:
@@ -143,7 +150,7 @@ dist-libraries-check: kit
 	@sh make/dist_libraries.sh check $(PROGRAMS)
 
 clean:
-	@rm -rf crates/*/out bench/peers/out fuzz/out dist
+	@rm -rf crates/*/out bench/peers/out examples/rust/target fuzz/out dist
 
 kit:
 	@sh make/needs.sh rt python3

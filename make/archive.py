@@ -1,31 +1,39 @@
-"""Builds the library for C, proved, as crates/mdl_c/out/libmdl_c.a: over the libraries below it as `rt ci` built them last, where they are there, and
+"""Builds the libraries for C, proved, as crates/NAME/out/libNAME.a: over the libraries below them as `rt ci` built them last, where they are there, and
 else over those that `rt lib` then proves and builds first.
 
-Usage, at the top of the repository: python3 make/archive.py
+Usage, at the top of the repository:
+    python3 make/archive.py               all, which are the lines `NAME staticlib: ..` of crates.txt
+    python3 make/archive.py CRATE ..      some of them
 """
 
 import os
+import pathlib
+import re
 import subprocess
 import sys
 
 import wrong_bodies
 
-CRATE = "mdl_c"
+
+def all_archives():
+    """Returns the crates that are libraries for C."""
+    lines = pathlib.Path("crates.txt").read_text().splitlines()
+    return [line.split()[0] for line in lines if re.match(r"\w+ ([^:#]* )?staticlib\b[^:#]*:", line)]
 
 
-def words_of(archive):
+def words_of(crate, archive):
     """Returns the words that build the archive over what is there."""
-    words = wrong_bodies.command_for(CRATE)
+    words = wrong_bodies.command_for(crate)
     words[words.index("check")] = "build"
     return [*words, "--crate-type", "staticlib", "--toolchain", wrong_bodies.KIT / "toolchain", "--backend", "llvm", "-o", archive]
 
 
-def main():
-    """Builds it, and returns the status to end with. What the prover says is shown where that fails."""
-    folder = wrong_bodies.CRATES / CRATE
+def build(crate):
+    """Builds one, and returns the status to end with. What the prover says is shown where that fails."""
+    folder = wrong_bodies.CRATES / crate
     os.makedirs(folder / "out", exist_ok=True)
     try:
-        words = words_of(f"out/lib{CRATE}.a")
+        words = words_of(crate, f"out/lib{crate}.a")
     except wrong_bodies.Unfit:
         words = ["rt", "lib"]
     done = subprocess.run(words, cwd=folder, stdout=subprocess.PIPE, stderr=subprocess.STDOUT, text=True, errors="replace")
@@ -34,5 +42,10 @@ def main():
     return done.returncode
 
 
+def main(crates):
+    """Builds these, or all, and returns the status to end with."""
+    return max(build(crate) for crate in crates or all_archives())
+
+
 if __name__ == "__main__":
-    sys.exit(main())
+    sys.exit(main(sys.argv[1:]))

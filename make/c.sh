@@ -1,29 +1,68 @@
 #!/bin/sh
-# Builds the programs of examples/c over the library for C, proved, runs them, and compares what they print with what lies beside them. Where
-# there is no gcc it says so, and that is all.
+# Builds the libraries for C, proved, lays them out as `make install` does, and builds and runs the programs over them: those of examples/c, and those
+# of examples/rust and examples/python. It compares what they print with the answers beside them. Where there is no gcc it says so, and that is all;
+# where there is no cargo, those of Rust are left out.
 # Usage: sh make/c.sh
 cd "$(dirname "$0")/.." || exit 1
 if ! command -v gcc > /dev/null; then
-    echo 'gcc is missing: the programs of examples/c were not tried'
+    echo 'gcc is missing: the programs over the libraries for C were not tried'
     exit 0
 fi
 sh make/needs.sh rt python3 diff || exit 1
 made=$(mktemp -d)
 trap 'rm -rf "$made"' EXIT
-kit=$(dirname "$(dirname "$(realpath "$(command -v rt)")")")
 
-python3 make/archive.py || exit 1
-for program in examples/c/*.c; do
-    name=$(basename "$program" .c)
-    gcc -std=c11 -Wall -Wextra -Werror -O2 -pthread -I crates/mdl_c/include "$program" crates/mdl_c/out/libmdl_c.a "$kit/c/liblibc_c.a" \
-        -o "$made/$name" || exit 1
-    if ! timeout 300 "$made/$name" > "$made/$name.answers"; then
-        echo "$program: it ended otherwise than well" >&2
-        exit 1
+# Runs a program, and compares what it prints with the answers that belong to it: ANSWERS WORD..
+compare() {
+    answers=$1
+    shift
+    if ! timeout 300 "$@" > "$made/answers"; then
+        echo "$answers: its program ended otherwise than well" >&2
+        return 1
     fi
-    if ! diff "examples/c/$name.answers" "$made/$name.answers" >&2; then
-        echo "$program has other answers (<: those that lie beside it, >: as they are)" >&2
-        exit 1
+    if ! diff "$answers" "$made/answers" >&2; then
+        echo "$answers: its program prints something else (<: the answers, >: what it prints)" >&2
+        return 1
     fi
-done
-echo 'each program of examples/c has its answers'
+}
+
+# The words by which the compiler finds the libraries: from pkg-config, or, where that is missing, those that it would print.
+words_for_c() {
+    if command -v pkg-config > /dev/null; then
+        PKG_CONFIG_PATH=$made/lib/pkgconfig pkg-config --cflags --libs mdl mdl_text
+    else
+        echo "-I$made/include -L$made/lib -lmdl_c -lmdl_text -lmdl_malloc"
+    fi
+}
+
+# The headers are C++, too, where there is a compiler for that.
+read_as_cpp() {
+    command -v g++ > /dev/null || return 0
+    printf '#include "mdl.h"\n#include "mdl_text.h"\n' | g++ -x c++ -Wall -Wextra -Werror -fsyntax-only -I "$made/include" -
+}
+
+try_c() {
+    words=$(words_for_c) && read_as_cpp || return 1
+    for program in examples/c/*.c; do
+        name=$(basename "$program" .c)
+        gcc -std=c11 -D_POSIX_C_SOURCE=200809L -Wall -Wextra -Werror -O2 -pthread "$program" $words -o "$made/$name" \
+            && compare "examples/c/$name.answers" "$made/$name" || return 1
+    done
+}
+
+try_rust() {
+    if ! command -v cargo > /dev/null; then
+        echo 'cargo is missing: the program of examples/rust was not tried'
+        return 0
+    fi
+    compare examples/rust/threads.answers env MDL_LIB="$made/lib" CARGO_TARGET_DIR="$made/cargo" \
+        cargo run --offline --locked --quiet --release --manifest-path examples/rust/Cargo.toml --example threads
+}
+
+try_python() {
+    gcc -shared -o "$made/libmdl_c.so" -Wl,--whole-archive "$made/lib/libmdl_c.a" -Wl,--no-whole-archive "$made/lib/libmdl_malloc.a" \
+        && compare examples/python/waits.answers env PYTHONDONTWRITEBYTECODE=1 python3 examples/python/waits.py "$made/libmdl_c.so"
+}
+
+python3 make/archive.py && sh make/lay_out_c.sh "$made" && try_c && try_rust && try_python || exit 1
+echo 'each program over the libraries for C has its answers'

@@ -1,19 +1,20 @@
 #!/bin/sh
 # Says which library crates show another example at the head of their src/lib.rt than the file of examples that names them, a line for each, or
-# that there is none. Such a file stands in mdl_examples, or in src/examples of a crate of trials.
+# that there is none. Such a file stands in mdl_examples, or in src/examples of a crate of trials. And which code of docs/EMBEDDING.md isn't in the
+# program that it is from, which `make c` builds and runs.
 # Usage: sh make/check_examples.sh           looks
 #        sh make/check_examples.sh update    puts the examples there
 cd "$(dirname "$0")/.." || exit 1
-sh make/needs.sh awk cmp || exit 1
+sh make/needs.sh awk cmp python3 || exit 1
 LC_ALL=C
 export LC_ALL
 made=$(mktemp -d)
 trap 'rm -rf "$made"' EXIT
 
 # The library crates: those with a src/lib.rt that are no tests. mdl_steps_laws and mdl_session_laws have nothing to call: their functions only state
-# laws. mdl_c is called from C, as examples/c does.
+# laws. mdl_c and mdl_text are called from C, as examples/c does.
 libraries() {
-    ls crates/*/src/lib.rt | cut -d/ -f2 | grep -v -x -e '.*trials' -e 'mdl_examples' -e 'mdl_steps_laws' -e 'mdl_session_laws' -e 'mdl_c'
+    ls crates/*/src/lib.rt | cut -d/ -f2 | grep -v -x -e '.*trials' -e 'mdl_examples' -e 'mdl_steps_laws' -e 'mdl_session_laws' -e 'mdl_c' -e 'mdl_text'
 }
 
 # The file of examples that names a crate in its first line.
@@ -57,6 +58,7 @@ look() {
     for crate in $(libraries); do
         look_at "$crate"
     done
+    python3 make/docs/shown.py docs/EMBEDDING.md
 }
 
 update() {
@@ -77,4 +79,4 @@ if [ -s "$made/stale" ]; then
     cat "$made/stale" >&2
     exit 1
 fi
-echo 'each library crate shows its example'
+echo 'each library crate shows its example, and docs/EMBEDDING.md those of its programs'

@@ -20,6 +20,7 @@ has() {
     [ "${newest% *}" = "$version" ] || echo "CHANGELOG.md: the newest version is ${newest% *}, and VERSION has $version"
     has docs/mdlsim.1 ".TH MDLSIM 1 ${newest#* } \"mdlsim $version\""
     has docs/mdlsim.1 "This page describes mdlsim $version."
+    has examples/rust/Cargo.toml "version = \"$version\""
     has crates/mdlsim/src/program.rt "b\"mdlsim $version\\n\""
     has crates/mdlsim/specs/CommandLine.antt "codes \"mdlsim $version\""
 } > "$stale"
@@ -27,4 +28,4 @@ if [ -s "$stale" ]; then
     cat "$stale" >&2
     exit 1
 fi
-echo "CHANGELOG.md, the manual page and mdlsim have the version $version"
+echo "CHANGELOG.md, the manual page, the crate of Rust and mdlsim have the version $version"

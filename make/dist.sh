@@ -1,5 +1,6 @@
 #!/bin/sh
-# Packs programs, as they were built last, for machines without the kit: dist/gazmirov-VERSION-x86_64-linux.tar.gz, and its checksum beside it.
+# Packs programs and the libraries for C, as they were built last, for machines without the kit: dist/gazmirov-VERSION-x86_64-linux.tar.gz, and its
+# checksum beside it.
 # With git, the program is built once more with the commit in what `--version` prints: make/program_of.sh. The object file of the proved build is
 # linked again without shared libraries. Where that can't be done, the program is packed as it is, and the README of the tarball says which C
 # library it needs.
@@ -16,10 +17,12 @@ made=$(mktemp -d)
 trap 'rm -rf "$made"' EXIT
 top=$made/$name
 
-# The program is there, and is newer than all that it was built from.
+libraries='mdl_c mdl_text'
+
+# What was built of a crate is there, and is newer than all that it was built from: CRATE FILE
 look_at() {
-    built=crates/$1/out/$1
-    if [ ! -x "$built" ]; then
+    built=crates/$1/out/$2
+    if [ ! -e "$built" ]; then
         echo "$built isn't there: make build" >&2
         return 1
     fi
@@ -55,7 +58,7 @@ needs_of() {
     fi
 }
 
-# The libraries of the kit that the programs stand on, and those below them.
+# The libraries of the kit that the crates stand on, and those below them.
 kit_libraries() {
     awk -v CRATES="$*" -v KIT=1 -f make/crates_below.awk crates.txt > "$made/libraries"
     while read -r library; do
@@ -97,8 +100,10 @@ d
 }
 
 put_pages() {
-    mkdir -p "$top/examples" "$top/docs" && cp docs/LANGUAGE.md docs/MYSQL.md "$top/docs" && cp make/dist/check.sh CHANGELOG.md "$top" \
-        && cp examples/*.lock examples/*.replay examples/*.run examples/*.answers examples/README.md "$top/examples"
+    mkdir -p "$top/examples" "$top/docs" && cp docs/LANGUAGE.md docs/MYSQL.md docs/EMBEDDING.md "$top/docs" \
+        && cp make/dist/check.sh CHANGELOG.md "$top" \
+        && cp examples/*.lock examples/*.replay examples/*.run examples/*.answers examples/README.md "$top/examples" \
+        && cp -r examples/c examples/rust examples/python "$top/examples" && rm -rf "$top/examples/python/__pycache__" "$top/examples/rust/target"
 }
 
 # The time that all files get: that of the commit, or without git the day of the newest version in CHANGELOG.md.
@@ -107,9 +112,12 @@ time_of_all() {
 }
 
 for program in "$@"; do
-    look_at "$program" || exit 1
+    look_at "$program" "$program" || exit 1
 done
-sh make/lay_out.sh "$top" "$@" || exit 1
+for library in $libraries; do
+    look_at "$library" "lib$library.a" || exit 1
+done
+sh make/lay_out.sh "$top" "$@" && sh make/lay_out_c.sh "$top" '${pcfiledir}/../..' || exit 1
 for program in "$@"; do
     if ! link_static "$program"; then
         echo "$program can't be linked without shared libraries, and is packed as it was built" >&2
@@ -118,7 +126,7 @@ for program in "$@"; do
         cp "$(sh make/program_of.sh "$program")/$program" "$top/bin/$program" || exit 1
     fi
 done
-put_pages && put_licences "$@" && put_readme "$@" || exit 1
+put_pages && put_licences "$@" $libraries && put_readme "$@" || exit 1
 (cd "$top" && find . -type f ! -name SHA256SUMS | sort | xargs sha256sum > SHA256SUMS) || exit 1
 mkdir -p dist || exit 1
 tar -C "$made" --sort=name --mtime="@$(time_of_all)" --owner=0 --group=0 --numeric-owner --mode=u+rw,go+r-w,a+X -cf "$made/tar" "$name" \

@@ -35,6 +35,13 @@ completes() {
     [ "$(alone bash -c '. share/bash-completion/completions/mdlsim; COMP_WORDS=(mdlsim run --p); COMP_CWORD=2; _mdlsim; echo "${COMPREPLY[@]}"')" = --patience ]
 }
 
+# Builds a program of C with the words that the file of pkg-config has, and runs it: NAME LIBRARY
+builds() {
+    command -v gcc > /dev/null && command -v pkg-config > /dev/null || return 0
+    words=$(alone PKG_CONFIG_PATH=lib/pkgconfig pkg-config --cflags --libs "$2") || return 1
+    alone gcc -std=c11 -o "$folder/$1" "examples/c/$1.c" $words && alone "$folder/$1" > "$folder/written" && cmp -s "$folder/written" "examples/c/$1.answers"
+}
+
 (cd dist && sha256sum -c --quiet "$name.tar.gz.sha256") || fail 'the checksum beside it is another one'
 tar -C "$folder" -xzf "dist/$name.tar.gz" && cd "$folder/$name" || fail "it can't be unpacked"
 alone sh check.sh || exit 1
@@ -44,4 +51,6 @@ for program in "$@"; do
 done
 refuses_a_script || fail 'a script with a session 65 is not refused as it ought to be'
 completes || fail "bash doesn't complete mdlsim run --p"
+builds one_thread mdl || fail 'examples/c/one_thread.c has other answers'
+builds text mdl_text || fail 'examples/c/text.c has other answers'
 echo "$name: it works where it is unpacked"

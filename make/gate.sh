@@ -10,7 +10,7 @@ trap 'rm -f "$spent"' EXIT
 RT_JOBS=$(awk -v most="$(nproc)" '/^MemAvailable:/ { fit = int($2 / 4.5e6); print fit < 1 ? 1 : fit < most ? fit : most }' /proc/meminfo)
 export RT_JOBS
 
-rt ci && python3 make/wrong_bodies.py --gate && MDLSIM=$PWD/crates/mdlsim/out/mdlsim sh examples/check.sh && python3 commands/check.py \
+rt ci && python3 make/wrong_bodies.py --gate && MDLSIM=$PWD/crates/mdlsim/out/mdlsim sh examples/check.sh && python3 commands/check.py && python3 commands/check_view.py \
     && sh growths/check.sh 23 && sh make/c.sh
 status=$?
 # (the second line has the children's time: of the user, and of the system)

@@ -1,36 +1,70 @@
-/* The locks of four threads, a session each, behind one mutex of the program's own. A wait is one for a condition variable. */
+/* The locks of four threads, a session each, behind one mutex of the program's own. Each session waits for a condition variable of its own, and for
+   so long as it has patience. */
 #include "mdl.h"
 
+#include <errno.h>
 #include <pthread.h>
 #include <stdint.h>
 #include <stdio.h>
 #include <string.h>
+#include <time.h>
 
 #define NAME(text) (const uint8_t *)(text), strlen(text)
 
-enum { THREADS = 4, ROUNDS = 2000 };
+enum { THREADS = 4, ROUNDS = 2000, LONG = 60000, SHORT = 10 }; /* the last two are milliseconds */
 
 static struct mdl_space space = MDL_SPACE_INIT;
 static pthread_mutex_t guard = PTHREAD_MUTEX_INITIALIZER; /* held round each call */
-static pthread_cond_t settled = PTHREAD_COND_INITIALIZER; /* some wait may be settled */
+static pthread_cond_t turns[THREADS];                     /* the session's wait is settled */
 static uint16_t places[2];
 static unsigned done, victims, inside, overlaps; /* the last two are guarded by the locks alone */
 
-/* Asks for a lock and waits for it. Whoever begins to wait looks for the deadlocks that this makes. */
-static uint32_t lock(uint16_t who, uint16_t place, uint8_t mode, uint64_t *ticket)
+/* The time in so many milliseconds, by the clock of the condition variables. */
+static struct timespec in(long milliseconds)
+{
+    struct timespec at;
+    clock_gettime(CLOCK_MONOTONIC, &at);
+    at.tv_sec += milliseconds / 1000;
+    at.tv_nsec += milliseconds % 1000 * 1000000;
+    if (at.tv_nsec >= 1000000000) {
+        at.tv_sec += 1;
+        at.tv_nsec -= 1000000000;
+    }
+    return at;
+}
+
+/* Wakes the sessions whose waits are settled. */
+static void wake(void)
+{
+    uint64_t sessions = 0;
+    mdl_settled(&space, &sessions);
+    for (unsigned at = 0; at < THREADS; at += 1)
+        if (sessions >> at & 1)
+            pthread_cond_signal(&turns[at]);
+}
+
+/* Waits until the session's wait is settled, and ends it. Whoever begins to wait looks for the deadlocks that this makes. */
+static uint32_t finish(uint16_t who, long patience, uint64_t *ticket)
+{
+    struct timespec until = in(patience);
+    uint16_t victim = 0;
+    while (mdl_search(&space, who, &victim) == MDL_VICTIM && victim != who)
+        ;
+    wake(); /* a victim has to learn of it */
+    while (mdl_poll(&space, who) == MDL_WAITING)
+        if (pthread_cond_timedwait(&turns[who - 1], &guard, &until) == ETIMEDOUT)
+            mdl_time_out(&space, who);
+    uint32_t code = mdl_end(&space, who, ticket);
+    wake(); /* the end of a lost wait makes way */
+    return code;
+}
+
+static uint32_t lock(uint16_t who, uint16_t place, uint8_t mode, long patience, uint64_t *ticket)
 {
     pthread_mutex_lock(&guard);
     uint32_t code = mdl_begin(&space, who, place, mode, ticket);
-    if (code == MDL_WAITING) {
-        uint16_t victim = 0;
-        while (mdl_search(&space, who, &victim) == MDL_VICTIM && victim != who)
-            ;
-        pthread_cond_broadcast(&settled); /* a victim has to learn of it */
-        while (mdl_poll(&space, who) == MDL_WAITING)
-            pthread_cond_wait(&settled, &guard);
-        code = mdl_end(&space, who, ticket);
-        pthread_cond_broadcast(&settled); /* the end of a lost wait makes way */
-    }
+    if (code == MDL_WAITING)
+        code = finish(who, patience, ticket);
     pthread_mutex_unlock(&guard);
     return code;
 }
@@ -39,7 +73,7 @@ static void unlock(uint16_t who, uint64_t ticket)
 {
     pthread_mutex_lock(&guard);
     mdl_release(&space, who, ticket);
-    pthread_cond_broadcast(&settled);
+    wake();
     pthread_mutex_unlock(&guard);
 }
 
@@ -57,11 +91,11 @@ static void *work(void *argument)
     for (unsigned round = 0; round < ROUNDS; round += 1) {
         unsigned turn = (who + round) % 2;
         uint64_t first = 0, second = 0;
-        if (lock(who, places[turn], MDL_SNRW, &first) != MDL_DONE) {
+        if (lock(who, places[turn], MDL_SNRW, LONG, &first) != MDL_DONE) {
             count(&victims);
             continue;
         }
-        if (lock(who, places[1 - turn], MDL_X, &second) == MDL_DONE) {
+        if (lock(who, places[1 - turn], MDL_X, LONG, &second) == MDL_DONE) {
             inside += 1;
             overlaps += inside != 1;
             inside -= 1;
@@ -75,11 +109,23 @@ static void *work(void *argument)
     return NULL;
 }
 
+static int open_all(void)
+{
+    pthread_condattr_t by_clock;
+    if (pthread_condattr_init(&by_clock) != 0 || pthread_condattr_setclock(&by_clock, CLOCK_MONOTONIC) != 0)
+        return 0;
+    for (unsigned at = 0; at < THREADS; at += 1)
+        if (pthread_cond_init(&turns[at], &by_clock) != 0)
+            return 0;
+    return mdl_open(&space, 256, THREADS) == MDL_DONE && mdl_table(&space, 1, NAME("shop"), NAME("orders"), &places[0]) == MDL_DONE
+        && mdl_table(&space, 1, NAME("shop"), NAME("items"), &places[1]) == MDL_DONE;
+}
+
 int main(void)
 {
     pthread_t threads[THREADS];
-    if (mdl_open(&space, 256, THREADS) != MDL_DONE || mdl_table(&space, 1, NAME("shop"), NAME("orders"), &places[0]) != MDL_DONE
-        || mdl_table(&space, 1, NAME("shop"), NAME("items"), &places[1]) != MDL_DONE)
+    uint64_t held = 0, wished = 0;
+    if (!open_all())
         return 1;
     for (uintptr_t who = 1; who <= THREADS; who += 1)
         if (pthread_create(&threads[who - 1], NULL, work, (void *)who) != 0)
@@ -88,6 +134,10 @@ int main(void)
         pthread_join(threads[at], NULL);
     printf("%u rounds are over\n", done + victims);
     printf("%u of them met another inside\n", overlaps);
+    printf("1 changes orders: %u\n", lock(1, places[0], MDL_X, LONG, &held));
+    printf("2 waits for it for a while: %u\n", lock(2, places[0], MDL_SR, SHORT, &wished));
+    unlock(1, held);
+    printf("2 reads it: %u\n", lock(2, places[0], MDL_SR, SHORT, &wished));
     printf("the manager goes: %u\n", mdl_close(&space));
     return 0;
 }

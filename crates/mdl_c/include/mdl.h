@@ -9,8 +9,14 @@
 
    A program whose threads share a space holds one mutex of its own round each call. A wait is the program's: where mdl_begin answers
    MDL_WAITING, call mdl_search, then wait for a condition variable until mdl_poll answers otherwise, and then call mdl_end. What may
-   settle another session's wait is mdl_release, mdl_search, mdl_end, mdl_kill, mdl_downgrade and mdl_merge: signal after these. The table that
-   threads share can't be called from C: its calls wait for latches, and no function that C calls may wait.
+   settle another session's wait is mdl_release, mdl_search, mdl_end, mdl_kill, mdl_downgrade and mdl_merge: signal after these. mdl_settled tells
+   whom. The table that threads share can't be called from C: its calls wait for latches, and no function that C calls may wait.
+
+   A session keeps its tickets by their numbers, or a context keeps them, from mdl_context_begin until mdl_context_end: by how long they
+   last, as a server's transactions have them. Then the session's locks are asked for by mdl_acquire and the other calls of contexts below, and those
+   marked "direct" answer MDL_HAS_CONTEXT. Where mdl_acquire or mdl_context_upgrade answers MDL_WAITING, it has searched for deadlocks
+   already: wait until mdl_poll answers otherwise, and then call mdl_resume, which ends the wait. Signal after all calls of contexts but
+   mdl_savepoint, mdl_make_explicit and mdl_make_transactional.
 
    What the library takes for granted, and nothing checks:
    - `struct mdl_space` begins with zeros (MDL_SPACE_INIT), and C never reads, changes or copies it: a copy would be freed twice.
@@ -18,6 +24,7 @@
      calls of any session.
    - What a pointer leads to is other memory than the space and than what the other pointers of the call lead to, and is initialised.
    - A name is a pointer that isn't null and a length below 2^63, and it stays as it is during the call.
+   - Room for a list is a pointer that isn't null, even for no entry, and how many entries fit, whose bytes are below 2^63.
    - No call comes from a signal handler, or from the forked child of a process with threads.
    - malloc, realloc and free are of one allocator, and align to 16.
    Whatever else a call is passed, it answers by a code: any number may stand for a session, a place, a ticket, a wait or a mode. */
@@ -44,6 +51,42 @@ enum mdl_mode {
     MDL_IX, MDL_S, MDL_SH, MDL_SR, MDL_SW, MDL_SWLP, MDL_SU, MDL_SRO, MDL_SNW, MDL_SNRW, MDL_X
 };
 
+/* How long a context keeps a ticket. */
+enum mdl_duration {
+    MDL_STATEMENT, MDL_TRANSACTION, MDL_EXPLICIT
+};
+
+/* The namespaces of keys. */
+enum mdl_namespace {
+    MDL_GLOBAL, MDL_SCHEMA, MDL_TABLE, MDL_COMMIT
+};
+
+/* Whether a ticket in a lock's list holds the lock, or waits for it. */
+enum mdl_status {
+    MDL_GRANTED, MDL_PENDING
+};
+
+/* A ticket that a session holds: its number, its place, and its mode (enum mdl_mode). */
+struct mdl_ticket {
+    uint64_t ticket;
+    uint16_t place;
+    uint8_t mode;
+};
+
+/* A ticket in a lock's list: its number, its session, its mode (enum mdl_mode), and its status (enum mdl_status). */
+struct mdl_lock {
+    uint64_t ticket;
+    uint16_t session;
+    uint8_t mode;
+    uint8_t status;
+};
+
+/* A point in a session's work: how many tickets of the statement and of the transaction its context keeps. It names no ticket. */
+struct mdl_mark {
+    size_t statement;
+    size_t transaction;
+};
+
 enum mdl_code {
     /* answers */
     MDL_DONE = 0,            /* done; granted; there is no deadlock */
@@ -63,6 +106,11 @@ enum mdl_code {
     MDL_EMPTY_NAME = 22,     /* a name has 1 to 64 bytes of a-z 0-9 _ */
     MDL_LONG_NAME = 23,
     MDL_BAD_BYTE = 24,
+    MDL_HAS_CONTEXT = 25,    /* a context keeps the session's tickets */
+    MDL_NO_CONTEXT = 26,     /* none does */
+    MDL_SESSION_IN_USE = 27, /* the session holds a ticket or has a wait */
+    MDL_NO_DURATION = 28,    /* there is no duration of this number */
+    MDL_NO_NAMESPACE = 29,   /* there is no namespace of this number */
     /* refusals of the space, in the order in which they are looked for */
     MDL_NO_PLACE = 32,       /* the place has no key, or there is no place for one more key */
     MDL_NOT_HELD = 33,       /* the session holds no such ticket */
@@ -78,7 +126,11 @@ enum mdl_code {
     MDL_BAD_DEF = 43,
     MDL_WRONG_KIND = 44,
     MDL_NO_MEMORY = 45,      /* memory ran out: the call may be made again */
-    MDL_IN_USE = 46
+    MDL_IN_USE = 46,
+    /* refusals of a context, before those of the space */
+    MDL_STALE_SAVEPOINT = 48, /* fewer tickets are kept than the mark counted */
+    MDL_NOT_KEPT = 49,       /* the context keeps no such ticket */
+    MDL_HAS_WAIT = 50        /* the context has a wait that it hasn't ended */
 };
 
 /* Makes a manager of 1 to 256 places, one for each key, and 1 to 64 sessions: DONE. */
@@ -93,6 +145,8 @@ uint32_t mdl_table(struct mdl_space *space, uint16_t who, const uint8_t *schema,
 uint32_t mdl_schema(struct mdl_space *space, uint16_t who, const uint8_t *schema, size_t schema_length, uint16_t *place);
 uint32_t mdl_global(struct mdl_space *space, uint16_t who, uint16_t *place);
 uint32_t mdl_commit(struct mdl_space *space, uint16_t who, uint16_t *place);
+
+/* ---- direct: not for sessions that have a context, but for mdl_poll, mdl_time_out and mdl_kill */
 
 /* Asks for a lock, without waiting: DONE and its ticket, or WOULD_WAIT. */
 uint32_t mdl_try(struct mdl_space *space, uint16_t who, uint16_t place, uint8_t mode, uint64_t *ticket);
@@ -130,6 +184,86 @@ uint32_t mdl_clone(struct mdl_space *space, uint16_t who, uint64_t ticket, uint8
 
 /* Lets a held ticket have the mode of another one of its place, which is at least as strong, and gives that one up: DONE. */
 uint32_t mdl_merge(struct mdl_space *space, uint16_t who, uint64_t kept, uint64_t gone);
+
+/* ---- contexts: all but mdl_context_begin answer MDL_NO_CONTEXT for a session that has none */
+
+/* From here on a context keeps the session's tickets: DONE. The session may hold no ticket and have no wait. */
+uint32_t mdl_context_begin(struct mdl_space *space, uint16_t who);
+
+/* The context gives up its wait and all its tickets, and ends: DONE. */
+uint32_t mdl_context_end(struct mdl_space *space, uint16_t who);
+
+/* Comes by a lock of a key, and keeps it so long: DONE and its ticket, or WAITING and the wait's number, after deadlocks were searched for. A
+   ticket of the key that is strong enough and kept as long is used again, unless it is explicit, and one of another duration is cloned. Of
+   the names only those are read that keys of the namespace have: MDL_GLOBAL and MDL_COMMIT have none, MDL_SCHEMA a schema's. */
+uint32_t mdl_acquire(struct mdl_space *space, uint16_t who, uint8_t namespace_, const uint8_t *schema, size_t schema_length,
+                     const uint8_t *table, size_t table_length, uint8_t mode, uint8_t duration, uint64_t *number);
+
+/* Sees how the wait stands, and ends it where it is settled: WAITING, DONE and the ticket, or VICTIM, TIMEOUT, KILLED: the wait is lost,
+   and the tickets are as they were. So they are where the call is refused, and the wait has ended (MDL_NO_MEMORY, MDL_FULL). */
+uint32_t mdl_resume(struct mdl_space *space, uint16_t who, uint64_t *ticket);
+
+/* Gives the wait up, unless it is settled, and ends it: TIMEOUT, or as mdl_resume, but never WAITING. */
+uint32_t mdl_give_up(struct mdl_space *space, uint16_t who, uint64_t *ticket);
+
+/* A stronger mode of a kept ticket, which keeps its number: DONE and the ticket, or WAITING and the wait's number, as mdl_acquire. */
+uint32_t mdl_context_upgrade(struct mdl_space *space, uint16_t who, uint64_t ticket, uint8_t mode, uint64_t *number);
+
+/* A weaker mode of a kept ticket: DONE. */
+uint32_t mdl_context_downgrade(struct mdl_space *space, uint16_t who, uint64_t ticket, uint8_t mode);
+
+/* Gives a kept ticket up: DONE. */
+uint32_t mdl_context_release(struct mdl_space *space, uint16_t who, uint64_t ticket);
+
+/* Gives up all tickets of a key, however long they last: DONE. */
+uint32_t mdl_release_name(struct mdl_space *space, uint16_t who, uint8_t namespace_, const uint8_t *schema, size_t schema_length,
+                          const uint8_t *table, size_t table_length);
+
+/* Where the session stands: DONE and the mark. */
+uint32_t mdl_savepoint(struct mdl_space *space, uint16_t who, struct mdl_mark *mark);
+
+/* Goes back to a mark: DONE. As many tickets of the statement and of the transaction stay as it counted, the earliest ones, and all
+   explicit ones. */
+uint32_t mdl_rollback_to(struct mdl_space *space, uint16_t who, struct mdl_mark mark);
+
+/* Gives up the tickets of the statement: DONE. */
+uint32_t mdl_end_statement(struct mdl_space *space, uint16_t who);
+
+/* Gives up the tickets of the statement and of the transaction: DONE. */
+uint32_t mdl_end_transaction(struct mdl_space *space, uint16_t who);
+
+/* Keeps all tickets until they are released: DONE. */
+uint32_t mdl_make_explicit(struct mdl_space *space, uint16_t who);
+
+/* Keeps the explicit tickets until the transaction ends: DONE. */
+uint32_t mdl_make_transactional(struct mdl_space *space, uint16_t who);
+
+/* ---- what there is */
+
+/* The sessions whose waits are settled and not ended: DONE, and a bit for each, 1 << (who - 1). Call it after each call that may settle
+   waits, and wake these sessions. */
+uint32_t mdl_settled(struct mdl_space *space, uint64_t *sessions);
+
+/* The calls below list what there is, and change nothing of it. Each writes as many entries as there is room for, from the first on, and
+   leaves the rest of the room as it was. The count is that of all entries. A call that is refused writes nothing. */
+
+/* The tickets that a session holds, in the order in which it gained them: DONE. Meanwhile it takes memory. */
+uint32_t mdl_held(struct mdl_space *space, uint16_t who, struct mdl_ticket *tickets, size_t room, size_t *count);
+
+/* How many places have keys: DONE. They are those from 1 to this number. */
+uint32_t mdl_places(struct mdl_space *space, size_t *count);
+
+/* The key of a place: DONE, its namespace (enum mdl_namespace), and the names of its schema and its table. A name has 64 bytes at most, and
+   none where the key lacks it. */
+uint32_t mdl_key_of(struct mdl_space *space, uint16_t place, uint8_t *namespace_, uint8_t *schema, size_t schema_room,
+                    size_t *schema_length, uint8_t *table, size_t table_room, size_t *table_length);
+
+/* The tickets of a place's lock: DONE. Granted tickets come first, in the order in which they were granted, then waiting ones, in the order
+   of arrival. The ticket of a granted wait is granted, also before the wait is ended. That of a lost one waits until then. */
+uint32_t mdl_locks(struct mdl_space *space, uint16_t place, struct mdl_lock *locks, size_t room, size_t *count);
+
+/* What a code says, in English: DONE. No 0 is written behind it. It has 80 bytes at most. Of a number that is no code it says that. */
+uint32_t mdl_message(uint32_t code, uint8_t *text, size_t room, size_t *length);
 
 #ifdef __cplusplus
 }

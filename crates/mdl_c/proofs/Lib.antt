@@ -1,5 +1,10 @@
 pub mod Boxes
+pub mod ContextLemmas
 pub mod ExportLemmas
+pub mod LeaveLemmas
 pub mod ManagerLemmas
 pub mod NameLemmas
+pub mod SettledLemmas
+pub mod TransactionLemmas
 pub mod Walking
+pub mod WrittenLemmas

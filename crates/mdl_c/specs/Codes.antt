@@ -30,6 +30,10 @@ no_mode = 21
 abbrev pub bad_byte : ℕ
 bad_byte = 24
 
+-- the place has no key
+abbrev pub no_place : ℕ
+no_place = 32
+
 -- memory ran out
 abbrev pub no_memory : ℕ
 no_memory = 45
@@ -64,7 +68,7 @@ name_code name.OutOfMemory = no_memory
 
 -- why a call of the space is refused
 abbrev pub cause_code : SpaceError → ℕ
-cause_code NoPlace = 32
+cause_code NoPlace = no_place
 cause_code NotHeld = 33
 cause_code NotUpgradable = 34
 cause_code NotExclusive = 35

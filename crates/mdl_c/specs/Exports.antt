@@ -1,9 +1,13 @@
 -- What a call of C does to the manager behind its handle, and what C is told.
-use Rattle.std.specs.Prelude.{◌≡◌, ◌⊎◌, ℕ, false, Option, Some, None, MatchOption}
+use Rattle.std.specs.Prelude.{◌≡◌, ◌⊎◌, ℕ, false, Option, Some, None, MatchOption, Result}
+use Rattle.std.specs.Result.{result_ok}
 use Rattle.mdl_calls.specs.declared.new_error.NewError.{NewError}
 use Rattle.mdl_calls.specs.Words.{Answer, Call, new_fault}
 use Rattle.mdl_c.specs.Codes.{closed, code_of, is_open_already, new_code, no_memory, no_session, told_at}
-use Rattle.mdl_c.specs.Managers.{Managed, Joins, JoinsFor, has_member, new_manager}
+use Rattle.mdl_c.specs.ContextCodes.{served_code}
+use Rattle.mdl_c.specs.Managers.{Asks, Managed, Joins, JoinsFor, direct_fault, has_member, new_manager, seat_of}
+use Rattle.mdl_c.specs.declared.seat.Seat.{Seat}
+use Rattle.mdl_c.specs.declared.unserved.Unserved.{Unserved}
 
 -- C is told this code, and the manager, if there is one, stays as it is
 abbrev pub Tells : ℕ → Option Managed → ℕ → Option Managed → Type 0
@@ -38,10 +42,23 @@ abbrev pub ServesAnybody : Call → Option Managed → ℕ → Option Managed �
 ServesAnybody call None code after = Tells closed None code after
 ServesAnybody call (Some manager) code after = Answers (Joins call) manager code after Nothing
 
--- a call whose words can be no wish is refused by this code before all else
-abbrev pub ServesWish : {W : Type 0} → ℕ → Option W → (W → Call) → ℕ → Option Managed → ℕ → Option Managed → Beside → Type 0
-ServesWish wrong None call who before code after beside = Tells wrong before code after × beside None
-ServesWish wrong (Some wish) call who before code after beside = Serves who (call wish) before code after beside
+-- a call of a session, unless the session isn't served: then its code says why, and nothing changes
+abbrev pub Replies : {R : Type 0} → (Option Seat → Option Unserved) → ℕ → (R → Managed → Managed → Type 0) → (R → ℕ) → (Option R → Type 0)
+    → Option Managed → ℕ → Option Managed → Type 0
+Replies fault who made code_for beside None code after = Tells closed None code after × beside None
+Replies {R} fault who made code_for beside (Some manager) code after =
+    (result : Result R Unserved) × (next : Managed) × (after ≡ Some next)
+    × Asks (fault (seat_of who manager)) (λ answer. made answer manager next) result manager next
+    × (code ≡ served_code code_for result) × beside (result_ok result)
+
+-- the call of a session whose tickets no context keeps
+abbrev pub ServesDirect : ℕ → Call → Option Managed → ℕ → Option Managed → Beside → Type 0
+ServesDirect who call before code after beside = Replies direct_fault who (Joins call) code_of beside before code after
+
+-- one whose words name no wish is refused by this code before all else
+abbrev pub ServesDirectWish : {W : Type 0} → ℕ → Option W → (W → Call) → ℕ → Option Managed → ℕ → Option Managed → Beside → Type 0
+ServesDirectWish wrong None call who before code after beside = Tells wrong before code after × beside None
+ServesDirectWish wrong (Some wish) call who before code after beside = ServesDirect who (call wish) before code after beside
 
 -- a manager is made, where there is none
 abbrev pub Opens : ℕ → ℕ → Option Managed → ℕ → Option Managed → Type 0

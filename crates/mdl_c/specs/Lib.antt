@@ -1,5 +1,9 @@
 pub mod Codes
+pub mod ContextCodes
 pub mod Exports
 pub mod Handles
+pub mod Listings
 pub mod Managers
+pub mod Messages
 pub mod Names
+pub mod Transactions

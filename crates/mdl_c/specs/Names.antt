@@ -1,7 +1,12 @@
 -- The keys that C names by bytes.
-use Rattle.std.specs.Prelude.{◌≡◌, ◌⊎◌, ℕ, Option, Some, None}
+use Rattle.std.specs.Prelude.{◌≡◌, ◌⊎◌, ℕ, List, Option, Some, None}
+use Rattle.std.specs.Str.{IsUtf8}
 use Rattle.mdl_key.specs.declared.key_error.KeyError.{KeyError}
+use Rattle.mdl_key.specs.declared.namespace.Namespace.{Namespace}
+use Rattle.mdl_key.specs.declared.namespace.Namespace.TheVariants.{Global, Schema, Table, Commit}
+use Rattle.mdl_key.specs.Keys.{KeyName, commit_key, global_key, name_fault, schema_key, table_fault, table_key}
 use Rattle.mdl_c.specs.Codes.{bad_byte, name_code, no_memory}
+use Rattle.mdl_c.specs.ContextCodes.{no_namespace}
 
 -- why no key is made of names: one of them isn't text, they are no names, or memory ran out
 abbrev pub IsNameCode : Type 0 → Option KeyError → ℕ → Type 0
@@ -11,3 +16,12 @@ IsNameCode are_text fault code =
 -- a key is made of names, and this is done with it; or none is made, and this is done with the code
 abbrev pub Named : Type 0 → Option KeyError → Type 0 → (ℕ → Type 0) → Type 0
 Named are_text fault Done Refused = (are_text × (fault ≡ None) × Done) ⊎ ((code : ℕ) × IsNameCode are_text fault code × Refused code)
+
+-- the same of a key that is named by a namespace, too, of which only those names are read that its keys have
+abbrev pub NamedIn : Option Namespace → List ℕ → List ℕ → (KeyName → Type 0) → (ℕ → Type 0) → Type 0
+NamedIn None schema table Done Refused = Refused no_namespace
+NamedIn (Some Global) schema table Done Refused = Done global_key
+NamedIn (Some Schema) schema table Done Refused = Named (IsUtf8 schema) (name_fault schema) (Done (schema_key schema)) Refused
+NamedIn (Some Table) schema table Done Refused =
+    Named (IsUtf8 schema × IsUtf8 table) (table_fault schema table) (Done (table_key schema table)) Refused
+NamedIn (Some Commit) schema table Done Refused = Done commit_key

@@ -1,9 +1,13 @@
 //! The codes that C is told.
 ghost use Rattle.std.specs.Prelude.{◌≡◌, Option};
 ghost use Rattle.std.specs.Option.{option_map};
+ghost use Rattle.std.specs.Result.{result_ok};
 ghost use Rattle.mdl_calls.specs.Words.{Has_killed, attempted, begun, cloned, done, ended, placed, polled, searched, timed_out, upgrade_tried};
 ghost use Rattle.mdl_c.specs.Codes.{cause_code, code_at, code_of, mode_at, name_code, new_code, settled_code, told_at};
+ghost use Rattle.mdl_c.specs.ContextCodes.{answered, served_code};
 
+use crate::context_codes::unserved_code;
+use crate::unserved::Unserved;
 use mdl_key::{KeyError, Mode};
 use mdl_space::{
     Attempt, Begun, Ended, NewError, Place, Poll, Search, Settled, SpaceError, TicketId, TimedOut,
@@ -33,6 +37,8 @@ pub const NO_SESSION: u32 = 18;
 pub const NO_MODE: u32 = 21;
 
 pub const BAD_BYTE: u32 = 24;
+
+pub const NO_PLACE: u32 = 32;
 
 pub const NO_MEMORY: u32 = 45;
 
@@ -84,7 +90,7 @@ pub fn cause_code(cause: SpaceError) -> u32
     ensures { result ≡ cause_code cause }
 {
     match cause {
-        SpaceError::NoPlace => 32,
+        SpaceError::NoPlace => NO_PLACE,
         SpaceError::NotHeld => 33,
         SpaceError::NotUpgradable => 34,
         SpaceError::NotExclusive => 35,
@@ -130,53 +136,53 @@ pub fn place_code(answer: Option<Result<Place, SpaceError>>, place: &mut u16) ->
 }
 
 /// A lock, or none.
-pub fn attempt_code(answer: Option<Result<Attempt, SpaceError>>, ticket: &mut u64) -> u32
-    ensures code { result ≡ code_at (option_map attempted answer) }
-    ensures told { ticket.new ≡ told_at (option_map attempted answer) ticket.old }
+pub fn attempt_code(answer: Result<Result<Attempt, SpaceError>, Unserved>, ticket: &mut u64) -> u32
+    ensures code { result ≡ served_code code_of (answered attempted answer) }
+    ensures told { ticket.new ≡ told_at (result_ok (answered attempted answer)) ticket.old }
 {
     match answer {
-        Some(Ok(Attempt::Granted(id))) => {
+        Ok(Ok(Attempt::Granted(id))) => {
             *ticket = id;
             DONE
         }
-        Some(Ok(Attempt::WouldWait)) => WOULD_WAIT,
-        Some(Err(cause)) => cause_code(cause),
-        None => NO_SESSION,
+        Ok(Ok(Attempt::WouldWait)) => WOULD_WAIT,
+        Ok(Err(cause)) => cause_code(cause),
+        Err(why) => unserved_code(why),
     }
 }
 
 /// A lock, or a wait for it.
-pub fn begun_code(answer: Option<Result<Begun, SpaceError>>, number: &mut u64) -> u32
-    ensures code { result ≡ code_at (option_map begun answer) }
-    ensures told { number.new ≡ told_at (option_map begun answer) number.old }
+pub fn begun_code(answer: Result<Result<Begun, SpaceError>, Unserved>, number: &mut u64) -> u32
+    ensures code { result ≡ served_code code_of (answered begun answer) }
+    ensures told { number.new ≡ told_at (result_ok (answered begun answer)) number.old }
 {
     match answer {
-        Some(Ok(Begun::Granted(id))) => {
+        Ok(Ok(Begun::Granted(id))) => {
             *number = id;
             DONE
         }
-        Some(Ok(Begun::Waiting(wait))) => {
+        Ok(Ok(Begun::Waiting(wait))) => {
             *number = wait;
             WAITING
         }
-        Some(Err(cause)) => cause_code(cause),
-        None => NO_SESSION,
+        Ok(Err(cause)) => cause_code(cause),
+        Err(why) => unserved_code(why),
     }
 }
 
 /// A deadlock's victim, or none.
-pub fn search_code(answer: Option<Result<Search, SpaceError>>, victim: &mut u16) -> u32
-    ensures code { result ≡ code_at (option_map searched answer) }
-    ensures told { victim.new ≡ told_at (option_map searched answer) victim.old }
+pub fn search_code(answer: Result<Result<Search, SpaceError>, Unserved>, victim: &mut u16) -> u32
+    ensures code { result ≡ served_code code_of (answered searched answer) }
+    ensures told { victim.new ≡ told_at (result_ok (answered searched answer)) victim.old }
 {
     match answer {
-        Some(Ok(Search::NoCycle)) => DONE,
-        Some(Ok(Search::Victim(session))) => {
+        Ok(Ok(Search::NoCycle)) => DONE,
+        Ok(Ok(Search::Victim(session))) => {
             *victim = session;
             VICTIM
         }
-        Some(Err(cause)) => cause_code(cause),
-        None => NO_SESSION,
+        Ok(Err(cause)) => cause_code(cause),
+        Err(why) => unserved_code(why),
     }
 }
 
@@ -205,20 +211,20 @@ pub fn timeout_code(answer: Option<Result<TimedOut, SpaceError>>) -> u32
 }
 
 /// How a wait has ended, and the ticket where it was granted.
-pub fn end_code(answer: Option<Result<Ended, SpaceError>>, ticket: &mut u64) -> u32
-    ensures code { result ≡ code_at (option_map ended answer) }
-    ensures told { ticket.new ≡ told_at (option_map ended answer) ticket.old }
+pub fn end_code(answer: Result<Result<Ended, SpaceError>, Unserved>, ticket: &mut u64) -> u32
+    ensures code { result ≡ served_code code_of (answered ended answer) }
+    ensures told { ticket.new ≡ told_at (result_ok (answered ended answer)) ticket.old }
 {
     match answer {
-        Some(Ok(Ended::Granted(id))) => {
+        Ok(Ok(Ended::Granted(id))) => {
             *ticket = id;
             DONE
         }
-        Some(Ok(Ended::Victim)) => VICTIM,
-        Some(Ok(Ended::Timeout)) => TIMEOUT,
-        Some(Ok(Ended::Killed)) => KILLED,
-        Some(Err(cause)) => cause_code(cause),
-        None => NO_SESSION,
+        Ok(Ok(Ended::Victim)) => VICTIM,
+        Ok(Ok(Ended::Timeout)) => TIMEOUT,
+        Ok(Ok(Ended::Killed)) => KILLED,
+        Ok(Err(cause)) => cause_code(cause),
+        Err(why) => unserved_code(why),
     }
 }
 
@@ -230,39 +236,39 @@ pub fn kill_code(has_killed: bool) -> u32
 }
 
 /// Done, or refused.
-pub fn done_code(answer: Option<Result<(), SpaceError>>) -> u32
-    ensures { result ≡ code_at (option_map done answer) }
+pub fn done_code(answer: Result<Result<(), SpaceError>, Unserved>) -> u32
+    ensures { result ≡ served_code code_of (answered done answer) }
 {
     match answer {
-        Some(Ok(())) => DONE,
-        Some(Err(cause)) => cause_code(cause),
-        None => NO_SESSION,
+        Ok(Ok(())) => DONE,
+        Ok(Err(cause)) => cause_code(cause),
+        Err(why) => unserved_code(why),
     }
 }
 
 /// A second ticket.
-pub fn clone_code(answer: Option<Result<TicketId, SpaceError>>, ticket: &mut u64) -> u32
-    ensures code { result ≡ code_at (option_map cloned answer) }
-    ensures told { ticket.new ≡ told_at (option_map cloned answer) ticket.old }
+pub fn clone_code(answer: Result<Result<TicketId, SpaceError>, Unserved>, ticket: &mut u64) -> u32
+    ensures code { result ≡ served_code code_of (answered cloned answer) }
+    ensures told { ticket.new ≡ told_at (result_ok (answered cloned answer)) ticket.old }
 {
     match answer {
-        Some(Ok(id)) => {
+        Ok(Ok(id)) => {
             *ticket = id;
             DONE
         }
-        Some(Err(cause)) => cause_code(cause),
-        None => NO_SESSION,
+        Ok(Err(cause)) => cause_code(cause),
+        Err(why) => unserved_code(why),
     }
 }
 
 /// A stronger mode, or not yet.
-pub fn upgrade_code(answer: Option<Result<Upgrade, SpaceError>>) -> u32
-    ensures { result ≡ code_at (option_map upgrade_tried answer) }
+pub fn upgrade_code(answer: Result<Result<Upgrade, SpaceError>, Unserved>) -> u32
+    ensures { result ≡ served_code code_of (answered upgrade_tried answer) }
 {
     match answer {
-        Some(Ok(Upgrade::Upgraded)) => DONE,
-        Some(Ok(Upgrade::WouldWait)) => WOULD_WAIT,
-        Some(Err(cause)) => cause_code(cause),
-        None => NO_SESSION,
+        Ok(Ok(Upgrade::Upgraded)) => DONE,
+        Ok(Ok(Upgrade::WouldWait)) => WOULD_WAIT,
+        Ok(Err(cause)) => cause_code(cause),
+        Err(why) => unserved_code(why),
     }
 }

@@ -1,22 +1,31 @@
-//! A lock space for C: any number may stand for a session there, so each call looks first whether there is such a one.
-ghost use Rattle.std.specs.Prelude.{◌≡◌, ◌≤◌, MatchOption, IfOk};
+//! A lock space for C: any number may stand for a session there, so each call looks first whether there is such a one, and whether a context
+//! keeps its tickets.
+ghost use Rattle.std.specs.Prelude.{◌≡◌, ◌≤◌, ◌<◌, ◌+◌, Some, None, length, replicate, MatchOption, MatchResult, IfOk};
 ghost use Rattle.mdl_key.specs.Words.{Refuses};
 ghost use Rattle.mdl_calls.specs.Words.{Begin_wait, Clone_ticket, Downgrade, End_wait, Has_killed, Kill, Merge, Poll_wait, Release, Resolve, Search as Search_by, Settle_timeout, Try_now, Upgrade_now, attempted, begun, cloned, done, ended, new_fault, placed, polled, searched, timed_out, upgrade_tried};
-ghost use Rattle.mdl_c.specs.Managers.{has_member, new_manager, IsOutside, Joins, JoinsFor};
+ghost use Rattle.mdl_c.specs.Managers.{direct_fault, has_member, new_manager, seat_of, Asks, IsOutside, Joins, JoinsFor};
+ghost use Rattle.mdl_c.specs.declared.seat.Seat.TheVariants.{Direct};
 
+use crate::seat::Seat;
+use crate::unserved::Unserved;
 use mdl_key::{Key, Mode};
 use mdl_space::{
     Attempt, Begun, CoreSpace, Ended, LockSpace, NewError, Place, Poll, Search, SpaceError,
     TicketId, TimedOut, Upgrade,
 };
-use std::alloc::Global;
+use std::alloc::{AllocError, Global};
 use std::marker::Model;
 
-/// The space of one thread, and how many sessions it has. A call for a session that isn't one of them answers `None`.
+mod contexts;
+mod lists;
+
+/// The space of one thread, how many sessions it has, and who keeps the tickets of each. A call for a session that isn't one of them
+/// answers `None`, or why the session isn't served.
 #[derive(Drop)]
 pub struct Manager {
     space: CoreSpace,
     sessions: u16,
+    seats: Vec<Seat>,
 }
 
 impl Model for Manager {
@@ -24,9 +33,9 @@ impl Model for Manager {
 
     ghost Value = { Managed };
 
-    ghost view = { λ m. record { space = m.space; sessions = m.sessions } };
+    ghost view = { λ m. record { space = m.space; seats = m.seats.items } };
 
-    ghost invariant = { λ m. ServesAll m.space m.sessions };
+    ghost invariant = { λ m. ServesAll m.space m.sessions m.seats.items };
 }
 
 impl Manager {
@@ -35,13 +44,41 @@ impl Manager {
         ensures refused { Refuses (new_fault places sessions) NewError.OutOfMemory result }
     {
         let space = CoreSpace::new(alloc, places, sessions)?;
-        Ok(Manager { space, sessions })
+        match new_seats(alloc, sessions) {
+            Ok(seats) => Ok(Manager {
+                space,
+                sessions,
+                seats,
+            }),
+            Err(AllocError) => Err(NewError::OutOfMemory),
+        }
     }
 
     fn has(&self, who: u16) -> bool
         ensures { result ≡ has_member who self.now }
     {
         who > 0 && who <= self.sessions
+    }
+
+    // The index of a session's seat.
+    fn index_of(&self, who: u16) -> Result<usize, Unserved>
+        ensures { MatchResult result (λ index. (who ≡ 1 + index) × (index < length self.now.seats)) (λ why. (seat_of who self.now ≡ None) × (why ≡ Unserved.NoSession)) }
+    {
+        if !self.has(who) {
+            return Err(Unserved::NoSession);
+        }
+        Ok(usize::from(who) - 1)
+    }
+
+    // That there is such a session, and no context keeps its tickets.
+    fn check_direct(&self, who: u16) -> Result<(), Unserved>
+        ensures { MatchResult result (λ _. direct_fault (seat_of who self.now) ≡ None) (λ why. direct_fault (seat_of who self.now) ≡ Some why) }
+    {
+        let index = self.index_of(who)?;
+        match &self.seats[index] {
+            Seat::Direct => Ok(()),
+            Seat::Kept(_) => Err(Unserved::HasContext),
+        }
     }
 
     pub fn resolve(&mut self, who: u16, key: &Key) -> Option<Result<Place, SpaceError>>
@@ -58,13 +95,11 @@ impl Manager {
         who: u16,
         place: Place,
         mode: Mode,
-    ) -> Option<Result<Attempt, SpaceError>>
-        ensures { MatchOption result (IsOutside who self.old self.new) (λ r. JoinsFor who (Try_now who place mode) (attempted r) self.old self.new) }
+    ) -> Result<Result<Attempt, SpaceError>, Unserved>
+        ensures { Asks (direct_fault (seat_of who self.old)) (λ r. Joins (Try_now who place mode) (attempted r) self.old self.new) result self.old self.new }
     {
-        if !self.has(who) {
-            return None;
-        }
-        Some(self.space.try_now(who, place, mode))
+        self.check_direct(who)?;
+        Ok(self.space.try_now(who, place, mode))
     }
 
     pub fn begin_wait(
@@ -72,22 +107,18 @@ impl Manager {
         who: u16,
         place: Place,
         mode: Mode,
-    ) -> Option<Result<Begun, SpaceError>>
-        ensures { MatchOption result (IsOutside who self.old self.new) (λ r. JoinsFor who (Begin_wait who place mode) (begun r) self.old self.new) }
+    ) -> Result<Result<Begun, SpaceError>, Unserved>
+        ensures { Asks (direct_fault (seat_of who self.old)) (λ r. Joins (Begin_wait who place mode) (begun r) self.old self.new) result self.old self.new }
     {
-        if !self.has(who) {
-            return None;
-        }
-        Some(self.space.begin_wait(who, place, mode))
+        self.check_direct(who)?;
+        Ok(self.space.begin_wait(who, place, mode))
     }
 
-    pub fn seek(&mut self, who: u16) -> Option<Result<Search, SpaceError>>
-        ensures { MatchOption result (IsOutside who self.old self.new) (λ r. JoinsFor who (Search_by who) (searched r) self.old self.new) }
+    pub fn seek(&mut self, who: u16) -> Result<Result<Search, SpaceError>, Unserved>
+        ensures { Asks (direct_fault (seat_of who self.old)) (λ r. Joins (Search_by who) (searched r) self.old self.new) result self.old self.new }
     {
-        if !self.has(who) {
-            return None;
-        }
-        Some(self.space.search(who))
+        self.check_direct(who)?;
+        Ok(self.space.search(who))
     }
 
     pub fn poll_wait(&mut self, who: u16) -> Option<Result<Poll, SpaceError>>
@@ -108,13 +139,11 @@ impl Manager {
         Some(self.space.settle_timeout(who))
     }
 
-    pub fn end_wait(&mut self, who: u16) -> Option<Result<Ended, SpaceError>>
-        ensures { MatchOption result (IsOutside who self.old self.new) (λ r. JoinsFor who (End_wait who) (ended r) self.old self.new) }
+    pub fn end_wait(&mut self, who: u16) -> Result<Result<Ended, SpaceError>, Unserved>
+        ensures { Asks (direct_fault (seat_of who self.old)) (λ r. Joins (End_wait who) (ended r) self.old self.new) result self.old self.new }
     {
-        if !self.has(who) {
-            return None;
-        }
-        Some(self.space.end_wait(who))
+        self.check_direct(who)?;
+        Ok(self.space.end_wait(who))
     }
 
     /// Settles a session's wait of this number as killed, unless it is settled, or there is none.
@@ -124,13 +153,15 @@ impl Manager {
         self.space.kill(target, number)
     }
 
-    pub fn release(&mut self, who: u16, ticket: TicketId) -> Option<Result<(), SpaceError>>
-        ensures { MatchOption result (IsOutside who self.old self.new) (λ r. JoinsFor who (Release who ticket) (done r) self.old self.new) }
+    pub fn release(
+        &mut self,
+        who: u16,
+        ticket: TicketId,
+    ) -> Result<Result<(), SpaceError>, Unserved>
+        ensures { Asks (direct_fault (seat_of who self.old)) (λ r. Joins (Release who ticket) (done r) self.old self.new) result self.old self.new }
     {
-        if !self.has(who) {
-            return None;
-        }
-        Some(self.space.release(who, ticket))
+        self.check_direct(who)?;
+        Ok(self.space.release(who, ticket))
     }
 
     pub fn clone_ticket(
@@ -138,13 +169,11 @@ impl Manager {
         who: u16,
         ticket: TicketId,
         mode: Mode,
-    ) -> Option<Result<TicketId, SpaceError>>
-        ensures { MatchOption result (IsOutside who self.old self.new) (λ r. JoinsFor who (Clone_ticket who ticket mode) (cloned r) self.old self.new) }
+    ) -> Result<Result<TicketId, SpaceError>, Unserved>
+        ensures { Asks (direct_fault (seat_of who self.old)) (λ r. Joins (Clone_ticket who ticket mode) (cloned r) self.old self.new) result self.old self.new }
     {
-        if !self.has(who) {
-            return None;
-        }
-        Some(self.space.clone_ticket(who, ticket, mode))
+        self.check_direct(who)?;
+        Ok(self.space.clone_ticket(who, ticket, mode))
     }
 
     pub fn upgrade_now(
@@ -152,13 +181,11 @@ impl Manager {
         who: u16,
         ticket: TicketId,
         mode: Mode,
-    ) -> Option<Result<Upgrade, SpaceError>>
-        ensures { MatchOption result (IsOutside who self.old self.new) (λ r. JoinsFor who (Upgrade_now who ticket mode) (upgrade_tried r) self.old self.new) }
+    ) -> Result<Result<Upgrade, SpaceError>, Unserved>
+        ensures { Asks (direct_fault (seat_of who self.old)) (λ r. Joins (Upgrade_now who ticket mode) (upgrade_tried r) self.old self.new) result self.old self.new }
     {
-        if !self.has(who) {
-            return None;
-        }
-        Some(self.space.upgrade_now(who, ticket, mode))
+        self.check_direct(who)?;
+        Ok(self.space.upgrade_now(who, ticket, mode))
     }
 
     pub fn downgrade(
@@ -166,13 +193,11 @@ impl Manager {
         who: u16,
         ticket: TicketId,
         mode: Mode,
-    ) -> Option<Result<(), SpaceError>>
-        ensures { MatchOption result (IsOutside who self.old self.new) (λ r. JoinsFor who (Downgrade who ticket mode) (done r) self.old self.new) }
+    ) -> Result<Result<(), SpaceError>, Unserved>
+        ensures { Asks (direct_fault (seat_of who self.old)) (λ r. Joins (Downgrade who ticket mode) (done r) self.old self.new) result self.old self.new }
     {
-        if !self.has(who) {
-            return None;
-        }
-        Some(self.space.downgrade(who, ticket, mode))
+        self.check_direct(who)?;
+        Ok(self.space.downgrade(who, ticket, mode))
     }
 
     pub fn merge(
@@ -180,12 +205,21 @@ impl Manager {
         who: u16,
         kept: TicketId,
         gone: TicketId,
-    ) -> Option<Result<(), SpaceError>>
-        ensures { MatchOption result (IsOutside who self.old self.new) (λ r. JoinsFor who (Merge who kept gone) (done r) self.old self.new) }
+    ) -> Result<Result<(), SpaceError>, Unserved>
+        ensures { Asks (direct_fault (seat_of who self.old)) (λ r. Joins (Merge who kept gone) (done r) self.old self.new) result self.old self.new }
     {
-        if !self.has(who) {
-            return None;
-        }
-        Some(self.space.merge(who, kept, gone))
+        self.check_direct(who)?;
+        Ok(self.space.merge(who, kept, gone))
     }
+}
+
+// The seats of so many sessions, of which none has a context.
+fn new_seats(alloc: Global, sessions: u16) -> Result<Vec<Seat>, AllocError>
+    ensures { IfOk result (λ seats. seats.items ≡ replicate sessions Direct) }
+{
+    let mut seats = Vec::new(alloc);
+    for _session in 0..sessions {
+        seats.push(Seat::Direct)?;
+    }
+    Ok(seats)
 }

@@ -2,10 +2,12 @@
 ghost use Rattle.std.specs.Prelude.{◌≡◌, None, MatchResult};
 ghost use Rattle.std.specs.Str.{IsUtf8};
 ghost use Rattle.mdl_key.specs.Keys.{name_fault, schema_key, table_fault, table_key};
-ghost use Rattle.mdl_c.specs.Names.{IsNameCode};
+ghost use Rattle.mdl_c.specs.ContextCodes.{namespace_at};
+ghost use Rattle.mdl_c.specs.Names.{IsNameCode, NamedIn};
 
 use crate::codes::{BAD_BYTE, name_code};
-use mdl_key::Key;
+use crate::context_codes::{NO_NAMESPACE, namespace_of};
+use mdl_key::{Key, Namespace};
 use std::alloc::Global;
 use std::str;
 
@@ -39,5 +41,20 @@ pub fn schema_of(alloc: Global, schema: &[u8]) -> Result<Key, u32>
     match Key::schema(alloc, schema) {
         Ok(key) => Ok(key),
         Err(why) => Err(name_code(why)),
+    }
+}
+
+/// The key of a namespace's number and of those names that its keys have, or the code of why there is none.
+pub fn key_of(alloc: Global, namespace: u8, schema: &[u8], table: &[u8]) -> Result<Key, u32>
+    ensures { MatchResult result
+        (λ key. NamedIn (namespace_at namespace) schema.now table.now (λ name. key ≡ name) (λ _. ⊥))
+        (λ code. NamedIn (namespace_at namespace) schema.now table.now (λ _. ⊥) (λ wrong. code ≡ wrong)) }
+{
+    match namespace_of(namespace) {
+        Some(Namespace::Global) => Ok(Key::global(alloc)),
+        Some(Namespace::Schema) => schema_of(alloc, schema),
+        Some(Namespace::Table) => table_of(alloc, schema, table),
+        Some(Namespace::Commit) => Ok(Key::commit(alloc)),
+        None => Err(NO_NAMESPACE),
     }
 }

@@ -2,7 +2,7 @@
 ghost use Rattle.std.specs.Prelude.{◌≡◌};
 ghost use Rattle.mdl_calls.specs.Words.{Clone_ticket, Downgrade, Merge, Release, Try_now, Upgrade_now};
 ghost use Rattle.mdl_c.specs.Codes.{mode_at, no_mode};
-ghost use Rattle.mdl_c.specs.Exports.{Nothing, Number, Serves, ServesWish};
+ghost use Rattle.mdl_c.specs.Exports.{Nothing, Number, ServesDirect, ServesDirectWish};
 
 use crate::codes::{CLOSED, NO_MODE, attempt_code, clone_code, done_code, mode_of, upgrade_code};
 use crate::handle::Space;
@@ -18,7 +18,7 @@ pub extern "C" fn mdl_try(
     mode: u8,
     ticket: &mut u64,
 ) -> u32
-    ensures { ServesWish no_mode (mode_at mode) (Try_now who place) who space.old.handle.manager result space.new.handle.manager (Number ticket.old ticket.new) }
+    ensures { ServesDirectWish no_mode (mode_at mode) (Try_now who place) who space.old.handle.manager result space.new.handle.manager (Number ticket.old ticket.new) }
 {
     let Some(mode) = mode_of(mode) else {
         return NO_MODE;
@@ -34,7 +34,7 @@ pub extern "C" fn mdl_try(
 /// Gives a ticket up.
 #[unsafe(no_mangle)]
 pub extern "C" fn mdl_release(alloc: Global, space: &mut Space, who: u16, ticket: u64) -> u32
-    ensures { Serves who (Release who ticket) space.old.handle.manager result space.new.handle.manager Nothing }
+    ensures { ServesDirect who (Release who ticket) space.old.handle.manager result space.new.handle.manager Nothing }
 {
     let Some(mut manager) = space.take(alloc) else {
         return CLOSED;
@@ -53,7 +53,7 @@ pub extern "C" fn mdl_upgrade(
     ticket: u64,
     mode: u8,
 ) -> u32
-    ensures { ServesWish no_mode (mode_at mode) (Upgrade_now who ticket) who space.old.handle.manager result space.new.handle.manager Nothing }
+    ensures { ServesDirectWish no_mode (mode_at mode) (Upgrade_now who ticket) who space.old.handle.manager result space.new.handle.manager Nothing }
 {
     let Some(mode) = mode_of(mode) else {
         return NO_MODE;
@@ -75,7 +75,7 @@ pub extern "C" fn mdl_downgrade(
     ticket: u64,
     mode: u8,
 ) -> u32
-    ensures { ServesWish no_mode (mode_at mode) (Downgrade who ticket) who space.old.handle.manager result space.new.handle.manager Nothing }
+    ensures { ServesDirectWish no_mode (mode_at mode) (Downgrade who ticket) who space.old.handle.manager result space.new.handle.manager Nothing }
 {
     let Some(mode) = mode_of(mode) else {
         return NO_MODE;
@@ -98,7 +98,7 @@ pub extern "C" fn mdl_clone(
     mode: u8,
     copy: &mut u64,
 ) -> u32
-    ensures { ServesWish no_mode (mode_at mode) (Clone_ticket who ticket) who space.old.handle.manager result space.new.handle.manager (Number copy.old copy.new) }
+    ensures { ServesDirectWish no_mode (mode_at mode) (Clone_ticket who ticket) who space.old.handle.manager result space.new.handle.manager (Number copy.old copy.new) }
 {
     let Some(mode) = mode_of(mode) else {
         return NO_MODE;
@@ -114,7 +114,7 @@ pub extern "C" fn mdl_clone(
 /// Lets a held ticket have the mode of another one of its place, which is given up.
 #[unsafe(no_mangle)]
 pub extern "C" fn mdl_merge(alloc: Global, space: &mut Space, who: u16, kept: u64, gone: u64) -> u32
-    ensures { Serves who (Merge who kept gone) space.old.handle.manager result space.new.handle.manager Nothing }
+    ensures { ServesDirect who (Merge who kept gone) space.old.handle.manager result space.new.handle.manager Nothing }
 {
     let Some(mut manager) = space.take(alloc) else {
         return CLOSED;

@@ -2,7 +2,7 @@
 ghost use Rattle.std.specs.Prelude.{◌≡◌};
 ghost use Rattle.mdl_calls.specs.Words.{Begin_wait, End_wait, Kill, Poll_wait, Search, Settle_timeout};
 ghost use Rattle.mdl_c.specs.Codes.{mode_at, no_mode};
-ghost use Rattle.mdl_c.specs.Exports.{Nothing, Number, Serves, ServesAnybody, ServesWish};
+ghost use Rattle.mdl_c.specs.Exports.{Nothing, Number, Serves, ServesAnybody, ServesDirect, ServesDirectWish};
 
 use crate::codes::{
     CLOSED, NO_MODE, begun_code, end_code, kill_code, mode_of, poll_code, search_code, timeout_code,
@@ -20,7 +20,7 @@ pub extern "C" fn mdl_begin(
     mode: u8,
     number: &mut u64,
 ) -> u32
-    ensures { ServesWish no_mode (mode_at mode) (Begin_wait who place) who space.old.handle.manager result space.new.handle.manager (Number number.old number.new) }
+    ensures { ServesDirectWish no_mode (mode_at mode) (Begin_wait who place) who space.old.handle.manager result space.new.handle.manager (Number number.old number.new) }
 {
     let Some(mode) = mode_of(mode) else {
         return NO_MODE;
@@ -36,7 +36,7 @@ pub extern "C" fn mdl_begin(
 /// Looks for a deadlock that the session is part of. Where there is one, the wait of its victim is settled, and C is told which that is.
 #[unsafe(no_mangle)]
 pub extern "C" fn mdl_search(alloc: Global, space: &mut Space, who: u16, victim: &mut u16) -> u32
-    ensures { Serves who (Search who) space.old.handle.manager result space.new.handle.manager (Number victim.old victim.new) }
+    ensures { ServesDirect who (Search who) space.old.handle.manager result space.new.handle.manager (Number victim.old victim.new) }
 {
     let Some(mut manager) = space.take(alloc) else {
         return CLOSED;
@@ -62,7 +62,7 @@ pub extern "C" fn mdl_poll(alloc: Global, space: &mut Space, who: u16) -> u32
 /// Ends a session's wait, which is settled.
 #[unsafe(no_mangle)]
 pub extern "C" fn mdl_end(alloc: Global, space: &mut Space, who: u16, ticket: &mut u64) -> u32
-    ensures { Serves who (End_wait who) space.old.handle.manager result space.new.handle.manager (Number ticket.old ticket.new) }
+    ensures { ServesDirect who (End_wait who) space.old.handle.manager result space.new.handle.manager (Number ticket.old ticket.new) }
 {
     let Some(mut manager) = space.take(alloc) else {
         return CLOSED;

@@ -15,6 +15,7 @@ mod replays;
 mod scenes;
 mod scripts;
 mod seats;
+mod server_rows;
 mod sessions;
 mod spaces;
 mod spots;
@@ -102,6 +103,9 @@ fn first_wrong_shared<R: Wait>(rt: &R, alloc: Global) -> Option<&'static str> {
 fn first_wrong_script(alloc: Global) -> Option<&'static str> {
     if !scripts::statements_are_read(alloc) {
         return Some("a script of statements");
+    }
+    if !server_rows::rows_are_read(alloc) {
+        return Some("the rows of a server");
     }
     if !scripts::locks_are_driven(alloc) {
         return Some("a lock's script");

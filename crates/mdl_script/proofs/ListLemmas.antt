@@ -78,7 +78,7 @@ filter-struck p q who a (suc n) same now = by (filter-struck p q who (a + 1) n (
       ])
 
 -- the first that passes, or behind all
-pub first-or-len : (p : ℕ → Bool) (xs : List ℕ) → unwrap_or (position p xs) (length xs) ≡ position_or_len p xs
+pub first-or-len : {X : Type 0} (p : X → Bool) (xs : List X) → unwrap_or (position p xs) (length xs) ≡ position_or_len p xs
 first-or-len p xs = by (leb_tells (suc (position_or_len p xs)) (length xs)) where
   by : ((leb (suc (position_or_len p xs)) (length xs) ≡ true) × (suc (position_or_len p xs) ≤ length xs))
       ⊎ ((leb (suc (position_or_len p xs)) (length xs) ≡ false) × (length xs < suc (position_or_len p xs)))

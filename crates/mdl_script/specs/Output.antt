@@ -1,5 +1,6 @@
 -- The defined output of a script. The script language is this project's own.
-use Rattle.std.specs.Prelude.{ℕ, List, [], ◌++◌, flat_map, take, Result, Ok, Err, ⊤}
+use Rattle.std.specs.Prelude.{ℕ, Bool, nat_lt, List, [], ◌++◌, flat_map, take, Result, Ok, Err, ⊤}
+use Rattle.std.specs.List.{before_first}
 use Rattle.mdl_core.specs.CoreSystems.{system_of}
 use Rattle.mdl_lines.specs.declared.fault.LineError.{LineError}
 use Rattle.mdl_syntax.specs.declared.script.Line.{Line}
@@ -38,3 +39,11 @@ ForgetsNobodyThroughout lines = (n : ℕ) → NoneForgotten (system_of (script_p
 abbrev pub NeverForgets : Result (List Line) (ℕ × LineError) → Type 0
 NeverForgets (Ok lines) = ForgetsNobodyThroughout lines
 NeverForgets (Err refusal) = ⊤
+
+-- whether a line is behind the one of this number
+abbrev pub is_after : ℕ → Line → Bool
+is_after last line = nat_lt last line.number
+
+-- the lines up to the one of this number
+abbrev pub lines_until : ℕ → List Line → List Line
+lines_until last lines = before_first (is_after last) lines

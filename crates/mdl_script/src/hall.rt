@@ -77,6 +77,13 @@ impl<'s> Hall<'s> {
         Ok(())
     }
 
+    /// The lock space as it is left.
+    pub(crate) fn into_space(self) -> CoreSpace
+        ensures { result ≡ (world_of self.entry).core }
+    {
+        self.space
+    }
+
     /// Asks a session for the statement of a line.
     fn ask(&mut self, line: &'s Line, out: &mut String) -> Result<(), AllocError>
         requires manned { IsManned self.old }

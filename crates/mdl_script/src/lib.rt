@@ -33,6 +33,6 @@ pub use laws::runs_have_one_text;
 pub use mdl_lines::{Fault, LineError};
 pub use mdl_syntax::{Line, Script, Statement, parse};
 pub use mdl_work::{Gate, OpenGate, work};
-pub use replaying::replay;
+pub use replaying::{replay, space_after};
 pub use running::{run_on, run_threads};
 pub use told::{News, Told};

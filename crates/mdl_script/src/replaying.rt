@@ -1,16 +1,20 @@
 //! Plays a script of statements from bytes to bytes.
-ghost use Rattle.std.specs.Prelude.{◌≡◌, OnOk, IfOk, IfErr, IfSome, IsOk, All};
+ghost use Rattle.std.specs.Prelude.{◌≡◌, ◌≤◌, ◌++◌, OnOk, IfOk, IfErr, IfSome, IsOk, All, length, position};
+ghost use Rattle.std.specs.List.{position_or_len};
 ghost use Rattle.std.specs.Io.KnownBytes.{Appends, IsAtEnd};
 ghost use Rattle.std.specs.String.{string_bytes};
 ghost use Rattle.mdl_lines.specs.Devices.{LeavesWritten};
 ghost use Rattle.mdl_lines.specs.Faults.{IsFaultOf, MayEnd};
 ghost use Rattle.mdl_lines.specs.Sessions.{IsScriptSession};
 ghost use Rattle.mdl_syntax.specs.Scripts.{parsed};
-ghost use Rattle.mdl_script.specs.Output.{NeverForgets, StaysLawful, output_of, scene_text};
+ghost use Rattle.mdl_script.specs.Halls.{IsManned, world_of};
+ghost use Rattle.mdl_script.specs.Output.{NeverForgets, StaysLawful, is_after, lines_until, output_of, scene_text};
+ghost use Rattle.mdl_script.specs.Texts.{told_text};
 ghost use Rattle.mdl_script.specs.Worlds.{script_played};
 
 use crate::hall::Hall;
 use mdl_lines::{Fault, read_all, write_all};
+use mdl_space::CoreSpace;
 use mdl_syntax::{Line, parse};
 use std::alloc::{AllocError, Global};
 use std::io::{Read, Write};
@@ -64,11 +68,75 @@ fn play(alloc: Global, lines: &[Line]) -> Result<String, AllocError>
     requires { All (λ line. IsScriptSession line.session) lines.now }
     ensures { IfOk result (λ output. string_bytes output ≡ scene_text (script_played lines.now)) }
 {
-    let mut hall = Hall::new(alloc)?;
     let mut out = String::new(alloc);
-    for line in lines {
-        hall.play_line(line, &mut out)?;
-    }
+    let hall = play_lines(alloc, lines, &mut out)?;
     hall.tell_waiting(&mut out)?;
     Ok(out)
+}
+
+// Plays lines over a new space. What is told of them is put last in a text.
+fn play_lines<'s>(
+    alloc: Global,
+    lines: &'s [Line],
+    out: &mut String,
+) -> Result<Hall<'s>, AllocError>
+    requires { All (λ line. IsScriptSession line.session) lines.now }
+    ensures told { OnOk result (string_bytes out.new ≡ string_bytes out.old ++ told_text (script_played lines.now).told) }
+    ensures left { IfOk result (λ hall. world_of hall ≡ (script_played lines.now).world) }
+    ensures manned { IfOk result IsManned }
+{
+    let mut hall = Hall::new(alloc)?;
+    for line in lines {
+        hall.play_line(line, out)?;
+    }
+    Ok(hall)
+}
+
+/// Plays the lines of a script up to the one of this number, and what follows from it, as [`replay`] does, and returns the lock space
+/// that they leave. All lines are looked at first: a refused one refuses the script.
+pub fn space_after(alloc: Global, text: &[u8], last: u64) -> Result<CoreSpace, Fault>
+    // What each session holds and waits for then, and what is defined.
+    ensures space { IfOk result (λ space. IfOk (parsed text.now) (λ lines. space ≡ (script_played (lines_until last lines)).world.core)) }
+
+    // Refused by the first refused line, and by no other.
+    ensures accepted { OnOk result (IsOk (parsed text.now)) }
+    ensures fault { IfErr result (IsFaultOf (parsed text.now)) }
+{
+    let script = parse(alloc, text)?;
+    match play_until(alloc, script.lines(), last) {
+        Ok(space) => Ok(space),
+        Err(AllocError) => Err(Fault::Memory),
+    }
+}
+
+// Plays the lines up to the one of this number over a new space.
+fn play_until(alloc: Global, lines: &[Line], last: u64) -> Result<CoreSpace, AllocError>
+    requires { All (λ line. IsScriptSession line.session) lines.now }
+    ensures { IfOk result (λ space. space ≡ (script_played (lines_until last lines.now)).world.core) }
+{
+    let mut out = String::new(alloc);
+    let hall = play_lines(alloc, lines_until(lines, last), &mut out)?;
+    Ok(hall.into_space())
+}
+
+// The lines up to the one of this number.
+fn lines_until(lines: &[Line], last: u64) -> &[Line]
+    ensures { result.now ≡ lines_until last lines.now }
+{
+    &lines[..count_until(lines, last)]
+}
+
+// How many lines there are up to that one.
+fn count_until(lines: &[Line], last: u64) -> usize
+    ensures place { result ≡ position_or_len (is_after last) lines.now }
+    ensures inside { result ≤ length lines.now }
+{
+    first_after(lines, last).unwrap_or(lines.len())
+}
+
+// The place of the first line of a greater number.
+fn first_after(lines: &[Line], last: u64) -> Option<usize>
+    ensures { result ≡ position (is_after last) lines.now }
+{
+    lines.iter().position(|line| line.number > last)
 }

@@ -1,5 +1,6 @@
 pub mod AnyLemmas
 pub mod CourseLemmas
+pub mod FollowLemmas
 pub mod ListLemmas
 pub mod LockLemmas
 pub mod RootLaws

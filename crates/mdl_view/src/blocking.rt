@@ -46,8 +46,8 @@ pub fn blockings(
     Ok(found)
 }
 
-// Adds those of one lock.
-fn add_lock(
+/// Adds those of one lock.
+pub(crate) fn add_lock(
     found: &mut Vec<Blocking>,
     settled: &Sessions,
     place: usize,

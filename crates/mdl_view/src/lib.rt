@@ -50,9 +50,11 @@ mod ending;
 mod laws;
 mod lock;
 mod root;
+mod what_follows;
 
 pub use blocking::{Blocking, Reason, blockings};
 pub use ending::{Course, course_after};
 pub use laws::{blockings_are_waits, endings_forget_nobody, roots_wait_for_nobody};
-pub use lock::Lock;
+pub use lock::{Lock, locks_of};
 pub use root::roots;
+pub use what_follows::{AtLock, Ending, Scene, ending_of, root_endings};

@@ -1,13 +1,14 @@
 //! One lock: who holds it, and who waits for it.
-ghost use Rattle.std.specs.Prelude.{◌≡◌, ◌++◌, ◌∷◌, [], true, Some, filter, position, is_some, OnOk, OnErr, IfOk, IfSome};
+ghost use Rattle.std.specs.Prelude.{◌≡◌, ◌++◌, ◌∷◌, [], true, Some, filter, map, position, is_some, OnOk, OnErr, IfOk, IfSome};
 ghost use Rattle.std.specs.Option.{IfNone};
 ghost use Rattle.mdl_book.specs.Books.{admitting, lock_kind};
 ghost use Rattle.mdl_book.specs.Granting.{is_grantable, is_compatible, goes_first};
 ghost use Rattle.mdl_book.specs.Tickets.{is_ticket, ticket_of};
 ghost use Rattle.mdl_graph.specs.Graphs.{lock_of};
+ghost use Rattle.mdl_view.specs.BookLocks.{lock_of_book};
 ghost use Rattle.mdl_view.specs.Endings.{leaving, is_of_other, next_waiter};
 
-use mdl_book::{Sessions, Ticket};
+use mdl_book::{Book, Sessions, Ticket};
 use mdl_key::{Kind, Namespace, conflicts_granted, conflicts_waiting};
 use std::alloc::{AllocError, Global};
 use std::marker::Model;
@@ -40,6 +41,17 @@ impl Lock {
             granted: Vec::new(alloc),
             waiting: Vec::new(alloc),
         }
+    }
+
+    /// The lock that a book tells of. The names of its key and its definition are left out.
+    pub fn of_book(alloc: Global, book: &Book) -> Result<Lock, AllocError>
+        ensures { IfOk result (λ lock. lock ≡ lock_of_book book.now) }
+    {
+        Ok(Lock {
+            namespace: book.key().namespace(),
+            granted: copied(alloc, book.granted())?,
+            waiting: copied(alloc, book.waiting())?,
+        })
     }
 
     /// The lock's namespace.
@@ -147,6 +159,26 @@ impl Lock {
             waiting: others(alloc, &self.waiting, session)?,
         })
     }
+}
+
+/// The locks that books tell of, in their order.
+pub fn locks_of(alloc: Global, books: &[Book]) -> Result<Vec<Lock>, AllocError>
+    ensures { IfOk result (λ locks. locks.items ≡ map lock_of_book books.now) }
+{
+    let mut locks = Vec::new(alloc);
+    for book in books {
+        locks.push(Lock::of_book(alloc, book)?)?;
+    }
+    Ok(locks)
+}
+
+// A copy of tickets.
+fn copied(alloc: Global, tickets: &[Ticket]) -> Result<Vec<Ticket>, AllocError>
+    ensures { IfOk result (λ copy. copy.items ≡ tickets.now) }
+{
+    let mut copy = Vec::new(alloc);
+    copy.extend_from_slice(tickets)?;
+    Ok(copy)
 }
 
 // The tickets of other sessions.

@@ -1,2 +1,4 @@
-//! The example that the library shows.
+//! The examples that the libraries show.
 mod view;
+mod view_program;
+mod view_text;

@@ -1,10 +1,17 @@
 //! Trials of what is told of a table of locks.
 //!
-//! Everything here is for tests. `examples` has the one that `mdl_view` shows, and `by_hand` has small tables, with who is in whose way, the
-//! roots, and what follows if a session ends, worked out by hand.
+//! Everything here is for tests. `examples` has those that `mdl_view`, `mdl_view_text` and `mdl_view_program` show, `by_hand` small tables, with who is in
+//! whose way, the roots, and what follows if a session ends, worked out by hand, `texts` the answers as text, `scripts` looks at the locks that
+//! scripts leave, and `server` at those of a server's rows.
 #![tactic(auto)]
 
 #[cfg(test)]
 mod by_hand;
 #[cfg(test)]
 mod examples;
+#[cfg(test)]
+mod scripts;
+#[cfg(test)]
+mod server;
+#[cfg(test)]
+mod texts;

@@ -1,8 +1,9 @@
--- The space goes on to serve each session.
+-- The space goes on to serve each session, and its context.
+use Rattle.std.proofs.Common.{refl}
 use Rattle.mdl_calls.specs.Words.{Has_killed, Kill}
-use Rattle.mdl_c.proofs.ManagerLemmas.{serves-on}
+use Rattle.mdl_c.proofs.ManagerLemmas.{serves-still}
 use Rattle.mdl_c.proofs.manager.Manager.kill.Goals as goal
 
 pub invariant_of-self : goal.invariant_of-self
 invariant_of-self c =
-    serves-on _ c.kill.new.self (Kill c.args.target c.args.number) (Has_killed c.kill.result) c.self.inside.sessions c.self.invariant c.kill.ensures
+    serves-still _ c.kill.new.self (Kill c.args.target c.args.number) (Has_killed c.kill.result) c.self.inside.sessions c.self.inside.seats.items (λ own. refl) c.self.invariant c.kill.ensures

@@ -1,0 +1,77 @@
+-- What each code says, in words. The wording is this project's own.
+use Rattle.std.specs.Prelude.{ℕ, List, [], ◌∷◌, codes, ◌==◌, nat_lt, if◌then◌else◌}
+
+-- a code and its text
+abbrev pub Row : Type 0
+Row = ℕ × List ℕ
+
+-- what is said of a number that is no code
+abbrev pub unknown : List ℕ
+unknown = codes "There is no such code."
+
+-- the answers
+abbrev pub answer_rows : List Row
+answer_rows =
+    (0, codes "The call is done.") ∷
+    (1, codes "The lock can't be had now, and nothing has changed.") ∷
+    (2, codes "The session waits.") ∷
+    (3, codes "The wait is lost: it was chosen to break a deadlock.") ∷
+    (4, codes "The wait is lost by a timeout.") ∷
+    (5, codes "The wait is lost: it was killed.") ∷
+    (6, codes "No unsettled wait has this number.") ∷ []
+
+-- why a call never came to the space
+abbrev pub refusal_rows : List Row
+refusal_rows =
+    (16, codes "There is no manager.") ∷
+    (17, codes "There is a manager already.") ∷
+    (18, codes "The manager has no session of this number.") ∷
+    (19, codes "A manager has 1 to 256 places.") ∷
+    (20, codes "A manager has 1 to 64 sessions.") ∷
+    (21, codes "There is no mode of this number.") ∷
+    (22, codes "The name is empty.") ∷
+    (23, codes "The name has more than 64 bytes.") ∷
+    (24, codes "The name has a byte that is none of a-z, 0-9 and _.") ∷
+    (25, codes "A context keeps the tickets of the session.") ∷
+    (26, codes "The session has no context.") ∷
+    (27, codes "The session holds a ticket, or has a wait.") ∷
+    (28, codes "There is no duration of this number.") ∷
+    (29, codes "There is no namespace of this number.") ∷ []
+
+-- why the space refused a call
+abbrev pub cause_rows : List Row
+cause_rows =
+    (32, codes "The place has no key, or there is no place for one more key.") ∷
+    (33, codes "The session holds no ticket of this number.") ∷
+    (34, codes "The mode of the ticket can't become the other.") ∷
+    (35, codes "The key isn't locked exclusively.") ∷
+    (36, codes "The session has a wait that it hasn't ended.") ∷
+    (37, codes "The key doesn't take this mode, or the ticket isn't strong enough for it.") ∷
+    (38, codes "The definition has had all its versions.") ∷
+    (39, codes "The session has no wait.") ∷
+    (40, codes "The wait of the session isn't settled.") ∷
+    (41, codes "The session has used up its numbers.") ∷
+    (42, codes "The lock has as many tickets as it can have.") ∷
+    (43, codes "The definition can't be changed so.") ∷
+    (44, codes "Nothing of this kind can be defined under the key.") ∷
+    (45, codes "Memory ran out, and nothing has changed.") ∷
+    (46, codes "The session has a ticket or a wait at this place.") ∷ []
+
+-- why a context refused a call
+abbrev pub context_rows : List Row
+context_rows =
+    (48, codes "The context keeps fewer tickets than the mark counted.") ∷
+    (49, codes "The context keeps no ticket of this number.") ∷
+    (50, codes "The context has a wait that it hasn't ended.") ∷ []
+
+-- the text of a code in a table
+abbrev pub text_in : List Row → ℕ → List ℕ
+text_in [] code = unknown
+text_in (row ∷ rows) code = if code == row.0 then row.1 else text_in rows code
+
+-- what a code says: those below 16 are answers, those from 32 on the space's, and those from 48 on a context's
+abbrev pub message_of : ℕ → List ℕ
+message_of code =
+    text_in (if nat_lt code 16 then answer_rows
+    else (if nat_lt code 32 then refusal_rows
+    else (if nat_lt code 48 then cause_rows else context_rows))) code

@@ -1,0 +1,300 @@
+//! Transactions: a context keeps a session's tickets by how long they last.
+ghost use Rattle.std.specs.Prelude.{◌≡◌};
+ghost use Rattle.mdl_context.specs.Releases.{ending_statement, ending_transaction, releasing, releasing_name, rolling_back};
+ghost use Rattle.mdl_context.specs.Requests.{acquiring};
+ghost use Rattle.mdl_context.specs.Upgrades.{downgrading, upgrading};
+ghost use Rattle.mdl_context.specs.Waits.{giving_up_wait, resuming};
+ghost use Rattle.mdl_c.specs.Codes.{mode_at, no_mode};
+ghost use Rattle.mdl_c.specs.ContextCodes.{acquire_code, acquire_told, done_code, mark_in_context, mark_told, namespace_at, resume_code, resume_told};
+ghost use Rattle.mdl_c.specs.Exports.{Replies, Tells};
+ghost use Rattle.mdl_c.specs.Managers.{context_fault};
+ghost use Rattle.mdl_c.specs.Names.{NamedIn};
+ghost use Rattle.mdl_c.specs.Transactions.{making_explicit, making_transactional, Begins, Ends, Given, Marks, ServesContext, Told, Untold, Wishes};
+
+use crate::codes::{CLOSED, NO_MODE, mode_of};
+use crate::context_codes::{
+    NO_DURATION, acquire_code, duration_of, finish_code, mark_code, resume_code, served_code,
+};
+use crate::handle::Space;
+use crate::mark::Mark;
+use crate::names::key_of;
+use mdl_key::{Duration, Key, Mode};
+use std::alloc::Global;
+
+/// From here on a context keeps a session's tickets.
+#[unsafe(no_mangle)]
+pub extern "C" fn mdl_context_begin(alloc: Global, space: &mut Space, who: u16) -> u32
+    ensures { Begins who space.old.handle.manager result space.new.handle.manager }
+{
+    let Some(mut manager) = space.take(alloc) else {
+        return CLOSED;
+    };
+    let code = served_code(manager.begin_context(alloc, who));
+    space.put(manager);
+    code
+}
+
+/// A session's context gives up its wait and all that it keeps, and ends.
+#[unsafe(no_mangle)]
+pub extern "C" fn mdl_context_end(alloc: Global, space: &mut Space, who: u16) -> u32
+    ensures { Ends who space.old.handle.manager result space.new.handle.manager }
+{
+    let Some(mut manager) = space.take(alloc) else {
+        return CLOSED;
+    };
+    let code = served_code(manager.end_context(who));
+    space.put(manager);
+    code
+}
+
+// Comes by a lock of a key.
+fn acquire(
+    alloc: Global,
+    space: &mut Space,
+    who: u16,
+    key: &Key,
+    mode: Mode,
+    duration: Duration,
+    number: &mut u64,
+) -> u32
+    ensures { ServesContext who (acquiring (record { key = key.now; mode = mode; duration = duration })) acquire_code space.old.handle.manager result space.new.handle.manager (Told acquire_told number.old number.new) }
+{
+    let Some(mut manager) = space.take(alloc) else {
+        return CLOSED;
+    };
+    let code = acquire_code(manager.acquire(who, key, mode, duration), number);
+    space.put(manager);
+    code
+}
+
+/// Comes by a lock for as long as is asked, or begins to wait for it.
+#[unsafe(no_mangle)]
+pub extern "C" fn mdl_acquire(
+    alloc: Global,
+    space: &mut Space,
+    who: u16,
+    namespace: u8,
+    schema: &[u8],
+    table: &[u8],
+    mode: u8,
+    duration: u8,
+    number: &mut u64,
+) -> u32
+    ensures { Wishes namespace schema.now table.now mode duration
+        (λ wish. ServesContext who (acquiring wish) acquire_code space.old.handle.manager result space.new.handle.manager (Told acquire_told number.old number.new))
+        (λ wrong. Tells wrong space.old.handle.manager result space.new.handle.manager × (number.new ≡ number.old)) }
+{
+    let Some(mode) = mode_of(mode) else {
+        return NO_MODE;
+    };
+    let Some(duration) = duration_of(duration) else {
+        return NO_DURATION;
+    };
+    match key_of(alloc, namespace, schema, table) {
+        Ok(key) => acquire(alloc, space, who, &key, mode, duration, number),
+        Err(code) => code,
+    }
+}
+
+/// Sees how the wait of a session's context stands, and ends it once it is settled.
+#[unsafe(no_mangle)]
+pub extern "C" fn mdl_resume(alloc: Global, space: &mut Space, who: u16, ticket: &mut u64) -> u32
+    ensures { ServesContext who resuming resume_code space.old.handle.manager result space.new.handle.manager (Told resume_told ticket.old ticket.new) }
+{
+    let Some(mut manager) = space.take(alloc) else {
+        return CLOSED;
+    };
+    let code = resume_code(manager.resume(who), ticket);
+    space.put(manager);
+    code
+}
+
+/// Gives the wait of a session's context up, unless it is settled already, and ends it.
+#[unsafe(no_mangle)]
+pub extern "C" fn mdl_give_up(alloc: Global, space: &mut Space, who: u16, ticket: &mut u64) -> u32
+    ensures { ServesContext who giving_up_wait resume_code space.old.handle.manager result space.new.handle.manager (Told resume_told ticket.old ticket.new) }
+{
+    let Some(mut manager) = space.take(alloc) else {
+        return CLOSED;
+    };
+    let code = resume_code(manager.give_up(who), ticket);
+    space.put(manager);
+    code
+}
+
+/// Lets a kept ticket have a stronger mode, or begins to wait for that.
+#[unsafe(no_mangle)]
+pub extern "C" fn mdl_context_upgrade(
+    alloc: Global,
+    space: &mut Space,
+    who: u16,
+    ticket: u64,
+    mode: u8,
+    number: &mut u64,
+) -> u32
+    ensures { Given no_mode (mode_at mode)
+        (λ mode. ServesContext who (upgrading ticket mode) acquire_code space.old.handle.manager result space.new.handle.manager (Told acquire_told number.old number.new))
+        (λ wrong. Tells wrong space.old.handle.manager result space.new.handle.manager × (number.new ≡ number.old)) }
+{
+    let Some(mode) = mode_of(mode) else {
+        return NO_MODE;
+    };
+    let Some(mut manager) = space.take(alloc) else {
+        return CLOSED;
+    };
+    let code = acquire_code(manager.upgrade(who, ticket, mode), number);
+    space.put(manager);
+    code
+}
+
+/// Lets a kept ticket have a weaker mode.
+#[unsafe(no_mangle)]
+pub extern "C" fn mdl_context_downgrade(
+    alloc: Global,
+    space: &mut Space,
+    who: u16,
+    ticket: u64,
+    mode: u8,
+) -> u32
+    ensures { Given no_mode (mode_at mode)
+        (λ mode. ServesContext who (downgrading ticket mode) done_code space.old.handle.manager result space.new.handle.manager Untold)
+        (λ wrong. Tells wrong space.old.handle.manager result space.new.handle.manager) }
+{
+    let Some(mode) = mode_of(mode) else {
+        return NO_MODE;
+    };
+    let Some(mut manager) = space.take(alloc) else {
+        return CLOSED;
+    };
+    let code = finish_code(manager.downgrade_kept(who, ticket, mode));
+    space.put(manager);
+    code
+}
+
+/// Gives a kept ticket up.
+#[unsafe(no_mangle)]
+pub extern "C" fn mdl_context_release(
+    alloc: Global,
+    space: &mut Space,
+    who: u16,
+    ticket: u64,
+) -> u32
+    ensures { ServesContext who (releasing ticket) done_code space.old.handle.manager result space.new.handle.manager Untold }
+{
+    let Some(mut manager) = space.take(alloc) else {
+        return CLOSED;
+    };
+    let code = finish_code(manager.release_kept(who, ticket));
+    space.put(manager);
+    code
+}
+
+// Gives all tickets of a key up.
+fn release_name(alloc: Global, space: &mut Space, who: u16, key: &Key) -> u32
+    ensures { ServesContext who (releasing_name key.now) done_code space.old.handle.manager result space.new.handle.manager Untold }
+{
+    let Some(mut manager) = space.take(alloc) else {
+        return CLOSED;
+    };
+    let code = finish_code(manager.release_name(who, key));
+    space.put(manager);
+    code
+}
+
+/// Gives all tickets of a key up.
+#[unsafe(no_mangle)]
+pub extern "C" fn mdl_release_name(
+    alloc: Global,
+    space: &mut Space,
+    who: u16,
+    namespace: u8,
+    schema: &[u8],
+    table: &[u8],
+) -> u32
+    ensures { NamedIn (namespace_at namespace) schema.now table.now
+        (λ key. ServesContext who (releasing_name key) done_code space.old.handle.manager result space.new.handle.manager Untold)
+        (λ wrong. Tells wrong space.old.handle.manager result space.new.handle.manager) }
+{
+    match key_of(alloc, namespace, schema, table) {
+        Ok(key) => release_name(alloc, space, who, &key),
+        Err(code) => code,
+    }
+}
+
+/// Where a session stands: how many tickets it keeps for the statement, and how many for the transaction.
+#[unsafe(no_mangle)]
+pub extern "C" fn mdl_savepoint(alloc: Global, space: &mut Space, who: u16, mark: &mut Mark) -> u32
+    ensures { Replies context_fault who (Marks who) (λ _. 0) (Told mark_told mark.old mark.new) space.old.handle.manager result space.new.handle.manager }
+{
+    let Some(mut manager) = space.take(alloc) else {
+        return CLOSED;
+    };
+    let code = mark_code(manager.savepoint(who), mark);
+    space.put(manager);
+    code
+}
+
+/// Goes back to a mark: of the tickets of the statement and of the transaction so many stay as it counted, from the earliest on.
+#[unsafe(no_mangle)]
+pub extern "C" fn mdl_rollback_to(alloc: Global, space: &mut Space, who: u16, mark: Mark) -> u32
+    ensures { ServesContext who (rolling_back (mark_in_context mark)) done_code space.old.handle.manager result space.new.handle.manager Untold }
+{
+    let Some(mut manager) = space.take(alloc) else {
+        return CLOSED;
+    };
+    let code = finish_code(manager.rollback_to(who, mark.in_context()));
+    space.put(manager);
+    code
+}
+
+/// Ends a statement: its tickets are given up.
+#[unsafe(no_mangle)]
+pub extern "C" fn mdl_end_statement(alloc: Global, space: &mut Space, who: u16) -> u32
+    ensures { ServesContext who ending_statement done_code space.old.handle.manager result space.new.handle.manager Untold }
+{
+    let Some(mut manager) = space.take(alloc) else {
+        return CLOSED;
+    };
+    let code = finish_code(manager.end_statement(who));
+    space.put(manager);
+    code
+}
+
+/// Ends a transaction: the tickets of the statement and of the transaction are given up.
+#[unsafe(no_mangle)]
+pub extern "C" fn mdl_end_transaction(alloc: Global, space: &mut Space, who: u16) -> u32
+    ensures { ServesContext who ending_transaction done_code space.old.handle.manager result space.new.handle.manager Untold }
+{
+    let Some(mut manager) = space.take(alloc) else {
+        return CLOSED;
+    };
+    let code = finish_code(manager.end_transaction(who));
+    space.put(manager);
+    code
+}
+
+/// Keeps all tickets until they are released.
+#[unsafe(no_mangle)]
+pub extern "C" fn mdl_make_explicit(alloc: Global, space: &mut Space, who: u16) -> u32
+    ensures { ServesContext who making_explicit done_code space.old.handle.manager result space.new.handle.manager Untold }
+{
+    let Some(mut manager) = space.take(alloc) else {
+        return CLOSED;
+    };
+    let code = finish_code(manager.make_explicit(who));
+    space.put(manager);
+    code
+}
+
+/// Keeps the explicit tickets until the transaction ends.
+#[unsafe(no_mangle)]
+pub extern "C" fn mdl_make_transactional(alloc: Global, space: &mut Space, who: u16) -> u32
+    ensures { ServesContext who making_transactional done_code space.old.handle.manager result space.new.handle.manager Untold }
+{
+    let Some(mut manager) = space.take(alloc) else {
+        return CLOSED;
+    };
+    let code = finish_code(manager.make_transactional(who));
+    space.put(manager);
+    code
+}

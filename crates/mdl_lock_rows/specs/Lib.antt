@@ -1,0 +1,9 @@
+pub mod Classes
+pub mod Columns
+pub mod Escapes
+pub mod Fields
+pub mod Lines
+pub mod Numbering
+pub mod Reading
+pub mod ServerNames
+pub mod Tables

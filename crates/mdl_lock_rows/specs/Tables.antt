@@ -1,0 +1,56 @@
+-- The locks of rows, after MySQL 5.7: `MDL_lock` and `MDL_ticket` of sql/mdl.cc.
+use Rattle.std.specs.Prelude.{◌≡◌, ℕ, ◌<◌, ◌≤◌, Bool, not, ◌&&◌, ◌==◌, List, map, filter, length, Result, Err, IsOk, IsOkAnd}
+use Rattle.mdl_book.specs.declared.book_view.BookView.{BookView}
+use Rattle.mdl_book.specs.declared.ticket.Ticket.{Ticket}
+use Rattle.mdl_graph.specs.Graphs.{lock_of}
+use Rattle.mdl_key.specs.Words.{KeyName, key_eq}
+use Rattle.mdl_lock_rows.specs.declared.row.Line.{Line}
+use Rattle.mdl_lock_rows.specs.declared.row.Row.{Row}
+use Rattle.mdl_lock_rows.specs.declared.row_class.LeftOut.{LeftOut}
+use Rattle.mdl_lock_rows.specs.declared.row_error.LockRowsError.{LockRowsError}
+use Rattle.mdl_lock_rows.specs.declared.row_error.LockRowsError.TheVariants.{Refused, TooManyOwners, TooManyLocks, OutOfMemory}
+use Rattle.mdl_lock_rows.specs.declared.row_error.RowError.{RowError}
+use Rattle.mdl_lock_rows.specs.Numbering.{threads_of, keys_of, left_out_of, number_of}
+use Rattle.mdl_lock_rows.specs.Reading.{lines_read, made_of, rows_in, classes_in}
+use Rattle.mdl_lock_rows.specs.ServerNames.{is_granted, is_settled}
+
+-- the ticket of a row: its session is the number of the thread, and its number that of the line
+abbrev pub ticket_of : List ℕ → Row → Ticket
+ticket_of threads row = record { number = row.line; session = number_of threads row.thread; mode = row.mode }
+
+-- whether by a row the lock of a key is held
+abbrev pub holds : KeyName → Row → Bool
+holds key row = key_eq row.key key && is_granted row.status
+
+-- whether by a row it is waited for; a settled wait is one that hasn't ended yet
+abbrev pub awaits : KeyName → Row → Bool
+awaits key row = key_eq row.key key && not (is_granted row.status)
+
+-- the tickets of the rows that pass a test, in order
+abbrev pub tickets_of : List ℕ → (Row → Bool) → List Row → List Ticket
+tickets_of threads test rows = map (ticket_of threads) (filter test rows)
+
+-- the lock of a key
+abbrev pub lock_at : List ℕ → List Row → KeyName → BookView
+lock_at threads rows key = lock_of key.namespace (tickets_of threads (holds key) rows) (tickets_of threads (awaits key) rows)
+
+-- the locks of these keys
+abbrev pub locks_of : List ℕ → List Row → List KeyName → List BookView
+locks_of threads rows keys = map (lock_at threads rows) keys
+
+-- whether by a row the wait of the thread of this number is settled
+abbrev pub is_settled_wait : List ℕ → ℕ → Row → Bool
+is_settled_wait threads number row = is_settled row.status && number_of threads row.thread == number
+
+-- how many rows of a text are left out, by object type and lock type
+abbrev pub left_out_read : List ℕ → Result (List LeftOut) (ℕ × RowError)
+left_out_read text = made_of (λ lines. left_out_of (classes_in lines)) (lines_read text)
+
+-- how the reading of a text that says this may fail: by its first refused line; where none is refused by how many threads or locks there
+-- are, or for want of memory
+abbrev pub IsRefusalOf : Result (List Line) (ℕ × RowError) → LockRowsError → Type 0
+IsRefusalOf said (Refused number error) = said ≡ Err (number, error)
+IsRefusalOf said (TooManyOwners count) = IsOkAnd said (λ lines. (count ≡ length (threads_of (rows_in lines))) × (1024 < count))
+IsRefusalOf said (TooManyLocks count) =
+    IsOkAnd said (λ lines. (length (threads_of (rows_in lines)) ≤ 1024) × (count ≡ length (keys_of (rows_in lines))) × (256 < count))
+IsRefusalOf said OutOfMemory = IsOk said

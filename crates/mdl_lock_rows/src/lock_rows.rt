@@ -1,0 +1,192 @@
+//! The locks of a server, by its rows.
+ghost use Rattle.std.specs.Prelude.{◌≡◌, ◌≤◌, ◌++◌, ◌∷◌, [], ◌&&◌, ◌||◌, ℕ, Ok, IfOk, IfErr, OnOk, length};
+ghost use Rattle.std.specs.FinSet as set;
+ghost use Rattle.std.specs.List.{list_any};
+ghost use Rattle.mdl_book.specs.SessionSets.{is_session};
+ghost use Rattle.mdl_lock_rows.specs.Numbering.{threads_of, keys_of, number_of};
+ghost use Rattle.mdl_lock_rows.specs.Reading.{lines_read, rows_read};
+ghost use Rattle.mdl_lock_rows.specs.Tables.{IsRefusalOf, left_out_read, ticket_of, lock_at, locks_of, is_settled_wait, tickets_of, holds, awaits};
+
+use crate::lock_key::LockKey;
+use crate::numbering::{keys_of, left_out_of, threads_of};
+use crate::read_rows::read_rows;
+use crate::row::{Row, Status};
+use crate::row_class::LeftOut;
+use crate::row_error::LockRowsError;
+use indexmap::IndexSet;
+use mdl_book::{Sessions, Ticket};
+use mdl_view::Lock;
+use std::alloc::{AllocError, Global};
+
+/// How many threads may have locks or wait for them.
+pub const MOST_OWNERS: usize = 1024;
+
+/// How many locks may be held or waited for.
+pub const MOST_LOCKS: usize = 256;
+
+/// What the rows of a server's metadata locks say. A thread's number is its place among the threads, counted from 1: it is the session
+/// of the thread's tickets. A ticket's number is that of its line.
+#[derive(Drop)]
+pub struct LockRows {
+    /// The rows, in order.
+    pub rows: Vec<Row>,
+    /// The threads that have locks or wait for them, in order of their first rows.
+    pub threads: IndexSet<u64>,
+    /// What is locked, in order of the first rows.
+    pub keys: Vec<LockKey>,
+    /// For each key its lock, with the tickets in the order of the rows.
+    pub locks: Vec<Lock>,
+    /// The numbers of the threads whose wait is settled.
+    pub settled: Sessions,
+    /// How many rows are left out, by object type and lock type, in order of the first of each.
+    pub left_out: Vec<LeftOut>,
+}
+
+/// Reads the rows of `performance_schema.metadata_locks`, as `mysql -B` prints them: a header with the names of the columns, in any
+/// order, and a line for each row, fields parted by tabs. Rows of other object types or lock types are left out and counted. The rows
+/// don't show in which order threads began to wait: their order is taken for it.
+pub fn read_lock_rows(alloc: Global, text: &[u8]) -> Result<LockRows, LockRowsError>
+    // The rows are those of the text, and so are the ones that are left out.
+    ensures rows { IfOk result (λ found. rows_read text.now ≡ Ok found.rows.items) }
+    ensures left_out { IfOk result (λ found. left_out_read text.now ≡ Ok found.left_out.items) }
+
+    // Threads and keys are in order of their first rows, and there are not too many.
+    ensures threads { IfOk result (λ found. (found.threads.keys ≡ threads_of found.rows.items) × (length found.threads.keys ≤ MOST_OWNERS)) }
+    ensures keys { IfOk result (λ found. (found.keys.items ≡ keys_of found.rows.items) × (length found.keys.items ≤ MOST_LOCKS)) }
+
+    // The locks have the tickets of the rows.
+    ensures locks { IfOk result (λ found. found.locks.items ≡ locks_of found.threads.keys found.rows.items found.keys.items) }
+    ensures settled { IfOk result (λ found. (session : ℕ)
+        → set.contains found.settled session ≡ (is_session session && list_any (is_settled_wait found.threads.keys session) found.rows.items)) }
+
+    // Refused by the first bad line, even where memory ran out, or as too much.
+    ensures refused { IfErr result (IsRefusalOf (lines_read text.now)) }
+{
+    let found = read_rows(alloc, text)?;
+    let threads = threads_of(alloc, &found.rows)?;
+    if threads.len() > MOST_OWNERS {
+        return Err(LockRowsError::TooManyOwners(threads.len()));
+    }
+    let keys = keys_of(alloc, &found.rows)?;
+    if keys.len() > MOST_LOCKS {
+        return Err(LockRowsError::TooManyLocks(keys.len()));
+    }
+    let locks = locks_of(alloc, &threads, &found.rows, &keys)?;
+    let settled = settled_of(&threads, &found.rows);
+    let left_out = left_out_of(alloc, &found.left_out)?;
+    Ok(LockRows {
+        rows: found.rows,
+        threads,
+        keys,
+        locks,
+        settled,
+        left_out,
+    })
+}
+
+// The locks of these keys.
+fn locks_of(
+    alloc: Global,
+    threads: &IndexSet<u64>,
+    rows: &[Row],
+    keys: &[LockKey],
+) -> Result<Vec<Lock>, AllocError>
+    requires { length threads.now.keys ≤ 1024 }
+    ensures { IfOk result (λ locks. locks.items ≡ locks_of threads.now.keys rows.now keys.now) }
+{
+    let mut locks = Vec::new(alloc);
+    for key in keys {
+        let lock = lock_at(alloc, threads, rows, key)?;
+        locks.push(lock)?;
+    }
+    Ok(locks)
+}
+
+// The lock of a key.
+fn lock_at(
+    alloc: Global,
+    threads: &IndexSet<u64>,
+    rows: &[Row],
+    key: &LockKey,
+) -> Result<Lock, AllocError>
+    requires { length threads.now.keys ≤ 1024 }
+    ensures { IfOk result (λ lock. lock ≡ lock_at threads.now.keys rows.now key.now) }
+{
+    let mut lock = Lock::new(alloc, key.namespace());
+    for row in rows {
+        add_row(&mut lock, threads, key, row)?;
+    }
+    Ok(lock)
+}
+
+// Adds the ticket of a row, if it is of this key.
+fn add_row(
+    lock: &mut Lock,
+    threads: &IndexSet<u64>,
+    key: &LockKey,
+    row: &Row,
+) -> Result<(), AllocError>
+    requires { length threads.now.keys ≤ 1024 }
+    ensures { OnOk result (lock.new ≡ record lock.old {
+      granted = lock.old.granted ++ tickets_of threads.now.keys (holds key.now) (row.now ∷ []);
+      waiting = lock.old.waiting ++ tickets_of threads.now.keys (awaits key.now) (row.now ∷ []);
+    }) }
+{
+    if row.key != *key {
+        return Ok(());
+    }
+    let ticket = ticket_of(threads, row);
+    if row.status == Status::Granted {
+        lock.add_granted(ticket)
+    } else {
+        lock.add_waiting(ticket)
+    }
+}
+
+// The ticket of a row.
+fn ticket_of(threads: &IndexSet<u64>, row: &Row) -> Ticket
+    requires { length threads.now.keys ≤ 1024 }
+    ensures { result ≡ ticket_of threads.now.keys row.now }
+{
+    Ticket {
+        number: row.line,
+        session: number_of(threads, row.thread),
+        mode: row.mode,
+    }
+}
+
+// The number of a thread, and 0 if it is none of these.
+fn number_of(threads: &IndexSet<u64>, thread: u64) -> u16
+    requires { length threads.now.keys ≤ 1024 }
+    ensures number { result ≡ number_of threads.now.keys thread }
+    ensures within { result ≤ 1024 }
+{
+    match threads.get_index_of(&thread) {
+        Some(place) => place as u16 + 1,
+        None => 0,
+    }
+}
+
+// The numbers of the threads whose wait is settled.
+fn settled_of(threads: &IndexSet<u64>, rows: &[Row]) -> Sessions
+    requires { length threads.now.keys ≤ 1024 }
+    ensures { (session : ℕ) → set.contains result session ≡ (is_session session && list_any (is_settled_wait threads.now.keys session) rows.now) }
+{
+    let mut settled = Sessions::new();
+    for row in rows {
+        note(&mut settled, threads, row);
+    }
+    settled
+}
+
+// Notes the number of a row's thread, if the row is a settled wait.
+fn note(settled: &mut Sessions, threads: &IndexSet<u64>, row: &Row)
+    requires { length threads.now.keys ≤ 1024 }
+    ensures { (session : ℕ) → set.contains settled.new session
+        ≡ (set.contains settled.old session || (is_session session && is_settled_wait threads.now.keys session row.now)) }
+{
+    let number = number_of(threads, row.thread);
+    if row.status.is_settled() && number >= 1 {
+        settled.insert(number);
+    }
+}

@@ -1,0 +1,2 @@
+//! The example that the library shows.
+mod lock_rows;

@@ -1,0 +1,58 @@
+//! As many threads and locks as may be, and one more.
+use mdl_lock_rows::{LockRowsError, MOST_LOCKS, MOST_OWNERS, read_lock_rows};
+use std::alloc::{AllocError, Global};
+use std::fmt::Write;
+use std::test::Fail;
+
+const HEADER: &str =
+    "OBJECT_TYPE\tOBJECT_SCHEMA\tOBJECT_NAME\tLOCK_TYPE\tLOCK_DURATION\tLOCK_STATUS\tOWNER_THREAD_ID";
+
+// So many threads read so many tables, one table after the other, and each thread in turn.
+fn text_of(alloc: Global, threads: usize, tables: usize) -> Result<String, Fail> {
+    let mut text = String::new(alloc);
+    text.push_str(HEADER)?;
+    for row in 0..threads.max(tables) {
+        let table = row % tables.max(1);
+        let thread = row % threads.max(1);
+        write!(
+            text,
+            "\nTABLE\ts\tt{table}\tSHARED_READ\tTRANSACTION\tGRANTED\t{thread}"
+        )?;
+    }
+    Ok(text)
+}
+
+#[test]
+fn limits_are_told(rt: HostRuntime) -> Result<(), Fail> {
+    let alloc = rt.alloc();
+    let most = text_of(alloc, MOST_OWNERS, MOST_LOCKS)?;
+    let found = read_lock_rows(alloc, most.as_bytes())?;
+    assert_eq!(rt;
+        (found.threads.len(), found.keys.len(), found.rows.len()),
+        (1024, 256, 1024)
+    );
+    let owners = text_of(alloc, MOST_OWNERS + 3, 1)?;
+    let refused = read_lock_rows(alloc, owners.as_bytes());
+    assert_eq!(rt; refused.err(), Some(LockRowsError::TooManyOwners(1027)));
+    let locks = text_of(alloc, 2, MOST_LOCKS + 5)?;
+    let refused = read_lock_rows(alloc, locks.as_bytes());
+    assert_eq!(rt; refused.err(), Some(LockRowsError::TooManyLocks(261)));
+    Ok(())
+}
+
+// A name of 64 KB is read whole.
+#[test]
+fn long_names_are_read(rt: HostRuntime) -> Result<(), Fail> {
+    let alloc = rt.alloc();
+    let mut text = String::new(alloc);
+    text.push_str(HEADER)?;
+    text.push_str("\nTABLE\ts\t")?;
+    for _byte in 0..65536 {
+        text.push_str("\\\\")?;
+    }
+    text.push_str("\tSHARED\tEXPLICIT\tGRANTED\t7\n")?;
+    let found = read_lock_rows(alloc, text.as_bytes())?;
+    assert!(rt; found.keys.iter().all(|key| key.table_name().len() == 65536));
+    assert_eq!(rt; found.keys.len(), 1);
+    Ok(())
+}

@@ -1,0 +1,183 @@
+//! What would follow, at all locks, if a session ended.
+ghost use Rattle.std.specs.Prelude.{◌≡◌, ◌++◌, ◌∷◌, [], map, filter, OnOk, IfOk};
+ghost use Rattle.std.specs.FinSet as set;
+ghost use Rattle.mdl_view.specs.Blockings.{blockings_at, blockings_in};
+ghost use Rattle.mdl_view.specs.Endings.{grants_after};
+ghost use Rattle.mdl_view.specs.Following.{AreMostFirst, at_lock, ending_of, got_from, held_from, is_of, root_endings, still_waiting_from};
+
+use crate::blocking::{Blocking, add_lock, blockings};
+use crate::ending::course_after;
+use crate::lock::Lock;
+use crate::root::roots;
+use mdl_book::{Sessions, Ticket};
+use std::alloc::{AllocError, Global};
+use std::marker::Model;
+
+/// A ticket, and the place of its lock among those that are looked at, counted from 0.
+#[derive(Clone, Copy, Debug, PartialEq, Eq)]
+pub struct AtLock {
+    /// The place of the lock.
+    pub lock: usize,
+    /// The ticket.
+    pub ticket: Ticket,
+}
+
+/// The locks that are looked at, and which of the sessions from 1 to 1,024 have a settled wait there.
+#[derive(Clone, Copy)]
+pub struct Scene<'a> {
+    /// The locks.
+    pub locks: &'a [Lock],
+    /// The sessions whose waits are settled.
+    pub settled: &'a Sessions,
+    /// The sessions whose waits aren't: all others.
+    pub unsettled: &'a Sessions,
+}
+
+/// What would follow if a session ended: what it gives up, who gets a lock then, and who goes on waiting.
+#[derive(Drop)]
+pub struct Ending {
+    session: u16,
+    holds: Vec<AtLock>,
+    gets: Vec<AtLock>,
+    waits: Vec<Blocking>,
+}
+
+impl Model for Ending {
+    ghost use Rattle.mdl_view.specs.Following.{EndingView};
+
+    ghost Value = { EndingView };
+
+    ghost view = { λ ending. record {
+      session = ending.session;
+      holds = ending.holds.items;
+      gets = ending.gets.items;
+      waits = ending.waits.items;
+    } };
+}
+
+impl Ending {
+    /// The session that would end.
+    pub fn session(&self) -> u16
+        ensures { result ≡ self.now.session }
+    {
+        self.session
+    }
+
+    /// The granted tickets that it would give up, lock by lock.
+    pub fn holds(&self) -> &[AtLock]
+        ensures { result.now ≡ self.now.holds }
+    {
+        self.holds.as_slice()
+    }
+
+    /// The waiting tickets that would be granted, lock by lock, and there in order.
+    pub fn gets(&self) -> &[AtLock]
+        ensures { result.now ≡ self.now.gets }
+    {
+        self.gets.as_slice()
+    }
+
+    /// Who would go on waiting, and who would be in whose way then.
+    pub fn waits(&self) -> &[Blocking]
+        ensures { result.now ≡ self.now.waits }
+    {
+        self.waits.as_slice()
+    }
+}
+
+/// What would follow if this session ended.
+pub fn ending_of(alloc: Global, scene: Scene<'_>, session: u16) -> Result<Ending, AllocError>
+    ensures { IfOk result (λ ending. ending ≡ ending_of (set.contains scene.entry.settled.now) scene.entry.unsettled.now scene.entry.locks.now session) }
+{
+    let holds = holds_of(alloc, scene.locks, session)?;
+    let mut gets = Vec::new(alloc);
+    let mut waits = Vec::new(alloc);
+    for (place, lock) in scene.locks.iter().enumerate() {
+        let course = course_after(alloc, lock, scene.unsettled, session)?;
+        add_tickets(&mut gets, place, &course.granted)?;
+        add_lock(&mut waits, scene.settled, place, &course.left)?;
+    }
+    Ok(Ending {
+        session,
+        holds,
+        gets,
+        waits,
+    })
+}
+
+/// What would follow if each of those ended that are in somebody's way and have nobody in theirs. Those come first whose end would let
+/// most waits be granted, and of the others those of a lower number.
+pub fn root_endings(alloc: Global, scene: Scene<'_>) -> Result<Vec<Ending>, AllocError>
+    ensures { IfOk result (λ found. AreMostFirst (root_endings (set.contains scene.entry.settled.now) scene.entry.unsettled.now scene.entry.locks.now) found.items) }
+{
+    let found = blockings(alloc, scene.settled, scene.locks)?;
+    let sessions = roots(alloc, &found)?;
+    let mut endings = endings_of(alloc, scene, &sessions)?;
+    sort_most_first(&mut endings)?;
+    Ok(endings)
+}
+
+// What would follow if each of these ended.
+fn endings_of(alloc: Global, scene: Scene<'_>, sessions: &[u16]) -> Result<Vec<Ending>, AllocError>
+    ensures { IfOk result (λ found. found.items
+        ≡ map (ending_of (set.contains scene.entry.settled.now) scene.entry.unsettled.now scene.entry.locks.now) sessions.now) }
+{
+    let mut endings = Vec::new(alloc);
+    for session in sessions {
+        endings.push(ending_of(alloc, scene, *session)?)?;
+    }
+    Ok(endings)
+}
+
+// Puts those first that let most waits be granted.
+fn sort_most_first(endings: &mut Vec<Ending>) -> Result<(), AllocError>
+    ensures { OnOk result (AreMostFirst endings.old.items endings.new.items) }
+{
+    endings.sort_by(|one, other| other.gets.len().cmp(&one.gets.len()))
+}
+
+// The granted tickets of a session.
+fn holds_of(alloc: Global, locks: &[Lock], session: u16) -> Result<Vec<AtLock>, AllocError>
+    ensures { IfOk result (λ found. found.items ≡ held_from session 0 locks.now) }
+{
+    let mut found = Vec::new(alloc);
+    for (place, lock) in locks.iter().enumerate() {
+        add_held(&mut found, place, lock, session)?;
+    }
+    Ok(found)
+}
+
+// Adds those at one lock.
+fn add_held(
+    found: &mut Vec<AtLock>,
+    place: usize,
+    lock: &Lock,
+    session: u16,
+) -> Result<(), AllocError>
+    ensures { OnOk result (found.new.items ≡ found.old.items ++ map (at_lock place) (filter (is_of session) lock.now.granted)) }
+{
+    for held in lock.granted() {
+        if held.session == session {
+            add(found, place, *held)?;
+        }
+    }
+    Ok(())
+}
+
+// Adds tickets of one lock.
+fn add_tickets(found: &mut Vec<AtLock>, place: usize, tickets: &[Ticket]) -> Result<(), AllocError>
+    ensures { OnOk result (found.new.items ≡ found.old.items ++ map (at_lock place) tickets.now) }
+{
+    for ticket in tickets {
+        add(found, place, *ticket)?;
+    }
+    Ok(())
+}
+
+// Adds one ticket.
+fn add(found: &mut Vec<AtLock>, lock: usize, ticket: Ticket) -> Result<(), AllocError>
+    ensures { OnOk result (found.new.items ≡ found.old.items ++ at_lock lock ticket ∷ []) }
+{
+    found.push(AtLock { lock, ticket })?;
+    Ok(())
+}

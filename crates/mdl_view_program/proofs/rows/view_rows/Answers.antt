@@ -1,0 +1,9 @@
+-- What is written is the answer to the bytes that were read.
+use Rattle.mdl_view_program.proofs.RowLemmas.{leaves_rows_read}
+use Rattle.mdl_view_program.proofs.rows.view_rows.Goals as goal
+
+pub returns-clause-written : goal.returns-clause-written
+returns-clause-written g c =
+    leaves_rows_read c.args.question (g.R.Read.remaining c.args.input.now) c.in-Ok.text.items c.deref.result.now c.write_answer.result
+    c.in-Ok-answer_of_rows.answer.items c.deref-2.result.now (g.W.Write.contents c.args.output.now) (g.W.Write.contents c.write_answer.new.output)
+    c.in-Ok.ensures.all c.deref.ensures.value c.in-Ok-answer_of_rows.ensures.answer c.deref-2.ensures.value c.write_answer.ensures.all c.write_answer.ensures.part

@@ -1,0 +1,23 @@
+-- What the program writes.
+use Rattle.std.specs.Prelude.{ℕ, List, Option, Result, Ok, Err}
+use Rattle.std.specs.Io.KnownBytes.{Appends, Keeps}
+use Rattle.mdl_lines.specs.declared.fault.Fault.{Fault}
+use Rattle.mdl_lines.specs.declared.fault.Fault.TheVariants.{Write}
+use Rattle.mdl_lines.specs.declared.fault.LineError.{LineError}
+use Rattle.mdl_lines.specs.Words.{AppendsPart}
+use Rattle.mdl_syntax.specs.declared.script.Line.{Line}
+use Rattle.mdl_script.specs.Output.{lines_until}
+use Rattle.mdl_script.specs.Worlds.{script_played}
+use Rattle.mdl_view_program.specs.declared.question.Question.{Question}
+use Rattle.mdl_view_program.specs.Answers.{AnswersBooks}
+
+-- a text answers the question about the locks as the lines up to the one of this number leave them. To a refused script there is no answer
+abbrev pub AnswersScript : Question → ℕ → Result (List Line) (ℕ × LineError) → List ℕ → Type 0
+AnswersScript question last (Ok lines) text = AnswersBooks question (script_played (lines_until last lines)).world.core.books text
+AnswersScript question last (Err refusal) text = ⊥
+
+-- what is left written by a run that ends so: an answer, where writing failed a beginning of one that is not all of it, and else nothing
+abbrev pub LeavesAnswer : (List ℕ → Type 0) → Result (Unit {0}) Fault → Option (List ℕ) → Option (List ℕ) → Type 0
+LeavesAnswer Answers (Ok done) old new = (text : List ℕ) × Answers text × Appends old new text
+LeavesAnswer Answers (Err Write) old new = (text : List ℕ) × Answers text × AppendsPart old new text
+LeavesAnswer Answers (Err fault) old new = Keeps old new

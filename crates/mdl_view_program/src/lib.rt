@@ -1,0 +1,30 @@
+//! What `mdlview` does once the words of its command line are read: it looks at a table of locks, and writes the answer to a question.
+//!
+//! [`view_script`] plays a script, and looks at the locks that it leaves; [`view_rows`] looks at those of a server's rows. [`answer`] answers a question about any locks.
+//!
+//! # Example
+//!
+//! ```
+//! use mdl_view_program::{Question, view_script};
+//!
+//! let alloc = rt.alloc();
+//! let mut script = b"1 CREATE TABLE t x\n1 BEGIN\n1 SELECT t\n2 DROP TABLE t\n".as_slice();
+//! let mut output = Vec::new(alloc);
+//! let end = view_script(alloc, Question::Why, u64::MAX, &mut script, &mut output);
+//! assert!(rt; end.is_ok());
+//! assert_eq!(rt;
+//!     output.as_slice(),
+//!     b"If 1 ended, waits granted: 1\n  holds SR of TABLE test.t\n  then 2 gets X of TABLE test.t\n".as_slice()
+//! );
+//! ```
+#![tactic(auto)]
+
+mod answers;
+mod program;
+mod question;
+mod rows;
+
+pub use answers::{answer, answer_of_books};
+pub use program::view_script;
+pub use question::Question;
+pub use rows::{RowsFault, view_rows};

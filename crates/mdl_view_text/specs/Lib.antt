@@ -1,0 +1,4 @@
+pub mod Graph
+pub mod Names
+pub mod Rows
+pub mod Why

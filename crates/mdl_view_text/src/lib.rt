@@ -1,0 +1,59 @@
+//! The answers of [`mdl_view`] as text: tables of locks and waits, the graph of waits, and what would follow if a session ended.
+//!
+//! [`Names`] says what locks and sessions are called. [`locks_text`] and [`waits_text`] print tables, a line for each row, with tabs
+//! between the columns; [`graph_text`] prints a graph in Graphviz's DOT language; and [`why_text`] prints what would follow if one of the
+//! sessions ended that are in the way of others and wait for nobody.
+//!
+//! # Example
+//!
+//! ```
+//! use mdl_book::{Sessions, Ticket};
+//! use mdl_key::{Mode, Namespace};
+//! use mdl_view::{Lock, Scene, root_endings};
+//! use mdl_view_text::{Names, key_text, why_text};
+//!
+//! let alloc = rt.alloc();
+//! let reader = Ticket {
+//!     session: 1,
+//!     number: 1,
+//!     mode: Mode::SR,
+//! };
+//! let change = Ticket {
+//!     session: 2,
+//!     mode: Mode::X,
+//!     ..reader
+//! };
+//! let mut lock = Lock::new(alloc, Namespace::Table);
+//! lock.add_granted(reader)?;
+//! lock.add_waiting(change)?;
+//! let mut locks = Vec::new(alloc);
+//! locks.push(lock)?;
+//! // The server knows the sessions as its threads 48 and 52.
+//! let mut names = Names::new(alloc);
+//! names.add_lock(key_text(alloc, Namespace::Table, b"shop", b"orders")?)?;
+//! names.add_session(48)?;
+//! names.add_session(52)?;
+//! let scene = Scene {
+//!     locks: &locks,
+//!     settled: &Sessions::new(),
+//!     unsettled: &Sessions::all(),
+//! };
+//! let endings = root_endings(alloc, scene)?;
+//! let text = why_text(alloc, &names, false, &endings)?;
+//! assert_eq!(rt;
+//!     text.as_slice(),
+//!     b"If 48 ended, waits granted: 1\n  holds SR of TABLE shop.orders\n  then 52 gets X of TABLE shop.orders\n".as_slice()
+//! );
+//! ```
+#![tactic(auto)]
+
+mod graph;
+mod names;
+mod rows;
+mod text;
+mod why;
+
+pub use graph::graph_text;
+pub use names::{Names, key_text, names_of};
+pub use rows::{locks_text, waits_text};
+pub use why::why_text;

@@ -1,0 +1,187 @@
+//! What locks and sessions are called.
+ghost use Rattle.std.specs.Prelude.{◌≡◌, ◌<◌, ◌/◌, ◌%◌, ◌++◌, ◌∷◌, [], map, OnErr, OnOk, IfOk};
+ghost use Rattle.mdl_view_text.specs.Names.{book_text, hex_digit, key_text, lock_name, owner_of, printed, printed_byte};
+
+use crate::text::push;
+use mdl_book::Book;
+use mdl_key::{Key, Namespace};
+use std::alloc::{AllocError, Global};
+use std::marker::Model;
+
+/// What the locks of a table are called, by their places from 0 on, and by which numbers a server knows the sessions 1, 2, and so on.
+#[derive(Drop)]
+pub struct Names {
+    locks: Vec<Vec<u8>>,
+    owners: Vec<u64>,
+}
+
+impl Model for Names {
+    ghost use Rattle.std.specs.Prelude.{map};
+    ghost use Rattle.mdl_view_text.specs.Names.{NamesView};
+
+    ghost Value = { NamesView };
+
+    ghost view = { λ names. record { locks = map (λ name. name.items) names.locks.items; owners = names.owners.items } };
+}
+
+impl Names {
+    /// No names: locks are printed as nothing, and sessions by their own numbers.
+    pub fn new(alloc: Global) -> Names
+        ensures { result ≡ record { locks = []; owners = [] } }
+    {
+        Names {
+            locks: Vec::new(alloc),
+            owners: Vec::new(alloc),
+        }
+    }
+
+    /// Says what the lock of the next place is called.
+    pub fn add_lock(&mut self, name: Vec<u8>) -> Result<(), AllocError>
+        ensures added { OnOk result (self.new ≡ record self.old { locks = self.old.locks ++ name.items ∷ [] }) }
+        ensures unchanged { OnErr result (self.new ≡ self.old) }
+    {
+        match self.locks.push(name) {
+            Ok(()) => Ok(()),
+            Err(_) => Err(AllocError),
+        }
+    }
+
+    /// Says by which number the server knows the next session.
+    pub fn add_session(&mut self, owner: u64) -> Result<(), AllocError>
+        ensures added { OnOk result (self.new ≡ record self.old { owners = self.old.owners ++ owner ∷ [] }) }
+        ensures unchanged { OnErr result (self.new ≡ self.old) }
+    {
+        match self.owners.push(owner) {
+            Ok(()) => Ok(()),
+            Err(_) => Err(AllocError),
+        }
+    }
+
+    /// What the lock of a place is called: nothing, where that isn't known.
+    pub fn lock(&self, place: usize) -> &[u8]
+        ensures { result.now ≡ lock_name self.now place }
+    {
+        match self.locks.get(place) {
+            Some(name) => name.as_slice(),
+            None => b"".as_slice(),
+        }
+    }
+
+    /// By which number the server knows a session: by its own, where that isn't known.
+    pub fn session(&self, session: u16) -> u64
+        ensures { result ≡ owner_of self.now session }
+    {
+        let place = usize::from(session).saturating_sub(1);
+        match self.owners.get(place) {
+            Some(owner) => *owner,
+            None => u64::from(session),
+        }
+    }
+}
+
+/// What a lock is called whose schema and table have these names: `TABLE shop.orders`. A backslash in a name is doubled, and a control
+/// byte is printed as `\x` and two digits. Names that the namespace doesn't have are left out.
+pub fn key_text(
+    alloc: Global,
+    namespace: Namespace,
+    schema: &[u8],
+    table: &[u8],
+) -> Result<Vec<u8>, AllocError>
+    ensures { IfOk result (λ text. text.items ≡ key_text namespace schema.now table.now) }
+{
+    let mut out = Vec::new(alloc);
+    match namespace {
+        Namespace::Global => push(&mut out, b"GLOBAL")?,
+        Namespace::Commit => push(&mut out, b"COMMIT")?,
+        Namespace::Schema => push_schema(&mut out, schema)?,
+        Namespace::Table => push_table(&mut out, schema, table)?,
+    }
+    Ok(out)
+}
+
+/// What the locks of these books are called. Sessions are printed by their own numbers.
+pub fn names_of(alloc: Global, books: &[Book]) -> Result<Names, AllocError>
+    ensures { IfOk result (λ names. names ≡ record { locks = map book_text books.now; owners = [] }) }
+{
+    let mut names = Names::new(alloc);
+    for book in books {
+        names.add_lock(text_of_key(alloc, book.key())?)?;
+    }
+    Ok(names)
+}
+
+// What the lock of a key is called.
+fn text_of_key(alloc: Global, key: &Key) -> Result<Vec<u8>, AllocError>
+    ensures { IfOk result (λ text. text.items ≡ key_text key.now.namespace key.now.schema key.now.table) }
+{
+    key_text(
+        alloc,
+        key.namespace(),
+        key.schema_name().as_bytes(),
+        key.table_name().as_bytes(),
+    )
+}
+
+// What the lock of a schema is called.
+fn push_schema(out: &mut Vec<u8>, schema: &[u8]) -> Result<(), AllocError>
+    ensures { OnOk result (out.new.items ≡ out.old.items ++ key_text Namespace.Schema schema.now []) }
+{
+    push(out, b"SCHEMA ")?;
+    push_name(out, schema)
+}
+
+// What the lock of a table is called.
+fn push_table(out: &mut Vec<u8>, schema: &[u8], table: &[u8]) -> Result<(), AllocError>
+    ensures { OnOk result (out.new.items ≡ out.old.items ++ key_text Namespace.Table schema.now table.now) }
+{
+    push(out, b"TABLE ")?;
+    push_name(out, schema)?;
+    push(out, b".")?;
+    push_name(out, table)
+}
+
+// A name as it is printed.
+fn push_name(out: &mut Vec<u8>, name: &[u8]) -> Result<(), AllocError>
+    ensures { OnOk result (out.new.items ≡ out.old.items ++ printed name.now) }
+{
+    for byte in name {
+        push_byte(out, *byte)?;
+    }
+    Ok(())
+}
+
+// A byte of a name as it is printed.
+fn push_byte(out: &mut Vec<u8>, byte: u8) -> Result<(), AllocError>
+    ensures { OnOk result (out.new.items ≡ out.old.items ++ printed_byte byte) }
+{
+    if byte == b'\\' {
+        push(out, b"\\\\")
+    } else if byte < 32 || byte == 127 {
+        push_escaped(out, byte)
+    } else {
+        out.push(byte)?;
+        Ok(())
+    }
+}
+
+// A control byte as it is printed.
+fn push_escaped(out: &mut Vec<u8>, byte: u8) -> Result<(), AllocError>
+    ensures { OnOk result (out.new.items ≡ out.old.items ++ (92 ∷ 120 ∷ hex_digit (byte / 16) ∷ hex_digit (byte % 16) ∷ [])) }
+{
+    push(out, b"\\x")?;
+    out.push(hex_digit(byte / 16))?;
+    out.push(hex_digit(byte % 16))?;
+    Ok(())
+}
+
+// Half a byte as a digit.
+fn hex_digit(half: u8) -> u8
+    requires { half < 16 }
+    ensures { result ≡ hex_digit half }
+{
+    if half < 10 {
+        b'0' + half
+    } else {
+        b'a' + (half - 10)
+    }
+}

@@ -1,0 +1,174 @@
+"""The metadata locks of MySQL 5.7 for Python, over the shared library libmdl_c.so, by ctypes.
+
+A Manager has the locks, behind a mutex; threads share it. A session is a number. `lock` waits by sleeping, for so many seconds:
+
+    with Manager("libmdl_c.so", places=256, sessions=2) as manager:
+        orders = manager.table("shop", "orders")
+        with manager.lock(1, orders, Mode.SR, patience=1.0):
+            ...
+"""
+
+import contextlib
+import ctypes
+import enum
+import threading
+import time
+from ctypes import POINTER, byref, c_bool, c_char_p, c_size_t, c_uint8, c_uint16, c_uint32, c_uint64, c_void_p
+
+Mode = enum.IntEnum("Mode", "IX S SH SR SW SWLP SU SRO SNW SNRW X", start=0)
+Mode.__doc__ = "How a lock is held. A table's key takes all but IX, the other keys take IX, S and X."
+
+
+class Code(enum.IntEnum):
+    """Those codes of mdl.h that the methods below know."""
+
+    DONE = 0
+    WOULD_WAIT = 1
+    WAITING = 2
+    VICTIM = 3
+    TIMEOUT = 4
+    KILLED = 5
+
+
+class Refused(Exception):
+    """A call that was refused, or a wait that was lost, with its code."""
+
+    def __init__(self, code):
+        known = code in Code.__members__.values()
+        super().__init__(Code(code).name if known else f"code {code}")
+        self.code = code
+
+
+class Space(ctypes.Structure):
+    """The place for a manager. All of its bytes are 0 where there is none."""
+
+    _fields_ = [("at", c_void_p), ("is_open", c_bool)]
+
+
+# The parameters of each function behind the space.
+PARAMETERS = {
+    "mdl_open": [c_uint16, c_uint16],
+    "mdl_close": [],
+    "mdl_table": [c_uint16, c_char_p, c_size_t, c_char_p, c_size_t, POINTER(c_uint16)],
+    "mdl_try": [c_uint16, c_uint16, c_uint8, POINTER(c_uint64)],
+    "mdl_begin": [c_uint16, c_uint16, c_uint8, POINTER(c_uint64)],
+    "mdl_search": [c_uint16, POINTER(c_uint16)],
+    "mdl_poll": [c_uint16],
+    "mdl_end": [c_uint16, POINTER(c_uint64)],
+    "mdl_time_out": [c_uint16],
+    "mdl_release": [c_uint16, c_uint64],
+    "mdl_settled": [POINTER(c_uint64)],
+}
+
+
+def library_of(path):
+    """Loads the library, with the types of its functions."""
+    library = ctypes.CDLL(path)
+    for name, parameters in PARAMETERS.items():
+        function = getattr(library, name)
+        function.argtypes = [POINTER(Space), *parameters]
+        function.restype = c_uint32
+    return library
+
+
+class Manager:
+    """A manager of metadata locks, which threads may share. ctypes lets other threads run during a call, so each is made under a mutex."""
+
+    def __init__(self, path, places, sessions):
+        self._library = library_of(path)
+        self._space = Space()
+        mutex = threading.RLock()
+        self._mutex = mutex
+        # (the wait of a session is settled)
+        self._turns = [threading.Condition(mutex) for _ in range(sessions)]
+        self._done(self._call("mdl_open", places, sessions))
+
+    def __enter__(self):
+        return self
+
+    def __exit__(self, *_):
+        self._call("mdl_close")
+
+    def _call(self, name, *words):
+        with self._mutex:
+            return getattr(self._library, name)(byref(self._space), *words)
+
+    @staticmethod
+    def _done(code):
+        if code != Code.DONE:
+            raise Refused(code)
+
+    def _wake(self):
+        """Wakes the sessions whose waits are settled."""
+        sessions = c_uint64()
+        self._call("mdl_settled", byref(sessions))
+        for at, turn in enumerate(self._turns):
+            if sessions.value >> at & 1:
+                turn.notify()
+
+    def table(self, schema, table):
+        """Returns the place of a table's key."""
+        place, schema, table = c_uint16(), schema.encode(), table.encode()
+        self._done(self._call("mdl_table", 1, schema, len(schema), table, len(table), byref(place)))
+        return place.value
+
+    def begin(self, who, place, mode):
+        """Asks for a lock. Returns DONE and its ticket, or WAITING and the number of the wait."""
+        number = c_uint64()
+        code = self._call("mdl_begin", who, place, mode, byref(number))
+        if code not in (Code.DONE, Code.WAITING):
+            raise Refused(code)
+        return Code(code), number.value
+
+    def search(self, who):
+        """Returns the victim of a deadlock that the session is part of, whose wait is settled by this, or None."""
+        victim = c_uint16()
+        code = self._call("mdl_search", who, byref(victim))
+        if code == Code.VICTIM:
+            return victim.value
+        self._done(code)
+        return None
+
+    def is_waiting(self, who):
+        """Returns whether the session has a wait that isn't settled."""
+        return self._call("mdl_poll", who) == Code.WAITING
+
+    def end(self, who):
+        """Ends the session's wait, which is settled, and returns its ticket. A lost wait is raised."""
+        ticket = c_uint64()
+        with self._mutex:
+            code = self._call("mdl_end", who, byref(ticket))
+            self._wake()
+        self._done(code)
+        return ticket.value
+
+    def release(self, who, ticket):
+        """Gives a ticket up."""
+        with self._mutex:
+            self._done(self._call("mdl_release", who, ticket))
+            self._wake()
+
+    def acquire(self, who, place, mode, patience):
+        """Returns the ticket of a lock, for which it waits for so many seconds. Whoever begins to wait looks for the deadlocks that this makes."""
+        until = time.monotonic() + patience
+        with self._mutex:
+            code, ticket = self.begin(who, place, mode)
+            if code == Code.DONE:
+                return ticket
+            while self.search(who) not in (None, who):
+                pass
+            self._wake()
+            while self.is_waiting(who):
+                left = until - time.monotonic()
+                if left <= 0 or not self._turns[who - 1].wait(left):
+                    self._call("mdl_time_out", who)
+            return self.end(who)
+
+    @contextlib.contextmanager
+    def lock(self, who, place, mode, patience):
+        """Has a lock while the block runs."""
+        ticket = self.acquire(who, place, mode, patience)
+        try:
+            yield ticket
+        finally:
+            self.release(who, ticket)

@@ -1,0 +1,88 @@
+//! Threads lock two tables in either order. A deadlock ends one of them, which begins again.
+
+use mdl_locks::{Error, Guard, Manager, Mode, Place, Session};
+use std::sync::atomic::{AtomicU64, Ordering::Relaxed};
+use std::thread;
+use std::time::Duration;
+
+const THREADS: u16 = 4;
+const ROUNDS: u64 = 2000;
+const LONG: Duration = Duration::from_secs(60);
+
+/// Both tables, in an order that depends on the round.
+fn lock_both<'s>(
+    session: &'s Session,
+    tables: [Place; 2],
+    round: u64,
+) -> Result<(Guard<'s>, Guard<'s>), Error> {
+    let turn = (u64::from(session.number()) + round) as usize % 2;
+    let first = session.lock(tables[turn], Mode::SharedNoReadWrite, LONG)?;
+    let second = session.lock(tables[1 - turn], Mode::Exclusive, LONG)?;
+    Ok((first, second))
+}
+
+/// What a thread does: it counts each round under both locks. Returns whether each lost wait was one to end a deadlock.
+fn count(session: &Session, tables: [Place; 2], counter: &AtomicU64) -> bool {
+    for round in 0..ROUNDS {
+        loop {
+            match lock_both(session, tables, round) {
+                // Two threads here at a time would lose a count.
+                Ok(_both) => break counter.store(counter.load(Relaxed) + 1, Relaxed),
+                Err(Error::Deadlock) => {}
+                Err(_) => return false,
+            }
+        }
+    }
+    true
+}
+
+fn run() -> Result<(), Error> {
+    let manager = Manager::new(256, THREADS)?;
+    let tables = [
+        manager.table("shop", "orders")?,
+        manager.table("shop", "items")?,
+    ];
+    let counter = AtomicU64::new(0);
+    let sessions: Vec<Session> = (0..THREADS).filter_map(|_| manager.session()).collect();
+    println!("all sessions are taken: {}", manager.session().is_none());
+    let all_well = thread::scope(|scope| {
+        let counter = &counter;
+        let threads: Vec<_> = sessions
+            .into_iter()
+            .map(|session| scope.spawn(move || count(&session, tables, counter)))
+            .collect();
+        threads
+            .into_iter()
+            .all(|thread| thread.join().unwrap_or(false))
+    });
+    println!("each thread has done its rounds: {all_well}");
+    println!("counted: {}", counter.into_inner());
+
+    let (changer, reader) = (manager.session().unwrap(), manager.session().unwrap());
+    let change = changer.lock(tables[0], Mode::Exclusive, LONG)?;
+    println!(
+        "a reader can have it now: {}",
+        reader.try_lock(tables[0], Mode::SharedRead)?.is_some()
+    );
+    match reader.lock(tables[0], Mode::SharedRead, Duration::from_millis(10)) {
+        Ok(_) => println!("it got the lock"),
+        Err(error) => println!("a while later: {error}"),
+    }
+    drop(change);
+    println!(
+        "after the change: {}",
+        reader.try_lock(tables[0], Mode::SharedRead)?.is_some()
+    );
+    println!(
+        "a name with a space: {}",
+        manager.table("shop", "or ders").unwrap_err()
+    );
+    Ok(())
+}
+
+fn main() {
+    if let Err(error) = run() {
+        eprintln!("{error}");
+        std::process::exit(1);
+    }
+}

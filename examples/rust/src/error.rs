@@ -1,0 +1,57 @@
+//! Why a call is refused, or a wait lost.
+
+use std::fmt;
+
+/// Why there is no lock.
+#[derive(Clone, Copy, Debug, PartialEq, Eq)]
+pub enum Error {
+    /// The session was chosen to end a deadlock. It should give up all that it holds, and begin again.
+    Deadlock,
+    /// The patience was at an end.
+    Timeout,
+    /// Another session has ended the wait.
+    Killed,
+    /// A name has 1 to 64 bytes of `a-z`, `0-9` and `_`.
+    BadName,
+    /// There is no place for one more key.
+    NoPlace,
+    /// The key doesn't take the mode.
+    BadMode,
+    /// Memory ran out. The call may be made again.
+    OutOfMemory,
+    /// Any other code of `mdl.h`.
+    Refused(u32),
+}
+
+impl Error {
+    /// What a code says that isn't `MDL_DONE`.
+    pub(crate) fn of(code: u32) -> Error {
+        match code {
+            3 => Error::Deadlock,
+            4 => Error::Timeout,
+            5 => Error::Killed,
+            22..=24 => Error::BadName,
+            32 => Error::NoPlace,
+            37 => Error::BadMode,
+            45 => Error::OutOfMemory,
+            other => Error::Refused(other),
+        }
+    }
+}
+
+impl fmt::Display for Error {
+    fn fmt(&self, f: &mut fmt::Formatter<'_>) -> fmt::Result {
+        match self {
+            Error::Deadlock => f.write_str("chosen to end a deadlock"),
+            Error::Timeout => f.write_str("waited for too long"),
+            Error::Killed => f.write_str("the wait was killed"),
+            Error::BadName => f.write_str("a name has 1 to 64 bytes of a-z, 0-9 and _"),
+            Error::NoPlace => f.write_str("there is no place for one more key"),
+            Error::BadMode => f.write_str("the key doesn't take the mode"),
+            Error::OutOfMemory => f.write_str("out of memory"),
+            Error::Refused(code) => write!(f, "refused by code {code}"),
+        }
+    }
+}
+
+impl std::error::Error for Error {}

@@ -1,0 +1,137 @@
+//! The manager of locks, which threads share.
+
+use crate::raw::{self, Space};
+use crate::{Error, Session};
+use std::sync::{Condvar, Mutex, MutexGuard, PoisonError};
+
+/// The place of a key in a manager, where it stays as long as the manager exists.
+#[derive(Clone, Copy, Debug, PartialEq, Eq)]
+pub struct Place(pub(crate) u16);
+
+/// What is behind the mutex: the manager of the library, and which sessions are taken.
+pub(crate) struct Inside {
+    pub(crate) space: Space,
+    taken: Vec<bool>,
+}
+
+/// A manager of metadata locks. It is `Send` and `Sync`: one mutex is held round each call.
+pub struct Manager {
+    inside: Mutex<Inside>,
+    turns: Vec<Condvar>, // the wait of a session is settled
+}
+
+impl Manager {
+    /// A manager of 1 to 256 places, one for each key, and 1 to 64 sessions.
+    pub fn new(places: u16, sessions: u16) -> Result<Manager, Error> {
+        let mut space = Space::new();
+        // SAFETY: all bytes of the space are 0.
+        done(unsafe { raw::mdl_open(&mut space, places, sessions) })?;
+        let taken = vec![false; usize::from(sessions)];
+        let turns = taken.iter().map(|_| Condvar::new()).collect();
+        Ok(Manager {
+            inside: Mutex::new(Inside { space, taken }),
+            turns,
+        })
+    }
+
+    /// A session that nobody has, if there is one.
+    pub fn session(&self) -> Option<Session<'_>> {
+        let mut inside = self.inside();
+        let at = inside.taken.iter().position(|is_taken| !is_taken)?;
+        inside.taken[at] = true;
+        Some(Session::new(self, at as u16 + 1))
+    }
+
+    /// The place of a table's key.
+    pub fn table(&self, schema: &str, table: &str) -> Result<Place, Error> {
+        let mut place = 0;
+        // SAFETY: the pointers and lengths are those of two `&str`, and the mutex is held.
+        done(unsafe {
+            raw::mdl_table(
+                &mut self.inside().space,
+                1,
+                schema.as_ptr(),
+                schema.len(),
+                table.as_ptr(),
+                table.len(),
+                &mut place,
+            )
+        })?;
+        Ok(Place(place))
+    }
+
+    /// The place of a schema's key.
+    pub fn schema(&self, schema: &str) -> Result<Place, Error> {
+        let mut place = 0;
+        // SAFETY: the pointer and the length are those of a `&str`, and the mutex is held.
+        done(unsafe {
+            raw::mdl_schema(
+                &mut self.inside().space,
+                1,
+                schema.as_ptr(),
+                schema.len(),
+                &mut place,
+            )
+        })?;
+        Ok(Place(place))
+    }
+
+    /// The place of the key of the global read lock.
+    pub fn global(&self) -> Result<Place, Error> {
+        let mut place = 0;
+        // SAFETY: the mutex is held.
+        done(unsafe { raw::mdl_global(&mut self.inside().space, 1, &mut place) })?;
+        Ok(Place(place))
+    }
+
+    /// The place of the key that commits take.
+    pub fn commit(&self) -> Result<Place, Error> {
+        let mut place = 0;
+        // SAFETY: the mutex is held.
+        done(unsafe { raw::mdl_commit(&mut self.inside().space, 1, &mut place) })?;
+        Ok(Place(place))
+    }
+
+    // Takes the mutex. No call leaves anything half done, so it doesn't matter whether a thread panicked that had it.
+    pub(crate) fn inside(&self) -> MutexGuard<'_, Inside> {
+        self.inside.lock().unwrap_or_else(PoisonError::into_inner)
+    }
+
+    // The condition variable of a session.
+    pub(crate) fn turn_of(&self, who: u16) -> &Condvar {
+        &self.turns[usize::from(who) - 1]
+    }
+
+    // Wakes the sessions whose waits are settled.
+    pub(crate) fn wake(&self, space: &mut Space) {
+        let mut sessions = 0;
+        // SAFETY: the mutex is held, by whoever has the space.
+        unsafe { raw::mdl_settled(space, &mut sessions) };
+        for (at, turn) in self.turns.iter().enumerate() {
+            if sessions >> at & 1 == 1 {
+                turn.notify_one();
+            }
+        }
+    }
+
+    // A session goes back to those that nobody has.
+    pub(crate) fn give_back(&self, who: u16) {
+        self.inside().taken[usize::from(who) - 1] = false;
+    }
+}
+
+impl Drop for Manager {
+    fn drop(&mut self) {
+        // SAFETY: there is no session any more, and nobody else makes calls. What the call answers is MDL_DONE.
+        unsafe { raw::mdl_close(&mut self.inside().space) };
+    }
+}
+
+/// Whether a code is `MDL_DONE`.
+pub(crate) fn done(code: u32) -> Result<(), Error> {
+    if code == raw::DONE {
+        Ok(())
+    } else {
+        Err(Error::of(code))
+    }
+}

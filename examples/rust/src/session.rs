@@ -1,0 +1,160 @@
+//! Sessions, which wait for locks, and the guards of those that they have.
+
+use crate::manager::{done, Inside};
+use crate::raw::{self, Space};
+use crate::{Error, Manager, Mode, Place};
+use std::cell::Cell;
+use std::marker::PhantomData;
+use std::sync::{MutexGuard, PoisonError};
+use std::time::{Duration, Instant};
+
+/// A session of a manager. It may go to another thread while it has no guards, and is used by one thread at a time.
+///
+/// A guard that is forgotten (`std::mem::forget`) leaves its lock with the session, whoever takes that next.
+pub struct Session<'m> {
+    manager: &'m Manager,
+    who: u16,
+    not_shared: PhantomData<Cell<()>>, // `Send`, but not `Sync`
+}
+
+impl<'m> Session<'m> {
+    pub(crate) fn new(manager: &'m Manager, who: u16) -> Session<'m> {
+        Session {
+            manager,
+            who,
+            not_shared: PhantomData,
+        }
+    }
+
+    /// The session's number, from 1 on.
+    pub fn number(&self) -> u16 {
+        self.who
+    }
+
+    /// The lock, if it can be had now.
+    pub fn try_lock(&self, place: Place, mode: Mode) -> Result<Option<Guard<'_>>, Error> {
+        let mut ticket = 0;
+        // SAFETY: the mutex is held.
+        match unsafe {
+            raw::mdl_try(
+                &mut self.manager.inside().space,
+                self.who,
+                place.0,
+                mode as u8,
+                &mut ticket,
+            )
+        } {
+            raw::WOULD_WAIT => Ok(None),
+            code => done(code).map(|()| Some(self.guard(ticket))),
+        }
+    }
+
+    /// The lock, for which the thread waits for so long. Whoever begins to wait looks for the deadlocks that this makes.
+    pub fn lock(&self, place: Place, mode: Mode, patience: Duration) -> Result<Guard<'_>, Error> {
+        let mut inside = self.manager.inside();
+        let mut ticket = 0;
+        // SAFETY: the mutex is held.
+        match unsafe {
+            raw::mdl_begin(
+                &mut inside.space,
+                self.who,
+                place.0,
+                mode as u8,
+                &mut ticket,
+            )
+        } {
+            raw::WAITING => self.finish(inside, patience),
+            code => done(code).map(|()| self.guard(ticket)),
+        }
+    }
+
+    // Waits until the wait is settled, and ends it.
+    fn finish<'s>(
+        &'s self,
+        mut inside: MutexGuard<'_, Inside>,
+        patience: Duration,
+    ) -> Result<Guard<'s>, Error> {
+        let begun = Instant::now();
+        self.end_deadlocks(&mut inside.space);
+        // SAFETY: the mutex is held, here and below.
+        while unsafe { raw::mdl_poll(&mut inside.space, self.who) } == raw::WAITING {
+            let left = patience.saturating_sub(begun.elapsed());
+            if left.is_zero() {
+                unsafe { raw::mdl_time_out(&mut inside.space, self.who) };
+            } else {
+                let turn = self.manager.turn_of(self.who);
+                inside = turn
+                    .wait_timeout(inside, left)
+                    .unwrap_or_else(PoisonError::into_inner)
+                    .0;
+            }
+        }
+        let mut ticket = 0;
+        let code = unsafe { raw::mdl_end(&mut inside.space, self.who, &mut ticket) };
+        self.manager.wake(&mut inside.space); // the end of a lost wait makes way
+        done(code).map(|()| self.guard(ticket))
+    }
+
+    // Searches until there is no deadlock, or the session itself is a victim. The victims have to learn of it.
+    fn end_deadlocks(&self, space: &mut Space) {
+        let mut victim = 0;
+        // SAFETY: the mutex is held.
+        while unsafe { raw::mdl_search(space, self.who, &mut victim) } == raw::VICTIM
+            && victim != self.who
+        {}
+        self.manager.wake(space);
+    }
+
+    fn guard(&self, ticket: u64) -> Guard<'_> {
+        Guard {
+            session: self,
+            ticket,
+        }
+    }
+}
+
+impl Drop for Session<'_> {
+    fn drop(&mut self) {
+        self.manager.give_back(self.who);
+    }
+}
+
+/// A lock that a session has. It is given up when the guard is dropped.
+#[must_use = "the lock is given up when the guard is dropped"]
+pub struct Guard<'s> {
+    session: &'s Session<'s>,
+    ticket: u64,
+}
+
+impl Guard<'_> {
+    /// A stronger mode, if it can be had now.
+    pub fn upgrade(&mut self, mode: Mode) -> Result<bool, Error> {
+        let Session { manager, who, .. } = *self.session;
+        let mut inside = manager.inside();
+        // SAFETY: the mutex is held.
+        match unsafe { raw::mdl_upgrade(&mut inside.space, who, self.ticket, mode as u8) } {
+            raw::WOULD_WAIT => Ok(false),
+            code => done(code).map(|()| true),
+        }
+    }
+
+    /// A weaker mode.
+    pub fn downgrade(&mut self, mode: Mode) -> Result<(), Error> {
+        let Session { manager, who, .. } = *self.session;
+        let mut inside = manager.inside();
+        // SAFETY: the mutex is held.
+        let code = unsafe { raw::mdl_downgrade(&mut inside.space, who, self.ticket, mode as u8) };
+        manager.wake(&mut inside.space);
+        done(code)
+    }
+}
+
+impl Drop for Guard<'_> {
+    fn drop(&mut self) {
+        let Session { manager, who, .. } = *self.session;
+        let mut inside = manager.inside();
+        // SAFETY: the mutex is held. What the call answers is MDL_DONE, since the session has the ticket.
+        unsafe { raw::mdl_release(&mut inside.space, who, self.ticket) };
+        manager.wake(&mut inside.space);
+    }
+}

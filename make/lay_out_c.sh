@@ -1,0 +1,32 @@
+#!/bin/sh
+# Copies the libraries for C, as they were built last, into a folder such as /usr/local: the archives, the headers, and files for pkg-config.
+# These say that the libraries are in PREFIX, which is the folder itself unless another one is named.
+# Usage: sh make/lay_out_c.sh FOLDER [PREFIX], at the top of the repository
+mkdir -p "$1/lib/pkgconfig" "$1/include" || exit 1
+folder=$(cd "$1" && pwd)
+prefix=${2:-$folder}
+version=$(cat VERSION)
+kit=$(dirname "$(dirname "$(readlink -f "$(command -v rt)")")")
+
+# Copies one file: FILE TO
+put() {
+    cp "$1" "$2" && chmod 644 "$2"
+}
+
+put_library() {
+    put "crates/$1/out/lib$1.a" "$folder/lib/lib$1.a" || return 1
+    for header in crates/"$1"/include/*.h; do
+        put "$header" "$folder/include/$(basename "$header")" || return 1
+    done
+}
+
+# The three functions of memory, by the C library's: whoever has others leaves them out.
+put_memory() {
+    put "$kit/c/liblibc_c.a" "$folder/lib/libmdl_malloc.a"
+}
+
+put_page() {
+    sed "s|@PREFIX@|$prefix|; s|@VERSION@|$version|" "make/dist/$1.pc" > "$folder/lib/pkgconfig/$1.pc" && chmod 644 "$folder/lib/pkgconfig/$1.pc"
+}
+
+put_library mdl_c && put_library mdl_text && put_memory && put_page mdl && put_page mdl_text || exit 1
