@@ -8,15 +8,15 @@
        void rattle_dealloc(void *p);
 
    A program whose threads share a space holds one mutex of its own round each call. A wait is the program's: where mdl_begin answers
-   MDL_WAITING, call mdl_search, then wait for a condition variable until mdl_poll answers otherwise, and then call mdl_end. What may
-   settle another session's wait is mdl_release, mdl_search, mdl_end, mdl_kill, mdl_downgrade and mdl_merge: signal after these. mdl_settled tells
-   whom. The table that threads share can't be called from C: its calls wait for latches, and no function that C calls may wait.
+   MDL_WAITING, call mdl_search, then wait for a condition variable until mdl_poll answers otherwise, and then call mdl_end. These calls may
+   settle another session's wait: mdl_release, mdl_search, mdl_end, mdl_kill, mdl_time_out, mdl_downgrade and mdl_merge. After them wake the sessions
+   that mdl_settled lists. The table that threads share can't be called from C: its calls wait for latches, and no function that C calls may wait.
 
    A session keeps its tickets by their numbers, or a context keeps them, from mdl_context_begin until mdl_context_end: by how long they
    last, as a server's transactions have them. Then the session's locks are asked for by mdl_acquire and the other calls of contexts below, and those
    marked "direct" answer MDL_HAS_CONTEXT. Where mdl_acquire or mdl_context_upgrade answers MDL_WAITING, it has searched for deadlocks
-   already: wait until mdl_poll answers otherwise, and then call mdl_resume, which ends the wait. Signal after all calls of contexts but
-   mdl_savepoint, mdl_make_explicit and mdl_make_transactional.
+   already: wait until mdl_poll answers otherwise, and then call mdl_resume, which ends the wait. Ask mdl_settled after all calls of contexts
+   but mdl_savepoint, mdl_make_explicit and mdl_make_transactional, and also after refused ones.
 
    What the library takes for granted, and nothing checks:
    - `struct mdl_space` begins with zeros (MDL_SPACE_INIT), and C never reads, changes or copies it: a copy would be freed twice.
@@ -96,7 +96,7 @@ enum mdl_code {
     MDL_TIMEOUT = 4,         /* the wait is lost by mdl_time_out */
     MDL_KILLED = 5,          /* the wait is lost by mdl_kill */
     MDL_NOT_KILLED = 6,      /* no wait of this number is unsettled */
-    /* refusals: nothing has changed */
+    /* refusals: nothing has changed, unless the call of a context says otherwise below */
     MDL_CLOSED = 16,         /* there is no manager */
     MDL_IS_OPEN = 17,        /* there is one already */
     MDL_NO_SESSION = 18,     /* it has no session of this number: sessions count from 1 */
@@ -185,7 +185,8 @@ uint32_t mdl_clone(struct mdl_space *space, uint16_t who, uint64_t ticket, uint8
 /* Lets a held ticket have the mode of another one of its place, which is at least as strong, and gives that one up: DONE. */
 uint32_t mdl_merge(struct mdl_space *space, uint16_t who, uint64_t kept, uint64_t gone);
 
-/* ---- contexts: all but mdl_context_begin answer MDL_NO_CONTEXT for a session that has none */
+/* ---- contexts: all but mdl_context_begin answer MDL_NO_CONTEXT for a session that has none. A mode, a duration, a namespace or a name that is none is
+   refused before that. */
 
 /* From here on a context keeps the session's tickets: DONE. The session may hold no ticket and have no wait. */
 uint32_t mdl_context_begin(struct mdl_space *space, uint16_t who);
@@ -195,12 +196,15 @@ uint32_t mdl_context_end(struct mdl_space *space, uint16_t who);
 
 /* Comes by a lock of a key, and keeps it so long: DONE and its ticket, or WAITING and the wait's number, after deadlocks were searched for. A
    ticket of the key that is strong enough and kept as long is used again, unless it is explicit, and one of another duration is cloned. Of
-   the names only those are read that keys of the namespace have: MDL_GLOBAL and MDL_COMMIT have none, MDL_SCHEMA a schema's. */
+   the names only those are read that keys of the namespace have: MDL_GLOBAL and MDL_COMMIT have none, MDL_SCHEMA a schema's. Where it is
+   refused, the session's tickets are as they were and it has no wait, but a new key may have got its place, and where memory ran out the waits of
+   victims that were found stay settled. */
 uint32_t mdl_acquire(struct mdl_space *space, uint16_t who, uint8_t namespace_, const uint8_t *schema, size_t schema_length,
                      const uint8_t *table, size_t table_length, uint8_t mode, uint8_t duration, uint64_t *number);
 
 /* Sees how the wait stands, and ends it where it is settled: WAITING, DONE and the ticket, or VICTIM, TIMEOUT, KILLED: the wait is lost,
-   and the tickets are as they were. So they are where the call is refused, and the wait has ended (MDL_NO_MEMORY, MDL_FULL). */
+   and the tickets are as they were. So they are where the call is refused by MDL_NO_MEMORY or MDL_FULL, but then the wait has ended, too:
+   ask for the lock again by mdl_acquire. */
 uint32_t mdl_resume(struct mdl_space *space, uint16_t who, uint64_t *ticket);
 
 /* Gives the wait up, unless it is settled, and ends it: TIMEOUT, or as mdl_resume, but never WAITING. */

@@ -54,7 +54,7 @@ cause_rows =
     (42, codes "The lock has as many tickets as it can have.") ∷
     (43, codes "The definition can't be changed so.") ∷
     (44, codes "Nothing of this kind can be defined under the key.") ∷
-    (45, codes "Memory ran out, and nothing has changed.") ∷
+    (45, codes "Memory ran out.") ∷
     (46, codes "The session has a ticket or a wait at this place.") ∷ []
 
 -- why a context refused a call

@@ -87,7 +87,7 @@ fn cause_text(code: u32) -> &'static str
         42 => "The lock has as many tickets as it can have.",
         43 => "The definition can't be changed so.",
         44 => "Nothing of this kind can be defined under the key.",
-        45 => "Memory ran out, and nothing has changed.",
+        45 => "Memory ran out.",
         46 => "The session has a ticket or a wait at this place.",
         _ => UNKNOWN,
     }
