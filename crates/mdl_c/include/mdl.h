@@ -136,7 +136,7 @@ enum mdl_code {
 /* Makes a manager of 1 to 256 places, one for each key, and 1 to 64 sessions: DONE. */
 uint32_t mdl_open(struct mdl_space *space, uint16_t places, uint16_t sessions);
 
-/* Lets it go, with all that its sessions hold and wait for: DONE. */
+/* Frees it, with all that its sessions hold and wait for: DONE. */
 uint32_t mdl_close(struct mdl_space *space);
 
 /* The place of a key, which stays its place: DONE. A new key takes the next free one. */
@@ -157,14 +157,14 @@ uint32_t mdl_begin(struct mdl_space *space, uint16_t who, uint16_t place, uint8_
 /* Looks for a deadlock that the session is part of: DONE where there is none, or VICTIM and the session whose wait is settled by this. */
 uint32_t mdl_search(struct mdl_space *space, uint16_t who, uint16_t *victim);
 
-/* How the session's wait stands: WAITING, or as it is settled: DONE (granted), VICTIM, TIMEOUT, KILLED. */
+/* The state of the session's wait: WAITING, or how it is settled: DONE (granted), VICTIM, TIMEOUT, KILLED. */
 uint32_t mdl_poll(struct mdl_space *space, uint16_t who);
 
 /* Ends the session's wait, which is settled: DONE and the ticket, or VICTIM, TIMEOUT, KILLED. A lost wait stands in the way of those
    behind it until its session ends it. */
 uint32_t mdl_end(struct mdl_space *space, uint16_t who, uint64_t *ticket);
 
-/* Settles the session's wait as a timeout, unless it is settled. Answers how it is settled then, as mdl_poll. */
+/* Settles the session's wait as a timeout, unless it is settled. Returns how it is settled then, as mdl_poll. */
 uint32_t mdl_time_out(struct mdl_space *space, uint16_t who);
 
 /* Settles any session's wait of this number as killed, unless it is settled: DONE, or NOT_KILLED. */
@@ -194,7 +194,7 @@ uint32_t mdl_context_begin(struct mdl_space *space, uint16_t who);
 /* The context gives up its wait and all its tickets, and ends: DONE. */
 uint32_t mdl_context_end(struct mdl_space *space, uint16_t who);
 
-/* Comes by a lock of a key, and keeps it so long: DONE and its ticket, or WAITING and the wait's number, after deadlocks were searched for. A
+/* Acquires a lock of a key, for this duration: DONE and its ticket, or WAITING and the wait's number, after deadlocks were searched for. A
    ticket of the key that is strong enough and kept as long is used again, unless it is explicit, and one of another duration is cloned. Of
    the names only those are read that keys of the namespace have: MDL_GLOBAL and MDL_COMMIT have none, MDL_SCHEMA a schema's. Where it is
    refused, the session's tickets are as they were and it has no wait, but a new key may have got its place, and where memory ran out the waits of
@@ -202,7 +202,7 @@ uint32_t mdl_context_end(struct mdl_space *space, uint16_t who);
 uint32_t mdl_acquire(struct mdl_space *space, uint16_t who, uint8_t namespace_, const uint8_t *schema, size_t schema_length,
                      const uint8_t *table, size_t table_length, uint8_t mode, uint8_t duration, uint64_t *number);
 
-/* Sees how the wait stands, and ends it where it is settled: WAITING, DONE and the ticket, or VICTIM, TIMEOUT, KILLED: the wait is lost,
+/* Ends the wait if it is settled: WAITING, DONE and the ticket, or VICTIM, TIMEOUT, KILLED: the wait is lost,
    and the tickets are as they were. So they are where the call is refused by MDL_NO_MEMORY or MDL_FULL, but then the wait has ended, too:
    ask for the lock again by mdl_acquire. */
 uint32_t mdl_resume(struct mdl_space *space, uint16_t who, uint64_t *ticket);
@@ -223,7 +223,7 @@ uint32_t mdl_context_release(struct mdl_space *space, uint16_t who, uint64_t tic
 uint32_t mdl_release_name(struct mdl_space *space, uint16_t who, uint8_t namespace_, const uint8_t *schema, size_t schema_length,
                           const uint8_t *table, size_t table_length);
 
-/* Where the session stands: DONE and the mark. */
+/* A mark of how many tickets the context keeps now: DONE and the mark. */
 uint32_t mdl_savepoint(struct mdl_space *space, uint16_t who, struct mdl_mark *mark);
 
 /* Goes back to a mark: DONE. As many tickets of the statement and of the transaction stay as it counted, the earliest ones, and all
