@@ -12,9 +12,10 @@ OPTIONS = $(if $(filter %.scoped.lock,$(SCRIPT)),--scoped)
 PREFIX = /usr/local
 
 # The programs that `make dist` packs. Each has a manual page, docs/NAME.1, and `--version`.
-PROGRAMS = mdlsim
+PROGRAMS = mdlsim mdlview
 
 PROGRAM = crates/mdlsim/out/mdlsim
+VIEW = crates/mdlview/out/mdlview
 
 # The libraries for C, which `make install` and `make dist` have, too.
 ARCHIVES = crates/mdl_c/out/libmdl_c.a crates/mdl_text/out/libmdl_text.a
@@ -28,7 +29,7 @@ FIRST_RUN = crates/mdlsim/out/first_run
 BENCH = crates/mdl_bench/out/mdl_bench
 FAST_BENCH = crates/mdl_fast_bench/out/mdl_fast_bench
 
-.PHONY: help run try script test layout docs bench examples commands c fuzz growths wrong build install dist dist-check dist-libraries \
+.PHONY: help run try script test layout docs bench examples commands c fuzz growths wrong build view install dist dist-check dist-libraries \
     dist-libraries-check clean kit
 
 help:
@@ -39,14 +40,15 @@ help:
 	@echo 'make layout                says which files are not in the layout, and which wrong bodies fit no file'
 	@echo 'make docs                  says what is stale in the docs'
 	@echo 'make examples              compares the answers to each example with those that lie beside it'
-	@echo 'make commands              compares what mdlsim, proved, does by its words with what it ought to do'
+	@echo 'make commands              compares what the programs, proved, do by their words with what they ought to do'
 	@echo 'make c                     builds programs of C, Rust and Python over the libraries for C, proved, and compares what they print'
 	@echo 'make fuzz [SECONDS=60]     plays random scripts with the mdlsim that was built last, and checks each run'
 	@echo 'make growths               refuses each growth of some short lives in turn'
 	@echo 'make wrong [CRATE=NAME]    has the prover refuse the wrong bodies, of all crates or of one'
 	@echo 'make bench                 times scripts and calls'
-	@echo 'make install [PREFIX=DIR]  builds mdlsim and the libraries for C, proved, and installs them, the program with its commit'
-	@echo 'make dist                  packs the program and the libraries for C that were built last, for machines without the kit'
+	@echo 'make view                  proves and builds mdlview'
+	@echo 'make install [PREFIX=DIR]  builds the programs and the libraries for C, proved, and installs them, the programs with their commit'
+	@echo 'make dist                  packs the programs and the libraries for C that were built last, for machines without the kit'
 	@echo 'make dist-check            unpacks that into an empty folder, and tries it there without the kit'
 	@echo 'make dist-libraries        packs the libraries that were proved last, for checkouts that are to trust them, into dist/'
 	@echo 'make dist-libraries-check  unpacks those in a new clone, and builds mdlsim there'
@@ -102,9 +104,10 @@ bench: build
 examples: kit
 	@sh examples/check.sh
 
-# The program does what the words of its command line ask for, and tells what it can't do; bad lines and streams that fail it tells, too.
-commands: build
+# The programs do what the words of their command lines ask for, and tell what they can't do; bad lines and streams that fail they tell, too.
+commands: build view
 	@python3 commands/check.py $(PROGRAM)
+	@python3 commands/check_view.py $(VIEW)
 
 # The programs of examples/c, examples/rust and examples/python give their answers, over the libraries for C as the prover passed them. Without gcc
 # they aren't tried, and without cargo those of Rust aren't.
@@ -128,14 +131,19 @@ wrong: kit
 build: kit
 	@sh make/build.sh mdlsim lock
 
-install: build
+# The same of mdlview.
+view: kit
+	@sh make/build.sh mdlview why --script
+
+install: build view
 	@python3 make/archive.py
-	@sh make/lay_out.sh "$(PREFIX)" mdlsim
+	@sh make/lay_out.sh "$(PREFIX)" $(PROGRAMS)
 	@sh make/lay_out_c.sh "$(PREFIX)"
 
-# Packs what was built last, and builds only what isn't there: after `make test`, the program and the libraries that it proved.
+# Packs what was built last, and builds only what isn't there: after `make test`, the programs and the libraries that it proved.
 dist: kit
 	@test -x $(PROGRAM) || sh make/build.sh mdlsim lock
+	@test -x $(VIEW) || sh make/build.sh mdlview why --script
 	@for archive in $(ARCHIVES); do test -e "$$archive" || python3 make/archive.py || exit 1; done
 	@sh make/dist.sh $(PROGRAMS)
 

@@ -1,15 +1,19 @@
 """Gives mdlview words and scripts, and looks what it prints, and with which status it ends: the answers of examples/view, what each way to ask
-comes to, refused words and lines, and streams that fail.
+comes to, objects of JSON beside the tables, refused words and lines, rows of real servers, and streams that fail.
 
 Usage, at the top of the repository: python3 commands/check_view.py [PROGRAM]    the program that was built last, or another one
 """
 
+import json
 import pathlib
 import subprocess
 import sys
 
 PROGRAM = "crates/mdlview/out/mdlview"
-EXAMPLES = pathlib.Path(__file__).resolve().parent.with_name("examples")
+FOLDER = pathlib.Path(__file__).resolve().parent
+EXAMPLES = FOLDER.with_name("examples")
+SERVERS = FOLDER / "server_locks"
+VERSION = FOLDER.with_name("VERSION").read_text().strip()
 
 WAITS = "1 CREATE TABLE t x\n1 BEGIN\n1 SELECT t\n2 DROP TABLE t\n"
 WHY = "If 1 ended, waits granted: 1\n  holds SR of TABLE test.t\n  then 2 gets X of TABLE test.t\n"
@@ -21,15 +25,31 @@ SERVER = (
     + "GLOBAL\tNULL\tNULL\tINTENTION_EXCLUSIVE\tSTATEMENT\tGRANTED\t48300\n"
     + "TABLE\tshop\tOrders-2\tEXCLUSIVE\tTRANSACTION\tPENDING\t48300\n"
 )
-SERVER_WHY = "If 48213 ended, waits granted: 1\n  holds SR of TABLE shop.Orders-2\n  then 48300 gets X of TABLE shop.Orders-2\n"
+KILL = "  KILL: SELECT processlist_id FROM performance_schema.threads WHERE thread_id = "
+SERVER_WHY = f"If 48213 ended, waits granted: 1\n{KILL}48213\n  holds SR of TABLE shop.Orders-2\n  then 48300 gets X of TABLE shop.Orders-2\n"
+LEFT_OUT = "BACKUP\tNULL\tNULL\tBACKUP_DDL\tTRANSACTION\tGRANTED\t48213\n"
+USER_LOCK = "USER LEVEL LOCK\tNULL\tjob.1\tEXCLUSIVE\tEXPLICIT\tGRANTED\t5\n"
+LONG = "n" * 64
+DEADLOCK = (
+    HEADER
+    + "TABLE\ts\tt\tSHARED_WRITE\tTRANSACTION\tGRANTED\t7\nTABLE\ts\tu\tSHARED_WRITE\tTRANSACTION\tGRANTED\t9\n"
+    + "TABLE\ts\tu\tEXCLUSIVE\tTRANSACTION\tPENDING\t7\nTABLE\ts\tt\tEXCLUSIVE\tTRANSACTION\tPENDING\t9\n"
+)
+JAMMED = "Each session that is in the way of another one waits: there is a deadlock.\n"
+READERS = (
+    HEADER
+    + f"TABLE\t{LONG}\t{LONG}\tEXCLUSIVE\tTRANSACTION\tGRANTED\t18446744073709551615\n"
+    + "".join(f"TABLE\t{LONG}\t{LONG}\tSHARED_READ\tTRANSACTION\tPENDING\t{n}\n" for n in range(1, 46))
+)
 ROWS = "LOCK\tWAITING\tFOR\tBLOCKING\tREASON\nTABLE test.t\t2\tX\t1\tholds SR\n"
 
 # Words, a script, and the status, the answer and what is reported.
 ROWS_OF_WORDS = [
     ("--script", WAITS, 0, WHY, ""),
     ("why --script", WAITS, 0, WHY, ""),
-    ("--script why", WAITS, 0, WHY, ""),
+    ("--version", "", 0, f"mdlview {VERSION}\n", ""),
     ("waits --script", WAITS, 0, ROWS, ""),
+    ("waits --script", "1 GET_LOCK a\n2 GET_LOCK a\n", 0, ROWS.replace("TABLE test.t", "USER a").replace("holds SR", "holds X"), ""),
     ("--script --at 3", WAITS, 0, NOBODY, ""),
     ("--script --at=4", WAITS, 0, WHY, ""),
     ("--script", "", 0, NOBODY, ""),
@@ -38,8 +58,74 @@ ROWS_OF_WORDS = [
     ("", HEADER, 0, NOBODY, ""),
     ("", SERVER + "TABLE\tshop\n", 1, "", "line 5: fewer fields than the header\n"),
     ("", WAITS, 1, "", "line 1: no column OBJECT_TYPE\n"),
-    ("--script", "1 BEGIN\n65 BEGIN\n", 1, "", "line 2: BadSession\n"),
-    ("--script --at 1", "1 BEGIN\n65 BEGIN\n", 1, "", "line 2: BadSession\n"),
+    ("locks", HEADER + USER_LOCK, 0, "LOCK\tSESSION\tMODE\tSTATUS\nUSER job\\.1\t5\tX\tGRANTED\n", ""),
+    ("", HEADER + LEFT_OUT, 0, NOBODY + "1 row left out: BACKUP BACKUP_DDL 1\n", ""),
+    ("waits", HEADER + 2 * LEFT_OUT, 0, "LOCK\tWAITING\tFOR\tBLOCKING\tREASON\n2 rows left out: BACKUP BACKUP_DDL 2\n", ""),
+    ("graph", HEADER + LEFT_OUT, 0, "digraph waits {\n}\n// 1 row left out: BACKUP BACKUP_DDL 1\n", ""),
+    ("", DEADLOCK, 0, "deadlock: 7 waits for 9, 9 waits for 7; victim 9\n" + JAMMED, ""),
+    ("--script", "1 BEGIN\n65 BEGIN\n", 1, "", 'line 2, word 1: "65" is no session: sessions are 1 to 64\n'),
+    ("--script --at 1", "1 BEGIN\n65 BEGIN\n", 1, "", 'line 2, word 1: "65" is no session: sessions are 1 to 64\n'),
+    ("--script", "\n\n1 SELECT Orders\n", 1, "", 'line 3, word 3: "Orders" is no name: names have a-z, 0-9 and _\n'),
+    ("--script", "1 SELCT t\n", 1, "", 'line 1, word 2: "SELCT" can\'t stand here\n'),
+    ("--script", "1 SELECT\n", 1, "", 'line 1, word 2: "SELECT": a word is missing behind it\n'),
+    ("--script", "1 BEGIN\n1 SELECT \u00e9\n", 1, "", "line 2: it has a byte that is not ASCII\n"),
+    ("--script", 5000 * "x" + "\n", 1, "", "line 1: it has more than 4096 bytes\n"),
+]
+
+# Words that ask for an object of JSON, what is read, and the object.
+OBJECTS = [
+    (
+        "why --json",
+        SERVER + LEFT_OUT,
+        {
+            "deadlocks": [],
+            "roots": [
+                {
+                    "session": 48213,
+                    "holds": [{"session": 48213, "mode": "SR", "lock": "TABLE shop.Orders-2"}],
+                    "gets": [{"session": 48300, "mode": "X", "lock": "TABLE shop.Orders-2"}],
+                    "waits": [],
+                }
+            ],
+            "left_out": [{"object_type": "BACKUP", "lock_type": "BACKUP_DDL", "rows": 1}],
+        },
+    ),
+    ("--json", DEADLOCK, {"deadlocks": [{"sessions": [7, 9], "victim": 9}], "roots": [], "left_out": []}),
+    (
+        "locks --json --script",
+        WAITS,
+        {
+            "locks": [
+                {"lock": "SCHEMA test", "granted": [{"session": 2, "mode": "IX"}], "waiting": []},
+                {"lock": "GLOBAL", "granted": [{"session": 2, "mode": "IX"}], "waiting": []},
+                {
+                    "lock": "TABLE test.t",
+                    "granted": [{"session": 1, "mode": "SR"}],
+                    "waiting": [{"session": 2, "mode": "X", "status": "PENDING"}],
+                }
+            ],
+            "left_out": [],
+        },
+    ),
+    (
+        "waits --script --json",
+        WAITS,
+        {
+            "waits": [
+                {"session": 2, "mode": "X", "lock": "TABLE test.t", "blocking": 1, "reason": "holds", "blocking_mode": "SR"}
+            ],
+            "left_out": [],
+        },
+    ),
+]
+
+# Bytes of a table's name, and what its text in JSON is: bytes that are no UTF-8 are numbers of characters.
+NAMES = [
+    (b"caf\xc3\xa9", "TABLE s.caf\u00e9"),
+    (b"caf\xe9", "TABLE s.caf\u00e9"),
+    (b'a"b', 'TABLE s.a"b'),
+    (b"a\\tb", "TABLE s.a\\x09b"),
+    (b"a.b", "TABLE s.a\\.b"),
 ]
 
 # Words that ask for no answer, and a part of what is reported.
@@ -49,8 +135,18 @@ REFUSED = [
     ("--script --at 0", "--at"),
     ("--script --at x", "--at"),
     ("--script --at", "--at"),
-    ("--script why waits", "waits"),
+    ("why waits", "waits"),
+    ("--script why", "why"),
+    ("graph --json", "--json"),
+    ("--json graph", "graph"),
+    ("--version why", "--version"),
     ("--help", "Usage"),
+    ("--help", "mysql -B"),
+    ("why --help", "mdlview why --script"),
+    ("locks --help", "mdlview locks --script"),
+    ("waits --help", "order"),
+    ("graph --help", "dot -Tsvg"),
+    ("help graph", "dot -Tsvg"),
 ]
 
 
@@ -70,6 +166,47 @@ def wrong_words(program):
         status, printed, reported = found = run(program, words, WAITS)
         if status != 2 or printed or part not in reported:
             yield words, found
+
+
+def object_printed(program, words, script):
+    """Returns the object of JSON that the program prints, or what it did where it prints none."""
+    ran = subprocess.run([program, *words.split()], input=script, capture_output=True)
+    try:
+        if ran.returncode == 0 and not ran.stderr and ran.stdout.endswith(b"]}\n"):
+            return json.loads(ran.stdout.decode("utf-8"))
+    except ValueError:
+        pass
+    return ran
+
+
+def wrong_objects(program):
+    """Returns the words that print another object, or none, and the names that are written otherwise."""
+    for words, script, wanted in OBJECTS:
+        found = object_printed(program, words, script.encode())
+        if found != wanted:
+            yield words, found
+    for name, wanted in NAMES:
+        row = b"TABLE\ts\t" + name + b"\tSHARED_READ\tTRANSACTION\tGRANTED\t1\n"
+        found = object_printed(program, "locks --json", HEADER.encode() + row)
+        if not isinstance(found, dict) or [lock["lock"] for lock in found["locks"]] != [wanted]:
+            yield name, found
+
+
+def wrong_lines(program):
+    """Returns what `why` prints of many readers of a table with long names, where a line has more than a hundred bytes, or readers aren't counted."""
+    status, printed, reported = found = run(program, "why", READERS)
+    lines = printed.splitlines()
+    counted = lines[-1:] == ["  and 37 more readers"] and f"{KILL}18446744073709551615" in lines
+    if status or reported or not counted or any(len(line) > 100 for line in lines) or not any(line.endswith("..") for line in lines):
+        yield "why", found
+
+
+def wrong_servers(program):
+    """Returns the rows of real servers to which `why` is answered otherwise: NAME.rows with the answer NAME.why."""
+    for rows in sorted(SERVERS.glob("*.rows")):
+        ran = subprocess.run([program, "why"], input=rows.read_bytes(), capture_output=True)
+        if (ran.returncode, ran.stdout, ran.stderr) != (0, rows.with_suffix(".why").read_bytes(), b""):
+            yield rows.name, ran
 
 
 def wrong_examples(program):
@@ -96,7 +233,14 @@ def wrong_devices(program):
 def main(words):
     """Looks at all, prints what goes otherwise, and returns the status to end with."""
     program = words[0] if words else PROGRAM
-    wrong = [*wrong_words(program), *wrong_examples(program), *wrong_devices(program)]
+    wrong = [
+        *wrong_words(program),
+        *wrong_objects(program),
+        *wrong_lines(program),
+        *wrong_servers(program),
+        *wrong_examples(program),
+        *wrong_devices(program),
+    ]
     for what, found in wrong:
         print(f"mdlview {what}: {found}", file=sys.stderr)
     if not wrong:

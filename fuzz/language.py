@@ -14,7 +14,7 @@ NUMBER = re.compile(rb"[1-9][0-9]{0,9}")
 # The forms. A word in capitals is a key word, or one of several; t is a table, c, n and s are names, and k is a session. What stands behind
 # `..` comes once or up to so many times.
 STATEMENTS = [
-    *("BEGIN", "START TRANSACTION", "COMMIT", "ROLLBACK", "SAVEPOINT n", "ROLLBACK TO n", "UNLOCK TABLES", "TIMEOUT"),
+    *("BEGIN", "START TRANSACTION", "COMMIT", "ROLLBACK", "SAVEPOINT n", "ROLLBACK TO n", "UNLOCK TABLES", "TIMEOUT", "GET_LOCK|RELEASE_LOCK n"),
     *("INSERT|UPDATE|DELETE t", "INSERT|UPDATE|DELETE LOW_PRIORITY t", "RENAME TABLE t TO t", "CREATE|DROP SCHEMA s"),
     *("ALTER TABLE t ADD|DROP c COPY|INPLACE", "FLUSH TABLES WITH READ LOCK", "KILL QUERY k"),
     *(f"SELECT .. {MOST_TABLES} t", f"DROP TABLE .. {MOST_TABLES} t", f"CREATE TABLE t .. {MOST_COLUMNS} c"),

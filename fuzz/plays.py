@@ -5,7 +5,7 @@ from spaces import KILLED, TIMEOUT, VICTIM, Lost, Space
 
 MOST_COLUMNS = 64
 GLOBAL, COMMIT = (0,), (3,)
-NAMES = {0: b"GLOBAL", 1: b"SCHEMA %b", 2: b"TABLE %b.%b", 3: b"COMMIT"}
+NAMES = {0: b"GLOBAL", 1: b"SCHEMA %b", 2: b"TABLE %b.%b", 3: b"COMMIT", 4: b"USER %b"}
 
 
 class Early(Exception):
@@ -24,6 +24,11 @@ def schema(name):
 def table(word):
     """Returns the key of the table that a word names."""
     return 2, *(b"test", *word.split(b"."))[-2:]
+
+
+def user_lock(name):
+    """Returns the key of a user-level lock."""
+    return 4, name
 
 
 class Session:
@@ -313,6 +318,29 @@ class Session:
             raise
         self.has_read_lock, self.read_lock = True, [first, second]
 
+    def get_lock(self, words):
+        """GET_LOCK: a wait that is over in vain takes nothing else with it."""
+        try:
+            yield from self.lock(user_lock(words[0]), b"X", "E")
+        except Lost as error:
+            if error.args[0] == TIMEOUT:
+                return b" 0"
+            if error.args[0] == VICTIM:
+                raise Wrong(3058) from error
+            raise
+        return b" 1"
+
+    def release_lock(self, words):
+        """RELEASE_LOCK: the newest ticket of a name, or whether nobody has the name."""
+        key = user_lock(words[0])
+        yield from ()
+        had = [it for it in self.space.held[self.who] if it.key == key]
+        if had:
+            self.space.release(had[-1:])
+            return b" 1"
+        self.space.place(key)
+        return b" NULL" if self.space.can_have(self.who, key, b"X") else b" 0"
+
     def kill(self, words):
         """KILL QUERY."""
         self.space.settle(int(words[1]), KILLED)
@@ -356,6 +384,7 @@ STATEMENTS = {
     **{(b"CREATE", b"SCHEMA"): Session.create_schema, (b"DROP", b"SCHEMA"): Session.drop_schema, (b"ALTER",): Session.alter},
     **{(b"LOCK",): Session.lock_tables, (b"UNLOCK",): Session.unlock_tables, (b"FLUSH",): Session.flush},
     **{(b"KILL",): Session.kill, (b"TIMEOUT",): Session.time_out},
+    **{(b"GET_LOCK",): Session.get_lock, (b"RELEASE_LOCK",): Session.release_lock},
 }
 
 

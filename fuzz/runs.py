@@ -9,8 +9,8 @@ from plays import schema, table
 
 NAMES = rb"[a-z0-9_]{1,64}"
 TABLE = rb"%b\.%b@\d{1,7}\(%b(?:,%b){0,63}\)" % ((NAMES,) * 4)
-ERRORS = b"1007 1049 1050 1060 1091 1099 1100 1146 1192 1205 1213 1223 1305 1317 9001 9002 9003 9004 9005"
-END = rb"OK(?: %b){0,8}|ERR (?:%b)" % (TABLE, ERRORS.replace(b" ", b"|"))
+ERRORS = b"1007 1049 1050 1060 1091 1099 1100 1146 1192 1205 1213 1223 1305 1317 3058 9001 9002 9003 9004 9005"
+END = rb"OK(?: %b){0,8}|OK (?:0|1|NULL)|ERR (?:%b)" % (TABLE, ERRORS.replace(b" ", b"|"))
 RUN = re.compile(rb"(\d+) (\d+) (%b)" % END)
 FINAL = re.compile(rb"FINAL (?:SCHEMA %b@\d{1,7}|TABLE %b)" % (NAMES, TABLE))
 
@@ -83,9 +83,10 @@ def wrong_versions(written):
 
 
 def wrong_in_lone_run(lines, replayed, written):
-    """Tells what is wrong with what `run` wrote for the lines of one session, beside what `replay` did: it is the same, and last lines."""
+    """Tells what is wrong with what `run` wrote for the lines of one session, beside what `replay` did: it is the same, and a line for all that is left."""
     if len({it.session for it in lines}) != 1 or b" WAIT " in replayed or b" ERR 9004" in replayed + written:
         return None
-    if not written.startswith(replayed) or not written[len(replayed) :].startswith(b"FINAL "):
+    left = written[len(replayed) :]
+    if not written.startswith(replayed) or (left and not left.startswith(b"FINAL ")):
         return "run answers one session otherwise than replay"
     return None

@@ -1,13 +1,13 @@
 """Locks of many keys, with tickets and waits of sessions, as plainly as can be: what `replay` plays on.
 
-A key is (0,) for GLOBAL, (1, schema), (2, schema, table), or (3,) for COMMIT. A call that may wait is a generator: it yields as a wait begins, and
+A key is (0,) for GLOBAL, (1, schema), (2, schema, table), (3,) for COMMIT, or (4, name) for a user-level lock. A call that may wait is a generator: it yields as a wait begins, and
 goes on once that is settled."""
 
 import dataclasses
 
 MOST_PLACES = 256
 
-# The modes in order. Those from SU on weigh 100 where a victim is chosen, as all of GLOBAL do.
+# The modes in order. Those from SU on weigh 100 where a victim is chosen, as all of GLOBAL do. Those of user-level locks weigh 50.
 MODES = [b"IX", b"S", b"SH", b"SR", b"SW", b"SWLP", b"SU", b"SRO", b"SNW", b"SNRW", b"X"]
 HEAVY = MODES.index(b"SU")
 
@@ -55,7 +55,7 @@ class Space:
 
     def row(self, key, matrix, mode):
         """Returns a row of the matrices."""
-        return self.matrices["object" if key[0] == 2 else "scoped", matrix, mode]
+        return self.matrices["object" if key[0] in (2, 4) else "scoped", matrix, mode]
 
     def covers(self, key, strong, weak):
         """Whether a mode is at least as strong as another one."""
@@ -118,6 +118,8 @@ class Space:
     def weight(self, who):
         """Returns what a session's wish weighs."""
         wish = self.waits[who]
+        if wish.key[0] == 4:
+            return 50
         return 100 if wish.key == (0,) or MODES.index(wish.mode) >= HEAVY else 0
 
     def break_cycles(self, who):

@@ -1,6 +1,6 @@
 #!/bin/sh
 # Says where the version is another one than in the file VERSION, a line for each place, or that there is none. The newest version of CHANGELOG.md
-# and the manual page also have the same date.
+# and the manual pages also have the same date.
 # Usage: sh make/check_version.sh
 cd "$(dirname "$0")/.." || exit 1
 version=$(cat VERSION)
@@ -20,12 +20,16 @@ has() {
     [ "${newest% *}" = "$version" ] || echo "CHANGELOG.md: the newest version is ${newest% *}, and VERSION has $version"
     has docs/mdlsim.1 ".TH MDLSIM 1 ${newest#* } \"mdlsim $version\""
     has docs/mdlsim.1 "This page describes mdlsim $version."
+    has docs/mdlview.1 ".TH MDLVIEW 1 ${newest#* } \"mdlview $version\""
+    has docs/mdlview.1 "This page describes mdlview $version."
     has examples/rust/Cargo.toml "version = \"$version\""
     has crates/mdlsim/src/program.rt "b\"mdlsim $version\\n\""
     has crates/mdlsim/specs/CommandLine.antt "codes \"mdlsim $version\""
+    has crates/mdlview/src/program.rt "b\"mdlview $version\\n\""
+    has crates/mdlview/specs/CommandLine.antt "codes \"mdlview $version\""
 } > "$stale"
 if [ -s "$stale" ]; then
     cat "$stale" >&2
     exit 1
 fi
-echo "CHANGELOG.md, the manual page, the crate of Rust and mdlsim have the version $version"
+echo "CHANGELOG.md, the manual pages, the crate of Rust, mdlsim and mdlview have the version $version"

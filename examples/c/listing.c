@@ -8,7 +8,7 @@
 
 enum { SESSIONS = 3, NAME_ROOM = 64, LOCK_ROOM = 8 };
 
-static const char *const namespaces[] = {"GLOBAL", "SCHEMA", "TABLE", "COMMIT"};
+static const char *const namespaces[] = {"GLOBAL", "SCHEMA", "TABLE", "COMMIT", "USER"};
 static const char *const modes[] = {"IX", "S", "SH", "SR", "SW", "SWLP", "SU", "SRO", "SNW", "SNRW", "X"};
 static const char *const statuses[] = {"GRANTED", "PENDING"};
 

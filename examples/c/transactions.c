@@ -105,7 +105,7 @@ static void be_refused(void)
     tell("the place of orders", mdl_table(&space, 1, NAME("shop"), NAME("orders"), &place));
     tell("a context keeps the tickets", mdl_try(&space, 1, place, MDL_SR, &ticket));
     tell("there is no duration 3", mdl_acquire(&space, 1, TABLE("orders"), MDL_SR, 3, &ticket));
-    tell("there is no namespace 4", mdl_release_name(&space, 1, 4, NAME(""), NAME("")));
+    tell("there is no namespace 5", mdl_release_name(&space, 1, 5, NAME(""), NAME("")));
     tell("session 3 has no context", mdl_end_transaction(&space, 3));
     tell("there is no session 4", mdl_end_transaction(&space, 4));
     tell("1 has a context already", mdl_context_begin(&space, 1));

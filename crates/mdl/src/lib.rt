@@ -37,7 +37,7 @@ pub use mdl_book as book;
 pub use mdl_book::{Book, Sessions, Ticket};
 pub use mdl_calls as calls;
 pub use mdl_context as context;
-pub use mdl_context::{Acquire, Context, Request, Resume};
+pub use mdl_context::{Acquire, Context, Request, Resume, Tried};
 pub use mdl_defs as defs;
 pub use mdl_defs::{
     CacheError, Change, Column, Columns, DefCache, Definition, MOST_KEPT, Standing,

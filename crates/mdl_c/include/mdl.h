@@ -46,7 +46,7 @@ struct mdl_space {
 };
 #define MDL_SPACE_INIT {0, false}
 
-/* The modes: a table's key takes all but IX, the other keys take IX, S and X. */
+/* The modes: keys of tables and of user-level locks take all but IX, the other keys take IX, S and X. */
 enum mdl_mode {
     MDL_IX, MDL_S, MDL_SH, MDL_SR, MDL_SW, MDL_SWLP, MDL_SU, MDL_SRO, MDL_SNW, MDL_SNRW, MDL_X
 };
@@ -58,7 +58,7 @@ enum mdl_duration {
 
 /* The namespaces of keys. */
 enum mdl_namespace {
-    MDL_GLOBAL, MDL_SCHEMA, MDL_TABLE, MDL_COMMIT
+    MDL_GLOBAL, MDL_SCHEMA, MDL_TABLE, MDL_COMMIT, MDL_USER_LEVEL_LOCK
 };
 
 /* Whether a ticket in a lock's list holds the lock, or waits for it. */
@@ -196,8 +196,8 @@ uint32_t mdl_context_end(struct mdl_space *space, uint16_t who);
 
 /* Acquires a lock of a key, for this duration: DONE and its ticket, or WAITING and the wait's number, after deadlocks were searched for. A
    ticket of the key that is strong enough and kept as long is used again, unless it is explicit, and one of another duration is cloned. Of
-   the names only those are read that keys of the namespace have: MDL_GLOBAL and MDL_COMMIT have none, MDL_SCHEMA a schema's. Where it is
-   refused, the session's tickets are as they were and it has no wait, but a new key may have got its place, and where memory ran out the waits of
+   the names only those are read that keys of the namespace have: MDL_GLOBAL and MDL_COMMIT have none, MDL_SCHEMA a schema's, and
+   MDL_USER_LEVEL_LOCK one of its own, which stands for the schema's. Where it is refused, the session's tickets are as they were and it has no wait, but a new key may have got its place, and where memory ran out the waits of
    victims that were found stay settled. */
 uint32_t mdl_acquire(struct mdl_space *space, uint16_t who, uint8_t namespace_, const uint8_t *schema, size_t schema_length,
                      const uint8_t *table, size_t table_length, uint8_t mode, uint8_t duration, uint64_t *number);
@@ -239,7 +239,7 @@ uint32_t mdl_end_transaction(struct mdl_space *space, uint16_t who);
 /* Keeps all tickets until they are released: DONE. */
 uint32_t mdl_make_explicit(struct mdl_space *space, uint16_t who);
 
-/* Keeps the explicit tickets until the transaction ends: DONE. */
+/* Keeps the explicit tickets, but those of user-level locks, until the transaction ends: DONE. */
 uint32_t mdl_make_transactional(struct mdl_space *space, uint16_t who);
 
 /* ---- what there is */
@@ -258,7 +258,7 @@ uint32_t mdl_held(struct mdl_space *space, uint16_t who, struct mdl_ticket *tick
 uint32_t mdl_places(struct mdl_space *space, size_t *count);
 
 /* The key of a place: DONE, its namespace (enum mdl_namespace), and the names of its schema and its table. A name has 64 bytes at most, and
-   none where the key lacks it. */
+   none where the key lacks it. A user-level lock's own name stands for a schema's. */
 uint32_t mdl_key_of(struct mdl_space *space, uint16_t place, uint8_t *namespace_, uint8_t *schema, size_t schema_room,
                     size_t *schema_length, uint8_t *table, size_t table_room, size_t *table_length);
 

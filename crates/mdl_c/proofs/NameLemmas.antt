@@ -4,7 +4,7 @@ use Rattle.std.specs.Prelude.{Option, Some, None, Result, Ok, Err}
 use Rattle.mdl_key.specs.declared.key_error.KeyError.{KeyError}
 use Rattle.mdl_key.specs.declared.key_error.KeyError.TheVariants.{OutOfMemory}
 use Rattle.mdl_key.specs.declared.namespace.Namespace.{Namespace}
-use Rattle.mdl_key.specs.declared.namespace.Namespace.TheVariants.{Global, Schema, Table, Commit}
+use Rattle.mdl_key.specs.declared.namespace.Namespace.TheVariants.{Global, Schema, Table, Commit, UserLevelLock}
 use Rattle.mdl_key.specs.Keys.{KeyName}
 use Rattle.mdl_key.specs.Words.{Refuses}
 use Rattle.mdl_key.specs.declared.mode.Duration.{Duration}
@@ -45,6 +45,7 @@ named-done (Some Global) schema table key Done Refused is done = subst Done is d
 named-done (Some Schema) schema table key Done Refused named done = named-so Done Refused named done
 named-done (Some Table) schema table key Done Refused named done = named-so Done Refused named done
 named-done (Some Commit) schema table key Done Refused is done = subst Done is done
+named-done (Some UserLevelLock) schema table key Done Refused named done = named-so Done Refused named done
 
 -- none is
 pub named-refused : (namespace : Option Namespace) (schema table : List ℕ) (code : ℕ) (Done : KeyName → Type 0) (Refused : ℕ → Type 0)
@@ -54,6 +55,7 @@ named-refused (Some Global) schema table code Done Refused never refused = absur
 named-refused (Some Schema) schema table code Done Refused named refused = unnamed-so _ Refused named refused
 named-refused (Some Table) schema table code Done Refused named refused = unnamed-so _ Refused named refused
 named-refused (Some Commit) schema table code Done Refused never refused = absurd never
+named-refused (Some UserLevelLock) schema table code Done Refused named refused = unnamed-so _ Refused named refused
 
 -- ---- wishes of locks
 

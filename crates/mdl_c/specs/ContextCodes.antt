@@ -4,7 +4,7 @@ use Rattle.std.specs.Prelude.{ℕ, ◌==◌, Option, Some, None, Result, Ok, Err
 use Rattle.mdl_key.specs.declared.mode.Duration.{Duration}
 use Rattle.mdl_key.specs.declared.mode.Duration.TheVariants.{Statement, Transaction, Explicit}
 use Rattle.mdl_key.specs.declared.namespace.Namespace.{Namespace}
-use Rattle.mdl_key.specs.declared.namespace.Namespace.TheVariants.{Global, Schema, Table, Commit}
+use Rattle.mdl_key.specs.declared.namespace.Namespace.TheVariants.{Global, Schema, Table, Commit, UserLevelLock}
 use Rattle.mdl_calls.specs.Words.{Answer}
 use Rattle.mdl_context.specs.declared.context_error.ContextError.{ContextError}
 use Rattle.mdl_context.specs.declared.context_error.ContextError.TheVariants.{StaleSavepoint, NotHeld, Waiting, Space}
@@ -32,13 +32,14 @@ duration_at number =
     else (if number == 1 then Some Transaction
     else (if number == 2 then Some Explicit else None))
 
--- the namespace of a number: their order is that of MySQL 5.7
+-- the namespace of a number: their order is that of MySQL 5.7, which has others between them
 abbrev pub namespace_at : ℕ → Option Namespace
 namespace_at number =
     if number == 0 then Some Global
     else (if number == 1 then Some Schema
     else (if number == 2 then Some Table
-    else (if number == 3 then Some Commit else None)))
+    else (if number == 3 then Some Commit
+    else (if number == 4 then Some UserLevelLock else None))))
 
 -- why a session isn't served
 abbrev pub unserved_code : Unserved → ℕ

@@ -3,8 +3,8 @@ use Rattle.std.specs.Prelude.{◌≡◌, ◌⊎◌, ℕ, List, Option, Some, Non
 use Rattle.std.specs.Str.{IsUtf8}
 use Rattle.mdl_key.specs.declared.key_error.KeyError.{KeyError}
 use Rattle.mdl_key.specs.declared.namespace.Namespace.{Namespace}
-use Rattle.mdl_key.specs.declared.namespace.Namespace.TheVariants.{Global, Schema, Table, Commit}
-use Rattle.mdl_key.specs.Keys.{KeyName, commit_key, global_key, name_fault, schema_key, table_fault, table_key}
+use Rattle.mdl_key.specs.declared.namespace.Namespace.TheVariants.{Global, Schema, Table, Commit, UserLevelLock}
+use Rattle.mdl_key.specs.Keys.{KeyName, commit_key, global_key, name_fault, schema_key, table_fault, table_key, user_lock_key}
 use Rattle.mdl_c.specs.Codes.{bad_byte, name_code, no_memory}
 use Rattle.mdl_c.specs.ContextCodes.{no_namespace}
 
@@ -25,3 +25,4 @@ NamedIn (Some Schema) schema table Done Refused = Named (IsUtf8 schema) (name_fa
 NamedIn (Some Table) schema table Done Refused =
     Named (IsUtf8 schema × IsUtf8 table) (table_fault schema table) (Done (table_key schema table)) Refused
 NamedIn (Some Commit) schema table Done Refused = Done commit_key
+NamedIn (Some UserLevelLock) schema table Done Refused = Named (IsUtf8 schema) (name_fault schema) (Done (user_lock_key schema)) Refused

@@ -36,9 +36,9 @@ abbrev pub making_explicit : ContextView → Program (Outcome (Unit {0}))
 making_explicit context =
     unless (waiting_fault context) context (Give (Ok tt, record context { kept = map (kept_for Explicit) context.kept }))
 
--- the explicit tickets are kept until the transaction ends
+-- the explicit tickets are kept until the transaction ends, but those of user-level locks
 abbrev pub making_transactional : ContextView → Program (Outcome (Unit {0}))
-making_transactional context = unless (waiting_fault context) context (Give (Ok tt, record context { kept = map transactional context.kept }))
+making_transactional context = unless (waiting_fault context) context (Give (Ok tt, record context { kept = map (transactional context.known) context.kept }))
 
 -- ---- the call of a session's context
 

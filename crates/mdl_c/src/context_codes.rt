@@ -34,6 +34,7 @@ pub fn namespace_of(number: u8) -> Option<Namespace>
         1 => Some(Namespace::Schema),
         2 => Some(Namespace::Table),
         3 => Some(Namespace::Commit),
+        4 => Some(Namespace::UserLevelLock),
         _ => None,
     }
 }

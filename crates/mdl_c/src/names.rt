@@ -1,7 +1,7 @@
 //! Keys of names that are bytes of C's.
 ghost use Rattle.std.specs.Prelude.{◌≡◌, None, MatchResult};
 ghost use Rattle.std.specs.Str.{IsUtf8};
-ghost use Rattle.mdl_key.specs.Keys.{name_fault, schema_key, table_fault, table_key};
+ghost use Rattle.mdl_key.specs.Keys.{name_fault, schema_key, table_fault, table_key, user_lock_key};
 ghost use Rattle.mdl_c.specs.ContextCodes.{namespace_at};
 ghost use Rattle.mdl_c.specs.Names.{IsNameCode, NamedIn};
 
@@ -44,6 +44,21 @@ pub fn schema_of(alloc: Global, schema: &[u8]) -> Result<Key, u32>
     }
 }
 
+/// The key of a user-level lock, or the code of why there is none.
+pub fn user_lock_of(alloc: Global, name: &[u8]) -> Result<Key, u32>
+    ensures { MatchResult result
+        (λ key. IsUtf8 name.now × (name_fault name.now ≡ None) × (key ≡ user_lock_key name.now))
+        (λ code. IsNameCode (IsUtf8 name.now) (name_fault name.now) code) }
+{
+    let Ok(name) = str::from_utf8(name) else {
+        return Err(BAD_BYTE);
+    };
+    match Key::user_lock(alloc, name) {
+        Ok(key) => Ok(key),
+        Err(why) => Err(name_code(why)),
+    }
+}
+
 /// The key of a namespace's number and of those names that its keys have, or the code of why there is none.
 pub fn key_of(alloc: Global, namespace: u8, schema: &[u8], table: &[u8]) -> Result<Key, u32>
     ensures { MatchResult result
@@ -55,6 +70,7 @@ pub fn key_of(alloc: Global, namespace: u8, schema: &[u8], table: &[u8]) -> Resu
         Some(Namespace::Schema) => schema_of(alloc, schema),
         Some(Namespace::Table) => table_of(alloc, schema, table),
         Some(Namespace::Commit) => Ok(Key::commit(alloc)),
+        Some(Namespace::UserLevelLock) => user_lock_of(alloc, schema),
         None => Err(NO_NAMESPACE),
     }
 }

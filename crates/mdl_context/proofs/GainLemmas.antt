@@ -11,16 +11,17 @@ use Rattle.mdl_context.specs.declared.kept.Kept.{Kept}
 use Rattle.mdl_context.specs.declared.kept.Wanted.{Wanted}
 use Rattle.mdl_context.specs.Wishes.{Wish}
 use Rattle.mdl_context.specs.declared.request.Acquire.{Acquire}
+use Rattle.mdl_context.specs.declared.request.Tried.{Tried}
 use Rattle.mdl_context.specs.declared.context_error.ContextError.TheVariants.{Space}
 use Rattle.mdl_calls.specs.declared.space_error.SpaceError.TheVariants.{OutOfMemory}
 use Rattle.mdl_context.specs.Contexts.{ContextView, Serves, wish_there, wish_here}
 use Rattle.mdl_context.specs.Holdings.{earliest, is_at}
-use Rattle.mdl_context.specs.Requests.{Outcome, suffices, is_reusable, outcome_got, acquiring_at}
+use Rattle.mdl_context.specs.Requests.{Outcome, suffices, is_reusable, outcome_got, acquiring_at, outcome_tried, trying_at}
 use Rattle.mdl_context.proofs.PlaceLemmas.{suffices-at, equal}
 use Rattle.mdl_context.proofs.ServingLemmas.{earliest-held}
 use Rattle.mdl_context.specs.declared.asking.Got.{Got}
 use Rattle.mdl_context.specs.declared.asking.Got.TheVariants as got
-use Rattle.mdl_context.specs.Gains.{gaining_from, own_got, OwnWaited}
+use Rattle.mdl_context.specs.Gains.{gaining_from, trying_from, own_got, OwnWaited}
 
 -- a wait that began and was given up leaves nothing
 pub began-and-ended : (number place : ℕ) (mode : Mode) (own : Own) → own.wait ≡ None → ending (waiting number place mode own) ≡ own
@@ -64,6 +65,13 @@ module _ {S : Type 0} (joins : S → Call → Answer → S → Type 0) (place : 
       → Runs joins a (gaining_from ticket before.who place request.mode) result b → outcome_got place request before result ≡ reply → Runs joins a (acquiring_at place request before) reply b
   run-gained ticket result reply a b none enough run same =
       rw (sym is ∙ none) (inr (runs_bind joins (gaining_from (earliest (suffices place request) before.kept) before.who place request.mode) (λ end. Give (outcome_got place request before end)) a b b result reply
+      (rw enough at run) (same, refl)))
+
+  -- the same for a wish that isn't waited for, whether one is gained or not
+  pub run-tried : (ticket : Option Held) (result : Result Tried SpaceError) (reply : Outcome Tried) (a b : S) → found ≡ None → ticket ≡ earliest (suffices place request) before.kept
+      → Runs joins a (trying_from ticket before.who place request.mode) result b → outcome_tried place request before result ≡ reply → Runs joins a (trying_at place request before) reply b
+  run-tried ticket result reply a b none enough run same =
+      rw (sym is ∙ none) (inr (runs_bind joins (trying_from (earliest (suffices place request) before.kept) before.who place request.mode) (λ end. Give (outcome_tried place request before end)) a b b result reply
       (rw enough at run) (same, refl)))
 
   -- or there is no room for one

@@ -15,6 +15,7 @@ use Rattle.mdl_context.specs.declared.context_error.ContextError.TheVariants.{Wa
 use Rattle.mdl_context.specs.declared.kept.Kept.{Kept}
 use Rattle.mdl_context.specs.declared.request.Acquire.{Acquire}
 use Rattle.mdl_context.specs.declared.request.Acquire.TheVariants.{Acquired}
+use Rattle.mdl_context.specs.declared.request.Tried.{Tried}
 use Rattle.mdl_context.specs.Wishes.{Wish}
 use Rattle.mdl_context.specs.declared.request.Resume.{Resume}
 use Rattle.mdl_context.specs.declared.request.Resume.TheVariants as resume_as
@@ -150,6 +151,47 @@ faithful_acquiring request context =
     let place = place_known request.key context.known in
     either {A = Outcome Acquire} (IsFaithful IsStarved) (is_some context.wait) (Give (Err Waiting, context)) (requests.finding place request context)
     tt (faithful_finding place request context)
+
+-- ---- wishes that aren't waited for
+
+-- a lock at a place wasn't had at once for want of memory
+abbrev IsStarvedTry : Result Tried SpaceError → Type 0
+IsStarvedTry end = end ≡ Err OutOfMemory
+
+faithful_tried : (answer : Answer) → IsFaithful IsStarvedTry (gains.tried_answered answer)
+faithful_tried (Granted id) = tt
+faithful_tried Would_wait = tt
+faithful_tried _ = tt
+
+faithful_trying_from : (ticket : Option Held) (who place : ℕ) (mode : Mode) → IsFaithful IsStarvedTry (gains.trying_from ticket who place mode)
+faithful_trying_from (Some ticket) who place mode = (λ _. refl, faithful_tried)
+faithful_trying_from None who place mode = (λ _. refl, faithful_tried)
+
+faithful_trying_again : (ticket : Option Held) (place : ℕ) (request : Wish) (context : ContextView) → IsFaithful IsStarved (requests.trying_again ticket place request context)
+faithful_trying_again (Some ticket) place request context = tt
+faithful_trying_again None place request context =
+    let serving = earliest (requests.suffices place request) context.kept in (
+      refl,
+      faithful_bind {A = Result Tried SpaceError} {B = Outcome Tried} IsStarvedTry IsStarved (gains.trying_from serving context.who place request.mode)
+          (λ end. Give (requests.outcome_tried place request context end)) (faithful_trying_from serving context.who place request.mode)
+          (λ end e. ap (λ x. (requests.outcome_tried place request context x).0) e) (λ _. tt),
+    )
+
+faithful_trying_placed : (request : Wish) (context : ContextView) (answer : Answer) → IsFaithful IsStarved (requests.trying_placed request context answer)
+faithful_trying_placed request context (At_place place) =
+    let after = requests.remembering request.key place context in
+    (refl, faithful_trying_again (earliest (requests.is_reusable place request) after.kept) place request after)
+faithful_trying_placed request context _ = tt
+
+faithful_trying_found : (place : Option ℕ) (request : Wish) (context : ContextView) → IsFaithful IsStarved (requests.trying_found place request context)
+faithful_trying_found (Some place) request context = faithful_trying_again (earliest (requests.is_reusable place request) context.kept) place request context
+faithful_trying_found None request context = (λ _. refl, faithful_trying_placed request context)
+
+pub faithful_trying : (request : Wish) (context : ContextView) → IsFaithful IsStarved (requests.trying request context)
+faithful_trying request context =
+    let place = place_known request.key context.known in
+    either {A = Outcome Tried} (IsFaithful IsStarved) (is_some context.wait) (Give (Err Waiting, context)) (requests.trying_found place request context)
+    tt (faithful_trying_found place request context)
 
 -- ---- merges
 

@@ -8,6 +8,7 @@ use Rattle.mdl_calls.specs.Words.{Answer, Done, Call, Unpin, caller, EachCall, P
 use Rattle.mdl_calls.specs.declared.lock_space.LockSpace.{Ghosts}
 use Rattle.mdl_context.specs.declared.kept.Kept.{Kept}
 use Rattle.mdl_context.specs.declared.request.Acquire.{Acquire}
+use Rattle.mdl_context.specs.declared.request.Tried.{Tried}
 use Rattle.mdl_context.specs.Wishes.{Wish}
 use Rattle.mdl_context.specs.declared.request.Resume.{Resume}
 use Rattle.mdl_context.specs.Contexts.{ContextView, LeavesOthers}
@@ -17,7 +18,7 @@ use Rattle.mdl_context.specs.Requests as requests
 use Rattle.mdl_context.specs.Requests.{Outcome}
 use Rattle.mdl_context.specs.Upgrades as upgrades
 use Rattle.mdl_context.specs.Waits as waits
-use Rattle.mdl_context.proofs.OwnCallLemmas.{calls_weaker, own_reusing, own_finding, own_ending, own_looking, own_searching_on, own_all, own_upgrading, own_downgrading}
+use Rattle.mdl_context.proofs.OwnCallLemmas.{calls_weaker, own_reusing, own_finding, own_trying_again, own_trying_found, own_ending, own_looking, own_searching_on, own_all, own_upgrading, own_downgrading}
 
 -- a program makes all its calls for one session
 abbrev pub IsFor : {A : Type 0} → ℕ → Program A → Type 0
@@ -84,6 +85,14 @@ for_reusing ticket place request context =
 
 pub for_finding : (place : Option ℕ) (request : Wish) (context : ContextView) → IsFor context.who (requests.finding place request context)
 for_finding place request context = for_own {A = Outcome Acquire} context.who (requests.finding place request context) (own_finding place request context)
+
+pub for_trying_again : (ticket : Option Held) (place : ℕ) (request : Wish) (context : ContextView) → IsFor context.who (requests.trying_again ticket place request context)
+for_trying_again ticket place request context =
+    for_own {A = Outcome Tried} context.who (requests.trying_again ticket place request context) (own_trying_again ticket place request context)
+
+pub for_trying_found : (place : Option ℕ) (request : Wish) (context : ContextView) → IsFor context.who (requests.trying_found place request context)
+for_trying_found place request context =
+    for_own {A = Outcome Tried} context.who (requests.trying_found place request context) (own_trying_found place request context)
 
 pub for_ending : (context : ContextView) → IsFor context.who (waits.ending context)
 for_ending context = for_own {A = Outcome Resume} context.who (waits.ending context) (own_ending context)

@@ -17,6 +17,7 @@ use Rattle.mdl_context.specs.declared.context_error.ContextError.TheVariants.{Wa
 use Rattle.mdl_context.specs.declared.kept.Kept.{Kept}
 use Rattle.mdl_context.specs.declared.request.Acquire.{Acquire}
 use Rattle.mdl_context.specs.declared.request.Acquire.TheVariants.{Acquired}
+use Rattle.mdl_context.specs.declared.request.Tried.{Tried}
 use Rattle.mdl_context.specs.Wishes.{Wish}
 use Rattle.mdl_context.specs.declared.request.Resume.{Resume}
 use Rattle.mdl_context.specs.declared.request.Resume.TheVariants as resume_as
@@ -99,6 +100,42 @@ own_acquiring request context =
     let place = place_known request.key context.known in
     either {A = Outcome Acquire} (AreOwn context.who) (is_some context.wait) (Give (Err Waiting, context)) (requests.finding place request context)
     tt (own_finding place request context)
+
+-- ---- wishes that aren't waited for
+
+own_tried : (who : ℕ) (answer : Answer) → AreOwn who (gains.tried_answered answer)
+own_tried who (Granted id) = tt
+own_tried who Would_wait = tt
+own_tried who _ = tt
+
+own_trying_from : (ticket : Option Held) (who place : ℕ) (mode : Mode) → AreOwn who (gains.trying_from ticket who place mode)
+own_trying_from (Some ticket) who place mode = ((refl, refl), own_tried who)
+own_trying_from None who place mode = ((refl, refl), own_tried who)
+
+pub own_trying_again : (ticket : Option Held) (place : ℕ) (request : Wish) (context : ContextView) → AreOwn context.who (requests.trying_again ticket place request context)
+own_trying_again (Some ticket) place request context = tt
+own_trying_again None place request context =
+    let serving = earliest (requests.suffices place request) context.kept in (
+      tt,
+      calls_bind {A = Result Tried SpaceError} {B = Outcome Tried} (IsOwnCall context.who) (gains.trying_from serving context.who place request.mode)
+          (λ end. Give (requests.outcome_tried place request context end)) (own_trying_from serving context.who place request.mode) (λ _. tt),
+    )
+
+own_trying_placed : (request : Wish) (context : ContextView) (answer : Answer) → AreOwn context.who (requests.trying_placed request context answer)
+own_trying_placed request context (At_place place) =
+    let after = requests.remembering request.key place context in
+    (tt, own_trying_again (earliest (requests.is_reusable place request) after.kept) place request after)
+own_trying_placed request context _ = tt
+
+pub own_trying_found : (place : Option ℕ) (request : Wish) (context : ContextView) → AreOwn context.who (requests.trying_found place request context)
+own_trying_found (Some place) request context = own_trying_again (earliest (requests.is_reusable place request) context.kept) place request context
+own_trying_found None request context = ((refl, refl), own_trying_placed request context)
+
+pub own_trying : (request : Wish) (context : ContextView) → EachCall (IsOwnCall context.who) (requests.trying request context)
+own_trying request context =
+    let place = place_known request.key context.known in
+    either {A = Outcome Tried} (AreOwn context.who) (is_some context.wait) (Give (Err Waiting, context)) (requests.trying_found place request context)
+    tt (own_trying_found place request context)
 
 -- ---- merges
 

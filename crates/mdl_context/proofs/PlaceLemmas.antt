@@ -1,18 +1,20 @@
 -- The tickets of a place: their numbers as tickets come and go, and the earliest of them.
-use Rattle.std.proofs.Common.{◌≡◌, ◌≢◌, ℕ, zero, suc, ◌+◌, ◌<◌, ◌≤◌, Bool, true, false, List, [], ◌∷◌, ◌++◌, length, get_or, drop, Option, Some, None, refl, sym, ap, ◌∙◌, append-nil, arith}
-use Rattle.std.specs.Prelude.{◌&&◌, ◌==◌, map, filter, find, position, IsTrue, if◌then◌else◌}
+use Rattle.std.proofs.Common.{◌≡◌, ◌≢◌, ℕ, zero, suc, ◌+◌, ◌-◌, ◌<◌, ◌≤◌, Bool, true, false, List, [], ◌∷◌, ◌++◌, length, get_or, drop, Option, Some, None, refl, sym, ap, ◌∙◌, append-nil, arith}
+use Rattle.std.specs.Prelude.{◌&&◌, ◌==◌, map, filter, find, position, slice_get, IsTrue, if◌then◌else◌}
+use Rattle.std.specs.List.{last_or}
 use Rattle.std.specs.Option.{option_map, IfSome}
 use Rattle.std.proofs.lemmas.Bool.Decides.{nat_tests}
 use Rattle.std.proofs.lemmas.List.{drop_all, drop_more, get_or-map, length-map}
 use Rattle.std.proofs.lemmas.List.Folds.{find_at}
 use Rattle.std.proofs.lemmas.Option.{slice_get-get_or}
+use Rattle.mdl_key.specs.Keys.{KeyName}
 use Rattle.mdl_calls.specs.declared.answers.Held.{Held}
 use Rattle.mdl_context.specs.declared.kept.Kept.{Kept}
 use Rattle.mdl_context.specs.declared.kept.Wanted.{Wanted}
 use Rattle.mdl_context.specs.Wishes.{Wish}
-use Rattle.mdl_context.specs.Contexts.{AreRising, held_of}
+use Rattle.mdl_context.specs.Contexts.{AreRising, held_of, is_user_lock}
 use Rattle.mdl_context.specs.Requests.{suffices, is_reusable}
-use Rattle.mdl_context.specs.Holdings.{is_at, is_ticket, without_number, numbers_among, IsIndexOf, earliest}
+use Rattle.mdl_context.specs.Holdings.{is_at, is_ticket, without_number, numbers_among, IsIndexOf, earliest, kept_for, in_transaction, transactional}
 use Rattle.mdl_context.specs.Indexes.{Index, numbers_of, has_room_for, rises, without_one}
 use Rattle.mdl_context.proofs.FrontLemmas.{Above, above-filter}
 use Rattle.mdl_context.proofs.IndexLemmas.{AllAbove}
@@ -29,6 +31,13 @@ numbers-append place (x ∷ xs) ys = grind (arith, numbers-append place xs ys)
 pub numbers-changed : (f : Kept → Kept) → ((t : Kept) → (f t).id ≡ t.id) → ((t : Kept) → (f t).place ≡ t.place) → (place : ℕ) (xs : List Kept) → numbers_among place (map f xs) ≡ numbers_among place xs
 numbers-changed f ids places place [] = refl
 numbers-changed f ids places place (x ∷ xs) = grind (arith, numbers-changed f ids places place xs, ids x, places x)
+
+-- a ticket that is made transactional, or not, keeps its number, its place and its mode
+pub held-transactional : (known : List (KeyName × ℕ)) (t : Kept) → held_of (transactional known t) ≡ held_of t
+held-transactional known t = go (is_user_lock known t.place) where
+  go : (b : Bool) → held_of (if b then t else kept_for (in_transaction t.duration) t) ≡ held_of t
+  go true = refl
+  go false = refl
 
 above-numbers : (n : ℕ) (place : ℕ) (xs : List Kept) → Above n xs → AllAbove n (numbers_among place xs)
 above-numbers n place [] above = refl
@@ -219,3 +228,13 @@ module _ (xs : List Kept) (place : ℕ) (p : Kept → Bool) where
 
       pub from-failing : (t : Kept) → find (is_ticket (get_or numbers i 0)) xs ≡ Some t → p t ≡ false → earliest_from (i + 1) ≡ earliest_from i
       from-failing t found fails = sym (ap (earliest p) (next t found) ∙ grind arith)
+
+-- the last number is that behind all others
+last-behind : (n : ℕ) (numbers : List ℕ) → slice_get (n ∷ numbers) (length numbers) ≡ last_or (Some n) numbers
+last-behind n [] = refl
+last-behind n (m ∷ numbers) = last-behind m numbers
+
+pub last-number : (numbers : List ℕ) → slice_get numbers (length numbers - 1) ≡ last_or None numbers
+last-number [] = refl
+last-number (n ∷ numbers) =
+    let others : length (n ∷ numbers) - 1 ≡ length numbers = omega arith in ap (slice_get (n ∷ numbers)) others ∙ last-behind n numbers

@@ -8,15 +8,16 @@ use Rattle.mdl_context.specs.declared.context_error.ContextError.{ContextError}
 use Rattle.mdl_context.specs.declared.kept.Kept.{Kept}
 use Rattle.mdl_context.specs.declared.request.Acquire.{Acquire}
 use Rattle.mdl_context.specs.declared.request.Resume.{Resume}
+use Rattle.mdl_context.specs.declared.request.Tried.{Tried}
 use Rattle.mdl_context.specs.Contexts.{ContextView, held_for, beyond_mark, of_transaction, place_known}
 use Rattle.mdl_context.specs.MemoryLaws.{IsStarved, IsOwnCall, EachEnding, EndingsTakeNoMemory, ContextsCallForTheirSession, IsSure, SureWishes, SureUpgrades, SureWaits, SureEndings}
 use Rattle.mdl_context.specs.Releases.{at_known_place, giving_up, releasing, unless, waiting_fault, rollback_fault}
-use Rattle.mdl_context.specs.Requests.{Outcome, acquiring}
+use Rattle.mdl_context.specs.Requests.{Outcome, acquiring, trying}
 use Rattle.mdl_context.specs.Holdings.{upgrade_of}
 use Rattle.mdl_context.specs.Upgrades.{upgrading, downgrading}
 use Rattle.mdl_context.specs.Waits.{giving_up_wait, resuming}
-use Rattle.mdl_context.proofs.MemoryLemmas.{faithful_acquiring, faithful_upgrading, faithful_resuming, faithful_giving_up_wait, frugal_giving_up_wait, frugal_giving_up, frugal_releasing, frugal_downgrading, frugal_unless}
-use Rattle.mdl_context.proofs.OwnCallLemmas.{own_acquiring, own_resuming, own_giving_up_wait, own_giving_up, own_releasing, own_upgrading, own_downgrading, own_unless}
+use Rattle.mdl_context.proofs.MemoryLemmas.{faithful_acquiring, faithful_trying, faithful_upgrading, faithful_resuming, faithful_giving_up_wait, frugal_giving_up_wait, frugal_giving_up, frugal_releasing, frugal_downgrading, frugal_unless}
+use Rattle.mdl_context.proofs.OwnCallLemmas.{own_acquiring, own_trying, own_resuming, own_giving_up_wait, own_giving_up, own_releasing, own_upgrading, own_downgrading, own_unless}
 
 -- what is so of the giving up of a wait, of one release and of any releases, and stays so where a refusal comes first, is so of
 -- all that gives something up
@@ -44,7 +45,7 @@ frugal_endings context =
 
 pub own_calls : ContextsCallForTheirSession
 own_calls context = (
-  λ request. own_acquiring request context,
+  λ request. (own_acquiring request context, own_trying request context),
   λ id mode. own_upgrading id mode context,
   own_resuming context,
   own_giving_up_wait context,
@@ -53,8 +54,10 @@ own_calls context = (
 )
 
 pub sure-wishes : SureWishes
-sure-wishes request context a b reply run sound =
-    sure-run {A = Outcome Acquire} IsStarved (acquiring request context) a b reply (faithful_acquiring request context) sound run
+sure-wishes request context = (
+  λ a b reply run sound. sure-run {A = Outcome Acquire} IsStarved (acquiring request context) a b reply (faithful_acquiring request context) sound run,
+  λ a b reply run sound. sure-run {A = Outcome Tried} IsStarved (trying request context) a b reply (faithful_trying request context) sound run,
+)
 
 pub sure-upgrades : SureUpgrades
 sure-upgrades id mode context a b reply run sound =

@@ -16,6 +16,8 @@ use Rattle.mdl_context.specs.declared.request.Acquire.{Acquire}
 use Rattle.mdl_context.specs.declared.request.Acquire.TheVariants.{Acquired}
 use Rattle.mdl_context.specs.declared.request.Resume.{Resume}
 use Rattle.mdl_context.specs.declared.request.Resume.TheVariants as resume_as
+use Rattle.mdl_context.specs.declared.request.Tried.{Tried}
+use Rattle.mdl_context.specs.declared.request.Tried.TheVariants as try_as
 use Rattle.mdl_context.specs.Contexts.{ContextView, ticket_kept, without, place_known}
 use Rattle.mdl_context.specs.Gains as gains
 use Rattle.mdl_context.specs.Holdings.{earliest, upgrade_of, without_number}
@@ -66,6 +68,39 @@ of_acquiring request context =
     let place = place_known request.key context.known in
     either {A = Outcome Acquire} (StaysOf context.who) (is_some context.wait) (Give (Err Waiting, context)) (requests.finding place request context)
     refl (of_finding place request context)
+
+-- ---- wishes that aren't waited for
+
+of_tried : (place : ℕ) (request : Wish) (context : ContextView) (end : Result Tried SpaceError) →
+    IsOf {A = Tried} context.who (requests.outcome_tried place request context end)
+of_tried place request context (Ok (try_as.Acquired id)) = refl
+of_tried place request context (Ok try_as.WouldWait) = refl
+of_tried place request context (Err refusal) = refl
+
+of_trying_again : (ticket : Option Held) (place : ℕ) (request : Wish) (context : ContextView) → StaysOf {A = Tried} context.who (requests.trying_again ticket place request context)
+of_trying_again (Some ticket) place request context = refl
+of_trying_again None place request context =
+    let serving = earliest (requests.suffices place request) context.kept in (
+      refl,
+      each_then {A = Result Tried SpaceError} {B = Outcome Tried} (IsOf context.who) (gains.trying_from serving context.who place request.mode)
+          (λ end. Give (requests.outcome_tried place request context end)) (of_tried place request context),
+    )
+
+of_trying_placed : (request : Wish) (context : ContextView) (answer : Answer) → StaysOf {A = Tried} context.who (requests.trying_placed request context answer)
+of_trying_placed request context (At_place place) =
+    let after = requests.remembering request.key place context in
+    (refl, of_trying_again (earliest (requests.is_reusable place request) after.kept) place request after)
+of_trying_placed request context _ = refl
+
+of_trying_found : (place : Option ℕ) (request : Wish) (context : ContextView) → StaysOf {A = Tried} context.who (requests.trying_found place request context)
+of_trying_found (Some place) request context = of_trying_again (earliest (requests.is_reusable place request) context.kept) place request context
+of_trying_found None request context = of_trying_placed request context
+
+pub of_trying : (request : Wish) (context : ContextView) → StaysOf {A = Tried} context.who (requests.trying request context)
+of_trying request context =
+    let place = place_known request.key context.known in
+    either {A = Outcome Tried} (StaysOf context.who) (is_some context.wait) (Give (Err Waiting, context)) (requests.trying_found place request context)
+    refl (of_trying_found place request context)
 
 -- ---- merges
 

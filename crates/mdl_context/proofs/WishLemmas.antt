@@ -21,13 +21,15 @@ use Rattle.mdl_context.specs.declared.kept.Kept.{Kept}
 use Rattle.mdl_context.specs.declared.kept.Wanted.{Wanted}
 use Rattle.mdl_context.specs.declared.request.Acquire.{Acquire}
 use Rattle.mdl_context.specs.declared.request.Acquire.TheVariants.{Acquired}
+use Rattle.mdl_context.specs.declared.request.Tried.{Tried}
+use Rattle.mdl_context.specs.declared.request.Tried.TheVariants as try_as
 use Rattle.mdl_context.specs.Wishes.{Wish}
 use Rattle.mdl_context.specs.Contexts.{ContextView, lasts, place_known, held_of}
-use Rattle.mdl_context.specs.Gains.{gaining_from}
+use Rattle.mdl_context.specs.Gains.{gaining_from, trying_from}
 use Rattle.mdl_context.specs.Holdings.{earliest, is_at, kept_of}
-use Rattle.mdl_context.specs.Requests.{Outcome, acquiring_at, finding, is_reusable, outcome_got, place_answered, remembering, reusing, suffices}
+use Rattle.mdl_context.specs.Requests.{Outcome, acquiring_at, finding, is_reusable, outcome_got, outcome_tried, place_answered, remembering, reusing, suffices, trying_again, trying_at, trying_found, trying_placed}
 use Rattle.mdl_context.specs.Requests as requests
-use Rattle.mdl_context.specs.WishLaws.{IsAsWished, IsMet, GainsATicket}
+use Rattle.mdl_context.specs.WishLaws.{IsAsWished, IsMet, IsMetAtOnce, GainsATicket, GainsAtOnce}
 use Rattle.mdl_context.proofs.AttendLemmas.{known-last}
 
 pub covers-itself : (mode : Mode) → covers mode mode ≡ true
@@ -83,6 +85,27 @@ module _ (request : Wish) (before context : ContextView) (place : ℕ) (known : 
   pub met_at : Each (IsMet request before) (acquiring_at place request context)
   met_at = met_reusing (find (is_reusable place request) context.kept) refl
 
+  -- the same for a wish that isn't waited for
+  tried_got : (end : Result Tried SpaceError) → IsMetAtOnce request before (outcome_tried place request context end)
+  tried_got (Ok (try_as.Acquired id)) = met_got (Ok (got.Granted id))
+  tried_got (Ok try_as.WouldWait) = (kept, wait)
+  tried_got (Err refusal) = (kept, wait)
+
+  tried_again : (found : Option Kept) → find (is_reusable place request) context.kept ≡ found
+      → Each (IsMetAtOnce request before) (trying_at place request context)
+  tried_again (Some t) e =
+      subst (λ (found : Option Kept). Each (IsMetAtOnce request before) (trying_again (option_map held_of found) place request context)) (sym e) (met_again t e)
+  tried_again None e =
+      subst (λ (found : Option Kept). Each (IsMetAtOnce request before) (trying_again (option_map held_of found) place request context)) (sym e) (
+        (kept, wait),
+        each_then {A = Result Tried SpaceError} {B = Outcome Tried} (IsMetAtOnce request before)
+            (trying_from (earliest (suffices place request) context.kept) context.who place request.mode)
+            (λ end. Give (outcome_tried place request context end)) tried_got,
+      )
+
+  pub tried_at : Each (IsMetAtOnce request before) (trying_at place request context)
+  tried_at = tried_again (find (is_reusable place request) context.kept) refl
+
 met_place : (request : Wish) (context : ContextView) → place_known request.key context.known ≡ None → (answer : Answer)
     → Each (IsMet request context) (place_answered request context answer)
 met_place request context new (At_place place) = (
@@ -101,6 +124,25 @@ met_acquiring request context =
     let found = place_known request.key context.known in
     either {A = Outcome Acquire} (Each (IsMet request context)) (is_some context.wait) (Give (Err Waiting, context)) (finding found request context)
     (refl, refl) (met_finding request context found refl)
+
+tried_place : (request : Wish) (context : ContextView) → place_known request.key context.known ≡ None → (answer : Answer)
+    → Each (IsMetAtOnce request context) (trying_placed request context answer)
+tried_place request context new (At_place place) = (
+  (refl, refl),
+  tried_at request context (remembering request.key place context) place (known-last request.key context.known place new) refl refl,
+)
+tried_place request context new _ = (refl, refl)
+
+tried_found : (request : Wish) (context : ContextView) (found : Option ℕ) → place_known request.key context.known ≡ found
+    → Each (IsMetAtOnce request context) (trying_found found request context)
+tried_found request context (Some place) e = tried_at request context context place e refl refl
+tried_found request context None e = λ answer. tried_place request context e answer
+
+pub met_trying : (request : Wish) (context : ContextView) → Each (IsMetAtOnce request context) (requests.trying request context)
+met_trying request context =
+    let found = place_known request.key context.known in
+    either {A = Outcome Tried} (Each (IsMetAtOnce request context)) (is_some context.wait) (Give (Err Waiting, context)) (trying_found found request context)
+    (refl, refl) (tried_found request context found refl)
 
 -- ---- explicit wishes
 
@@ -131,6 +173,26 @@ module _ (request : Wish) (before context : ContextView) (place : ℕ) (explicit
   pub gains_at : Each (GainsATicket request before) (acquiring_at place request context)
   gains_at = gains_reusing (find (is_reusable place request) context.kept) refl
 
+  -- the same for a wish that isn't waited for
+  gains_tried : (end : Result Tried SpaceError) → GainsAtOnce request before (outcome_tried place request context end)
+  gains_tried (Ok (try_as.Acquired id)) = (place, ap (λ tickets. tickets ++ kept_of id place request ∷ []) kept)
+  gains_tried (Ok try_as.WouldWait) = tt
+  gains_tried (Err refusal) = tt
+
+  gains_again : (found : Option Kept) → find (is_reusable place request) context.kept ≡ found
+      → Each (GainsAtOnce request before) (trying_at place request context)
+  gains_again (Some t) e = absurd (never_again place request t explicit (find-passes (is_reusable place request) context.kept t e))
+  gains_again None e =
+      subst (λ (found : Option Kept). Each (GainsAtOnce request before) (trying_again (option_map held_of found) place request context)) (sym e) (
+        tt,
+        each_then {A = Result Tried SpaceError} {B = Outcome Tried} (GainsAtOnce request before)
+            (trying_from (earliest (suffices place request) context.kept) context.who place request.mode)
+            (λ end. Give (outcome_tried place request context end)) gains_tried,
+      )
+
+  pub gains_at_once : Each (GainsAtOnce request before) (trying_at place request context)
+  gains_at_once = gains_again (find (is_reusable place request) context.kept) refl
+
 gains_place : (request : Wish) (context : ContextView) → request.duration ≡ Explicit → (answer : Answer)
     → Each (GainsATicket request context) (place_answered request context answer)
 gains_place request context explicit (At_place place) =
@@ -149,6 +211,24 @@ gains_acquiring request context explicit =
     either {A = Outcome Acquire} (Each (GainsATicket request context)) (is_some context.wait) (Give (Err Waiting, context))
     (finding found request context) tt (gains_finding request context explicit found)
 
+gains_trying_placed : (request : Wish) (context : ContextView) → request.duration ≡ Explicit → (answer : Answer)
+    → Each (GainsAtOnce request context) (trying_placed request context answer)
+gains_trying_placed request context explicit (At_place place) =
+    (tt, gains_at_once request context (remembering request.key place context) place explicit refl)
+gains_trying_placed request context explicit _ = tt
+
+gains_trying_found : (request : Wish) (context : ContextView) → request.duration ≡ Explicit → (found : Option ℕ)
+    → Each (GainsAtOnce request context) (trying_found found request context)
+gains_trying_found request context explicit (Some place) = gains_at_once request context context place explicit refl
+gains_trying_found request context explicit None = λ answer. gains_trying_placed request context explicit answer
+
+pub gains_trying : (request : Wish) (context : ContextView) → request.duration ≡ Explicit
+    → Each (GainsAtOnce request context) (requests.trying request context)
+gains_trying request context explicit =
+    let found = place_known request.key context.known in
+    either {A = Outcome Tried} (Each (GainsAtOnce request context)) (is_some context.wait) (Give (Err Waiting, context))
+    (trying_found found request context) tt (gains_trying_found request context explicit found)
+
 -- ---- tickets that are used again
 
 pub used_again : (request : Wish) (context : ContextView) (place : ℕ) (ticket : Held) → context.wait ≡ None
@@ -159,3 +239,12 @@ used_again request context place ticket idle known found =
     ap (λ (wait : Option Wanted). if is_some wait then Give (Err Waiting, context) else finding at request context) idle
     ∙ ap (λ (there : Option ℕ). finding there request context) known
     ∙ ap (λ (again : Option Held). reusing again place request context) found
+
+pub tried_used_again : (request : Wish) (context : ContextView) (place : ℕ) (ticket : Held) → context.wait ≡ None
+    → place_known request.key context.known ≡ Some place → earliest (is_reusable place request) context.kept ≡ Some ticket
+    → requests.trying request context ≡ Give (Ok (try_as.Acquired ticket.id), context)
+tried_used_again request context place ticket idle known found =
+    let at = place_known request.key context.known in
+    ap (λ (wait : Option Wanted). if is_some wait then Give (Err Waiting, context) else trying_found at request context) idle
+    ∙ ap (λ (there : Option ℕ). trying_found there request context) known
+    ∙ ap (λ (again : Option Held). trying_again again place request context) found

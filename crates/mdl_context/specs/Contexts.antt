@@ -1,12 +1,14 @@
 -- The tickets of a session by how long it keeps them, after MySQL 5.7: `MDL_context` of sql/mdl.h and sql/mdl.cc. That a mark
 -- counts tickets, where MySQL points at the newest ones, is this project's own choice.
-use Rattle.std.specs.Prelude.{◌≡◌, ◌≢◌, ℕ, Bool, true, not, ◌||◌, ◌==◌, nat_lt, List, ◌++◌, map, filter, find, drop, length, All, Option, MatchOption, IsTrue}
-use Rattle.std.specs.List.{list_any}
+use Rattle.std.specs.Prelude.{◌≡◌, ◌≢◌, ℕ, Bool, true, false, not, ◌&&◌, ◌||◌, ◌==◌, nat_lt, List, ◌++◌, map, filter, find, drop, length, All, Option, None, MatchOption, IsTrue}
+use Rattle.std.specs.List.{last_or, list_any}
 use Rattle.std.specs.Map.{lookup}
-use Rattle.std.specs.Option.{IfSome, option_map}
+use Rattle.std.specs.Option.{IfSome, option_and_then, option_map, option_map_or}
 use Rattle.mdl_key.specs.declared.mode.Mode.{Mode}
 use Rattle.mdl_key.specs.declared.mode.Duration.{Duration}
 use Rattle.mdl_key.specs.declared.mode.Duration.TheVariants.{Statement, Transaction, Explicit}
+use Rattle.mdl_key.specs.declared.namespace.Namespace.{Namespace}
+use Rattle.mdl_key.specs.declared.namespace.Namespace.TheVariants.{UserLevelLock}
 use Rattle.mdl_key.specs.Keys.{KeyName, key_eq}
 use Rattle.mdl_defs.specs.declared.standing.Standing.{Standing}
 use Rattle.mdl_calls.specs.declared.answers.Held.{Held}
@@ -80,6 +82,27 @@ place_known key known = lookup (key_eq key) known
 -- whether a place is that of a known key
 abbrev pub is_known_place : List (KeyName × ℕ) → ℕ → Bool
 is_known_place known place = list_any (λ entry. entry.1 == place) known
+
+-- whether a namespace is that of user-level locks
+abbrev pub is_of_user_locks : Namespace → Bool
+is_of_user_locks UserLevelLock = true
+is_of_user_locks _ = false
+
+-- whether a place is that of a known user-level lock
+abbrev pub is_user_lock : List (KeyName × ℕ) → ℕ → Bool
+is_user_lock known place = list_any (λ entry. entry.1 == place && is_of_user_locks entry.0.namespace) known
+
+-- whether the session waits for a user-level lock
+abbrev pub waits_for_user_lock : ContextView → Bool
+waits_for_user_lock context = option_map_or (λ wanted. is_user_lock context.known wanted.place) context.wait false
+
+-- the number of the ticket at a place that was gained last
+abbrev pub last_at : ℕ → List Kept → Option ℕ
+last_at place kept = last_or None (map (λ ticket. ticket.id) (filter (λ ticket. ticket.place == place) kept))
+
+-- the number of the ticket of a key that was gained last
+abbrev pub last_ticket : KeyName → ContextView → Option ℕ
+last_ticket key context = option_and_then (λ place. last_at place context.kept) (place_known key context.known)
 
 -- a kept ticket as the lock space holds it
 abbrev pub held_of : Kept → Held

@@ -9,6 +9,8 @@ use Rattle.mdl_calls.specs.Own as owned
 use Rattle.mdl_calls.specs.Words.{Own, Answer, Refused, Granted, Would_wait, Waits, Try_now, Begin_wait, Clone_ticket, Settle_timeout, End_wait, Release, Program, Give, Ask, ◌>>=◌, ◌>>◌, SearchEnd, Over, Cut_off, Failed, seeking, most_searches}
 use Rattle.mdl_context.specs.declared.asking.Got.{Got}
 use Rattle.mdl_context.specs.declared.asking.Got.TheVariants as got
+use Rattle.mdl_context.specs.declared.request.Tried.{Tried}
+use Rattle.mdl_context.specs.declared.request.Tried.TheVariants as try_as
 
 -- the refusal that an answer is. An answer that is none doesn't come here.
 abbrev pub refusal_of : Answer → SpaceError
@@ -64,6 +66,17 @@ abbrev pub gaining_from : Option Held → ℕ → ℕ → Mode → Program (Resu
 gaining_from (Some ticket) who place mode = Ask (Clone_ticket who ticket.id mode) copy_answered
 gaining_from None who place mode = asking_at who place mode
 
+-- whether a ticket can be had at once is answered, where the session doesn't wait
+abbrev pub tried_answered : Answer → Program (Result Tried SpaceError)
+tried_answered (Granted id) = Give (Ok (try_as.Acquired id))
+tried_answered Would_wait = Give (Ok try_as.WouldWait)
+tried_answered answer = Give (Err (refusal_of answer))
+
+-- a ticket is cloned where there is one, and else a new one is asked for, and not waited for
+abbrev pub trying_from : Option Held → ℕ → ℕ → Mode → Program (Result Tried SpaceError)
+trying_from (Some ticket) who place mode = Ask (Clone_ticket who ticket.id mode) tried_answered
+trying_from None who place mode = Ask (Try_now who place mode) tried_answered
+
 -- what the session has after a lock at a place was asked for
 abbrev pub own_got : ℕ → Mode → Result Got SpaceError → Own → Own
 own_got place mode (Ok (got.Granted id)) own = owned.gaining id place mode own
@@ -75,3 +88,8 @@ abbrev pub OwnWaited : ℕ → Result Got SpaceError → Own → Own → Type 0
 OwnWaited number (Ok (got.Granted id)) before after = ⊥
 OwnWaited number (Ok (got.Waits n searched)) before after = (n ≡ number) × (after ≡ before)
 OwnWaited number (Err refusal) before after = after ≡ owned.ending before
+
+-- what the session has after it asked for a lock and didn't wait
+abbrev pub own_tried : ℕ → Mode → Result Tried SpaceError → Own → Own
+own_tried place mode (Ok (try_as.Acquired id)) own = owned.gaining id place mode own
+own_tried place mode _ own = own

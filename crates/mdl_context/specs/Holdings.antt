@@ -9,7 +9,7 @@ use Rattle.mdl_calls.specs.declared.answers.Held.{Held}
 use Rattle.mdl_context.specs.declared.kept.Kept.{Kept}
 use Rattle.mdl_context.specs.declared.kept.Wanted.{Wanted}
 use Rattle.mdl_context.specs.Wishes.{Wish}
-use Rattle.mdl_context.specs.Contexts.{ContextView, held_of}
+use Rattle.mdl_context.specs.Contexts.{ContextView, held_of, is_user_lock}
 use Rattle.mdl_context.specs.Indexes.{Index, numbers_of, has_room_for}
 
 -- the kept tickets in order of gain, the known places, the tickets' numbers by place, the wait, and whether there is a place for
@@ -66,9 +66,10 @@ abbrev pub in_transaction : Duration → Duration
 in_transaction Explicit = Transaction
 in_transaction duration = duration
 
--- a ticket that ends with the transaction
-abbrev pub transactional : Kept → Kept
-transactional ticket = kept_for (in_transaction ticket.duration) ticket
+-- a ticket that ends with the transaction, unless it is of a user-level lock: that stays as it is
+abbrev pub transactional : List (KeyName × ℕ) → Kept → Kept
+transactional known ticket =
+    if is_user_lock known ticket.place then ticket else kept_for (in_transaction ticket.duration) ticket
 
 -- the ticket that a request gains
 abbrev pub kept_of : ℕ → ℕ → Wish → Kept

@@ -16,7 +16,7 @@ use Rattle.mdl_context.specs.Wishes.{Wish}
 use Rattle.mdl_context.specs.Contexts.{ContextView}
 use Rattle.mdl_context.specs.Holdings.{upgrade_of}
 use Rattle.mdl_context.specs.Releases.{giving_up, releasing, releasing_name, rolling_back, ending_statement, ending_transaction}
-use Rattle.mdl_context.specs.Requests.{Outcome, acquiring}
+use Rattle.mdl_context.specs.Requests.{Outcome, acquiring, trying}
 use Rattle.mdl_context.specs.Upgrades.{upgrading, downgrading}
 use Rattle.mdl_context.specs.Waits.{is_searched, resuming, giving_up_wait}
 
@@ -37,9 +37,10 @@ EachEnding P context =
     × ((gone : List Kept) → P _ (giving_up gone context))
     × ((id : ℕ) (mode : Mode) → P _ (downgrading id mode context))
 
--- once memory was wanting, a wish for a lock answers that
+-- once memory was wanting, a wish for a lock answers that, whether it is waited for or not
 abbrev pub WishesTellOfWant : Type 0
-WishesTellOfWant = (request : Wish) (context : ContextView) → IsFaithful IsStarved (acquiring request context)
+WishesTellOfWant =
+    (request : Wish) (context : ContextView) → IsFaithful IsStarved (acquiring request context) × IsFaithful IsStarved (trying request context)
 
 -- so does an upgrade
 abbrev pub UpgradesTellOfWant : Type 0
@@ -65,7 +66,7 @@ IsOwnCall who call = (caller call ≡ Some who) × (has_call call ≡ true)
 abbrev pub ContextsCallForTheirSession : Type 0
 ContextsCallForTheirSession =
     (context : ContextView) →
-    ((request : Wish) → EachCall (IsOwnCall context.who) (acquiring request context))
+    ((request : Wish) → EachCall (IsOwnCall context.who) (acquiring request context) × EachCall (IsOwnCall context.who) (trying request context))
     × ((id : ℕ) (mode : Mode) → EachCall (IsOwnCall context.who) (upgrading id mode context))
     × EachCall (IsOwnCall context.who) (resuming context)
     × EachCall (IsOwnCall context.who) (giving_up_wait context)
@@ -83,7 +84,8 @@ IsSureUnless {A} IsFault program =
 
 -- what a wish for a lock answers, the context and the space after it are the outcome, unless memory was wanting
 abbrev pub SureWishes : Type 0
-SureWishes = (request : Wish) (context : ContextView) → IsSureUnless IsStarved (acquiring request context)
+SureWishes =
+    (request : Wish) (context : ContextView) → IsSureUnless IsStarved (acquiring request context) × IsSureUnless IsStarved (trying request context)
 
 -- and so for an upgrade
 abbrev pub SureUpgrades : Type 0

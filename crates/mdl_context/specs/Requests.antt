@@ -19,8 +19,10 @@ use Rattle.mdl_context.specs.declared.kept.Wanted.{Wanted}
 use Rattle.mdl_context.specs.Wishes.{Wish}
 use Rattle.mdl_context.specs.declared.request.Acquire.{Acquire}
 use Rattle.mdl_context.specs.declared.request.Acquire.TheVariants.{Acquired, MustWait}
+use Rattle.mdl_context.specs.declared.request.Tried.{Tried}
+use Rattle.mdl_context.specs.declared.request.Tried.TheVariants as try_as
 use Rattle.mdl_context.specs.Contexts.{ContextView, lasts, place_known}
-use Rattle.mdl_context.specs.Gains.{refusal_of, gaining_from}
+use Rattle.mdl_context.specs.Gains.{refusal_of, gaining_from, trying_from}
 use Rattle.mdl_context.specs.Holdings.{is_at, earliest, kept_of, wanted_of}
 
 -- what a call of a context comes to: its answer, and the context then
@@ -85,6 +87,43 @@ abbrev pub acquiring : Wish → ContextView → Program (Outcome Acquire)
 acquiring request context =
     if is_some context.wait then Give (Err Waiting, context) else finding (place_known request.key context.known) request context
 
+-- ---- without a wait
+
+-- what a space's answer comes to, where the session doesn't wait
+abbrev pub outcome_tried : ℕ → Wish → ContextView → Result Tried SpaceError → Outcome Tried
+outcome_tried place request context (Ok (try_as.Acquired id)) = (Ok (try_as.Acquired id), keeping id place request context)
+outcome_tried place request context (Ok try_as.WouldWait) = (Ok try_as.WouldWait, context)
+outcome_tried place request context (Err refusal) = (Err (Space refusal), context)
+
+-- a ticket that can be used again is; where there is none, there has to be room for one more, and then the earliest that suffices
+-- is cloned, or a new one asked for
+abbrev pub trying_again : Option Held → ℕ → Wish → ContextView → Program (Outcome Tried)
+trying_again (Some ticket) place request context = Give (Ok (try_as.Acquired ticket.id), context)
+trying_again None place request context =
+    Grow (starved context)
+    (trying_from (earliest (suffices place request) context.kept) context.who place request.mode >>= (λ end. Give (outcome_tried place request context end)))
+
+-- a lock at a place is tried
+abbrev pub trying_at : ℕ → Wish → ContextView → Program (Outcome Tried)
+trying_at place request context = trying_again (earliest (is_reusable place request) context.kept) place request context
+
+-- the place of the key is answered, and remembered
+abbrev pub trying_placed : Wish → ContextView → Answer → Program (Outcome Tried)
+trying_placed request context (At_place place) = Grow (starved context) (trying_at place request (remembering request.key place context))
+trying_placed request context answer = Give (Err (Space (refusal_of answer)), context)
+
+-- the place of the key is known, or asked for
+abbrev pub trying_found : Option ℕ → Wish → ContextView → Program (Outcome Tried)
+trying_found (Some place) request context = trying_at place request context
+trying_found None request context = Ask (Resolve context.who request.key) (trying_placed request context)
+
+-- a lock is wished for, and not waited for: all goes as with a wish, but a lock that can't be had now isn't had
+abbrev pub trying : Wish → ContextView → Program (Outcome Tried)
+trying request context =
+    if is_some context.wait then Give (Err Waiting, context) else trying_found (place_known request.key context.known) request context
+
+-- ---- what is so afterwards
+
 -- a context is as it was, or has come to know the place of a key that it didn't know
 abbrev pub LearnsAtMost : KeyName → ContextView → ContextView → Type 0
 LearnsAtMost key before after =
@@ -95,3 +134,8 @@ abbrev pub WaitsAfter : Result Acquire ContextError → Option Wanted → Option
 WaitsAfter (Ok (Acquired id)) before after = after ≡ None
 WaitsAfter (Ok (MustWait number)) before after = IsSome after
 WaitsAfter (Err error) before after = after ≡ before
+
+-- this is so, unless a ticket was acquired
+abbrev pub UnlessAcquired : Result Tried ContextError → Type 0 → Type 0
+UnlessAcquired (Ok (try_as.Acquired id)) P = Unit {0}
+UnlessAcquired _ P = P

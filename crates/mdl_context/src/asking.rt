@@ -3,8 +3,9 @@ ghost use Rattle.std.specs.Prelude.{◌≡◌, ℕ, Some, None, true};
 ghost use Rattle.std.specs.Option.{IfSome};
 ghost use Rattle.mdl_key.specs.Keys.{KeyName};
 ghost use Rattle.mdl_calls.specs.Words.{is_waiting, ticket_held, Runs};
-ghost use Rattle.mdl_context.specs.Gains.{gaining_from, asking_at, waiting_at, waiting_on, own_got, OwnWaited};
+ghost use Rattle.mdl_context.specs.Gains.{gaining_from, asking_at, trying_from, waiting_at, waiting_on, own_got, own_tried, OwnWaited};
 
+use crate::Tried;
 use crate::searches::{abandon, seek};
 use mdl_key::Mode;
 use mdl_space::{Attempt, Begun, Held, LockSpace, Place, SpaceError, TicketId};
@@ -40,6 +41,50 @@ pub(crate) fn gain<S: LockSpace>(
             Err(refusal) => Err(refusal),
         },
         None => ask(space, who, place, mode),
+    }
+}
+
+/// Comes by a lock at a place if that needs no wait: where there is a ticket to clone, by a clone of it.
+pub(crate) fn try_gain<S: LockSpace>(
+    space: &mut S,
+    who: u16,
+    ticket: Option<Held>,
+    place: Place,
+    mode: Mode,
+) -> Result<Tried, SpaceError>
+    requires speaks { S.speaks_for space.old who }
+    requires held { IfSome ticket (λ held. (ticket_held held.id (S.own space.old who) ≡ Some held) × (held.place ≡ place)) }
+    ensures run { Runs S.joins space.old (trying_from ticket who place mode) result space.new }
+    ensures speaks { S.speaks_for space.new who }
+    ensures remembers { (at : ℕ) (key : KeyName) → S.knows space.old who at key → S.knows space.new who at key }
+    ensures own { S.own space.new who ≡ own_tried place mode result (S.own space.old who) }
+{
+    match ticket {
+        Some(held) => match space.clone_ticket(who, held.id, mode) {
+            Ok(id) => Ok(Tried::Acquired(id)),
+            Err(refusal) => Err(refusal),
+        },
+        None => try_ask(space, who, place, mode),
+    }
+}
+
+// Asks for a lock, and for nothing more where it can't be had now.
+fn try_ask<S: LockSpace>(
+    space: &mut S,
+    who: u16,
+    place: Place,
+    mode: Mode,
+) -> Result<Tried, SpaceError>
+    requires speaks { S.speaks_for space.old who }
+    ensures run { Runs S.joins space.old (trying_from None who place mode) result space.new }
+    ensures speaks { S.speaks_for space.new who }
+    ensures remembers { (at : ℕ) (key : KeyName) → S.knows space.old who at key → S.knows space.new who at key }
+    ensures own { S.own space.new who ≡ own_tried place mode result (S.own space.old who) }
+{
+    match space.try_now(who, place, mode) {
+        Ok(Attempt::Granted(id)) => Ok(Tried::Acquired(id)),
+        Ok(Attempt::WouldWait) => Ok(Tried::WouldWait),
+        Err(refusal) => Err(refusal),
     }
 }
 

@@ -2,19 +2,20 @@
 ghost use Rattle.std.specs.Prelude.{◌≡◌, None, [], map, OnOk, OnErr};
 ghost use Rattle.mdl_key.specs.declared.mode.Duration.TheVariants.{Explicit};
 ghost use Rattle.mdl_key.specs.Refusals.{RefusesJust};
-ghost use Rattle.mdl_context.specs.Contexts.{mark_of, Attends};
+ghost use Rattle.mdl_context.specs.Contexts.{mark_of, waits_for_user_lock, last_ticket, Attends};
 ghost use Rattle.mdl_context.specs.Holdings.{kept_for, transactional};
 ghost use Rattle.mdl_context.specs.Releases.{waiting_fault};
 
 use crate::holdings::Holdings;
 use crate::{ContextError, Kept, Mark, Wanted};
-use mdl_key::Duration;
-use mdl_space::LockSpace;
+use mdl_key::{Duration, Key};
+use mdl_space::{LockSpace, TicketId};
 use std::alloc::Global;
 use std::marker::{Model, PhantomData};
 
 mod acquire;
 mod releases;
+mod try_acquire;
 mod upgrades;
 mod waits;
 
@@ -70,6 +71,26 @@ impl<S: LockSpace> Context<S> {
         self.holdings.wait()
     }
 
+    /// Whether the session waits for a user-level lock.
+    pub fn waits_for_user_lock(&self) -> bool
+        ensures { result ≡ waits_for_user_lock self.now }
+    {
+        let Some(wanted) = self.holdings.wait() else {
+            return false;
+        };
+        self.holdings.is_user_lock(wanted.place)
+    }
+
+    /// The ticket of a key that the session gained last, if it holds one.
+    ///
+    /// It is found by the key's place, without a walk over the tickets. It takes no memory, and asks nothing of the space.
+    pub fn last_ticket(&self, key: &Key) -> Option<TicketId>
+        ensures { result ≡ last_ticket key.now self.now }
+    {
+        let place = self.holdings.place_known(key)?;
+        self.holdings.last_at(place)
+    }
+
     /// Where the session stands now: how many tickets it keeps for the statement, and how many for the transaction.
     ///
     /// The mark names no ticket, and holds nothing. It stays good as long as the session keeps so many of both; where
@@ -102,12 +123,12 @@ impl<S: LockSpace> Context<S> {
         Ok(())
     }
 
-    /// Keeps the explicit tickets until the transaction ends.
+    /// Keeps the explicit tickets until the transaction ends, but for those of user-level locks: they stay explicit.
     ///
     /// After MySQL 5.7, `MDL_context::set_transaction_duration_for_all_locks` of `sql/mdl.cc`.
     pub fn make_transactional(&mut self) -> Result<(), ContextError>
         ensures refused { RefusesJust (waiting_fault self.old) result }
-        ensures done { OnOk result (self.new ≡ record self.old { kept = map transactional self.old.kept }) }
+        ensures done { OnOk result (self.new ≡ record self.old { kept = map (transactional self.old.known) self.old.kept }) }
         ensures unchanged { OnErr result (self.new ≡ self.old) }
         ensures who { self.new.who ≡ self.old.who }
         ensures attends { (space : S) → Attends S.LockSpace space self.old → Attends S.LockSpace space self.new }

@@ -4,7 +4,7 @@ ghost use Rattle.std.specs.Vec.{vec_capacity};
 ghost use Rattle.std.specs.Option.{option_copied, option_map};
 ghost use Rattle.mdl_key.specs.declared.mode.Duration.TheVariants.{Explicit};
 ghost use Rattle.mdl_calls.specs.Own.{upgraded};
-ghost use Rattle.mdl_context.specs.Contexts.{AreRising, lasts, held_for, has_number, held_of, place_known, ticket_kept};
+ghost use Rattle.mdl_context.specs.Contexts.{AreRising, lasts, held_for, has_number, held_of, is_user_lock, last_at, place_known, ticket_kept};
 ghost use Rattle.mdl_context.specs.Goings.{goes};
 ghost use Rattle.mdl_context.specs.Holdings.{without_number, is_at, is_ticket, IsIndexOf, has_room, earliest, kept_for, in_transaction, transactional, kept_of, wanted_of, wanted_upgrade, upgrade_of, in_mode, with_wanted, search_over};
 ghost use Rattle.mdl_context.specs.Indexes.{has_room_for};
@@ -17,7 +17,7 @@ use crate::going::Going;
 use crate::wishes::covers;
 use crate::{Kept, Request, Wanted};
 use indexmap::IndexMap;
-use mdl_key::{Duration, Key, Mode};
+use mdl_key::{Duration, Key, Mode, Namespace};
 use mdl_space::{Held, Place, TicketId};
 use std::alloc::{AllocError, Global};
 use std::marker::Model;
@@ -124,6 +124,13 @@ impl Holdings {
         ensures { result ≡ place_known key.now self.now.known }
     {
         self.known.get(key).copied()
+    }
+
+    /// Whether a place is that of a user-level lock.
+    pub(crate) fn is_user_lock(&self, place: Place) -> bool
+        ensures { result ≡ is_user_lock self.now.known place }
+    {
+        has_user_lock(&self.known, place)
     }
 
     /// Knows the place of a new key from now on.
@@ -302,13 +309,20 @@ impl Holdings {
         make_all_explicit(&mut self.tickets);
     }
 
-    /// Keeps the explicit tickets until the transaction ends.
+    /// Keeps the explicit tickets until the transaction ends, but for those of user-level locks.
     pub(crate) fn make_transactional(&mut self)
-        ensures kept { self.new.kept ≡ map transactional self.old.kept }
+        ensures kept { self.new.kept ≡ map (transactional self.old.known) self.old.kept }
         ensures known { self.new.known ≡ self.old.known }
         ensures wait { self.new.wait ≡ self.old.wait }
     {
-        make_all_transactional(&mut self.tickets);
+        make_all_transactional(&mut self.tickets, &self.known);
+    }
+
+    /// The number of the ticket at a place that was gained last.
+    pub(crate) fn last_at(&self, place: Place) -> Option<TicketId>
+        ensures { result ≡ last_at place self.now.kept }
+    {
+        self.by_place.numbers(place).last().copied()
     }
 
     /// The earliest ticket at a place that a request can use again.
@@ -366,13 +380,29 @@ fn make_all_explicit(tickets: &mut [Kept])
     }
 }
 
-// Keeps those that are explicit until the transaction ends.
-fn make_all_transactional(tickets: &mut [Kept])
-    ensures { tickets.new ≡ map transactional tickets.old }
+// Keeps those that are explicit until the transaction ends, but for those of user-level locks.
+fn make_all_transactional(tickets: &mut [Kept], known: &IndexMap<Key, Place>)
+    ensures { tickets.new ≡ map (transactional known.now.entries) tickets.old }
 {
     for ticket in tickets.iter_mut() {
+        make_one_transactional(ticket, known);
+    }
+}
+
+// Keeps one until the transaction ends, if it is explicit and not of a user-level lock.
+fn make_one_transactional(ticket: &mut Kept, known: &IndexMap<Key, Place>)
+    ensures { ticket.new ≡ transactional known.now.entries ticket.old }
+{
+    if !has_user_lock(known, ticket.place) {
         ticket.duration = in_transaction(ticket.duration);
     }
+}
+
+// Whether a place is that of a user-level lock among known keys.
+fn has_user_lock(known: &IndexMap<Key, Place>, place: Place) -> bool
+    ensures { result ≡ is_user_lock known.now.entries place }
+{
+    known.iter().any(|(key, at)| *at == place && key.namespace() == Namespace::UserLevelLock)
 }
 
 // How long a ticket lasts where it ends with the transaction.

@@ -52,7 +52,7 @@ pub use memory_laws::{
     contexts_call_for_their_session, endings_take_no_memory, sure_endings, sure_upgrades,
     sure_waits, sure_wishes, upgrades_tell_of_want, waits_tell_of_want, wishes_tell_of_want,
 };
-pub use request::{Acquire, Mark, Request, Resume};
+pub use request::{Acquire, Mark, Request, Resume, Tried};
 pub use wish_laws::{
     explicit_wishes_gain, tickets_are_used_again, upgrades_are_met, waits_are_met, wishes_are_met,
 };

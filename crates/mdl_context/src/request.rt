@@ -35,6 +35,15 @@ pub enum Acquire {
     MustWait(u64),
 }
 
+/// What comes of a wish for a lock for which the session doesn't wait.
+#[derive(Clone, Copy, Debug, PartialEq, Eq)]
+pub enum Tried {
+    /// The lock is held, by the ticket of this number.
+    Acquired(TicketId),
+    /// It can't be had now.
+    WouldWait,
+}
+
 /// How a wait went on.
 #[derive(Clone, Copy, Debug, PartialEq, Eq)]
 pub enum Resume {

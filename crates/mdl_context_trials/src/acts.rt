@@ -2,7 +2,7 @@
 ghost use Rattle.std.specs.Prelude.{◌≡◌};
 ghost use Rattle.mdl_context.specs.Contexts.{Attends, LeavesOthers};
 
-use mdl_context::{Acquire, Context, ContextError, Mark, Request, Resume};
+use mdl_context::{Acquire, Context, ContextError, Mark, Request, Resume, Tried};
 use mdl_key::{Duration, Key, KeyError, Mode};
 use mdl_space::{LockSpace, SpaceError, TicketId};
 use std::alloc::Global;
@@ -15,6 +15,7 @@ pub(crate) enum Lock {
     Schema,
     Global,
     Commit,
+    User,
 }
 
 impl Lock {
@@ -26,6 +27,7 @@ impl Lock {
             Lock::Schema => Key::schema(alloc, "test"),
             Lock::Global => Ok(Key::global(alloc)),
             Lock::Commit => Ok(Key::commit(alloc)),
+            Lock::User => Key::user_lock(alloc, "a"),
         }
     }
 }
@@ -34,6 +36,9 @@ impl Lock {
 #[derive(Clone, Copy)]
 pub(crate) enum Act {
     Acquire(Lock, Mode, Duration),
+    TryAcquire(Lock, Mode, Duration),
+    Last(Lock),
+    AwaitsUserLock,
     Upgrade(TicketId, Mode),
     Downgrade(TicketId, Mode),
     Release(TicketId),
@@ -55,6 +60,9 @@ pub(crate) enum Act {
 pub(crate) enum Reply {
     Acquired(TicketId),
     MustWait(u64),
+    WouldWait,
+    Last(Option<TicketId>),
+    AwaitsUserLock(bool),
     Resumed(Resume),
     Stands(usize, usize),
     Done,
@@ -80,6 +88,16 @@ fn acquired(answer: Result<Acquire, ContextError>) -> Option<Reply> {
     }
 }
 
+// What the answer to a wish says that isn't waited for, unless no memory was found.
+fn tried(answer: Result<Tried, ContextError>) -> Option<Reply> {
+    match answer {
+        Ok(Tried::Acquired(id)) => Some(Reply::Acquired(id)),
+        Ok(Tried::WouldWait) => Some(Reply::WouldWait),
+        Err(ContextError::Space(SpaceError::OutOfMemory)) => None,
+        Err(cause) => Some(Reply::Refused(cause)),
+    }
+}
+
 // What the answer of a wait says, unless no memory was found.
 fn resumed(answer: Result<Resume, ContextError>) -> Option<Reply> {
     match answer {
@@ -87,6 +105,19 @@ fn resumed(answer: Result<Resume, ContextError>) -> Option<Reply> {
         Err(ContextError::Space(SpaceError::OutOfMemory)) => None,
         Err(cause) => Some(Reply::Refused(cause)),
     }
+}
+
+// What the session finds in its context, unless no memory is found.
+fn look<S: LockSpace>(alloc: Global, context: &Context<S>, act: Act) -> Option<Reply> {
+    let reply = match act {
+        Act::Last(lock) => Reply::Last(context.last_ticket(&lock.key(alloc).ok()?)),
+        Act::AwaitsUserLock => Reply::AwaitsUserLock(context.waits_for_user_lock()),
+        _ => {
+            let mark = context.savepoint();
+            Reply::Stands(mark.statement, mark.transaction)
+        }
+    };
+    Some(reply)
 }
 
 /// Does it, unless no memory is found.
@@ -111,6 +142,16 @@ pub(crate) fn make<S: LockSpace>(
             };
             return acquired(context.acquire(space, request));
         }
+        Act::TryAcquire(lock, mode, duration) => {
+            let key = lock.key(alloc).ok()?;
+            let request = Request {
+                key: &key,
+                mode,
+                duration,
+            };
+            return tried(context.try_acquire(space, request));
+        }
+        Act::Last(_) | Act::AwaitsUserLock | Act::Mark => return look(alloc, context, act),
         Act::ReleaseName(lock) => {
             let key = lock.key(alloc).ok()?;
             done(context.release_name(space, &key))
@@ -118,10 +159,6 @@ pub(crate) fn make<S: LockSpace>(
         Act::Upgrade(id, mode) => return acquired(context.upgrade(space, id, mode)),
         Act::Downgrade(id, mode) => done(context.downgrade(space, id, mode)),
         Act::Release(id) => done(context.release(space, id)),
-        Act::Mark => {
-            let mark = context.savepoint();
-            Reply::Stands(mark.statement, mark.transaction)
-        }
         Act::GoBack(statement, transaction) => {
             let mark = Mark {
                 statement,

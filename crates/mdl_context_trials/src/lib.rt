@@ -28,4 +28,6 @@ mod unmerging;
 #[cfg(test)]
 mod upgrades;
 #[cfg(test)]
+mod user_locks;
+#[cfg(test)]
 mod waits;

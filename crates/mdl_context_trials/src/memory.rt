@@ -294,6 +294,45 @@ const MERGED: &[(Act, Reply)] = &[
     (Act::Mark, Reply::Stands(0, 0)),
 ];
 
+const TRIES: &[(Act, Reply)] = &[
+    (
+        Act::TryAcquire(Lock::User, Mode::X, Duration::Explicit),
+        Reply::Acquired(1),
+    ),
+    (
+        Act::TryAcquire(Lock::User, Mode::X, Duration::Explicit),
+        Reply::Acquired(2),
+    ),
+    (Act::Last(Lock::User), Reply::Last(Some(2))),
+    (
+        Act::TryAcquire(Lock::B, Mode::X, Duration::Transaction),
+        Reply::WouldWait,
+    ),
+    (
+        Act::TryAcquire(Lock::A, Mode::SR, Duration::Transaction),
+        Reply::Acquired(3),
+    ),
+    (
+        Act::TryAcquire(Lock::A, Mode::SR, Duration::Transaction),
+        Reply::Acquired(3),
+    ),
+    (
+        Act::TryAcquire(Lock::A, Mode::SH, Duration::Statement),
+        Reply::Acquired(4),
+    ),
+    (Act::Mark, Reply::Stands(1, 1)),
+];
+
+#[test]
+fn tries_outlive_want_of_memory(rt: HostRuntime) -> Result<(), Fail> {
+    let alloc = rt.alloc();
+    let (mut space, mut context) = start(alloc, 4)?;
+    let key = key_of(alloc, Lock::B)?;
+    assert!(rt; stand_in_the_way(&mut space, &context, &key));
+    assert!(rt; all_outlive(alloc, &mut space, &mut context, TRIES));
+    Ok(())
+}
+
 #[test]
 fn upgrades_outlive_want_of_memory(rt: HostRuntime) -> Result<(), Fail> {
     let alloc = rt.alloc();

@@ -1,4 +1,4 @@
-//! Scenes of statements: transactions and changes of tables, of schemas, and what sessions lock as a whole.
+//! Scenes of statements: transactions and changes of tables, of schemas, what sessions lock as a whole, and user-level locks.
 use crate::desks;
 use crate::statements::{self, Outcome, Row, Scene};
 use std::alloc::Global;
@@ -122,6 +122,25 @@ const SCHEMAS: &[Row<'static>] = &[
     ("1 SELECT s.a", Outcome::Reads(3)),
 ];
 
+// User-level locks, which are got twice, waited for, and given up in vain.
+const USER_LOCKS: &[Row<'static>] = &[
+    ("1 GET_LOCK a", Outcome::Says(true)),
+    ("1 GET_LOCK a", Outcome::Says(true)),
+    ("2 RELEASE_LOCK a", Outcome::Says(false)),
+    ("2 RELEASE_LOCK b", Outcome::Null),
+    ("2 BEGIN", Outcome::Done),
+    ("2 GET_LOCK a", Outcome::Waits),
+    ("1 RELEASE_LOCK a", Outcome::Says(true)),
+    ("1 BEGIN", Outcome::Done),
+    ("1 COMMIT", Outcome::Done),
+    ("1 RELEASE_LOCK a", Outcome::Says(true)),
+    ("2 GET_LOCK a", Outcome::Says(true)),
+    ("2 ROLLBACK", Outcome::Done),
+    ("1 RELEASE_LOCK a", Outcome::Says(false)),
+    ("2 RELEASE_LOCK a", Outcome::Says(true)),
+    ("1 RELEASE_LOCK a", Outcome::Null),
+];
+
 // A table of a column that is named twice is never created: the attempt tells whether its schema is there.
 const SCENES: &[(&str, Scene<'static>)] = &[
     (
@@ -150,6 +169,13 @@ const SCENES: &[(&str, Scene<'static>)] = &[
         Scene {
             rows: READ_LOCK,
             looks: &["1 SELECT t"],
+        },
+    ),
+    (
+        "user-level locks",
+        Scene {
+            rows: USER_LOCKS,
+            looks: &[],
         },
     ),
     (

@@ -19,6 +19,10 @@ pub(crate) enum Outcome {
     Done,
     /// The version of the last table that it read.
     Reads(u64),
+    /// A truth value.
+    Says(bool),
+    /// NULL.
+    Null,
     Fails(u16),
     Waits,
     Pending,
@@ -197,6 +201,8 @@ pub(crate) fn outcome_of_reply(reply: &Reply) -> Outcome {
             Some(table) => Outcome::Reads(table.version),
             None => Outcome::Reads(0),
         },
+        Reply::Number(yes) => Outcome::Says(*yes),
+        Reply::Null => Outcome::Null,
     }
 }
 
@@ -307,6 +313,7 @@ impl<'s> Staged<'s> {
         let ends = match &line.statement {
             Statement::Begin | Statement::Commit | Statement::Savepoint(_) => return false,
             Statement::Select(_) | Statement::Write { .. } => return false,
+            Statement::GetLock(_) | Statement::ReleaseLock(_) => return false,
             Statement::LockTables(_) => [begin, rollback],
             _ => [commit, commit],
         };

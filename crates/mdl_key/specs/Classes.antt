@@ -3,7 +3,7 @@
 use Rattle.std.specs.Prelude.{ℕ, Bool, not, nat_le, if◌then◌else◌, Option, Some, None, IsTrue, is_some}
 use Rattle.std.specs.List.{list_all}
 use Rattle.mdl_key.specs.declared.namespace.Namespace.{Namespace}
-use Rattle.mdl_key.specs.declared.namespace.Namespace.TheVariants.{Global}
+use Rattle.mdl_key.specs.declared.namespace.Namespace.TheVariants.{Global, UserLevelLock}
 use Rattle.mdl_key.specs.declared.namespace.Kind.{Kind}
 use Rattle.mdl_key.specs.declared.namespace.Kind.TheVariants.{Scoped, Object}
 use Rattle.mdl_key.specs.declared.mode.Mode.{Mode}
@@ -34,7 +34,9 @@ IsAtLeast kind a b = (held : Mode) → IsTrue (clashes kind b held) → IsTrue (
 abbrev pub is_at_least : Kind → Mode → Mode → Bool
 is_at_least kind a b = list_all (clashes kind a) (granted_conflicts kind b)
 
--- the weight of a wish: 100 in the namespace of the global lock, or for a mode from SU upwards in the order of modes, else 0
+-- the weight of a wish: 100 in the namespace of the global lock, 50 in that of user-level locks, whatever its mode; elsewhere 100
+-- for a mode from SU upwards in the order of modes, else 0
 abbrev pub weight_of : Namespace → Mode → ℕ
 weight_of Global mode = 100
+weight_of UserLevelLock mode = 50
 weight_of _ mode = if nat_le (mode_rank SU) (mode_rank mode) then 100 else 0

@@ -6,7 +6,7 @@ use lib.Pointwise.{pointwise}
 use Rattle.std.specs.Cmp.Lexicographic.{slice_cmp}
 use Rattle.std.specs.declared.cmp.Ordering.{Ordering}
 use Rattle.mdl_key.specs.declared.namespace.Namespace.{Namespace}
-use Rattle.mdl_key.specs.declared.namespace.Namespace.TheVariants.{Global, Schema, Table, Commit}
+use Rattle.mdl_key.specs.declared.namespace.Namespace.TheVariants.{Global, Schema, Table, Commit, UserLevelLock}
 use Rattle.mdl_key.specs.declared.key_error.KeyError.{KeyError}
 use Rattle.mdl_key.specs.declared.key_error.KeyError.TheVariants.{EmptyName, LongName, BadByte}
 use Rattle.mdl_key.specs.Limits.{longest_name}
@@ -43,6 +43,10 @@ schema_key schema = record { namespace = Schema; schema = schema; table = [] }
 abbrev pub table_key : List ℕ → List ℕ → KeyName
 table_key schema table = record { namespace = Table; schema = schema; table = table }
 
+-- the key of a user-level lock, which has one name
+abbrev pub user_lock_key : List ℕ → KeyName
+user_lock_key name = record { namespace = UserLevelLock; schema = name; table = [] }
+
 -- the fault of a table's two names: the schema is looked at first
 abbrev pub table_fault : List ℕ → List ℕ → Option KeyError
 table_fault schema table = option_or (name_fault schema) (name_fault table)
@@ -53,6 +57,7 @@ namespace_rank Global = 0
 namespace_rank Schema = 1
 namespace_rank Table = 2
 namespace_rank Commit = 3
+namespace_rank UserLevelLock = 4
 
 -- keys are ordered by namespace, then by the bytes of the schema, then by those of the table
 abbrev pub key_cmp : KeyName → KeyName → Ordering
@@ -68,7 +73,7 @@ key_eq =
     (eq_of_both (on (λ k. k.schema) (pointwise ◌==◌))
     (on (λ k. k.table) (pointwise ◌==◌)))
 
--- a key as it is printed: GLOBAL, SCHEMA s, TABLE s.t or COMMIT
+-- a key as it is printed: GLOBAL, SCHEMA s, TABLE s.t, COMMIT or USER n
 abbrev pub key_text : KeyName → List ℕ
 key_text key = text_in key.namespace where
   text_in : Namespace → List ℕ
@@ -76,3 +81,4 @@ key_text key = text_in key.namespace where
   text_in Schema = codes "SCHEMA " ++ key.schema
   text_in Table = codes "TABLE " ++ key.schema ++ codes "." ++ key.table
   text_in Commit = codes "COMMIT"
+  text_in UserLevelLock = codes "USER " ++ key.schema

@@ -10,12 +10,13 @@ use Rattle.mdl_key.specs.declared.namespace.Kind.TheVariants.{Scoped, Object}
 use Rattle.mdl_key.specs.declared.mode.Mode.{Mode}
 use Rattle.mdl_key.specs.declared.mode.Mode.TheVariants.{IX, S, SH, SR, SW, SWLP, SU, SRO, SNW, SNRW, X}
 
--- a table is locked as an object, all else as a scope
+-- a table and a user-level lock are locked as objects, all else as a scope
 abbrev pub kind_of : Namespace → Kind
 kind_of namespace.Global = Scoped
 kind_of namespace.Schema = Scoped
 kind_of namespace.Table = Object
 kind_of namespace.Commit = Scoped
+kind_of namespace.UserLevelLock = Object
 
 -- the place of a mode in the order of the modes
 abbrev pub mode_rank : Mode → ℕ

@@ -7,7 +7,7 @@ ghost use Rattle.std.specs.Cmp.{partial_order_from_own_ties};
 ghost use Rattle.std.specs.Cmp.Rules.{comparing, hashing};
 ghost use Rattle.std.specs.Hash as fed;
 ghost use Rattle.mdl_key.specs.Modes.{kind_of};
-ghost use Rattle.mdl_key.specs.Keys.{global_key, commit_key, schema_key, table_key, name_fault, table_fault, is_name_byte, key_eq, key_cmp, key_text};
+ghost use Rattle.mdl_key.specs.Keys.{global_key, commit_key, schema_key, table_key, user_lock_key, name_fault, table_fault, is_name_byte, key_eq, key_cmp, key_text};
 ghost use Rattle.mdl_key.specs.Limits.{longest_name};
 ghost use Rattle.mdl_key.specs.Refusals.{Refuses, RefusesJust};
 
@@ -18,7 +18,7 @@ use std::fmt;
 use std::hash::{Hash, Hasher};
 use std::marker::Model;
 
-/// The name of a lock: a namespace, and within it a schema or a table.
+/// The name of a lock: a namespace, and within it a schema, a table or a user-level lock.
 ///
 /// A name has 1 to [`LONGEST_NAME`] bytes of `a-z 0-9 _`. Keys are ordered by namespace, then by the bytes of the schema's name, then
 /// by those of the table's. After MySQL 5.7, `MDL_key` of `sql/mdl.h`.
@@ -78,6 +78,15 @@ impl Key {
         Key::named(alloc, Namespace::Table, schema, table)
     }
 
+    /// The key of a user-level lock.
+    pub fn user_lock(alloc: Global, name: &str) -> Result<Key, KeyError>
+        ensures made { IfOk result (λ key. key ≡ user_lock_key name.now) }
+        ensures refused { Refuses (name_fault name.now) KeyError.OutOfMemory result }
+    {
+        check_name(name)?;
+        Key::named(alloc, Namespace::UserLevelLock, name, "")
+    }
+
     fn unnamed(alloc: Global, namespace: Namespace) -> Key
         ensures { result ≡ record { namespace = namespace; schema = []; table = [] } }
     {
@@ -119,7 +128,7 @@ impl Key {
         self.namespace.kind()
     }
 
-    /// The name of the key's schema. It is empty for a key that has none.
+    /// The name of the key's schema, or of the user-level lock. It is empty for a key that has none.
     pub fn schema_name(&self) -> &str
         ensures { result.now ≡ self.now.schema }
     {
@@ -208,7 +217,7 @@ impl Hash for Key {
     }
 }
 
-/// `GLOBAL`, `SCHEMA s`, `TABLE s.t` or `COMMIT`.
+/// `GLOBAL`, `SCHEMA s`, `TABLE s.t`, `COMMIT` or `USER n`.
 impl fmt::Display for Key {
     ghost output = { λ key. Some (key_text key) };
 
@@ -219,6 +228,7 @@ impl fmt::Display for Key {
             Namespace::Schema => write!(f, "SCHEMA {schema}"),
             Namespace::Table => write!(f, "TABLE {schema}.{table}"),
             Namespace::Commit => f.write_str("COMMIT"),
+            Namespace::UserLevelLock => write!(f, "USER {schema}"),
         }
     }
 }

@@ -17,6 +17,8 @@ pub enum Namespace {
     Table,
     /// The one key that commits take.
     Commit,
+    /// User-level locks, each by its name.
+    UserLevelLock,
 }
 
 impl Namespace {
@@ -25,7 +27,7 @@ impl Namespace {
         ensures { result ≡ kind_of self }
     {
         match self {
-            Namespace::Table => Kind::Object,
+            Namespace::Table | Namespace::UserLevelLock => Kind::Object,
             Namespace::Global | Namespace::Schema | Namespace::Commit => Kind::Scoped,
         }
     }

@@ -9,6 +9,8 @@ use crate::{Kind, Mode, Namespace};
 
 const DDL_WEIGHT: u8 = 100;
 
+const USER_LOCK_WEIGHT: u8 = 50;
+
 const DML_WEIGHT: u8 = 0;
 
 /// Whether tickets of the mode have to be looked at by all who ask, and are never merely counted: all but IX of scoped locks
@@ -52,16 +54,17 @@ fn covers(kind: Kind, a: Mode, b: Mode) -> bool
     granted_row(kind, b) & !granted_row(kind, a) == 0
 }
 
-/// What a wish for the mode weighs where a search for deadlocks chooses its victim: 100 in the namespace of the global lock,
-/// or for a mode from SU upwards in the order of modes, else 0.
+/// What a wish for the mode weighs where a search for deadlocks chooses its victim: 100 in the namespace of the global lock, 50
+/// in that of user-level locks, whatever its mode; elsewhere 100 for a mode from SU upwards in the order of modes, else 0.
 ///
 /// After MySQL 5.7, `MDL_ticket::get_deadlock_weight` of `sql/mdl.cc`.
 pub fn weight(namespace: Namespace, mode: Mode) -> u8
     ensures { result ≡ weight_of namespace mode }
 {
-    if namespace == Namespace::Global || mode >= Mode::SU {
-        DDL_WEIGHT
-    } else {
-        DML_WEIGHT
+    match namespace {
+        Namespace::Global => DDL_WEIGHT,
+        Namespace::UserLevelLock => USER_LOCK_WEIGHT,
+        _ if mode >= Mode::SU => DDL_WEIGHT,
+        _ => DML_WEIGHT,
     }
 }

@@ -1,5 +1,6 @@
 pub mod EscapeLemmas
 pub mod FieldLemmas
+pub mod GrowLemmas
 pub mod LineLemmas
 pub mod ListLemmas
 pub mod NumberLemmas

@@ -2,6 +2,8 @@
 -- project's own choice.
 use Rattle.std.specs.Prelude.{◌≡◌, ℕ, Bool, true, false, not, ◌&&◌, ◌==◌, List, [], ◌∷◌, ◌++◌, codes, flat_map, if◌then◌else◌}
 use Rattle.mdl_key.specs.declared.namespace.Namespace.{Namespace}
+use Rattle.mdl_key.specs.declared.namespace.Namespace.TheVariants.{UserLevelLock}
+use Rattle.mdl_key.specs.Keys.{user_lock_key}
 use Rattle.mdl_key.specs.Words.{KeyName}
 use Rattle.mdl_lines.specs.Words.{same_text}
 
@@ -45,9 +47,14 @@ unescaped field = unescaped_from false field
 abbrev pub name_of : List ℕ → List ℕ
 name_of field = if same_text field (codes "NULL") then [] else unescaped field
 
+-- the key of two names: a user-level lock has its name where a table has its own
+abbrev pub key_named : Namespace → List ℕ → List ℕ → KeyName
+key_named UserLevelLock schema table = user_lock_key table
+key_named namespace schema table = record { namespace = namespace; schema = schema; table = table }
+
 -- the key of the names in two fields
 abbrev pub key_of : Namespace → List ℕ → List ℕ → KeyName
-key_of namespace schema table = record { namespace = namespace; schema = name_of schema; table = name_of table }
+key_of namespace schema table = key_named namespace (name_of schema) (name_of table)
 
 -- a name comes back
 abbrev pub NamesComeBack : Type 0

@@ -7,11 +7,11 @@ use Rattle.mdl_key.specs.declared.mode.Duration.TheVariants.{Statement, Transact
 use Rattle.mdl_key.specs.declared.mode.Mode.{Mode}
 use Rattle.mdl_key.specs.declared.mode.Mode.TheVariants.{IX, S, SH, SR, SW, SWLP, SU, SRO, SNW, SNRW, X}
 use Rattle.mdl_key.specs.declared.namespace.Namespace.{Namespace}
-use Rattle.mdl_key.specs.declared.namespace.Namespace.TheVariants.{Global, Schema, Table, Commit}
+use Rattle.mdl_key.specs.declared.namespace.Namespace.TheVariants.{Global, Schema, Table, Commit, UserLevelLock}
 use Rattle.mdl_key.specs.Words.{all_modes, is_mode_of, kind_of}
 use Rattle.mdl_lines.specs.Words.{same_text}
 use Rattle.mdl_lock_rows.specs.declared.row.Status.{Status}
-use Rattle.mdl_lock_rows.specs.declared.row.Status.TheVariants.{Granted, Pending, Victim, Timeout, Killed}
+use Rattle.mdl_lock_rows.specs.declared.row.Status.TheVariants.{Granted, Pending, Victim, Timeout, Killed, PreAcquireNotify, PostReleaseNotify}
 use Rattle.mdl_lock_rows.specs.declared.row.Wish.{Wish}
 use Rattle.mdl_lock_rows.specs.declared.row_error.RowError.{RowError}
 use Rattle.mdl_lock_rows.specs.declared.row_error.RowError.TheVariants.{UnknownDuration, UnknownStatus}
@@ -22,6 +22,7 @@ object_type_name Global = codes "GLOBAL"
 object_type_name Schema = codes "SCHEMA"
 object_type_name Table = codes "TABLE"
 object_type_name Commit = codes "COMMIT"
+object_type_name UserLevelLock = codes "USER LEVEL LOCK"
 
 -- the LOCK_TYPE of a mode
 abbrev pub lock_type_name : Mode → List ℕ
@@ -50,21 +51,31 @@ status_name Pending = codes "PENDING"
 status_name Victim = codes "VICTIM"
 status_name Timeout = codes "TIMEOUT"
 status_name Killed = codes "KILLED"
+status_name PreAcquireNotify = codes "PRE_ACQUIRE_NOTIFY"
+status_name PostReleaseNotify = codes "POST_RELEASE_NOTIFY"
 
 -- whether a lock is held
 abbrev pub is_granted : Status → Bool
 is_granted Granted = true
 is_granted _ = false
 
+-- whether a lock is waited for: the wait of a lock whose engines are asked first begins when they are asked, and a settled wait ends when its
+-- row goes. A lock is released before its engines hear of that: sql/mdl.cc, `MDL_context::try_acquire_lock_impl` and `MDL_context::release_lock`
+abbrev pub is_awaited : Status → Bool
+is_awaited Granted = false
+is_awaited PostReleaseNotify = false
+is_awaited _ = true
+
 -- whether a wait is settled
 abbrev pub is_settled : Status → Bool
-is_settled Granted = false
-is_settled Pending = false
-is_settled _ = true
+is_settled Victim = true
+is_settled Timeout = true
+is_settled Killed = true
+is_settled _ = false
 
 -- the namespace of this OBJECT_TYPE
 abbrev pub namespace_of : List ℕ → Option Namespace
-namespace_of name = find (λ namespace. same_text (object_type_name namespace) name) (Global ∷ Schema ∷ Table ∷ Commit ∷ [])
+namespace_of name = find (λ namespace. same_text (object_type_name namespace) name) (Global ∷ Schema ∷ Table ∷ Commit ∷ UserLevelLock ∷ [])
 
 -- a name without `MDL_` before it
 abbrev pub without_prefix : List ℕ → List ℕ
@@ -84,9 +95,13 @@ wish_of object_type lock_type =
 abbrev pub duration_named : List ℕ → Option Duration
 duration_named name = find (λ duration. same_text (duration_name duration) name) (Statement ∷ Transaction ∷ Explicit ∷ [])
 
+-- all statuses
+abbrev pub all_statuses : List Status
+all_statuses = Granted ∷ Pending ∷ Victim ∷ Timeout ∷ Killed ∷ PreAcquireNotify ∷ PostReleaseNotify ∷ []
+
 -- the status of this name
 abbrev pub status_named : List ℕ → Option Status
-status_named name = find (λ status. same_text (status_name status) name) (Granted ∷ Pending ∷ Victim ∷ Timeout ∷ Killed ∷ [])
+status_named name = find (λ status. same_text (status_name status) name) all_statuses
 
 -- the duration of this LOCK_DURATION
 abbrev pub duration_of : List ℕ → Result Duration RowError

@@ -1,5 +1,5 @@
 -- The locks of rows, after MySQL 5.7: `MDL_lock` and `MDL_ticket` of sql/mdl.cc.
-use Rattle.std.specs.Prelude.{◌≡◌, ℕ, ◌<◌, ◌≤◌, Bool, not, ◌&&◌, ◌==◌, List, map, filter, length, Result, Err, IsOk, IsOkAnd}
+use Rattle.std.specs.Prelude.{◌≡◌, ℕ, zero, suc, ◌<◌, ◌≤◌, Bool, ◌&&◌, ◌==◌, List, [], ◌∷◌, ◌++◌, map, filter, length, Option, None, Some, Result, Err, IsOk, IsOkAnd}
 use Rattle.mdl_book.specs.declared.book_view.BookView.{BookView}
 use Rattle.mdl_book.specs.declared.ticket.Ticket.{Ticket}
 use Rattle.mdl_graph.specs.Graphs.{lock_of}
@@ -12,7 +12,7 @@ use Rattle.mdl_lock_rows.specs.declared.row_error.LockRowsError.TheVariants.{Ref
 use Rattle.mdl_lock_rows.specs.declared.row_error.RowError.{RowError}
 use Rattle.mdl_lock_rows.specs.Numbering.{threads_of, keys_of, left_out_of, number_of}
 use Rattle.mdl_lock_rows.specs.Reading.{lines_read, made_of, rows_in, classes_in}
-use Rattle.mdl_lock_rows.specs.ServerNames.{is_granted, is_settled}
+use Rattle.mdl_lock_rows.specs.ServerNames.{is_awaited, is_granted, is_settled}
 
 -- the ticket of a row: its session is the number of the thread, and its number that of the line
 abbrev pub ticket_of : List ℕ → Row → Ticket
@@ -24,7 +24,7 @@ holds key row = key_eq row.key key && is_granted row.status
 
 -- whether by a row it is waited for; a settled wait is one that hasn't ended yet
 abbrev pub awaits : KeyName → Row → Bool
-awaits key row = key_eq row.key key && not (is_granted row.status)
+awaits key row = key_eq row.key key && is_awaited row.status
 
 -- the tickets of the rows that pass a test, in order
 abbrev pub tickets_of : List ℕ → (Row → Bool) → List Row → List Ticket
@@ -54,3 +54,19 @@ IsRefusalOf said (TooManyOwners count) = IsOkAnd said (λ lines. (count ≡ leng
 IsRefusalOf said (TooManyLocks count) =
     IsOkAnd said (λ lines. (length (threads_of (rows_in lines)) ≤ 1024) × (count ≡ length (keys_of (rows_in lines))) × (256 < count))
 IsRefusalOf said OutOfMemory = IsOk said
+
+-- ---- representations
+
+-- a lock with the ticket of one more row, which is of its key
+abbrev pub with_ticket : List ℕ → Row → BookView → BookView
+with_ticket threads row lock = record lock {
+  granted = lock.granted ++ map (ticket_of threads) (filter (λ row. is_granted row.status) (row ∷ []));
+  waiting = lock.waiting ++ map (ticket_of threads) (filter (λ row. is_awaited row.status) (row ∷ []));
+}
+
+-- a list with what is made of the element at a place, if there is one
+abbrev pub changed_at : {A : Type 0} → Option ℕ → (A → A) → List A → List A
+changed_at None make list = list
+changed_at (Some place) make [] = []
+changed_at (Some zero) make (one ∷ list) = make one ∷ list
+changed_at (Some (suc place)) make (one ∷ list) = one ∷ changed_at (Some place) make list

@@ -41,6 +41,7 @@ mod columns;
 mod escapes;
 mod fields;
 mod laws;
+mod left_out;
 mod lines;
 mod lock_key;
 mod lock_rows;

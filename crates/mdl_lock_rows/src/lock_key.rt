@@ -12,7 +12,7 @@ use std::alloc::{AllocError, Global};
 use std::hash::{Hash, Hasher};
 use std::marker::Model;
 
-/// A namespace, and within it a schema or a table. The names are any bytes, and empty where there is none.
+/// A namespace, and within it a schema, a table or a user-level lock. The names are any bytes, and empty where there is none.
 #[derive(Drop)]
 pub struct LockKey {
     namespace: Namespace,
@@ -38,6 +38,13 @@ impl LockKey {
     ) -> Result<LockKey, AllocError>
         ensures { IfOk result (λ key. key ≡ key_of namespace schema.now table.now) }
     {
+        if namespace == Namespace::UserLevelLock {
+            return Ok(LockKey {
+                namespace,
+                schema: name_of(alloc, table)?,
+                table: Vec::new(alloc),
+            });
+        }
         Ok(LockKey {
             namespace,
             schema: name_of(alloc, schema)?,
@@ -52,7 +59,7 @@ impl LockKey {
         self.namespace
     }
 
-    /// The schema's name. It is empty where there is none.
+    /// The schema's name, or that of the user-level lock. It is empty where there is none.
     pub fn schema_name(&self) -> &[u8]
         ensures { result.now ≡ self.now.schema }
     {

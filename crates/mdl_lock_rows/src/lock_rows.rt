@@ -1,14 +1,17 @@
 //! The locks of a server, by its rows.
-ghost use Rattle.std.specs.Prelude.{◌≡◌, ◌≤◌, ◌++◌, ◌∷◌, [], ◌&&◌, ◌||◌, ℕ, Ok, IfOk, IfErr, OnOk, length};
+ghost use Rattle.std.specs.Prelude.{◌≡◌, ◌≤◌, [], ◌&&◌, ◌||◌, ℕ, Ok, IfOk, IfErr, OnOk, length, map, position};
 ghost use Rattle.std.specs.FinSet as set;
 ghost use Rattle.std.specs.List.{list_any};
 ghost use Rattle.mdl_book.specs.SessionSets.{is_session};
+ghost use Rattle.mdl_graph.specs.Graphs.{lock_of};
+ghost use Rattle.mdl_key.specs.Words.{key_eq};
 ghost use Rattle.mdl_lock_rows.specs.Numbering.{threads_of, keys_of, number_of};
 ghost use Rattle.mdl_lock_rows.specs.Reading.{lines_read, rows_read};
-ghost use Rattle.mdl_lock_rows.specs.Tables.{IsRefusalOf, left_out_read, ticket_of, lock_at, locks_of, is_settled_wait, tickets_of, holds, awaits};
+ghost use Rattle.mdl_lock_rows.specs.Tables.{IsRefusalOf, changed_at, left_out_read, ticket_of, locks_of, is_settled_wait, with_ticket};
 
+use crate::left_out::left_out_of;
 use crate::lock_key::LockKey;
-use crate::numbering::{keys_of, left_out_of, threads_of};
+use crate::numbering::{key_set, threads_of};
 use crate::read_rows::read_rows;
 use crate::row::{Row, Status};
 use crate::row_class::LeftOut;
@@ -43,8 +46,9 @@ pub struct LockRows {
 }
 
 /// Reads the rows of `performance_schema.metadata_locks`, as `mysql -B` prints them: a header with the names of the columns, in any
-/// order, and a line for each row, fields parted by tabs. Rows of other object types or lock types are left out and counted. The rows
-/// don't show in which order threads began to wait: their order is taken for it.
+/// order, and a line for each row, fields parted by tabs. A row is left out and counted, and its other fields aren't looked at, where its
+/// OBJECT_TYPE is none of `GLOBAL`, `SCHEMA`, `TABLE`, `COMMIT` and `USER LEVEL LOCK`, or its LOCK_TYPE is no mode that the namespace uses.
+/// The rows don't show in which order threads began to wait: their order is taken for it.
 pub fn read_lock_rows(alloc: Global, text: &[u8]) -> Result<LockRows, LockRowsError>
     // The rows are those of the text, and so are the ones that are left out.
     ensures rows { IfOk result (λ found. rows_read text.now ≡ Ok found.rows.items) }
@@ -67,11 +71,12 @@ pub fn read_lock_rows(alloc: Global, text: &[u8]) -> Result<LockRows, LockRowsEr
     if threads.len() > MOST_OWNERS {
         return Err(LockRowsError::TooManyOwners(threads.len()));
     }
-    let keys = keys_of(alloc, &found.rows)?;
+    let keys = key_set(alloc, &found.rows)?;
     if keys.len() > MOST_LOCKS {
         return Err(LockRowsError::TooManyLocks(keys.len()));
     }
     let locks = locks_of(alloc, &threads, &found.rows, &keys)?;
+    let keys = keys.into_iter().collect(alloc)?;
     let settled = settled_of(&threads, &found.rows);
     let left_out = left_out_of(alloc, &found.left_out)?;
     Ok(LockRows {
@@ -89,57 +94,58 @@ fn locks_of(
     alloc: Global,
     threads: &IndexSet<u64>,
     rows: &[Row],
-    keys: &[LockKey],
+    keys: &IndexSet<LockKey>,
 ) -> Result<Vec<Lock>, AllocError>
     requires { length threads.now.keys ≤ 1024 }
-    ensures { IfOk result (λ locks. locks.items ≡ locks_of threads.now.keys rows.now keys.now) }
+    ensures { IfOk result (λ locks. locks.items ≡ locks_of threads.now.keys rows.now keys.now.keys) }
 {
-    let mut locks = Vec::new(alloc);
-    for key in keys {
-        let lock = lock_at(alloc, threads, rows, key)?;
-        locks.push(lock)?;
+    let mut locks = new_locks(alloc, keys.as_slice())?;
+    for row in rows {
+        add_row(&mut locks, threads, keys, row)?;
     }
     Ok(locks)
 }
 
-// The lock of a key.
-fn lock_at(
-    alloc: Global,
-    threads: &IndexSet<u64>,
-    rows: &[Row],
-    key: &LockKey,
-) -> Result<Lock, AllocError>
-    requires { length threads.now.keys ≤ 1024 }
-    ensures { IfOk result (λ lock. lock ≡ lock_at threads.now.keys rows.now key.now) }
+// The locks of these keys, without a ticket.
+fn new_locks(alloc: Global, keys: &[LockKey]) -> Result<Vec<Lock>, AllocError>
+    ensures { IfOk result (λ locks. locks.items ≡ map (λ key. lock_of key.namespace [] []) keys.now) }
 {
-    let mut lock = Lock::new(alloc, key.namespace());
-    for row in rows {
-        add_row(&mut lock, threads, key, row)?;
+    let mut locks = Vec::new(alloc);
+    for key in keys {
+        locks.push(Lock::new(alloc, key.namespace()))?;
     }
-    Ok(lock)
+    Ok(locks)
 }
 
-// Adds the ticket of a row, if it is of this key.
+// Adds the ticket of a row to the lock of its key.
 fn add_row(
-    lock: &mut Lock,
+    locks: &mut Vec<Lock>,
     threads: &IndexSet<u64>,
-    key: &LockKey,
+    keys: &IndexSet<LockKey>,
     row: &Row,
 ) -> Result<(), AllocError>
-    requires { length threads.now.keys ≤ 1024 }
-    ensures { OnOk result (lock.new ≡ record lock.old {
-      granted = lock.old.granted ++ tickets_of threads.now.keys (holds key.now) (row.now ∷ []);
-      waiting = lock.old.waiting ++ tickets_of threads.now.keys (awaits key.now) (row.now ∷ []);
-    }) }
+    requires threads { length threads.now.keys ≤ 1024 }
+    requires locks { length locks.old.items ≡ length keys.now.keys }
+    ensures { OnOk result (locks.new.items ≡ changed_at (position (key_eq row.now.key) keys.now.keys) (with_ticket threads.now.keys row.now) locks.old.items) }
 {
-    if row.key != *key {
+    let Some(place) = keys.get_index_of(&row.key) else {
         return Ok(());
-    }
+    };
+    add_ticket(&mut locks[place], threads, row)
+}
+
+// Adds the ticket of a row to a lock.
+fn add_ticket(lock: &mut Lock, threads: &IndexSet<u64>, row: &Row) -> Result<(), AllocError>
+    requires { length threads.now.keys ≤ 1024 }
+    ensures { OnOk result (lock.new ≡ with_ticket threads.now.keys row.now lock.old) }
+{
     let ticket = ticket_of(threads, row);
     if row.status == Status::Granted {
         lock.add_granted(ticket)
-    } else {
+    } else if row.status.is_awaited() {
         lock.add_waiting(ticket)
+    } else {
+        Ok(())
     }
 }
 

@@ -1,6 +1,6 @@
 //! What a row says.
 ghost use Rattle.std.specs.Prelude.{◌≡◌};
-ghost use Rattle.mdl_lock_rows.specs.ServerNames.{status_name, is_settled};
+ghost use Rattle.mdl_lock_rows.specs.ServerNames.{status_name, is_awaited, is_settled};
 
 use crate::lock_key::LockKey;
 use crate::row_class::RowClass;
@@ -19,6 +19,10 @@ pub enum Status {
     Timeout,
     /// The wait is settled: its statement or its session was killed.
     Killed,
+    /// The storage engines are asked whether it may be locked: it is waited for, and not held yet.
+    PreAcquireNotify,
+    /// The storage engines hear that it was released: it is neither held nor waited for any more.
+    PostReleaseNotify,
 }
 
 impl Status {
@@ -32,7 +36,16 @@ impl Status {
             Status::Victim => "VICTIM",
             Status::Timeout => "TIMEOUT",
             Status::Killed => "KILLED",
+            Status::PreAcquireNotify => "PRE_ACQUIRE_NOTIFY",
+            Status::PostReleaseNotify => "POST_RELEASE_NOTIFY",
         }
+    }
+
+    /// Whether it is a wait, settled or not.
+    pub fn is_awaited(self) -> bool
+        ensures { result ≡ is_awaited self }
+    {
+        !matches!(self, Status::Granted | Status::PostReleaseNotify)
     }
 
     /// Whether it is a wait that is settled.

@@ -1,8 +1,12 @@
 //! Rows that are left out.
-ghost use Rattle.std.specs.Prelude.{◌≡◌, IfOk};
+ghost use Rattle.std.specs.Prelude.{◌≡◌, ◌++◌, IfOk};
+ghost use Rattle.std.proofs.Common.{rules};
+ghost use Rattle.std.specs.Cmp.Rules.{comparing, hashing};
+ghost use Rattle.std.specs.Hash as fed;
 ghost use Rattle.mdl_lock_rows.specs.Classes.{same_class, class_of};
 
 use std::alloc::{AllocError, Global};
+use std::hash::{Hash, Hasher};
 use std::marker::Model;
 
 /// The object type and the lock type of rows that are left out, as they came.
@@ -48,13 +52,6 @@ impl RowClass {
     {
         self.lock_type.as_slice()
     }
-
-    /// Whether both are the same.
-    pub(crate) fn is_same(&self, other: &RowClass) -> bool
-        ensures { result ≡ same_class self.now other.now }
-    {
-        self.object_type() == other.object_type() && self.lock_type() == other.lock_type()
-    }
 }
 
 impl Clone for RowClass {
@@ -65,6 +62,31 @@ impl Clone for RowClass {
             object_type: self.object_type.clone()?,
             lock_type: self.lock_type.clone()?,
         })
+    }
+}
+
+impl PartialEq for RowClass {
+    ghost eq = { same_class };
+
+    ghost laws = { Prim.search (comparing, rules) depth 9 };
+
+    fn eq(&self, other: &RowClass) -> bool {
+        self.object_type() == other.object_type() && self.lock_type() == other.lock_type()
+    }
+}
+
+impl Eq for RowClass {
+    ghost laws = { Prim.search (comparing, rules) depth 9 };
+}
+
+impl Hash for RowClass {
+    ghost hash_input = { λ class. fed.slice fed.u8 class.object_type ++ fed.slice fed.u8 class.lock_type };
+
+    ghost respects_eq = { Prim.search (hashing, rules) depth 9 };
+
+    fn hash<H: Hasher>(&self, state: &mut H) {
+        self.object_type().hash(state);
+        self.lock_type().hash(state);
     }
 }
 

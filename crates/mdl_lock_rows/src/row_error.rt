@@ -17,7 +17,7 @@ pub enum RowError {
     /// LOCK_DURATION is none of STATEMENT, TRANSACTION and EXPLICIT.
     #[error("unknown LOCK_DURATION")]
     UnknownDuration,
-    /// LOCK_STATUS is none of GRANTED, PENDING, VICTIM, TIMEOUT and KILLED.
+    /// LOCK_STATUS is none of those that [`Status`](crate::Status) has.
     #[error("unknown LOCK_STATUS")]
     UnknownStatus,
     /// OWNER_THREAD_ID is no number of decimal digits below 2^64.

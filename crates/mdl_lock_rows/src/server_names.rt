@@ -7,11 +7,12 @@ use crate::row::{Status, Wish};
 use crate::row_error::RowError;
 use mdl_key::{Duration, Mode, Namespace};
 
-const NAMESPACES: [Namespace; 4] = [
+const NAMESPACES: [Namespace; 5] = [
     Namespace::Global,
     Namespace::Schema,
     Namespace::Table,
     Namespace::Commit,
+    Namespace::UserLevelLock,
 ];
 
 const DURATIONS: [Duration; 3] = [
@@ -20,12 +21,14 @@ const DURATIONS: [Duration; 3] = [
     Duration::Explicit,
 ];
 
-const STATUSES: [Status; 5] = [
+const STATUSES: [Status; 7] = [
     Status::Granted,
     Status::Pending,
     Status::Victim,
     Status::Timeout,
     Status::Killed,
+    Status::PreAcquireNotify,
+    Status::PostReleaseNotify,
 ];
 
 /// The namespace and the mode of a row, unless it is of another object type or lock type, or the namespace doesn't use the mode.
@@ -111,6 +114,7 @@ pub fn object_type_name(namespace: Namespace) -> &'static str
         Namespace::Schema => "SCHEMA",
         Namespace::Table => "TABLE",
         Namespace::Commit => "COMMIT",
+        Namespace::UserLevelLock => "USER LEVEL LOCK",
     }
 }
 

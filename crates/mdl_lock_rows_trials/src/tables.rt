@@ -7,7 +7,7 @@ use std::test::Fail;
 const HEADER: &str =
     "OBJECT_TYPE OBJECT_SCHEMA OBJECT_NAME LOCK_TYPE LOCK_DURATION LOCK_STATUS OWNER_THREAD_ID";
 
-// Rows below that header, parted by ` / `, with spaces for tabs, and what is read of them.
+// Rows below that header, parted by ` / `, with spaces for tabs and `~` for spaces, and what is read of them.
 const ROWS: &str = "\
 TABLE s t SHARED_READ TRANSACTION GRANTED 7 => TABLE s.t holds 1 SR 2; threads 7
 TABLE s t SHARED_READ TRANSACTION GRANTED 7 / TABLE s t EXCLUSIVE TRANSACTION PENDING 9 / TABLE s t SHARED_READ TRANSACTION PENDING 8 \
@@ -25,6 +25,19 @@ TABLE s t MDL_SHARED_READ TRANSACTION GRANTED 7 / GLOBAL NULL NULL MDL_INTENTION
 TABLE s t EXCLUSIVE TRANSACTION VICTIM 7 / TABLE s t EXCLUSIVE TRANSACTION TIMEOUT 8 / TABLE s t EXCLUSIVE TRANSACTION KILLED 9 / TABLE \
     s t EXCLUSIVE TRANSACTION PENDING 6 => TABLE s.t waits 1 X 2 waits 2 X 3 waits 3 X 4 waits 4 X 5; threads 7 8 9 6 settled 1 \
     settled 2 settled 3
+TABLE s t EXCLUSIVE TRANSACTION PRE_ACQUIRE_NOTIFY 7 / TABLE s t EXCLUSIVE TRANSACTION POST_RELEASE_NOTIFY 8 / TABLE s t SHARED_READ \
+    TRANSACTION GRANTED 9 => TABLE s.t holds 3 SR 4 waits 1 X 2; threads 7 8 9
+TABLE s t EXCLUSIVE TRANSACTION POST_RELEASE_NOTIFY 8 => TABLE s.t; threads 8
+USER~LEVEL~LOCK NULL n EXCLUSIVE EXPLICIT GRANTED 7 / USER~LEVEL~LOCK NULL n EXCLUSIVE EXPLICIT PENDING 8 / USER~LEVEL~LOCK NULL m \
+    SHARED_NO_WRITE EXPLICIT GRANTED 8 => USER LEVEL LOCK n. holds 1 X 2 waits 2 X 3; USER LEVEL LOCK m. holds 2 SNW 4; threads 7 8
+TABLE NULL n EXCLUSIVE EXPLICIT GRANTED 7 / USER~LEVEL~LOCK s n EXCLUSIVE EXPLICIT GRANTED 8 / SCHEMA n NULL EXCLUSIVE EXPLICIT GRANTED 7 \
+    => TABLE .n holds 1 X 2; USER LEVEL LOCK n. holds 2 X 3; SCHEMA n. holds 1 X 4; threads 7 8
+USER~LEVEL~LOCK NULL n INTENTION_EXCLUSIVE EXPLICIT GRANTED 7 / TABLESPACE NULL n EXCLUSIVE TRANSACTION GRANTED 7 / LOCKING~SERVICE s n \
+    SHARED EXPLICIT GRANTED 7 => threads; left out USER<32>LEVEL<32>LOCK INTENTION_EXCLUSIVE 1; left out TABLESPACE EXCLUSIVE 1; left out \
+    LOCKING<32>SERVICE SHARED 1
+TABLE s a SHARED_READ TRANSACTION GRANTED 1 / TABLE s b SHARED_READ TRANSACTION GRANTED 2 / TABLE s a EXCLUSIVE TRANSACTION PENDING 3 / \
+    TABLE s b EXCLUSIVE TRANSACTION PENDING 1 / SCHEMA s NULL INTENTION_EXCLUSIVE TRANSACTION GRANTED 3 / TABLE s a SHARED_READ TRANSACTION \
+    PENDING 2 => TABLE s.a holds 1 SR 2 waits 3 X 4 waits 2 SR 7; TABLE s.b holds 2 SR 3 waits 1 X 5; SCHEMA s. holds 3 IX 6; threads 1 2 3
 TABLE s t SHARED_READ TRANSACTION GRANTED 18446744073709551615 / TABLE s t SHARED_READ TRANSACTION GRANTED 007 => TABLE s.t holds 1 SR 2 \
     holds 2 SR 3; threads 18446744073709551615 7
 TABLE S-1 Übung SHARED_READ TRANSACTION GRANTED 7 => TABLE S-1.<195><156>bung holds 1 SR 2; threads 7
@@ -42,7 +55,7 @@ TABLE s t SHARED_READ TRANSACTION GRANTED 7 /  /  / TABLE s t SHARED_READ TRANSA
 TABLE s t SHARED_READ TRANSACTION GRANTED => line 2: fewer fields than the header
 TABLE s t SHARED_READ TRANSACTION GRANTED 7 / x => line 3: fewer fields than the header
 TABLE s t SHARED_READ LONG GRANTED 7 => line 2: unknown LOCK_DURATION
-TABLE s t SHARED_READ TRANSACTION PRE_ACQUIRE_NOTIFY 7 => line 2: unknown LOCK_STATUS
+TABLE s t SHARED_READ TRANSACTION PRE_ACQUIRE 7 => line 2: unknown LOCK_STATUS
 TABLE s t SHARED_READ TRANSACTION granted x => line 2: unknown LOCK_STATUS
 TABLE s t SHARED_READ TRANSACTION GRANTED NULL => line 2: OWNER_THREAD_ID is no number
 TABLE s t SHARED_READ TRANSACTION GRANTED +7 => line 2: OWNER_THREAD_ID is no number
@@ -77,7 +90,7 @@ const ENDS: [(&[u8], bool); 4] = [
     (b"\r\n", false),
 ];
 
-// Lines that are parted by ` / ` behind a header, if there is one, with tabs for spaces and these ends.
+// Lines that are parted by ` / ` behind a header, if there is one, with these ends.
 fn text_of(
     alloc: Global,
     header: &str,
@@ -105,8 +118,11 @@ fn text_of(
 
 fn add_line(text: &mut Vec<u8>, line: &str) -> Result<(), AllocError> {
     for byte in line.as_bytes() {
-        let byte = if *byte == b' ' { b'\t' } else { *byte };
-        text.push(byte)?;
+        text.push(match *byte {
+            b' ' => b'\t',
+            b'~' => b' ',
+            byte => byte,
+        })?;
     }
     Ok(())
 }

@@ -9,15 +9,17 @@ use Rattle.mdl_context.specs.declared.request.Acquire.TheVariants as acquire
 use Rattle.mdl_context.specs.declared.request.Mark.{Mark}
 use Rattle.mdl_context.specs.declared.request.Resume.{Resume}
 use Rattle.mdl_context.specs.declared.request.Resume.TheVariants as resume
-use Rattle.mdl_context.specs.Contexts.{mark_of}
+use Rattle.mdl_context.specs.declared.request.Tried.{Tried}
+use Rattle.mdl_context.specs.declared.request.Tried.TheVariants as try_as
+use Rattle.mdl_context.specs.Contexts.{last_ticket, mark_of, waits_for_user_lock}
 use Rattle.mdl_context.specs.Gains.{refusal_of}
 use Rattle.mdl_context.specs.MemoryLaws.{IsOwnCall}
 use Rattle.mdl_context.specs.Releases.{giving_up, releasing}
-use Rattle.mdl_context.specs.Requests.{Outcome, acquiring}
+use Rattle.mdl_context.specs.Requests.{Outcome, acquiring, trying}
 use Rattle.mdl_context.specs.Upgrades.{upgrading, downgrading}
 use Rattle.mdl_context.specs.Waits.{giving_up_wait, resuming}
 use Rattle.mdl_context.specs.Wishes.{Wish}
-use Rattle.mdl_context.proofs.OwnCallLemmas.{own_made, own_acquiring, own_resuming, own_giving_up_wait, own_giving_up, own_releasing, own_upgrading, own_downgrading}
+use Rattle.mdl_context.proofs.OwnCallLemmas.{own_made, own_acquiring, own_trying, own_resuming, own_giving_up_wait, own_giving_up, own_releasing, own_upgrading, own_downgrading}
 use Rattle.mdl_rows.specs.declared.ending.Ending.{Ending}
 use Rattle.mdl_rows.specs.declared.ending.Ending.TheVariants.{Answers, Misses, Falls, Starves}
 use Rattle.mdl_rows.specs.declared.reply.Reply.{Reply}
@@ -31,7 +33,7 @@ use Rattle.mdl_rows.specs.Rows as row
 use Rattle.mdl_rows.specs.Sessions.{Left, Session}
 use Rattle.mdl_rows.specs.States.{half_lock, without_read_lock}
 use Rattle.mdl_rows.specs.Statements.{row_of}
-use Rattle.mdl_context.proofs.WhoLemmas.{StaysOf, of_acquiring, of_resuming, of_giving_up_wait, of_giving_up, of_releasing, of_upgrading, of_downgrading}
+use Rattle.mdl_context.proofs.WhoLemmas.{StaysOf, of_acquiring, of_trying, of_resuming, of_giving_up_wait, of_giving_up, of_releasing, of_upgrading, of_downgrading}
 
 -- a program is a session's: all its calls are made for it or for nobody, and wherever it pauses, the session has its number
 record IsOwn (who : ℕ) (program : Program Pause) : Type 0 where
@@ -111,6 +113,13 @@ own_acquired wish rest mark session more made (Ok (acquire.MustWait number), con
     own_waiting wish (record { rest = rest; mark = mark }) (with_context session context)
 own_acquired wish rest mark session more made (Err error, context) = own_closing (ending_of_error error) mark (with_context session context)
 
+own_tried : (mark : Mark) (session : Session) (more : Option ℕ → Session → Program Pause) →
+    ((got : Option ℕ) (after : Session) → IsOwn after.context.who (more got after)) → (outcome : Outcome Tried) →
+    IsOwn outcome.1.who (playing.tried mark session more outcome)
+own_tried mark session more made (Ok (try_as.Acquired id), context) = made (Some id) (with_context session context)
+own_tried mark session more made (Ok try_as.WouldWait, context) = made None (with_context session context)
+own_tried mark session more made (Err error, context) = own_closing (ending_of_error error) mark (with_context session context)
+
 -- ---- what stands
 
 own_read : (mark : Mark) (session : Session) (more : Standing → Program Pause) →
@@ -158,6 +167,12 @@ own_play (row.Acquire wish rest) mark session =
     own_bind {A = Acquire} session.context.who (acquiring wish session.context) (playing.acquired wish rest mark session more)
     (own_acquiring wish session.context) (of_acquiring wish session.context)
     (own_acquired wish rest mark session more (λ id after. own_play (rest id) mark after))
+own_play (row.Try_acquire wish rest) mark session =
+    let more = λ (got : Option ℕ) (after : Session). play (rest got) mark after in
+    own_bind {A = Tried} session.context.who (trying wish session.context) (playing.tried mark session more)
+    (own_trying wish session.context) (of_trying wish session.context)
+    (own_tried mark session more (λ got after. own_play (rest got) mark after))
+own_play (row.Last key rest) mark session = own_play (rest (last_ticket key session.context)) mark session
 own_play (row.Upgrade id key mode rest) mark session =
     let wish = playing.upgrade_wish key mode in
     let more = λ (id : ℕ) (after : Session). play (rest id) mark after in
@@ -201,7 +216,8 @@ own_play (row.Kill target rest) mark session =
 own_resumed : (left : Left) (session : Session) (outcome : Outcome Resume) → IsOwn outcome.1.who (playing.resumed left session outcome)
 own_resumed left session (Ok resume.Waiting, context) = own_give (Waits_on (playing.with_left (with_context session context) left))
 own_resumed left session (Ok (resume.Acquired id), context) = own_play (left.rest id) left.mark (with_context session context)
-own_resumed left session (Ok (resume.Lost how), context) = own_closing (ending_of_loss how) left.mark (with_context session context)
+own_resumed left session (Ok (resume.Lost how), context) =
+    own_closing (ending_of_loss (waits_for_user_lock session.context) how) left.mark (with_context session context)
 own_resumed left session (Err error, context) = own_closing (ending_of_error error) left.mark (with_context session context)
 
 own_going_on : (left : Option Left) (session : Session) → IsOwn session.context.who (playing.going_on_with left session)

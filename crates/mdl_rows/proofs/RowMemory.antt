@@ -9,15 +9,17 @@ use Rattle.mdl_context.specs.declared.request.Acquire.TheVariants as acquire
 use Rattle.mdl_context.specs.declared.request.Mark.{Mark}
 use Rattle.mdl_context.specs.declared.request.Resume.{Resume}
 use Rattle.mdl_context.specs.declared.request.Resume.TheVariants as resume
-use Rattle.mdl_context.specs.Contexts.{mark_of}
+use Rattle.mdl_context.specs.declared.request.Tried.{Tried}
+use Rattle.mdl_context.specs.declared.request.Tried.TheVariants as try_as
+use Rattle.mdl_context.specs.Contexts.{last_ticket, mark_of, waits_for_user_lock}
 use Rattle.mdl_context.specs.Gains.{refusal_of}
 use Rattle.mdl_context.specs.MemoryLaws.{IsStarved}
 use Rattle.mdl_context.specs.Releases.{giving_up, releasing}
-use Rattle.mdl_context.specs.Requests.{Outcome, acquiring}
+use Rattle.mdl_context.specs.Requests.{Outcome, acquiring, trying}
 use Rattle.mdl_context.specs.Upgrades.{upgrading, downgrading}
 use Rattle.mdl_context.specs.Waits.{giving_up_wait, resuming}
 use Rattle.mdl_context.specs.Wishes.{Wish}
-use Rattle.mdl_context.proofs.MemoryLemmas.{faithful_acquiring, faithful_resuming, faithful_upgrading, frugal_downgrading, frugal_giving_up, frugal_releasing}
+use Rattle.mdl_context.proofs.MemoryLemmas.{faithful_acquiring, faithful_trying, faithful_resuming, faithful_upgrading, frugal_downgrading, frugal_giving_up, frugal_releasing}
 use Rattle.mdl_rows.specs.declared.ending.Ending.{Ending}
 use Rattle.mdl_rows.specs.declared.ending.Ending.TheVariants.{Answers, Starves}
 use Rattle.mdl_rows.specs.declared.reply.Reply.{Reply}
@@ -103,6 +105,18 @@ each_acquired : (wish : Wish) (rest : ℕ → Row Reply) (mark : Mark) (session 
 each_acquired wish rest mark session more (result, context) e =
     subst (λ r. Each IsFault (playing.acquired wish rest mark session more (r, context))) (sym e) (each_starves mark (with_context session context))
 
+faithful_tried : (mark : Mark) (session : Session) (more : Option ℕ → Session → Program Pause) →
+    ((got : Option ℕ) (after : Session) → IsFaithful IsFault (more got after)) → (outcome : Outcome Tried) →
+    IsFaithful IsFault (playing.tried mark session more outcome)
+faithful_tried mark session more made (Ok (try_as.Acquired id), context) = made (Some id) (with_context session context)
+faithful_tried mark session more made (Ok try_as.WouldWait, context) = made None (with_context session context)
+faithful_tried mark session more made (Err error, context) = faithful_closing (ending_of_error error) mark (with_context session context)
+
+each_tried : (mark : Mark) (session : Session) (more : Option ℕ → Session → Program Pause) → (outcome : Outcome Tried) → IsStarved outcome →
+    Each IsFault (playing.tried mark session more outcome)
+each_tried mark session more (result, context) e =
+    subst (λ r. Each IsFault (playing.tried mark session more (r, context))) (sym e) (each_starves mark (with_context session context))
+
 -- ---- what stands
 
 faithful_read : (mark : Mark) (session : Session) (more : Standing → Program Pause) → ((standing : Standing) → IsFaithful IsFault (more standing)) →
@@ -148,6 +162,12 @@ faithful_play (row.Acquire wish rest) mark session =
     faithful_bind {A = Outcome Acquire} {B = Pause} IsStarved IsFault (acquiring wish session.context) (playing.acquired wish rest mark session more)
     (faithful_acquiring wish session.context) (each_acquired wish rest mark session more)
     (faithful_acquired wish rest mark session more (λ id after. faithful_play (rest id) mark after))
+faithful_play (row.Try_acquire wish rest) mark session =
+    let more = λ (got : Option ℕ) (after : Session). play (rest got) mark after in
+    faithful_bind {A = Outcome Tried} {B = Pause} IsStarved IsFault (trying wish session.context) (playing.tried mark session more)
+    (faithful_trying wish session.context) (each_tried mark session more)
+    (faithful_tried mark session more (λ got after. faithful_play (rest got) mark after))
+faithful_play (row.Last key rest) mark session = faithful_play (rest (last_ticket key session.context)) mark session
 faithful_play (row.Upgrade id key mode rest) mark session =
     let wish = playing.upgrade_wish key mode in
     let more = λ (id : ℕ) (after : Session). play (rest id) mark after in
@@ -184,7 +204,8 @@ faithful_play (row.Kill target rest) mark session =
 faithful_resumed : (left : Left) (session : Session) (outcome : Outcome Resume) → IsFaithful IsFault (playing.resumed left session outcome)
 faithful_resumed left session (Ok resume.Waiting, context) = tt
 faithful_resumed left session (Ok (resume.Acquired id), context) = faithful_play (left.rest id) left.mark (with_context session context)
-faithful_resumed left session (Ok (resume.Lost how), context) = faithful_closing (ending_of_loss how) left.mark (with_context session context)
+faithful_resumed left session (Ok (resume.Lost how), context) =
+    faithful_closing (ending_of_loss (waits_for_user_lock session.context) how) left.mark (with_context session context)
 faithful_resumed left session (Err error, context) = faithful_closing (ending_of_error error) left.mark (with_context session context)
 
 each_resumed : (left : Left) (session : Session) (outcome : Outcome Resume) → IsStarved outcome → Each IsFault (playing.resumed left session outcome)

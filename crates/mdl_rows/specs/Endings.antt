@@ -1,7 +1,7 @@
 -- How a statement ends, and what goes then. That a statement whose check failed keeps the locks of its transaction is after MySQL
 -- 5.7, the Reference Manual, "Metadata Locking"; that one which misses a lock goes back to where it began, and that a transaction
 -- stays open whose COMMIT lock was missed, is this project's own choice.
-use Rattle.std.specs.Prelude.{ℕ, Bool, true, List, Option, Some, None}
+use Rattle.std.specs.Prelude.{ℕ, Bool, true, false, List, Option, Some, None, if◌then◌else◌}
 use Rattle.mdl_key.specs.declared.mode.Mode.{Mode}
 use Rattle.mdl_key.specs.declared.mode.Duration.TheVariants as for
 use Rattle.mdl_key.specs.Keys.{KeyName}
@@ -18,7 +18,7 @@ use Rattle.mdl_context.specs.Contexts.{held_for, beyond_mark, of_transaction}
 use Rattle.mdl_context.specs.Releases.{giving_up, releasing}
 use Rattle.mdl_rows.specs.declared.ending.Ending.{Ending}
 use Rattle.mdl_rows.specs.declared.ending.Ending.TheVariants.{Answers, Misses, Falls, Starves}
-use Rattle.mdl_rows.specs.declared.error_number.ErrorNumber.TheVariants.{LockWaitTimeout, Deadlock, Interrupted, NoPlace, Full}
+use Rattle.mdl_rows.specs.declared.error_number.ErrorNumber.TheVariants.{LockWaitTimeout, Deadlock, Interrupted, UserLockDeadlock, NoPlace, Full}
 use Rattle.mdl_rows.specs.declared.reply.Reply.{Reply}
 use Rattle.mdl_rows.specs.declared.reply.Reply.TheVariants as reply
 use Rattle.mdl_rows.specs.Sessions.{Session}
@@ -32,11 +32,12 @@ pub data Pause : Type 0 where
   Waits_on : Session → Pause
   Faults : Session → Pause
 
--- how a statement ends whose wait was lost
-abbrev pub ending_of_loss : Settled → Ending
-ending_of_loss settled.Timeout = Misses LockWaitTimeout
-ending_of_loss settled.Killed = Misses Interrupted
-ending_of_loss _ = Falls
+-- how a statement ends whose wait was lost: for a user-level lock, or for another one. A user-level lock that isn't had in time is an
+-- answer, and the victim of a deadlock that waits for one loses nothing but the wait
+abbrev pub ending_of_loss : Bool → Settled → Ending
+ending_of_loss user settled.Timeout = if user then Answers (reply.Number false) else Misses LockWaitTimeout
+ending_of_loss user settled.Killed = Misses Interrupted
+ending_of_loss user _ = if user then Misses UserLockDeadlock else Falls
 
 -- how a statement ends that a lock space refuses something. This project's choice is that want of memory and of places are told as
 -- such, and any other refusal as want of room, which no room in a book is, and no number for a ticket or a wait

@@ -2,7 +2,7 @@
 -- project's own, and so is that a table which is missing is one number for all statements.
 use Rattle.std.specs.Prelude.{ℕ}
 use Rattle.mdl_rows.specs.declared.error_number.ErrorNumber.{ErrorNumber}
-use Rattle.mdl_rows.specs.declared.error_number.ErrorNumber.TheVariants.{SchemaExists, UnknownDatabase, TableExists, DuplicateColumn, CantDropColumn, TableLockedForRead, TableNotLocked, NoSuchTable, ActiveLocks, LockWaitTimeout, Deadlock, ConflictingReadLock, NoSuchSavepoint, Interrupted, LastColumn, TooManyColumns, VersionLimit, NoPlace, Full}
+use Rattle.mdl_rows.specs.declared.error_number.ErrorNumber.TheVariants.{SchemaExists, UnknownDatabase, TableExists, DuplicateColumn, CantDropColumn, TableLockedForRead, TableNotLocked, NoSuchTable, ActiveLocks, LockWaitTimeout, Deadlock, ConflictingReadLock, NoSuchSavepoint, Interrupted, UserLockDeadlock, LastColumn, TooManyColumns, VersionLimit, NoPlace, Full}
 
 -- an error's number
 abbrev pub number_of : ErrorNumber → ℕ
@@ -20,6 +20,7 @@ number_of Deadlock = 1213
 number_of ConflictingReadLock = 1223
 number_of NoSuchSavepoint = 1305
 number_of Interrupted = 1317
+number_of UserLockDeadlock = 3058
 number_of LastColumn = 9001
 number_of TooManyColumns = 9002
 number_of VersionLimit = 9003

@@ -11,11 +11,13 @@ use Rattle.mdl_context.specs.declared.request.Acquire.TheVariants as acquire
 use Rattle.mdl_context.specs.declared.request.Mark.{Mark}
 use Rattle.mdl_context.specs.declared.request.Resume.{Resume}
 use Rattle.mdl_context.specs.declared.request.Resume.TheVariants as resume
-use Rattle.mdl_context.specs.Contexts.{ContextView, mark_of}
+use Rattle.mdl_context.specs.declared.request.Tried.{Tried}
+use Rattle.mdl_context.specs.declared.request.Tried.TheVariants as try_as
+use Rattle.mdl_context.specs.Contexts.{ContextView, last_ticket, mark_of, waits_for_user_lock}
 use Rattle.mdl_context.specs.Gains.{refusal_of}
 use Rattle.mdl_context.specs.Holdings.{kept_for}
 use Rattle.mdl_context.specs.Releases.{giving_up, releasing}
-use Rattle.mdl_context.specs.Requests.{Outcome, acquiring}
+use Rattle.mdl_context.specs.Requests.{Outcome, acquiring, trying}
 use Rattle.mdl_context.specs.Upgrades.{upgrading, downgrading}
 use Rattle.mdl_context.specs.Waits.{giving_up_wait, resuming}
 use Rattle.mdl_context.specs.Wishes.{Wish}
@@ -59,6 +61,12 @@ acquired wish rest mark session more (Ok (acquire.Acquired id), context) = more 
 acquired wish rest mark session more (Ok (acquire.MustWait number), context) =
     beginning_to_wait wish (record { rest = rest; mark = mark }) (with_context session context)
 acquired wish rest mark session more (Err error, context) = closing (ending_of_error error) mark (with_context session context)
+
+-- a lock was asked for without a wait: it is had, it can't be had at once, or the statement ends
+abbrev pub tried : Mark → Session → (Option ℕ → Session → Program Pause) → Outcome Tried → Program Pause
+tried mark session more (Ok (try_as.Acquired id), context) = more (Some id) (with_context session context)
+tried mark session more (Ok try_as.WouldWait, context) = more None (with_context session context)
+tried mark session more (Err error, context) = closing (ending_of_error error) mark (with_context session context)
 
 -- an upgrade is waited for as a lock of this key in the stronger mode is
 abbrev pub upgrade_wish : KeyName → Mode → Wish
@@ -107,6 +115,9 @@ play (row.Set change rest) mark session = play rest mark (record session { state
 play (row.Here rest) mark session = play (rest (mark_of session.context.kept)) mark session
 play (row.Acquire wish rest) mark session =
     acquiring wish session.context >>= acquired wish rest mark session (λ id after. play (rest id) mark after)
+play (row.Try_acquire wish rest) mark session =
+    trying wish session.context >>= tried mark session (λ got after. play (rest got) mark after)
+play (row.Last key rest) mark session = play (rest (last_ticket key session.context)) mark session
 play (row.Upgrade id key mode rest) mark session =
     upgrading id mode session.context >>= acquired (upgrade_wish key mode) rest mark session (λ id after. play (rest id) mark after)
 play (row.Downgrade id mode rest) mark session =
@@ -133,7 +144,8 @@ starting statement session = play (row_of statement) (mark_of session.context.ke
 abbrev pub resumed : Left → Session → Outcome Resume → Program Pause
 resumed left session (Ok resume.Waiting, context) = Give (Waits_on (with_left (with_context session context) left))
 resumed left session (Ok (resume.Acquired id), context) = play (left.rest id) left.mark (with_context session context)
-resumed left session (Ok (resume.Lost how), context) = closing (ending_of_loss how) left.mark (with_context session context)
+resumed left session (Ok (resume.Lost how), context) =
+    closing (ending_of_loss (waits_for_user_lock session.context) how) left.mark (with_context session context)
 resumed left session (Err error, context) = closing (ending_of_error error) left.mark (with_context session context)
 
 -- a statement goes on with what is left of it

@@ -1,6 +1,6 @@
 -- What a statement asks of its session, one thing after the other. Waits don't show here: a lock that is asked for is got, or the
 -- statement has ended.
-use Rattle.std.specs.Prelude.{ℕ, Bool, true, false, List, [], ◌∷◌}
+use Rattle.std.specs.Prelude.{ℕ, Bool, true, false, List, [], ◌∷◌, Option}
 use Rattle.mdl_key.specs.declared.mode.Mode.{Mode}
 use Rattle.mdl_key.specs.declared.mode.Duration.{Duration}
 use Rattle.mdl_key.specs.Keys.{KeyName}
@@ -27,6 +27,10 @@ pub data Row (A : Type 0) : Type 0 where
   Here : (Mark → Row A) → Row A
   -- a lock, however long that takes; and what its ticket leads to
   Acquire : Wish → (ℕ → Row A) → Row A
+  -- a lock, if it can be had without a wait; and what its ticket leads to, or that there is none
+  Try_acquire : Wish → (Option ℕ → Row A) → Row A
+  -- the ticket of this key that was gained last, if there is one
+  Last : KeyName → (Option ℕ → Row A) → Row A
   -- a stronger mode for a ticket of this key, however long that takes; and what the ticket leads to then
   Upgrade : (id : ℕ) → KeyName → Mode → (ℕ → Row A) → Row A
   -- a weaker mode for a ticket
@@ -58,6 +62,8 @@ Look rest >>= next = Look (λ state. rest state >>= next)
 Set change rest >>= next = Set change (rest >>= next)
 Here rest >>= next = Here (λ mark. rest mark >>= next)
 Acquire wish rest >>= next = Acquire wish (λ id. rest id >>= next)
+Try_acquire wish rest >>= next = Try_acquire wish (λ got. rest got >>= next)
+Last key rest >>= next = Last key (λ held. rest held >>= next)
 Upgrade id key mode rest >>= next = Upgrade id key mode (λ id. rest id >>= next)
 Downgrade id mode rest >>= next = Downgrade id mode (rest >>= next)
 Give_up which rest >>= next = Give_up which (rest >>= next)
@@ -97,6 +103,12 @@ here = Here Give
 
 abbrev pub acquire : KeyName → Mode → Duration → Row ℕ
 acquire key mode duration = Acquire (record { key = key; mode = mode; duration = duration }) Give
+
+abbrev pub try_acquire : KeyName → Mode → Duration → Row (Option ℕ)
+try_acquire key mode duration = Try_acquire (record { key = key; mode = mode; duration = duration }) Give
+
+abbrev pub last_of : KeyName → Row (Option ℕ)
+last_of key = Last key Give
 
 abbrev pub upgrade : ℕ → KeyName → Mode → Row ℕ
 upgrade id key mode = Upgrade id key mode Give

@@ -1,12 +1,13 @@
 -- What each statement does, after MySQL 5.7: the Reference Manual, "Metadata Locking", "START TRANSACTION, COMMIT, and ROLLBACK
--- Statements", "SAVEPOINT, ROLLBACK TO SAVEPOINT, and RELEASE SAVEPOINT Statements" and "LOCK TABLES and UNLOCK TABLES Statements".
+-- Statements", "SAVEPOINT, ROLLBACK TO SAVEPOINT, and RELEASE SAVEPOINT Statements", "LOCK TABLES and UNLOCK TABLES Statements" and
+-- "Locking Functions".
 -- Checks stand in the order in which they are made. This project's own choice is that CREATE TABLE has its lock before it looks at
 -- schema, table and columns, and CREATE SCHEMA and DROP SCHEMA before they look at the schema, that DROP TABLE drops none where one is
 -- missing, that RENAME TABLE looks for the schema of the new name, that changes of definitions take no COMMIT lock of their own, and all
 -- but ALTER TABLE are refused under locked tables, that ALTER TABLE clones the lock of a locked table and raises the clone, that
 -- LOCK TABLES has all its locks before it looks whether a table is missing, that a savepoint outside a transaction is nothing, that
--- going back releases what was gained since, whatever was written, and leaves the transaction one that wrote, and that KILL QUERY is
--- always done.
+-- going back releases what was gained since, whatever was written, and leaves the transaction one that wrote, that KILL QUERY is
+-- always done, and that RELEASE_LOCK finds out whether another session holds a lock by asking for it.
 use Rattle.std.specs.Prelude.{ℕ, Bool, true, false, not, ◌&&◌, nat_lt, List, [], ◌∷◌, ◌++◌, filter, map, find, is_some, Option, Some, None, if◌then◌else◌}
 use Rattle.std.specs.List.{list_any}
 use Rattle.mdl_key.specs.declared.mode.Mode.{Mode}
@@ -14,7 +15,7 @@ use Rattle.mdl_key.specs.declared.mode.Mode.TheVariants.{IX, S, SR, SW, SWLP, X,
 use Rattle.mdl_key.specs.declared.mode.Duration.TheVariants as for
 use Rattle.mdl_key.specs.declared.namespace.Namespace.{Namespace}
 use Rattle.mdl_key.specs.declared.namespace.Namespace.TheVariants as of
-use Rattle.mdl_key.specs.Keys.{KeyName, global_key, commit_key, schema_key, key_eq}
+use Rattle.mdl_key.specs.Keys.{KeyName, global_key, commit_key, schema_key, user_lock_key, key_eq}
 use Rattle.mdl_defs.specs.declared.change.Change.{Change}
 use Rattle.mdl_defs.specs.declared.change.Change.TheVariants as change
 use Rattle.mdl_defs.specs.declared.def_error.DefError.{DefError}
@@ -46,7 +47,7 @@ use Rattle.mdl_rows.specs.declared.reply.Reply.{Reply}
 use Rattle.mdl_rows.specs.declared.reply.Reply.TheVariants as reply
 use Rattle.mdl_rows.specs.declared.reply.TableShown.{TableShown}
 use Rattle.mdl_rows.specs.KeyOrder.{in_key_order, ticket_of}
-use Rattle.mdl_rows.specs.Rows.{Row, Act, Give, Fail, Acquire, ◌>>=◌, ◌>>◌, nothing, room, look, set, here, acquire, give_up, release, read, redefine, upgrade, downgrade, keep, tables_within, key_of, kill, check, acquire_all, for_each}
+use Rattle.mdl_rows.specs.Rows.{Row, Act, Give, Fail, Acquire, ◌>>=◌, ◌>>◌, nothing, room, look, set, here, acquire, try_acquire, last_of, give_up, release, read, redefine, upgrade, downgrade, keep, tables_within, key_of, kill, check, acquire_all, for_each}
 use Rattle.mdl_rows.specs.States.{has_locked, opened, closed, written, unlocked, with_commits_locked, with_savepoint, with_writes_locked, without_read_lock, savepoint_mark, up_to, locking}
 
 -- ---- transactions
@@ -731,6 +732,38 @@ lock_tables_after_commit locks = do
   scopes ← acquire_all (map ddl_lock (scopes_around (written_tables locks)))
   lock_named locks scopes
 
+-- ---- GET_LOCK and RELEASE_LOCK
+
+-- GET_LOCK: no transaction begins or ends, and the lock stays until the session releases it
+abbrev pub get_lock : List ℕ → Row Reply
+get_lock name = do
+  room
+  acquire (user_lock_key name) X for.Explicit
+  Give (reply.Number true)
+
+-- a lock was asked for that the session doesn't hold: another session holds it, or nobody did, and then it is released at once
+abbrev pub given : Option ℕ → Row Reply
+given None = Give (reply.Number false)
+given (Some ticket) = do
+  release ticket
+  Give reply.Null
+
+-- the ticket of a lock goes that was gained last; a session that holds none finds out whether another one does
+abbrev pub give_back : KeyName → Option ℕ → Row Reply
+give_back lock (Some ticket) = do
+  release ticket
+  Give (reply.Number true)
+give_back lock None = do
+  got ← try_acquire lock X for.Explicit
+  given got
+
+-- RELEASE_LOCK
+abbrev pub release_lock : List ℕ → Row Reply
+release_lock name = do
+  room
+  held ← last_of (user_lock_key name)
+  give_back (user_lock_key name) held
+
 -- ---- the table
 
 -- an open transaction is committed first
@@ -796,3 +829,5 @@ row_of (statement.AlterTable alteration) = alter_first alteration.table (alter_a
 row_of (statement.LockTables locks) = lock_first locks (lock_tables_after_commit locks)
 row_of (statement.KillQuery target) = kill target >> Give reply.Ok
 row_of statement.Timeout = Give reply.Ok
+row_of (statement.GetLock name) = get_lock name
+row_of (statement.ReleaseLock name) = release_lock name

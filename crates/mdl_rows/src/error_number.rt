@@ -33,6 +33,8 @@ pub enum ErrorNumber {
     NoSuchSavepoint,
     /// 1317: the wait was killed.
     Interrupted,
+    /// 3058: the session was the victim of a deadlock as it waited for a user-level lock.
+    UserLockDeadlock,
     /// 9001: the column that is to be dropped is the table's last one.
     LastColumn,
     /// 9002: the table has as many columns as it can have.
@@ -65,6 +67,7 @@ impl ErrorNumber {
             ErrorNumber::ConflictingReadLock => 1223,
             ErrorNumber::NoSuchSavepoint => 1305,
             ErrorNumber::Interrupted => 1317,
+            ErrorNumber::UserLockDeadlock => 3058,
             ErrorNumber::LastColumn => 9001,
             ErrorNumber::TooManyColumns => 9002,
             ErrorNumber::VersionLimit => 9003,

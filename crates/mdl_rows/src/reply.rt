@@ -67,6 +67,10 @@ pub enum Reply {
     Ok,
     /// Well, with tables to show.
     Columns(TablesShown),
+    /// Well, with a truth value to show: 1 or 0.
+    Number(bool),
+    /// Well, with NULL to show.
+    Null,
     /// It failed.
     Error(ErrorNumber),
 }

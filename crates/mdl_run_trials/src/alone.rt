@@ -6,7 +6,7 @@ use std::alloc::{AllocError, Global};
 use std::test::Fail;
 
 // Statements of all forms, which are drawn from.
-const STATEMENTS: [&str; 50] = [
+const STATEMENTS: [&str; 54] = [
     "BEGIN",
     "START TRANSACTION",
     "COMMIT",
@@ -57,6 +57,10 @@ const STATEMENTS: [&str; 50] = [
     "FLUSH TABLES WITH READ LOCK",
     "KILL QUERY 1",
     "KILL QUERY 2",
+    "GET_LOCK a",
+    "GET_LOCK b",
+    "RELEASE_LOCK a",
+    "RELEASE_LOCK b",
 ];
 
 // So many scripts are played.

@@ -41,6 +41,26 @@ fn whoever_is_done_has_nothing(rt: HostRuntime) {
     assert!(rt; one_after_the_other(rt.alloc(), text, &one, &two));
 }
 
+// A session that ends releases its user-level locks, which no COMMIT does.
+#[test]
+fn whoever_is_done_has_no_user_lock(rt: HostRuntime) {
+    let text = b"1 GET_LOCK job\n1 GET_LOCK job\n1 BEGIN\n1 COMMIT\n1 RELEASE_LOCK job\n\
+        2 RELEASE_LOCK job\n2 GET_LOCK job\n2 RELEASE_LOCK job\n";
+    let one = [
+        (1, Told::Says(true)),
+        (2, Told::Says(true)),
+        (3, DONE),
+        (4, DONE),
+        (5, Told::Says(true)),
+    ];
+    let two = [
+        (6, Told::Null),
+        (7, Told::Says(true)),
+        (8, Told::Says(true)),
+    ];
+    assert!(rt; one_after_the_other(rt.alloc(), text, &one, &two));
+}
+
 #[test]
 fn whoever_has_no_lines_answers_nothing(rt: HostRuntime) {
     assert!(rt; one_after_the_other(rt.alloc(), b"2 COMMIT\n", &[], &[(1, DONE)]));

@@ -14,6 +14,10 @@ pub(crate) enum Told {
     Done,
     /// So many tables.
     Shows(usize),
+    /// A truth value.
+    Says(bool),
+    /// NULL.
+    Null,
     Fails(u16),
 }
 
@@ -22,6 +26,8 @@ impl Told {
         match reply {
             Reply::Ok => Told::Done,
             Reply::Columns(tables) => Told::Shows(tables.as_slice().len()),
+            Reply::Number(yes) => Told::Says(*yes),
+            Reply::Null => Told::Null,
             Reply::Error(error) => Told::Fails(error.number()),
         }
     }
@@ -89,6 +95,6 @@ pub(crate) fn holds(alloc: Global, space: &mut CoreSpace, text: &[u8]) -> bool
     };
     matches!(
         runner.start(space, &line.statement),
-        Ok(Progress::Done(Reply::Ok))
+        Ok(Progress::Done(Reply::Ok | Reply::Number(true)))
     )
 }

@@ -6,7 +6,7 @@ use std::alloc::{AllocError, Global};
 use std::test::Fail;
 
 // Statements, each with the letters of what it changes where it is answered: tables a, b and c, and schema s.
-const STATEMENTS: [(&str, &str); 40] = [
+const STATEMENTS: [(&str, &str); 46] = [
     ("BEGIN", ""),
     ("BEGIN", ""),
     ("START TRANSACTION", ""),
@@ -47,6 +47,12 @@ const STATEMENTS: [(&str, &str); 40] = [
     ("FLUSH TABLES WITH READ LOCK", ""),
     ("KILL QUERY 1", ""),
     ("KILL QUERY 5", ""),
+    ("GET_LOCK a", ""),
+    ("GET_LOCK b", ""),
+    ("RELEASE_LOCK a", ""),
+    ("RELEASE_LOCK a", ""),
+    ("RELEASE_LOCK b", ""),
+    ("RELEASE_LOCK b", ""),
 ];
 
 const SESSIONS: usize = 8;

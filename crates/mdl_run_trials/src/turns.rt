@@ -2,7 +2,10 @@
 use crate::flags::Flag;
 use crate::playing::{lines, played};
 use mdl_script::Gate;
+use std::process::Abort;
+use std::sync::Wait;
 use std::test::Fail;
+use std::thread::Threads;
 
 // Line 4 is held until line 3 was answered, and line 5 until line 4 was.
 #[derive(Drop)]
@@ -52,14 +55,43 @@ const TEXT: &str =
     "1 1 OK / 2 1 OK / 3 1 OK test.t@1(x) / 5 1 OK / 4 2 ERR 1205 / FINAL SCHEMA test@1 / \
     FINAL TABLE test.t@1(x)";
 
+// A script whose lines come in order has this text, where no session has patience.
+fn is_played_so<R: Threads + Wait + Sync + Abort + AllocGlobal>(
+    rt: &R,
+    script: &str,
+    text: &str,
+) -> Result<(), Fail> {
+    let alloc = rt.alloc();
+    let gate = InOrder::new();
+    let script = lines(alloc, script)?;
+    let played = played(rt, alloc, script.as_str(), 0, &gate)?;
+    assert!(rt; !gate.missed.is_raised(), "a line was held too long");
+    assert_eq!(rt; played.as_str(), lines(alloc, text)?.as_str());
+    Ok(())
+}
+
 // Whoever has no patience doesn't wait for the transaction that has read the table.
 #[test]
 fn a_drop_without_patience_times_out(rt: HostRuntime) -> Result<(), Fail> {
-    let alloc = rt.alloc();
-    let gate = InOrder::new();
-    let script = lines(alloc, SCRIPT)?;
-    let played = played(&rt, alloc, script.as_str(), 0, &gate)?;
-    assert!(rt; !gate.missed.is_raised(), "a line was held too long");
-    assert_eq!(rt; played.as_str(), lines(alloc, TEXT)?.as_str());
-    Ok(())
+    is_played_so(&rt, SCRIPT, TEXT)
+}
+
+// Nor for the session that has a user-level lock, and that is no error.
+#[test]
+fn a_user_lock_is_not_had_without_patience(rt: HostRuntime) -> Result<(), Fail> {
+    is_played_so(
+        &rt,
+        "1 BEGIN / 1 GET_LOCK a / 1 COMMIT / 2 GET_LOCK a / 1 RELEASE_LOCK a",
+        "1 1 OK / 2 1 OK 1 / 3 1 OK / 5 1 OK 1 / 4 2 OK 0 / FINAL SCHEMA test@1",
+    )
+}
+
+// Nor can that lock be released by another session.
+#[test]
+fn a_user_lock_of_another_session_is_not_released(rt: HostRuntime) -> Result<(), Fail> {
+    is_played_so(
+        &rt,
+        "1 BEGIN / 1 GET_LOCK a / 1 ROLLBACK / 2 RELEASE_LOCK a / 1 RELEASE_LOCK a",
+        "1 1 OK / 2 1 OK 1 / 3 1 OK / 5 1 OK 1 / 4 2 OK 0 / FINAL SCHEMA test@1",
+    )
 }

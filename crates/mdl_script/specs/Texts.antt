@@ -1,5 +1,5 @@
 -- What is told as a script is played, and how that is printed. The wording is this project's own.
-use Rattle.std.specs.Prelude.{ℕ, List, [], ◌∷◌, ◌++◌, codes, flat_map}
+use Rattle.std.specs.Prelude.{ℕ, Bool, true, false, List, [], ◌∷◌, ◌++◌, codes, flat_map}
 use Rattle.std.specs.Fmt.{decimal}
 use Rattle.std.specs.List.{join_by}
 use Rattle.mdl_key.specs.declared.mode.Mode.{Mode}
@@ -27,10 +27,17 @@ tables_text = flat_map table_text
 abbrev pub error_text : ℕ → List ℕ
 error_text number = codes "ERR " ++ decimal number
 
--- a reply: OK, and the tables that were read; or the number of an error
+-- a truth value, as the number 1 or 0
+abbrev pub number_text : Bool → List ℕ
+number_text true = codes "OK 1"
+number_text false = codes "OK 0"
+
+-- a reply: OK, and the tables that were read, or a number, or NULL; or the number of an error
 abbrev pub reply_text : Reply → List ℕ
 reply_text reply.Ok = codes "OK"
 reply_text (reply.Columns tables) = codes "OK" ++ tables_text tables
+reply_text (reply.Number number) = number_text number
+reply_text reply.Null = codes "OK NULL"
 reply_text (reply.Error error) = error_text (number_of error)
 
 abbrev pub wait_text : KeyName → Mode → List ℕ

@@ -4,7 +4,7 @@ ghost use Rattle.std.specs.Fmt.{decimal};
 ghost use Rattle.std.specs.List.{join_by};
 ghost use Rattle.std.specs.String.{string_bytes};
 ghost use Rattle.mdl_script.specs.RunTexts.{answer_line, answers_text};
-ghost use Rattle.mdl_script.specs.Texts.{columns_text, end_line, error_text, heading, news_text, reply_text, table_text, tables_text, told_line, wait_text};
+ghost use Rattle.mdl_script.specs.Texts.{columns_text, end_line, error_text, heading, news_text, number_text, reply_text, table_text, tables_text, told_line, wait_text};
 
 use itoa::Buffer;
 use mdl_defs::Column;
@@ -125,7 +125,19 @@ fn push_reply(out: &mut String, reply: &Reply) -> Result<(), AllocError>
             out.push_str("OK")?;
             push_tables(out, tables.as_slice())
         }
+        Reply::Number(number) => push_truth(out, *number),
+        Reply::Null => out.push_str("OK NULL"),
         Reply::Error(error) => push_error(out, error.number()),
+    }
+}
+
+// A truth value, as the number 1 or 0.
+fn push_truth(out: &mut String, number: bool) -> Result<(), AllocError>
+    ensures { OnOk result (string_bytes out.new ≡ string_bytes out.old ++ number_text number) }
+{
+    match number {
+        true => out.push_str("OK 1"),
+        false => out.push_str("OK 0"),
     }
 }
 

@@ -2,7 +2,7 @@
 use Rattle.std.proofs.Common.{◌≡◌, ℕ, Bool, true, false, List, [], ◌∷◌, Option, Some, None, refl}
 use Rattle.std.specs.Prelude.{find, if◌then◌else◌, is_some, map, not, ◌++◌}
 use Rattle.std.proofs.lemmas.Bool.{false≢true}
-use Rattle.mdl_key.specs.Keys.{KeyName, global_key, key_eq}
+use Rattle.mdl_key.specs.Keys.{KeyName, global_key, key_eq, user_lock_key}
 use Rattle.mdl_key.specs.declared.mode.Mode.TheVariants.{X, SNRW}
 use Rattle.mdl_defs.specs.declared.change.Change.{Change}
 use Rattle.mdl_defs.specs.declared.change.Change.TheVariants as change
@@ -48,6 +48,8 @@ KeepsDefinitions (row.Look rest) = (state : State) → KeepsDefinitions (rest st
 KeepsDefinitions (row.Set change rest) = KeepsDefinitions rest
 KeepsDefinitions (row.Here rest) = (mark : Mark) → KeepsDefinitions (rest mark)
 KeepsDefinitions (row.Acquire wish rest) = (id : ℕ) → KeepsDefinitions (rest id)
+KeepsDefinitions (row.Try_acquire wish rest) = (got : Option ℕ) → KeepsDefinitions (rest got)
+KeepsDefinitions (row.Last key rest) = (held : Option ℕ) → KeepsDefinitions (rest held)
 KeepsDefinitions (row.Upgrade id key mode rest) = (new : ℕ) → KeepsDefinitions (rest new)
 KeepsDefinitions (row.Downgrade id mode rest) = KeepsDefinitions rest
 KeepsDefinitions (row.Give_up which rest) = KeepsDefinitions rest
@@ -70,6 +72,8 @@ keeps-bind (row.Look rest) next keeps later = λ state. keeps-bind (rest state) 
 keeps-bind (row.Set change rest) next keeps later = keeps-bind rest next keeps later
 keeps-bind (row.Here rest) next keeps later = λ mark. keeps-bind (rest mark) next (keeps mark) later
 keeps-bind (row.Acquire wish rest) next keeps later = λ id. keeps-bind (rest id) next (keeps id) later
+keeps-bind (row.Try_acquire wish rest) next keeps later = λ got. keeps-bind (rest got) next (keeps got) later
+keeps-bind (row.Last key rest) next keeps later = λ held. keeps-bind (rest held) next (keeps held) later
 keeps-bind (row.Upgrade id key mode rest) next keeps later = λ new. keeps-bind (rest new) next (keeps new) later
 keeps-bind (row.Downgrade id mode rest) next keeps later = keeps-bind rest next keeps later
 keeps-bind (row.Give_up which rest) next keeps later = keeps-bind rest next keeps later
@@ -249,6 +253,14 @@ keeps-lock_tables locks =
     (λ ids. keeps-bind (acquire_all wishes) (stm.keep_locked locks tables ids) (keeps-locks wishes)
     (λ tickets. keeps-bind (for_each stm.stands tickets) _ (keeps-stands tickets) (λ _. tt))))
 
+keeps-given : (got : Option ℕ) → KeepsDefinitions (stm.given got)
+keeps-given None = tt
+keeps-given (Some ticket) = tt
+
+keeps-give_back : (lock : KeyName) (held : Option ℕ) → KeepsDefinitions (stm.give_back lock held)
+keeps-give_back lock (Some ticket) = tt
+keeps-give_back lock None = λ got. keeps-given got
+
 keeps-commit_first : (rest : Row Reply) → KeepsDefinitions rest → KeepsDefinitions (stm.commit_first rest)
 keeps-commit_first rest keeps = keeps-bind stm.commit (λ _. rest) keeps-commit (λ _. keeps)
 
@@ -263,6 +275,8 @@ behind-none P (row.Look rest) keeps = λ state. behind-none P (rest state) (keep
 behind-none P (row.Set change rest) keeps = behind-none P rest keeps
 behind-none P (row.Here rest) keeps = λ mark. behind-none P (rest mark) (keeps mark)
 behind-none P (row.Acquire wish rest) keeps = λ id. behind-none P (rest id) (keeps id)
+behind-none P (row.Try_acquire wish rest) keeps = λ got. behind-none P (rest got) (keeps got)
+behind-none P (row.Last key rest) keeps = λ held. behind-none P (rest held) (keeps held)
 behind-none P (row.Upgrade id key mode rest) keeps = λ new. behind-none P (rest new) (keeps new)
 behind-none P (row.Downgrade id mode rest) keeps = behind-none P rest keeps
 behind-none P (row.Give_up which rest) keeps = behind-none P rest keeps
@@ -284,6 +298,8 @@ behind P (row.Look rest) next keeps later = λ state. behind P (rest state) next
 behind P (row.Set change rest) next keeps later = behind P rest next keeps later
 behind P (row.Here rest) next keeps later = λ mark. behind P (rest mark) next (keeps mark) later
 behind P (row.Acquire wish rest) next keeps later = λ id. behind P (rest id) next (keeps id) later
+behind P (row.Try_acquire wish rest) next keeps later = λ got. behind P (rest got) next (keeps got) later
+behind P (row.Last key rest) next keeps later = λ held. behind P (rest held) next (keeps held) later
 behind P (row.Upgrade id key mode rest) next keeps later = λ new. behind P (rest new) next (keeps new) later
 behind P (row.Downgrade id mode rest) next keeps later = behind P rest next keeps later
 behind P (row.Give_up which rest) next keeps later = behind P rest next keeps later
@@ -438,6 +454,8 @@ behind-others P gives lowers (statement.LockTables locks) few =
     (λ _. behind-commit P rest (behind-none P rest (keeps-lock_tables locks)))
 behind-others P gives lowers (statement.KillQuery target) few = tt
 behind-others P gives lowers statement.Timeout few = tt
+behind-others P gives lowers (statement.GetLock name) few = λ id. tt
+behind-others P gives lowers (statement.ReleaseLock name) few = behind-none P (stm.release_lock name) (λ held. keeps-give_back (user_lock_key name) held)
 
 pub checks-before : StatementsCheckBeforeTheyChange
 checks-before (statement.DropTables tables) = behind-ddl OnlyFinishes (stm.drop_after_commit tables) (checks-drop tables)

@@ -1,5 +1,5 @@
 -- A statement that ends by an early error has changed nothing, and none that has waited ends so.
-use Rattle.std.proofs.Common.{◌≡◌, ℕ, true, false, Option, Some, None, List, [], inl, inr, refl, sym, ap, subst, ◌∙◌}
+use Rattle.std.proofs.Common.{◌≡◌, ℕ, Bool, true, false, Option, Some, None, List, [], inl, inr, refl, sym, ap, subst, ◌∙◌}
 use Rattle.std.proofs.lemmas.Bool.{false≢true}
 use Rattle.mdl_defs.specs.declared.standing.Standing.{Standing}
 use Rattle.mdl_calls.specs.Words.{Answer, Reads, Program, Give, ◌>>=◌, Each, Read_kept, Runs}
@@ -80,10 +80,12 @@ late_error : (error : ContextError) → IsLateEnding (ending_of_error error)
 late_error (Space refusal) = late_refusal refusal
 late_error _ = refl
 
-late_loss : (how : Settled) → IsLateEnding (ending_of_loss how)
-late_loss settled.Timeout = refl
-late_loss settled.Killed = refl
-late_loss _ = tt
+late_loss : (user : Bool) (how : Settled) → IsLateEnding (ending_of_loss user how)
+late_loss true settled.Timeout = tt
+late_loss false settled.Timeout = refl
+late_loss user settled.Killed = refl
+late_loss true _ = refl
+late_loss false _ = tt
 
 late_letting_go : (ending : Ending) (mark : Mark) (session : Session) → IsLateEnding ending → AllLate (letting_go ending mark session)
 late_letting_go ending mark session so =
@@ -140,6 +142,8 @@ late_untouched : (session : Session) (a b : Core) (pause : Pause) → IsLatePaus
 late_untouched session a b (Ends (reply.Error number) after) so = λ early. absurd (false≢true (sym so ∙ early))
 late_untouched session a b (Ends reply.Ok after) so = so
 late_untouched session a b (Ends (reply.Columns tables) after) so = so
+late_untouched session a b (Ends (reply.Number truth) after) so = so
+late_untouched session a b (Ends reply.Null after) so = so
 late_untouched session a b (Begins_to_wait key mode after) so = so
 late_untouched session a b (Waits_on after) so = so
 late_untouched session a b (Faults after) so = so
@@ -178,6 +182,8 @@ answered_untouched answer mark session a b pause tidy run =
     by (reply.Error number) same = λ _. (refl, same)
     by reply.Ok same = tt
     by (reply.Columns tables) same = tt
+    by (reply.Number truth) same = tt
+    by reply.Null same = tt
 
 -- to read changes nothing
 reads_same : (a b : Core) (who id : ℕ) (answer : Answer) → Joins a (Read_kept who id) answer b → b ≡ a

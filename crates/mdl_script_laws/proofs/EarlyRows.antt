@@ -20,7 +20,7 @@ use Rattle.mdl_rows.specs.States.{State, has_locked, savepoint_mark, written}
 use Rattle.mdl_rows.specs.Statements as rows
 use Rattle.mdl_rows.specs.Statements.{row_of}
 use Rattle.mdl_script_laws.specs.RefusalsFirst.{is_early}
-use Rattle.mdl_script_laws.proofs.RowRules.{Any, KeepsTo, keeps-begin, keeps-bind, keeps-commit, keeps-create, keeps-create_schema, keeps-drop, keeps-either, keeps-exists, keeps-rename, keeps-flush, keeps-rollback, keeps-unlock_all, keeps-alter, keeps-lock_tables, keeps-drop_schema}
+use Rattle.mdl_script_laws.proofs.RowRules.{Any, KeepsTo, keeps-begin, keeps-bind, keeps-commit, keeps-create, keeps-create_schema, keeps-drop, keeps-either, keeps-exists, keeps-rename, keeps-flush, keeps-rollback, keeps-unlock_all, keeps-alter, keeps-lock_tables, keeps-drop_schema, keeps-get_lock, keeps-release_lock}
 
 -- a failure by another error
 abbrev pub IsOther : ErrorNumber → Type 0
@@ -261,3 +261,7 @@ statements_check (statement.LockTables locks) =
     (late_first IsLate rest (late_commit_first (rows.lock_tables_after_commit locks) (keeps-lock_tables IsOther (λ number other. other) IsLate tt locks)))
 statements_check (statement.KillQuery target) = tt
 statements_check statement.Timeout = tt
+statements_check (statement.GetLock name) =
+    late_first IsLate (rows.get_lock name) (keeps-get_lock IsOther (λ number other. other) IsLate (λ truth. tt) name)
+statements_check (statement.ReleaseLock name) =
+    late_first IsLate (rows.release_lock name) (keeps-release_lock IsOther (λ number other. other) IsLate (λ truth. tt) tt name)

@@ -13,10 +13,12 @@ use Rattle.mdl_context.specs.declared.request.Acquire.TheVariants as acquire
 use Rattle.mdl_context.specs.declared.request.Mark.{Mark}
 use Rattle.mdl_context.specs.declared.request.Resume.{Resume}
 use Rattle.mdl_context.specs.declared.request.Resume.TheVariants as resume
-use Rattle.mdl_context.specs.Contexts.{mark_of}
+use Rattle.mdl_context.specs.declared.request.Tried.{Tried}
+use Rattle.mdl_context.specs.declared.request.Tried.TheVariants as try_as
+use Rattle.mdl_context.specs.Contexts.{last_ticket, mark_of, waits_for_user_lock}
 use Rattle.mdl_context.specs.Gains.{refusal_of}
 use Rattle.mdl_context.specs.Releases.{giving_up, releasing}
-use Rattle.mdl_context.specs.Requests.{Outcome, acquiring}
+use Rattle.mdl_context.specs.Requests.{Outcome, acquiring, trying}
 use Rattle.mdl_context.specs.Upgrades.{upgrading, downgrading}
 use Rattle.mdl_context.specs.Waits.{giving_up_wait, resuming}
 use Rattle.mdl_context.specs.Wishes.{Wish}
@@ -38,7 +40,7 @@ use Rattle.mdl_script_laws.specs.Failures.{FailuresChangeNothing, HasFailed, Has
 use Rattle.mdl_script_laws.proofs.ChangeRows.{changes-once}
 use Rattle.mdl_script_laws.proofs.OutcomeLemmas.{by-each}
 use Rattle.mdl_script_laws.proofs.RowPauses.{AnyEnding, AnyTables, Follows, Rules, Told, any-endings, any-told, so-play, so-resumed}
-use Rattle.mdl_script_laws.proofs.StillContexts.{AreStill, IsStill, still-acquiring, still-downgrading, still-giving_up, still-giving_up_wait, still-releasing, still-resuming, still-upgrading}
+use Rattle.mdl_script_laws.proofs.StillContexts.{AreStill, IsStill, still-acquiring, still-downgrading, still-giving_up, still-giving_up_wait, still-releasing, still-resuming, still-trying, still-upgrading}
 use Rattle.mdl_script_laws.proofs.StillPlays.{At, at-answer, at-run, at-then}
 
 -- ---- ends and waits change no definition
@@ -104,6 +106,13 @@ module _ (from b : Core) (pause : Pause) (failed : HasFailed pause) where
       (at-run from (playing.beginning_to_wait wish left (with_context session context)) a b pause (still-waiting wish left (with_context session context)) at run).0
   kept-acquired wish rest mark session more a at later (Err error, context) run = closed (ending_of_error error) mark (with_context session context) a at run
 
+  kept-tried : (mark : Mark) (session : Session) (more : Option ℕ → Session → Program Pause) (a : Core) → At from a
+      → ((got : Option ℕ) (after : Session) → Runs Joins a (more got after) pause b → SameDefinitions from b) → (outcome : Outcome Tried)
+      → Runs Joins a (playing.tried mark session more outcome) pause b → SameDefinitions from b
+  kept-tried mark session more a at later (Ok (try_as.Acquired id), context) run = later (Some id) (with_context session context) run
+  kept-tried mark session more a at later (Ok try_as.WouldWait, context) run = later None (with_context session context) run
+  kept-tried mark session more a at later (Err error, context) run = closed (ending_of_error error) mark (with_context session context) a at run
+
   kept-read : (mark : Mark) (session : Session) (more : Standing → Program Pause) (a : Core) → At from a
       → ((standing : Standing) → Runs Joins a (more standing) pause b → SameDefinitions from b) → (answer : Answer)
       → Runs Joins a (playing.read_answered mark session more answer) pause b → SameDefinitions from b
@@ -148,6 +157,13 @@ module _ (from b : Core) (pause : Pause) (failed : HasFailed pause) where
       at-then {A = Outcome Acquire} {B = Pause} from (SameDefinitions from b) (acquiring wish session.context) (playing.acquired wish rest mark session more) a b pause
       (still-acquiring wish session.context) at
       (λ outcome mid now. kept-acquired wish rest mark session more mid now (λ id after. kept-play (rest id) mark after mid now never (so id)) outcome) run
+  kept-play (row.Try_acquire wish rest) mark session a at never so run =
+      let more = λ (got : Option ℕ) (after : Session). play (rest got) mark after in
+      at-then {A = Outcome Tried} {B = Pause} from (SameDefinitions from b) (trying wish session.context) (playing.tried mark session more) a b pause
+      (still-trying wish session.context) at
+      (λ outcome mid now. kept-tried mark session more mid now (λ got after. kept-play (rest got) mark after mid now never (so got)) outcome) run
+  kept-play (row.Last key rest) mark session a at never so run =
+      let held = last_ticket key session.context in kept-play (rest held) mark session a at never (so held) run
   kept-play (row.Upgrade id key mode rest) mark session a at never so run =
       let wish = playing.upgrade_wish key mode in
       let more = λ (new : ℕ) (after : Session). play (rest new) mark after in
@@ -188,7 +204,8 @@ module _ (from b : Core) (pause : Pause) (failed : HasFailed pause) where
       → (outcome : Outcome Resume) → Runs Joins a (playing.resumed left session outcome) pause b → SameDefinitions from b
   kept-resumed left session a at never so (Ok resume.Waiting, context) (same, here) = subst (SameDefinitions from) here at.0
   kept-resumed left session a at never so (Ok (resume.Acquired id), context) run = kept-play (left.rest id) left.mark (with_context session context) a at never (so id) run
-  kept-resumed left session a at never so (Ok (resume.Lost how), context) run = closed (ending_of_loss how) left.mark (with_context session context) a at run
+  kept-resumed left session a at never so (Ok (resume.Lost how), context) run =
+      closed (ending_of_loss (waits_for_user_lock session.context) how) left.mark (with_context session context) a at run
   kept-resumed left session a at never so (Err error, context) run = closed (ending_of_error error) left.mark (with_context session context) a at run
 
   kept-going : (left : Option Left) (session : Session) (a : Core) → At from a → NeverFails OnlyLowers

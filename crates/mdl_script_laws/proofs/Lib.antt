@@ -22,6 +22,7 @@ pub mod ShownLaws
 pub mod ShownPlays
 pub mod ShownPoints
 pub mod ShownRaising
+pub mod ShownReleases
 pub mod ShownRows
 pub mod ShownWaits
 pub mod ShownWorlds

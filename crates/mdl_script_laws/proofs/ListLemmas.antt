@@ -1,5 +1,6 @@
--- Members of lists: the only one, and those that pass a test.
-use Rattle.std.proofs.Common.{◌≡◌, ◌⊎◌, inl, inr, Bool, true, false, cond, List, [], ◌∷◌, Contains, filter, refl, sym, ap, ◌∙◌, subst}
+-- Members of lists: the only one, those that pass a test, the last one, and those behind the first so many.
+use Rattle.std.proofs.Common.{◌≡◌, ◌⊎◌, inl, inr, ℕ, zero, suc, Bool, true, false, cond, List, [], ◌∷◌, Option, Some, None, Contains, drop, filter, refl, sym, ap, ◌∙◌, subst, arith}
+use Rattle.std.specs.List.{last_or}
 use Rattle.mdl_system.proofs.MemberLemmas.{Contains-none}
 use Rattle.mdl_system.proofs.OrderLemmas.{Contains-cons_cases, Contains-here, Contains-later}
 
@@ -30,3 +31,40 @@ among-filter {X} p (y ∷ ys) x among = go (λ there. let h = among-filter p ys 
       | inl behind ↦ later behind
       | inr same ↦ (subst (λ z. Contains (y ∷ ys) z) (sym same) (Contains-here y ys), ap p same ∙ e)
     ]
+
+-- the last item is among them
+last-from : {X : Type 0} (first : Option X) (xs : List X) (x : X) → last_or first xs ≡ Some x → (first ≡ Some x) ⊎ Contains xs x
+last-from first [] x e = inl e
+last-from first (y ∷ ys) x e = elim (last-from (Some y) ys x e) [
+  | inl here ↦ (let same : y ≡ x = cc in inr (subst (λ z. Contains (y ∷ ys) z) same (Contains-here y ys)))
+  | inr later ↦ inr (Contains-later y ys x later)
+]
+
+pub last-among : {X : Type 0} (xs : List X) (x : X) → last_or None xs ≡ Some x → Contains xs x
+last-among xs x e = elim (last-from None xs x e) [ inl nothing ↦ cc | inr among ↦ among ]
+
+-- ---- behind the first so many
+
+drop-less : {X : Type 0} (most : ℕ) (xs : List X) (x : X) → Contains (drop (suc most) xs) x → Contains (drop most xs) x
+drop-less zero [] x among = among
+drop-less (suc most) [] x among = among
+drop-less zero (y ∷ ys) x among = Contains-later y ys x among
+drop-less (suc most) (y ∷ ys) x among = drop-less most ys x among
+
+-- where some are left out, no others come behind them
+drop-left : {X : Type 0} (most : ℕ) (p : X → Bool) (xs : List X) (x : X) → Contains (drop most (filter p xs)) x → Contains (drop most xs) x
+drop-left most p [] x among = among
+drop-left zero p (y ∷ ys) x among = (among-filter p (y ∷ ys) x among).0
+drop-left (suc most) p (y ∷ ys) x among =
+    elim (p y) as (λ b. Contains (drop (suc most) (cond b (y ∷ filter p ys) (filter p ys))) x → Contains (drop most ys) x) [
+      | true ↦ λ there. drop-left most p ys x there
+      | false ↦ λ there. drop-less most ys x (drop-left (suc most) p ys x there)
+    ] among
+
+filters-swap : {X : Type 0} (p q : X → Bool) (xs : List X) → filter p (filter q xs) ≡ filter q (filter p xs)
+filters-swap p q [] = refl
+filters-swap p q (x ∷ xs) = grind (arith, filters-swap p q xs)
+
+pub drop-fewer : {X : Type 0} (most : ℕ) (p q : X → Bool) (xs : List X) (x : X) → Contains (drop most (filter p (filter q xs))) x
+    → Contains (drop most (filter p xs)) x
+drop-fewer most p q xs x among = drop-left most q (filter p xs) x (subst (λ zs. Contains (drop most zs) x) (filters-swap p q xs) among)

@@ -21,6 +21,7 @@ use Rattle.mdl_context.specs.declared.request.Acquire.{Acquire}
 use Rattle.mdl_context.specs.declared.request.Acquire.TheVariants.{Acquired}
 use Rattle.mdl_context.specs.declared.request.Resume.{Resume}
 use Rattle.mdl_context.specs.declared.request.Resume.TheVariants as resume
+use Rattle.mdl_context.specs.declared.request.Tried.{Tried}
 use Rattle.mdl_context.specs.Contexts.{ContextView, place_known, ticket_kept}
 use Rattle.mdl_context.specs.Gains as gains
 use Rattle.mdl_context.specs.Holdings.{earliest, upgrade_of}
@@ -110,6 +111,48 @@ calm-acquiring request context =
     let place = place_known request.key context.known in
     either {A = Outcome Acquire} (LeavesCalm context.who) (is_some context.wait) (Give (Err Waiting, context)) (requests.finding place request context)
     (λ a calm. calm) (calm-finding place request context)
+
+-- ---- wishes without a wait
+
+calm-answered : (who : ℕ) (answer : Answer) → LeavesCalm who (gains.tried_answered answer)
+calm-answered who (Granted id) = λ a calm. calm
+calm-answered who Would_wait = λ a calm. calm
+calm-answered who _ = λ a calm. calm
+
+calm-trying_from : (ticket : Option Held) (who place : ℕ) (mode : Mode) → LeavesCalm who (gains.trying_from ticket who place mode)
+calm-trying_from (Some ticket) who place mode =
+    calm-ask who (Clone_ticket who ticket.id mode) gains.tried_answered (refl, refl) (λ answer session. refl) (calm-answered who)
+calm-trying_from None who place mode =
+    calm-ask who (Try_now who place mode) gains.tried_answered (refl, refl) (λ answer session. refl) (calm-answered who)
+
+calm-trying_again : (ticket : Option Held) (place : ℕ) (request : Wish) (context : ContextView)
+    → LeavesCalm context.who (requests.trying_again ticket place request context)
+calm-trying_again (Some ticket) place request context = λ a calm. calm
+calm-trying_again None place request context =
+    let serving = earliest (requests.suffices place request) context.kept in
+    calm-bind context.who (gains.trying_from serving context.who place request.mode)
+    (λ end. Give (requests.outcome_tried place request context end)) (calm-trying_from serving context.who place request.mode) (λ end a calm. calm)
+
+calm-trying_placed : (request : Wish) (context : ContextView) (answer : Answer)
+    → LeavesCalm context.who (requests.trying_placed request context answer)
+calm-trying_placed request context (At_place place) =
+    let after = requests.remembering request.key place context in
+    calm-trying_again (earliest (requests.is_reusable place request) after.kept) place request after
+calm-trying_placed request context _ = λ a calm. calm
+
+calm-trying_found : (place : Option ℕ) (request : Wish) (context : ContextView)
+    → LeavesCalm context.who (requests.trying_found place request context)
+calm-trying_found (Some place) request context =
+    calm-trying_again (earliest (requests.is_reusable place request) context.kept) place request context
+calm-trying_found None request context =
+    calm-ask {A = Outcome Tried} context.who (Resolve context.who request.key) (requests.trying_placed request context) (refl, refl) (λ answer session. refl)
+    (calm-trying_placed request context)
+
+pub calm-trying : (request : Wish) (context : ContextView) → LeavesCalm context.who (requests.trying request context)
+calm-trying request context =
+    let place = place_known request.key context.known in
+    either {A = Outcome Tried} (LeavesCalm context.who) (is_some context.wait) (Give (Err Waiting, context)) (requests.trying_found place request context)
+    (λ a calm. calm) (calm-trying_found place request context)
 
 -- ---- other modes
 

@@ -8,14 +8,16 @@ use Rattle.mdl_context.specs.declared.request.Acquire.TheVariants as acquire
 use Rattle.mdl_context.specs.declared.request.Mark.{Mark}
 use Rattle.mdl_context.specs.declared.request.Resume.{Resume}
 use Rattle.mdl_context.specs.declared.request.Resume.TheVariants as resume
-use Rattle.mdl_context.specs.Contexts.{mark_of}
+use Rattle.mdl_context.specs.declared.request.Tried.{Tried}
+use Rattle.mdl_context.specs.declared.request.Tried.TheVariants as try_as
+use Rattle.mdl_context.specs.Contexts.{last_ticket, mark_of, waits_for_user_lock}
 use Rattle.mdl_context.specs.Gains.{refusal_of}
 use Rattle.mdl_context.specs.Releases.{giving_up, releasing}
-use Rattle.mdl_context.specs.Requests.{Outcome, acquiring}
+use Rattle.mdl_context.specs.Requests.{Outcome, acquiring, trying}
 use Rattle.mdl_context.specs.Upgrades.{upgrading, downgrading}
 use Rattle.mdl_context.specs.Waits.{resuming}
 use Rattle.mdl_context.specs.Wishes.{Wish}
-use Rattle.mdl_context.proofs.WhoLemmas.{of_acquiring, of_resuming, of_giving_up, of_releasing, of_upgrading, of_downgrading}
+use Rattle.mdl_context.proofs.WhoLemmas.{of_acquiring, of_resuming, of_giving_up, of_releasing, of_trying, of_upgrading, of_downgrading}
 use Rattle.mdl_rows.specs.declared.ending.Ending.{Ending}
 use Rattle.mdl_rows.specs.declared.ending.Ending.TheVariants.{Answers}
 use Rattle.mdl_rows.specs.declared.reply.Reply.{Reply}
@@ -29,7 +31,7 @@ use Rattle.mdl_rows.specs.Rows as row
 use Rattle.mdl_rows.specs.Sessions.{Left, Session}
 use Rattle.mdl_rows.specs.States.{half_lock, without_read_lock}
 use Rattle.mdl_rows.specs.Statements.{row_of}
-use Rattle.mdl_script_laws.proofs.NoDeadlockContexts.{calm-acquiring, calm-ask, calm-downgrading, calm-giving_up, calm-releasing, calm-resuming, calm-upgrading}
+use Rattle.mdl_script_laws.proofs.NoDeadlockContexts.{calm-acquiring, calm-ask, calm-downgrading, calm-giving_up, calm-releasing, calm-resuming, calm-trying, calm-upgrading}
 use Rattle.mdl_script_laws.proofs.NoDeadlockPrograms.{LeavesCalm, calm-then}
 
 -- a program of a statement, for its session
@@ -62,6 +64,13 @@ calm-acquired : (wish : Wish) (rest : ℕ → Row Reply) (mark : Mark) (session 
 calm-acquired wish rest mark session more made (Ok (acquire.Acquired id), context) = made id (with_context session context)
 calm-acquired wish rest mark session more made (Ok (acquire.MustWait number), context) = λ a calm. calm
 calm-acquired wish rest mark session more made (Err error, context) = calm-closing (ending_of_error error) mark (with_context session context)
+
+calm-tried : (mark : Mark) (session : Session) (more : Option ℕ → Session → Program Pause)
+    → ((got : Option ℕ) (after : Session) → IsCalmFor after.context.who (more got after)) → (outcome : Outcome Tried)
+    → IsCalmFor outcome.1.who (playing.tried mark session more outcome)
+calm-tried mark session more made (Ok (try_as.Acquired id), context) = made (Some id) (with_context session context)
+calm-tried mark session more made (Ok try_as.WouldWait, context) = made None (with_context session context)
+calm-tried mark session more made (Err error, context) = calm-closing (ending_of_error error) mark (with_context session context)
 
 -- ---- what stands
 
@@ -106,6 +115,12 @@ calm-play (row.Acquire wish rest) mark session =
     calm-then {A = Acquire} {B = Pause} session.context.who (acquiring wish session.context) (playing.acquired wish rest mark session more)
     (calm-acquiring wish session.context) (of_acquiring wish session.context)
     (calm-acquired wish rest mark session more (λ id after. calm-play (rest id) mark after))
+calm-play (row.Try_acquire wish rest) mark session =
+    let more = λ (got : Option ℕ) (after : Session). play (rest got) mark after in
+    calm-then {A = Tried} {B = Pause} session.context.who (trying wish session.context) (playing.tried mark session more)
+    (calm-trying wish session.context) (of_trying wish session.context)
+    (calm-tried mark session more (λ got after. calm-play (rest got) mark after))
+calm-play (row.Last key rest) mark session = calm-play (rest (last_ticket key session.context)) mark session
 calm-play (row.Upgrade id key mode rest) mark session =
     let wish = playing.upgrade_wish key mode in
     let more = λ (id : ℕ) (after : Session). play (rest id) mark after in
@@ -149,7 +164,8 @@ calm-play (row.Kill target rest) mark session =
 calm-resumed : (left : Left) (session : Session) (outcome : Outcome Resume) → IsCalmFor outcome.1.who (playing.resumed left session outcome)
 calm-resumed left session (Ok resume.Waiting, context) = λ a calm. calm
 calm-resumed left session (Ok (resume.Acquired id), context) = calm-play (left.rest id) left.mark (with_context session context)
-calm-resumed left session (Ok (resume.Lost how), context) = calm-closing (ending_of_loss how) left.mark (with_context session context)
+calm-resumed left session (Ok (resume.Lost how), context) =
+    calm-closing (ending_of_loss (waits_for_user_lock session.context) how) left.mark (with_context session context)
 calm-resumed left session (Err error, context) = calm-closing (ending_of_error error) left.mark (with_context session context)
 
 calm-going_on : (left : Option Left) (session : Session) → IsCalmFor session.context.who (playing.going_on_with left session)

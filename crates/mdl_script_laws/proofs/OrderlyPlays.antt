@@ -103,6 +103,8 @@ follows_any : (asked : Row Reply) → Follows AnyTables AnyRow AnyEnding asked
 follows_any (row.Look rest) = λ state. tt
 follows_any (row.Here rest) = λ mark. tt
 follows_any (row.Acquire wish rest) = λ id. tt
+follows_any (row.Try_acquire wish rest) = λ got. tt
+follows_any (row.Last key rest) = λ held. tt
 follows_any (row.Upgrade id key mode rest) = λ id. tt
 follows_any (row.Read id rest) = λ standing. tt
 follows_any (row.Tables_of schema rest) = λ tables told. tt

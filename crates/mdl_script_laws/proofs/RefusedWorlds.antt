@@ -73,6 +73,8 @@ goes-late session (inl tidy) =
 told-late : (line who : ℕ) (pause : Pause) → IsLatePause pause → All IsNoRefusal (told_of line who pause)
 told-late line who (Ends reply.Ok session) late = All-cons IsNoRefusal _ [] refl (All-nil IsNoRefusal)
 told-late line who (Ends (reply.Columns tables) session) late = All-cons IsNoRefusal _ [] refl (All-nil IsNoRefusal)
+told-late line who (Ends (reply.Number truth) session) late = All-cons IsNoRefusal _ [] refl (All-nil IsNoRefusal)
+told-late line who (Ends reply.Null session) late = All-cons IsNoRefusal _ [] refl (All-nil IsNoRefusal)
 told-late line who (Ends (reply.Error number) session) late = All-cons IsNoRefusal _ [] late (All-nil IsNoRefusal)
 told-late line who (Begins_to_wait key mode session) late = All-cons IsNoRefusal _ [] refl (All-nil IsNoRefusal)
 told-late line who (Waits_on session) late = All-nil IsNoRefusal
@@ -114,6 +116,10 @@ told-untouched line world after session a b (Ends (reply.Error number) s) untouc
 told-untouched line world after session a b (Ends reply.Ok s) untouched same =
     All-cons (IsOfThisLine line world after) _ [] (λ early. absurd (false≢true early)) (All-nil (IsOfThisLine line world after))
 told-untouched line world after session a b (Ends (reply.Columns tables) s) untouched same =
+    All-cons (IsOfThisLine line world after) _ [] (λ early. absurd (false≢true early)) (All-nil (IsOfThisLine line world after))
+told-untouched line world after session a b (Ends (reply.Number truth) s) untouched same =
+    All-cons (IsOfThisLine line world after) _ [] (λ early. absurd (false≢true early)) (All-nil (IsOfThisLine line world after))
+told-untouched line world after session a b (Ends reply.Null s) untouched same =
     All-cons (IsOfThisLine line world after) _ [] (λ early. absurd (false≢true early)) (All-nil (IsOfThisLine line world after))
 told-untouched line world after session a b (Begins_to_wait key mode s) untouched same =
     All-cons (IsOfThisLine line world after) _ [] (λ early. absurd (false≢true early)) (All-nil (IsOfThisLine line world after))

@@ -1,5 +1,5 @@
 -- What is so of each pause that a statement may come to, where what it asks for keeps a rule.
-use Rattle.std.proofs.Common.{ℕ, Ok, Err, List}
+use Rattle.std.proofs.Common.{ℕ, Bool, Option, Some, None, Ok, Err, List}
 use Rattle.mdl_key.specs.declared.mode.Mode.{Mode}
 use Rattle.mdl_key.specs.Keys.{KeyName}
 use Rattle.mdl_defs.specs.declared.standing.Standing.{Standing}
@@ -12,10 +12,12 @@ use Rattle.mdl_context.specs.declared.request.Acquire.TheVariants as acquire
 use Rattle.mdl_context.specs.declared.request.Mark.{Mark}
 use Rattle.mdl_context.specs.declared.request.Resume.{Resume}
 use Rattle.mdl_context.specs.declared.request.Resume.TheVariants as resume
-use Rattle.mdl_context.specs.Contexts.{ContextView, mark_of}
+use Rattle.mdl_context.specs.declared.request.Tried.{Tried}
+use Rattle.mdl_context.specs.declared.request.Tried.TheVariants as try_as
+use Rattle.mdl_context.specs.Contexts.{ContextView, last_ticket, mark_of, waits_for_user_lock}
 use Rattle.mdl_context.specs.Gains.{refusal_of}
 use Rattle.mdl_context.specs.Releases.{giving_up, releasing}
-use Rattle.mdl_context.specs.Requests.{Outcome, acquiring}
+use Rattle.mdl_context.specs.Requests.{Outcome, acquiring, trying}
 use Rattle.mdl_context.specs.Upgrades.{upgrading, downgrading}
 use Rattle.mdl_context.specs.Waits.{giving_up_wait}
 use Rattle.mdl_context.specs.Wishes.{Wish}
@@ -57,6 +59,8 @@ Follows These R E (row.Look rest) = (state : State) → R (rest state)
 Follows These R E (row.Set change rest) = R rest
 Follows These R E (row.Here rest) = (mark : Mark) → R (rest mark)
 Follows These R E (row.Acquire wish rest) = (id : ℕ) → R (rest id)
+Follows These R E (row.Try_acquire wish rest) = (got : Option ℕ) → R (rest got)
+Follows These R E (row.Last key rest) = (held : Option ℕ) → R (rest held)
 Follows These R E (row.Upgrade id key mode rest) = (id : ℕ) → R (rest id)
 Follows These R E (row.Downgrade id mode rest) = R rest
 Follows These R E (row.Give_up which rest) = R rest
@@ -73,14 +77,14 @@ pub record AreEndings (E : Ending → Type 0) : Type 0 where
   pub starves : E Starves
   pub refused : (refusal : SpaceError) → E (ending_of_refusal refusal)
   pub erred : (error : ContextError) → E (ending_of_error error)
-  pub lost : (how : Settled) → E (ending_of_loss how)
+  pub lost : (user : Bool) (how : Settled) → E (ending_of_loss user how)
 
 -- any ending
 abbrev pub AnyEnding : Ending → Type 0
 AnyEnding ending = Unit {0}
 
 pub any-endings : AreEndings AnyEnding
-any-endings = record { starves = tt; refused = λ refusal. tt; erred = λ error. tt; lost = λ how. tt }
+any-endings = record { starves = tt; refused = λ refusal. tt; erred = λ error. tt; lost = λ user how. tt }
 
 -- by a rule, a statement that began at a mark ends so, and begins to wait so
 pub record Rules (These : List ℕ → Type 0) (P : Pause → Type 0) (mark : Mark) (E : Ending → Type 0) (R : Row Reply → Type 0) : Type 0 where
@@ -120,6 +124,12 @@ module _ (These : List ℕ → Type 0) (P : Pause → Type 0) (mark : Mark) (E :
   so-acquired wish rest session more waits made (Err error, context) =
       so-closing (ending_of_error error) (with_context session context) (rules.endings.erred error)
 
+  so-tried : (session : Session) (more : Option ℕ → Session → Program Pause) → ((got : Option ℕ) (after : Session) → So (more got after))
+      → (outcome : Outcome Tried) → So (playing.tried mark session more outcome)
+  so-tried session more made (Ok (try_as.Acquired id), context) = made (Some id) (with_context session context)
+  so-tried session more made (Ok try_as.WouldWait, context) = made None (with_context session context)
+  so-tried session more made (Err error, context) = so-closing (ending_of_error error) (with_context session context) (rules.endings.erred error)
+
   so-read : (session : Session) (more : Standing → Program Pause) → ((standing : Standing) → So (more standing)) → (answer : Answer)
       → So (playing.read_answered mark session more answer)
   so-read session more made (Reads version definition) = made (record { version = version; definition = definition })
@@ -153,6 +163,12 @@ module _ (These : List ℕ → Type 0) (P : Pause → Type 0) (mark : Mark) (E :
       let more = λ (id : ℕ) (after : Session). play (rest id) mark after in
       by-then {A = Outcome Acquire} {B = Pause} (Told These) P (acquiring wish session.context) (playing.acquired wish rest mark session more)
       (so-acquired wish rest session more (λ after. rules.waits wish rest after so) (λ id after. so-play (rest id) after (rules.follows (row.Acquire wish rest) so id)))
+  so-play (row.Try_acquire wish rest) session so =
+      let more = λ (got : Option ℕ) (after : Session). play (rest got) mark after in
+      by-then {A = Outcome Tried} {B = Pause} (Told These) P (trying wish session.context) (playing.tried mark session more)
+      (so-tried session more (λ got after. so-play (rest got) after (rules.follows (row.Try_acquire wish rest) so got)))
+  so-play (row.Last key rest) session so =
+      let held = last_ticket key session.context in so-play (rest held) session (rules.follows (row.Last key rest) so held)
   so-play (row.Upgrade id key mode rest) session so =
       let wish = playing.upgrade_wish key mode in
       let more = λ (id : ℕ) (after : Session). play (rest id) mark after in
@@ -193,6 +209,8 @@ so-resumed These P E R left session rules on so (Ok resume.Waiting, context) = o
 so-resumed These P E R left session rules on so (Ok (resume.Acquired id), context) =
     so-play These P left.mark E R rules (left.rest id) (with_context session context) (so id)
 so-resumed These P E R left session rules on so (Ok (resume.Lost how), context) =
-    each-by (Told These) P (closing (ending_of_loss how) left.mark (with_context session context)) (rules.closes (ending_of_loss how) (with_context session context) (rules.endings.lost how))
+    let user = waits_for_user_lock session.context in
+    each-by (Told These) P (closing (ending_of_loss user how) left.mark (with_context session context))
+    (rules.closes (ending_of_loss user how) (with_context session context) (rules.endings.lost user how))
 so-resumed These P E R left session rules on so (Err error, context) =
     each-by (Told These) P (closing (ending_of_error error) left.mark (with_context session context)) (rules.closes (ending_of_error error) (with_context session context) (rules.endings.erred error))

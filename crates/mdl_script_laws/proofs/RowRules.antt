@@ -2,7 +2,7 @@
 -- open.
 use Rattle.std.proofs.Common.{◌≡◌, ℕ, Bool, true, false, List, [], ◌∷◌, refl}
 use Rattle.std.specs.Prelude.{if◌then◌else◌, is_some, map, not, ◌++◌, Option, Some, None}
-use Rattle.mdl_key.specs.Keys.{KeyName, global_key}
+use Rattle.mdl_key.specs.Keys.{KeyName, global_key, user_lock_key}
 use Rattle.mdl_key.specs.declared.mode.Mode.TheVariants.{X}
 use Rattle.mdl_defs.specs.declared.change.Change.{Change}
 use Rattle.mdl_defs.specs.declared.change.Change.TheVariants as change
@@ -27,7 +27,7 @@ use Rattle.mdl_rows.specs.declared.state.ReadLock.{ReadLock}
 use Rattle.mdl_rows.specs.declared.reply.Reply.{Reply}
 use Rattle.mdl_rows.specs.declared.reply.Reply.TheVariants as reply
 use Rattle.mdl_rows.specs.KeyOrder.{in_key_order}
-use Rattle.mdl_rows.specs.Rows.{Row, Act, Give, Fail, Room, Look, Set, Here, Acquire, Give_up, Release, Read, Redefine, Tables_of, Key_of, Kill, ◌>>=◌, ◌>>◌, acquire_all, check, for_each, nothing, redefine, release, room, set, Keep, keep, Upgrade, Downgrade}
+use Rattle.mdl_rows.specs.Rows.{Row, Act, Give, Fail, Room, Look, Set, Here, Acquire, Try_acquire, Last, Give_up, Release, Read, Redefine, Tables_of, Key_of, Kill, ◌>>=◌, ◌>>◌, acquire_all, check, for_each, nothing, redefine, release, room, set, Keep, keep, Upgrade, Downgrade}
 use Rattle.mdl_rows.specs.KeyOrder.{ticket_of}
 use Rattle.mdl_rows.specs.States.{State, has_locked, opened, unlocked, without_read_lock, locking}
 use Rattle.mdl_rows.specs.Statements as rows
@@ -50,6 +50,8 @@ KeepsTo F P (Look rest) = (state : State) → KeepsTo F P (rest state)
 KeepsTo F P (Set change rest) = LeavesUnlocked change × KeepsTo F P rest
 KeepsTo F P (Here rest) = (mark : Mark) → KeepsTo F P (rest mark)
 KeepsTo F P (Acquire wish rest) = (id : ℕ) → KeepsTo F P (rest id)
+KeepsTo F P (Try_acquire wish rest) = (got : Option ℕ) → KeepsTo F P (rest got)
+KeepsTo F P (Last key rest) = (held : Option ℕ) → KeepsTo F P (rest held)
 KeepsTo F P (Upgrade id key mode rest) = (id : ℕ) → KeepsTo F P (rest id)
 KeepsTo F P (Downgrade id mode rest) = KeepsTo F P rest
 KeepsTo F P (Give_up which rest) = KeepsTo F P rest
@@ -75,6 +77,8 @@ keeps-bind F P Q (Look rest) next so later = λ state. keeps-bind F P Q (rest st
 keeps-bind F P Q (Set change rest) next so later = (so.0, keeps-bind F P Q rest next so.1 later)
 keeps-bind F P Q (Here rest) next so later = λ mark. keeps-bind F P Q (rest mark) next (so mark) later
 keeps-bind F P Q (Acquire wish rest) next so later = λ id. keeps-bind F P Q (rest id) next (so id) later
+keeps-bind F P Q (Try_acquire wish rest) next so later = λ got. keeps-bind F P Q (rest got) next (so got) later
+keeps-bind F P Q (Last key rest) next so later = λ held. keeps-bind F P Q (rest held) next (so held) later
 keeps-bind F P Q (Upgrade id key mode rest) next so later = λ id. keeps-bind F P Q (rest id) next (so id) later
 keeps-bind F P Q (Downgrade id mode rest) next so later = keeps-bind F P Q rest next so later
 keeps-bind F P Q (Give_up which rest) next so later = keeps-bind F P Q rest next so later
@@ -293,3 +297,19 @@ module _ (F : ErrorNumber → Type 0) (late : (number : ErrorNumber) → is_earl
         (keeps-bind F Any P (acquire_all scopes) (rows.lock_named locks) (keeps-locks F scopes)
         (λ ids _. keeps-bind F Any P (acquire_all wishes) (rows.keep_locked locks tables ids) (keeps-locks F wishes)
         (λ tickets _. keeps-keep_locked locks tables ids tickets)))
+
+  -- those that are told whether a user-level lock is had, or that it was free
+  module _ (P : Reply → Type 0) (number : (truth : Bool) → P (reply.Number truth)) where
+    pub keeps-get_lock : (name : List ℕ) → KeepsTo F P (rows.get_lock name)
+    keeps-get_lock name = λ id. number true
+
+    keeps-given : P reply.Null → (got : Option ℕ) → KeepsTo F P (rows.given got)
+    keeps-given null None = number false
+    keeps-given null (Some ticket) = null
+
+    keeps-give_back : P reply.Null → (lock : KeyName) (held : Option ℕ) → KeepsTo F P (rows.give_back lock held)
+    keeps-give_back null lock (Some ticket) = number true
+    keeps-give_back null lock None = λ got. keeps-given null got
+
+    pub keeps-release_lock : P reply.Null → (name : List ℕ) → KeepsTo F P (rows.release_lock name)
+    keeps-release_lock null name = λ held. keeps-give_back null (user_lock_key name) held

@@ -21,6 +21,7 @@ use Rattle.mdl_context.specs.declared.kept.Kept.{Kept}
 use Rattle.mdl_context.specs.declared.kept.Wanted.{Wanted}
 use Rattle.mdl_context.specs.Wishes.{Wish}
 use Rattle.mdl_context.specs.declared.request.Acquire.{Acquire}
+use Rattle.mdl_context.specs.declared.request.Tried.{Tried}
 use Rattle.mdl_context.specs.Contexts.{ContextView, held_of, place_known}
 use Rattle.mdl_context.specs.Gains as gains
 use Rattle.mdl_context.specs.Holdings.{earliest, kept_of, wanted_of}
@@ -219,24 +220,33 @@ module _ (a : Core) (context : ContextView) (place : ℕ) (request : Wish) (fits
   abbrev IsBacked : Held → Type 0
   IsBacked ticket = (t : Held) × Contains (own_at a context.who).held t × (t.id ≡ ticket.id) × (t.place ≡ place)
 
-  asked-copy : (ticket : Held) (b : Core) (answer : Answer) → IsBacked ticket → Joins a (Clone_ticket context.who ticket.id request.mode) answer b
-      → Leads (λ got c. Asked (requests.outcome_got place request context got) c) (gains.copy_answered answer) b
-  asked-copy ticket b (Granted copy) backed joins =
+  -- a clone of it was had
+  asked-cloned : (ticket : Held) (b : Core) (copy : ℕ) → IsBacked ticket → Joins a (Clone_ticket context.who ticket.id request.mode) (Granted copy) b
+      → Followed a context b (requests.keeping copy place request context)
+  asked-cloned ticket b copy backed joins =
       let step = spares-call context.who none a b (Clone_ticket context.who ticket.id request.mode) (Granted copy) fits.speaks refl tt joins in
       let held = held-number (own_at a context.who) backed.0 ticket.id (core-rising a context.who fits.speaks) backed.1 backed.2 in
       let own = core-changes a b (Clone_ticket context.who ticket.id request.mode) (Granted copy) context.who refl joins
       ∙ ap (λ o. cloning copy request.mode o (own_at a context.who)) held in
       asked-gained b copy (subst (λ p. IsGained a context.who copy p b) backed.3 (gained-by a b context.who copy (backed.0).place request.mode step own))
+
+  asked-copy : (ticket : Held) (b : Core) (answer : Answer) → IsBacked ticket → Joins a (Clone_ticket context.who ticket.id request.mode) answer b
+      → Leads (λ got c. Asked (requests.outcome_got place request context got) c) (gains.copy_answered answer) b
+  asked-copy ticket b (Granted copy) backed joins = asked-cloned ticket b copy backed joins
   asked-copy ticket b answer backed joins = asked-refused b (spares-call context.who none a b
       (Clone_ticket context.who ticket.id request.mode) answer fits.speaks refl tt joins)
+
+  -- one that suffices may be
+  asked-backed : (k : Kept) → find (requests.suffices place request) context.kept ≡ Some k → IsBacked (held_of k)
+  asked-backed k e =
+      let there = fits.backed k (find-contains (requests.suffices place request) context.kept k e) in
+      let at = equal k.place place (suffices-at place request k (find-passes (requests.suffices place request) context.kept k e)) in
+      (there.0, there.1, there.2, there.3 ∙ at)
 
   asked-gaining : (ticket : Option Kept) → find (requests.suffices place request) context.kept ≡ ticket
       → Leads (λ got c. Asked (requests.outcome_got place request context got) c) (gains.gaining_from (option_map held_of ticket) context.who place request.mode) a
   asked-gaining None e = λ answer b joins. asked-try b answer joins
-  asked-gaining (Some k) e =
-      let there = fits.backed k (find-contains (requests.suffices place request) context.kept k e) in
-      let at = equal k.place place (suffices-at place request k (find-passes (requests.suffices place request) context.kept k e)) in
-      λ answer b joins. asked-copy (held_of k) b answer (there.0, there.1, there.2, there.3 ∙ at) joins
+  asked-gaining (Some k) e = λ answer b joins. asked-copy (held_of k) b answer (asked-backed k e) joins
 
   asked-reusing : (ticket : Option Held) → Leads Asked (requests.reusing ticket place request context) a
   asked-reusing (Some ticket) = followed-here a context fits
@@ -248,6 +258,45 @@ module _ (a : Core) (context : ContextView) (place : ℕ) (request : Wish) (fits
 
   asked-at : Leads Asked (requests.acquiring_at place request context) a
   asked-at = asked-reusing (earliest (requests.is_reusable place request) context.kept)
+
+  -- the end of trying for it
+  abbrev Attempted : Outcome Tried → Core → Type 0
+  Attempted outcome b = Followed a context b outcome.1
+
+  attempted-try : (b : Core) (answer : Answer) → Joins a (Try_now context.who place request.mode) answer b
+      → Leads (λ got c. Attempted (requests.outcome_tried place request context got) c) (gains.tried_answered answer) b
+  attempted-try b (Granted id) joins =
+      let step = spares-call context.who none a b (Try_now context.who place request.mode) (Granted id) fits.speaks refl tt joins in
+      asked-gained b id (gained-by a b context.who id place request.mode step
+      (core-changes a b (Try_now context.who place request.mode) (Granted id) context.who refl joins))
+  attempted-try b Would_wait joins =
+      asked-refused b (spares-call context.who none a b (Try_now context.who place request.mode) Would_wait fits.speaks refl tt joins)
+  attempted-try b answer joins = asked-refused b (spares-call context.who none a b (Try_now context.who place request.mode) answer fits.speaks refl tt joins)
+
+  attempted-copy : (ticket : Held) (b : Core) (answer : Answer) → IsBacked ticket → Joins a (Clone_ticket context.who ticket.id request.mode) answer b
+      → Leads (λ got c. Attempted (requests.outcome_tried place request context got) c) (gains.tried_answered answer) b
+  attempted-copy ticket b (Granted copy) backed joins = asked-cloned ticket b copy backed joins
+  attempted-copy ticket b Would_wait backed joins = asked-refused b (spares-call context.who none a b
+      (Clone_ticket context.who ticket.id request.mode) Would_wait fits.speaks refl tt joins)
+  attempted-copy ticket b answer backed joins = asked-refused b (spares-call context.who none a b
+      (Clone_ticket context.who ticket.id request.mode) answer fits.speaks refl tt joins)
+
+  attempted-gaining : (ticket : Option Kept) → find (requests.suffices place request) context.kept ≡ ticket
+      → Leads (λ got c. Attempted (requests.outcome_tried place request context got) c)
+      (gains.trying_from (option_map held_of ticket) context.who place request.mode) a
+  attempted-gaining None e = λ answer b joins. attempted-try b answer joins
+  attempted-gaining (Some k) e = λ answer b joins. attempted-copy (held_of k) b answer (asked-backed k e) joins
+
+  attempted-again : (ticket : Option Held) → Leads Attempted (requests.trying_again ticket place request context) a
+  attempted-again (Some ticket) = followed-here a context fits
+  attempted-again None =
+      leads-bind (λ got c. Attempted (requests.outcome_tried place request context got) c) Attempted
+      (gains.trying_from (earliest (requests.suffices place request) context.kept) context.who place request.mode)
+      (λ end. Give (requests.outcome_tried place request context end)) a
+      (attempted-gaining (find (requests.suffices place request) context.kept) refl) (λ end b attempted. attempted)
+
+  attempted-at : Leads Attempted (requests.trying_at place request context) a
+  attempted-at = attempted-again (earliest (requests.is_reusable place request) context.kept)
 
 -- the place of the key that came to be known last
 known-more : (key other : KeyName) (known : List (KeyName × ℕ)) (place p : ℕ) → place_known other (known ++ (key, place) ∷ []) ≡ Some p
@@ -312,4 +361,36 @@ leads-acquiring a request context fits = go context.wait refl
         → Leads (λ (outcome : Outcome Acquire) b. Followed a context b outcome.1)
         (if is_some o then Give (Err Waiting, context) else requests.finding (place_known request.key context.known) request context) a
     go None e = asked-finding a request context (place_known request.key context.known) fits e
+    go (Some wanted) e = followed-here a context fits
+
+-- ---- and not waited for
+
+attempted-place : (a b : Core) (request : Wish) (context : ContextView) (answer : Answer) → Fits a context → context.wait ≡ None
+    → Joins a (Resolve context.who request.key) answer b
+    → Leads (λ (outcome : Outcome Tried) c. Followed a context c outcome.1) (requests.trying_placed request context answer) b
+attempted-place a b request context (At_place place) fits idle joins =
+    let stays = stays-call context.who none a b (Resolve context.who request.key) (At_place place) fits.speaks (refl, tt, refl) joins in
+    let now = requests.remembering request.key place context in
+    leads-map (λ (outcome : Outcome Tried) c. Followed b now c outcome.1) (λ (outcome : Outcome Tried) c. Followed a context c outcome.1)
+    (requests.trying_at place request now) b
+    (λ outcome c followed. followed-late a b c context.who context.kept context.known now.known context.wait context.wait outcome.1 stays.0 followed)
+    (attempted-at b now place request (fits-learnt b context request.key place (fits-same a b context fits stays)
+    (core-resolves a b context.who place request.key joins)) idle)
+attempted-place a b request context answer fits idle joins =
+    followed-same a b context fits (stays-call context.who none a b (Resolve context.who request.key) answer fits.speaks (refl, tt, refl) joins)
+
+attempted-finding : (a : Core) (request : Wish) (context : ContextView) (place : Option ℕ) → Fits a context → context.wait ≡ None
+    → Leads (λ (outcome : Outcome Tried) b. Followed a context b outcome.1) (requests.trying_found place request context) a
+attempted-finding a request context (Some place) fits idle = attempted-at a context place request fits idle
+attempted-finding a request context None fits idle = λ answer b joins. attempted-place a b request context answer fits idle joins
+
+-- a lock is wished for that isn't waited for
+pub leads-trying : (a : Core) (request : Wish) (context : ContextView) → Fits a context
+    → Leads (λ (outcome : Outcome Tried) b. Followed a context b outcome.1) (requests.trying request context) a
+leads-trying a request context fits = go context.wait refl
+  where
+    go : (o : Option Wanted) → context.wait ≡ o
+        → Leads (λ (outcome : Outcome Tried) b. Followed a context b outcome.1)
+        (if is_some o then Give (Err Waiting, context) else requests.trying_found (place_known request.key context.known) request context) a
+    go None e = attempted-finding a request context (place_known request.key context.known) fits e
     go (Some wanted) e = followed-here a context fits

@@ -1,7 +1,9 @@
 -- What a session was shown of a table is what it is shown again, and what stands, while its transaction is open.
-use Rattle.std.proofs.Common.{◌≡◌, inl, inr, ℕ, zero, suc, true, List, [], ◌∷◌, ◌++◌, Option, Some, None, refl, sym, ap, ◌∙◌}
+use Rattle.std.proofs.Common.{◌≡◌, ◌≢◌, inl, inr, ℕ, zero, suc, true, List, [], ◌∷◌, ◌++◌, Option, Some, None, refl, sym, ap, ◌∙◌, subst}
 use Rattle.std.specs.List.{All}
 use Rattle.std.proofs.lemmas.List.Elements.{All-append, All-cons, All-contains, All-head, All-nil, All-tail}
+use Rattle.mdl_key.specs.declared.namespace.Namespace.TheVariants.{UserLevelLock}
+use Rattle.mdl_key.specs.Keys.{KeyName}
 use Rattle.mdl_defs.specs.declared.definition.Definition.{Definition}
 use Rattle.mdl_system.specs.Words.{Versioned}
 use Rattle.mdl_core.specs.CoreSystems.{defined_in, system_of}
@@ -122,7 +124,8 @@ good-shown before line who table are is shown =
     )
 
 module _ (before : List Line) (line : Line) (later : List Line) (who : ℕ) (one : TableShown) (are : AreOfSessions (before ++ line ∷ later))
-    (shown : IsShownTo who (line_played line (script_played before).world).told one) (leave : LeavesTransaction who later) where
+    (plain : one.key.namespace ≢ UserLevelLock) (shown : IsShownTo who (line_played line (script_played before).world).told one)
+    (leave : LeavesTransaction who later) where
   abbrev early : World
   early = (line_played line (script_played before).world).world
 
@@ -145,20 +148,21 @@ module _ (before : List Line) (line : Line) (later : List Line) (who : ℕ) (one
       let session = (player_at who late).session in
       let facts = with_table (with_table Nothing one) other in
       one-standing late.core session.context one other (keeps-fits facts late.core session keeps)
-      (stands-open facts late.core session one keeps (inl (inr refl)) opens)
-      (stands-open facts late.core session other keeps (inr refl) opens) same
+      (stands-open facts late.core session one keeps (inl (inr (refl, plain))) opens)
+      (stands-open facts late.core session other keeps (inr (refl, subst (λ (key : KeyName). key.namespace ≢ UserLevelLock) same plain)) opens) same
 
   pub shown-stands : has_transaction who late ≡ true → StandsAsShown late one
   shown-stands opens =
       let keeps = later-scene.good.own in
       let session = (player_at who late).session in
       let facts = with_table Nothing one in
-      standing-defined late.core session.context one (keeps-fits facts late.core session keeps) (stands-open facts late.core session one keeps (inr refl) opens)
+      standing-defined late.core session.context one (keeps-fits facts late.core session keeps) (stands-open facts late.core session one keeps (inr (refl, plain)) opens)
 
 -- ---- the laws
 
 pub transactions-see_one : TransactionsSeeOneDefinition
-transactions-see_one before line later who one other are shown leave opens again same = shown-again before line later who one are shown leave other opens again same
+transactions-see_one before line later who one other are plain shown leave opens again same =
+    shown-again before line later who one are plain shown leave other opens again same
 
 pub transactions-keep : TransactionsKeepWhatTheySaw
-transactions-keep before line later who table are shown leave opens = shown-stands before line later who table are shown leave opens
+transactions-keep before line later who table are plain shown leave opens = shown-stands before line later who table are plain shown leave opens

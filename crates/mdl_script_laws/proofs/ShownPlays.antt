@@ -31,12 +31,14 @@ use Rattle.mdl_context.specs.declared.request.Acquire.TheVariants as acquire
 use Rattle.mdl_context.specs.declared.request.Mark.{Mark}
 use Rattle.mdl_context.specs.declared.request.Resume.{Resume}
 use Rattle.mdl_context.specs.declared.request.Resume.TheVariants as resume
-use Rattle.mdl_context.specs.Contexts.{ContextView, beyond, duration_rank, held_for, lasts, mark_of}
+use Rattle.mdl_context.specs.declared.request.Tried.{Tried}
+use Rattle.mdl_context.specs.declared.request.Tried.TheVariants as try_as
+use Rattle.mdl_context.specs.Contexts.{ContextView, beyond, duration_rank, held_for, last_ticket, lasts, mark_of, waits_for_user_lock}
 use Rattle.mdl_context.specs.Gains.{refusal_of}
 use Rattle.mdl_context.specs.Holdings.{upgrade_of, wanted_of}
 use Rattle.mdl_context.specs.Releases.{giving_up, releasing}
 use Rattle.mdl_context.specs.Holdings.{wanted_of}
-use Rattle.mdl_context.specs.Requests.{Outcome, acquiring}
+use Rattle.mdl_context.specs.Requests.{Outcome, acquiring, trying}
 use Rattle.mdl_context.specs.Upgrades.{upgrading, downgrading}
 use Rattle.mdl_context.specs.Waits.{resuming}
 use Rattle.mdl_context.specs.WishLaws.{IsMet}
@@ -59,10 +61,10 @@ use Rattle.mdl_script_laws.proofs.ListLemmas.{among-filter}
 use Rattle.mdl_script_laws.proofs.ShownCalls.{Leads, Stays, leads-bind, leads-each, none, stays-call, stays-other}
 use Rattle.mdl_script_laws.proofs.RowRules.{IsUnlocked}
 use Rattle.mdl_script_laws.proofs.ShownContexts.{Fits, Followed, fits-kept, followed-same}
-use Rattle.mdl_script_laws.proofs.ShownAsking.{held-number, leads-acquiring}
+use Rattle.mdl_script_laws.proofs.ShownAsking.{held-number, leads-acquiring, leads-trying}
 use Rattle.mdl_script_laws.proofs.ShownRaising.{IsUpgrading, Raised, Won, leads-downgrading, leads-upgrading, leads-winning}
 use Rattle.mdl_script_laws.proofs.ShownWaits.{GaveUp, IsAmong, Resumed, leads-giving_up, leads-releasing, leads-resuming}
-use Rattle.mdl_script_laws.proofs.ShownPoints.{IsFirm, IsLocked, IsOld, IsStanding, drop-within, lasts-longer, locked-followed, old-followed, shown_as, standing-followed, standing-left}
+use Rattle.mdl_script_laws.proofs.ShownPoints.{IsFirm, IsLocked, IsOld, IsStanding, drop-within, lasts-longer, locked-followed, old-followed, old-now, shown_as, standing-followed, standing-left}
 
 -- ---- what a row may ask for
 
@@ -95,6 +97,8 @@ IsFair old live locks seen (row.Set change rest) =
     × IsFair old live locks seen rest
 IsFair old live locks seen (row.Here rest) = (mark : Mark) → IsFair old live locks seen (rest mark)
 IsFair old live locks seen (row.Acquire wish rest) = (id : ℕ) → IsFair old live (with_lock wish.duration id wish.key locks) seen (rest id)
+IsFair old live locks seen (row.Try_acquire wish rest) = (got : Option ℕ) → IsFair old live locks seen (rest got)
+IsFair old live locks seen (row.Last key rest) = (held : Option ℕ) → IsFair old live locks seen (rest held)
 IsFair old live locks seen (row.Upgrade id key mode rest) = ((x : TableShown) → old x → live ≡ true → ⊥) × ((id : ℕ) → IsFair old live [] [] (rest id))
 IsFair old live locks seen (row.Downgrade id mode rest) = ((x : TableShown) → old x → live ≡ true → ⊥) × IsFair old live [] [] rest
 IsFair old live locks seen (row.Give_up which rest) = ((x : TableShown) → old x → live ≡ true → ⊥) × IsFair old live [] [] rest
@@ -247,6 +251,19 @@ module _ (old : TableShown → Type 0) (live : Bool) (locks : List (ℕ × KeyNa
     stands = point.stands;
   }
 
+-- where a statement begins
+pub point-resting : (old : TableShown → Type 0) (a : Core) (session : Session) → Rests old a session
+    → Point old session.state.is_open [] [] (mark_of session.context.kept) a session.context session.state
+point-resting old a session rests = record {
+  fits = rests.fits;
+  unlocked = rests.unlocked;
+  was = λ e. e;
+  opens = λ x is lives. lives;
+  kept = λ x is lives. (let stands = rests.kept x is lives in (stands, old-now session.context.kept stands.ticket.id));
+  locked = λ id key among. absurd (Contains-none (id, key) among);
+  stands = λ x among. absurd (Contains-none x among);
+}
+
 -- ---- ends
 
 -- what an ending shows
@@ -395,17 +412,19 @@ leads-closing old live locks seen mark a session point ending told = by (half_lo
         (leads-giving_up b gone outcome.1 left.0)
         (λ next c gave. came-shut old ending c next.1 state gave.fits (unlocked-same ending session.state point.unlocked) shut)))
 
-tells_no_loss : (how : Settled) (x : TableShown) → TellsAt (ending_of_loss how) x → ⊥
-tells_no_loss settled.Timeout x tell = tell
-tells_no_loss settled.Killed x tell = tell
-tells_no_loss _ x tell = tell
+tells_no_loss : (user : Bool) (how : Settled) (x : TableShown) → TellsAt (ending_of_loss user how) x → ⊥
+tells_no_loss true settled.Timeout x tell = tell
+tells_no_loss false settled.Timeout x tell = tell
+tells_no_loss user settled.Killed x tell = tell
+tells_no_loss true _ x tell = tell
+tells_no_loss false _ x tell = tell
 
 tells_no_refusal : (refusal : SpaceError) (x : TableShown) → TellsAt (ending_of_refusal refusal) x → ⊥
 tells_no_refusal space.OutOfMemory x tell = tell
 tells_no_refusal space.NoPlace x tell = tell
 tells_no_refusal _ x tell = tell
 
-tells_no_error : (error : ContextError) (x : TableShown) → TellsAt (ending_of_error error) x → ⊥
+pub tells_no_error : (error : ContextError) (x : TableShown) → TellsAt (ending_of_error error) x → ⊥
 tells_no_error (Space refusal) x tell = tells_no_refusal refusal x tell
 tells_no_error _ x tell = tell
 
@@ -475,6 +494,20 @@ module _ (old : TableShown → Type 0) (live : Bool) (locks : List (ℕ × KeyNa
         fair = fair;
       })
   leads-acquired wish rest more a b session (Err error, context) fair later point followed met =
+      leads-closing old live locks seen mark b (with_context session context)
+      (point-followed old live locks seen mark a session.context session.state point b context followed) (ending_of_error error)
+      (λ lives x tell. absurd (tells_no_error error x tell))
+
+  -- a lock was tried: it is had, or can't be had at once
+  leads-tried : (more : Option ℕ → Session → Program Pause) (a b : Core) (session : Session) (outcome : Outcome Tried)
+      → ((got : Option ℕ) (c : Core) (after : Session) → At c after.context after.state → Leads (Comes old) (more got after) c)
+      → At a session.context session.state → Followed a session.context b outcome.1
+      → Leads (Comes old) (playing.tried mark session more outcome) b
+  leads-tried more a b session (Ok (try_as.Acquired id), context) later point followed =
+      later (Some id) b (with_context session context) (point-followed old live locks seen mark a session.context session.state point b context followed)
+  leads-tried more a b session (Ok try_as.WouldWait, context) later point followed =
+      later None b (with_context session context) (point-followed old live locks seen mark a session.context session.state point b context followed)
+  leads-tried more a b session (Err error, context) later point followed =
       leads-closing old live locks seen mark b (with_context session context)
       (point-followed old live locks seen mark a session.context session.state point b context followed) (ending_of_error error)
       (λ lives x tell. absurd (tells_no_error error x tell))
@@ -631,6 +664,14 @@ leads-play old live locks seen (row.Acquire wish rest) mark a session fair point
     (met_acquiring wish session.context) (leads-acquiring a wish session.context point.fits))
     (λ outcome b h. leads-acquired old live locks seen mark wish rest more a b session outcome fair
     (λ id c after now. leads-play old live (with_lock wish.duration id wish.key locks) seen (rest id) mark c after (fair id) now) point h.1 h.0)
+leads-play old live locks seen (row.Try_acquire wish rest) mark a session fair point =
+    let more = λ (got : Option ℕ) (after : Session). play (rest got) mark after in
+    leads-bind (λ (outcome : Outcome Tried) b. Followed a session.context b outcome.1) (Comes old) (trying wish session.context)
+    (playing.tried mark session more) a (leads-trying a wish session.context point.fits)
+    (λ outcome b followed. leads-tried old live locks seen mark more a b session outcome
+    (λ got c after now. leads-play old live locks seen (rest got) mark c after (fair got) now) point followed)
+leads-play old live locks seen (row.Last key rest) mark a session fair point =
+    let held = last_ticket key session.context in leads-play old live locks seen (rest held) mark a session (fair held) point
 leads-play old live locks seen (row.Upgrade id key mode rest) mark a session fair point =
     let wish = playing.upgrade_wish key mode in
     let more = λ (id : ℕ) (after : Session). play (rest id) mark after in
@@ -686,6 +727,8 @@ leads-begun old (row.Look rest) mark a session leads = leads
 leads-begun old (row.Set change rest) mark a session leads = leads
 leads-begun old (row.Here rest) mark a session leads = leads
 leads-begun old (row.Acquire wish rest) mark a session leads = leads
+leads-begun old (row.Try_acquire wish rest) mark a session leads = leads
+leads-begun old (row.Last key rest) mark a session leads = leads
 leads-begun old (row.Give_up which rest) mark a session leads = leads
 leads-begun old (row.Release id rest) mark a session leads = leads
 leads-begun old (row.Keep rest) mark a session leads = leads
@@ -740,7 +783,8 @@ leads-resumed old a b session waiting (Ok (resume.Acquired id), context) resumed
 leads-resumed old a b session waiting (Ok (resume.Lost how), context) resumed =
     leads-closing old waiting.live waiting.locks waiting.seen waiting.rest.mark b (record { context = context; state = session.state; left = None })
     (point-followed old waiting.live waiting.locks waiting.seen waiting.rest.mark a session.context session.state waiting.point b context resumed.0)
-    (ending_of_loss how) (λ lives x tell. absurd (tells_no_loss how x tell))
+    (ending_of_loss (waits_for_user_lock session.context) how)
+    (λ lives x tell. absurd (tells_no_loss (waits_for_user_lock session.context) how x tell))
 leads-resumed old a b session waiting (Err error, context) resumed =
     leads-closing old waiting.live waiting.locks waiting.seen waiting.rest.mark b (record { context = context; state = session.state; left = None })
     (point-followed old waiting.live waiting.locks waiting.seen waiting.rest.mark a session.context session.state waiting.point b context resumed.0)
@@ -764,7 +808,8 @@ leads-won old a b session raising (Ok (resume.Acquired id), context) won =
 leads-won old a b session raising (Ok (resume.Lost how), context) won =
     leads-closing old raising.live [] [] raising.rest.mark b (record { context = context; state = session.state; left = None })
     (point-cleared old raising.live [] [] raising.rest.mark a session.context session.state raising.point b context won.0 raising.nothing)
-    (ending_of_loss how) (λ lives x tell. absurd (tells_no_loss how x tell))
+    (ending_of_loss (waits_for_user_lock session.context) how)
+    (λ lives x tell. absurd (tells_no_loss (waits_for_user_lock session.context) how x tell))
 leads-won old a b session raising (Err error, context) won =
     leads-closing old raising.live [] [] raising.rest.mark b (record { context = context; state = session.state; left = None })
     (point-cleared old raising.live [] [] raising.rest.mark a session.context session.state raising.point b context won.0 raising.nothing)

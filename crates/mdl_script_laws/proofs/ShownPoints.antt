@@ -1,5 +1,5 @@
 -- What is so of a session while a statement of it is played: its locks are held, and what it has read under them stands.
-use Rattle.std.proofs.Common.{◌≡◌, ◌⊎◌, inl, inr, ℕ, zero, suc, Bool, true, false, not, List, [], ◌∷◌, ◌++◌, Contains, filter, drop, length, refl, sym, ap, ◌∙◌, subst}
+use Rattle.std.proofs.Common.{◌≡◌, ◌≢◌, ◌⊎◌, inl, inr, ℕ, zero, suc, Bool, true, false, not, List, [], ◌∷◌, ◌++◌, Contains, filter, drop, length, refl, sym, ap, ◌∙◌, subst}
 use Rattle.std.specs.Prelude.{◌==◌}
 use Rattle.std.proofs.lemmas.List.Elements.{Contains-append_cases, filter-append}
 use Rattle.mdl_key.specs.declared.mode.Duration.{Duration}
@@ -19,7 +19,7 @@ use Rattle.mdl_rows.specs.Statements.{columns_of}
 use Rattle.mdl_script_laws.proofs.ListLemmas.{among-filter, only-one}
 use Rattle.mdl_script_laws.proofs.ShownCalls.{Spares, key-held, none}
 use Rattle.mdl_script_laws.proofs.ShownContexts.{Fits, Followed, Grown}
-use Rattle.mdl_script_laws.proofs.ShownWaits.{GaveUp, IsAmong}
+use Rattle.mdl_script_laws.proofs.ShownWaits.{GaveUp, IsAmong, IsReleased}
 
 -- ---- lists
 
@@ -157,3 +157,17 @@ standing-left a b gone before after x stands fits gave stays =
       shown = shown-spared before.who (IsAmong gone) a b before stands.ticket fits gave.spares stands.there stays ∙ stands.shown;
       firm = firm-left gone before.kept stands.ticket.id stands.firm;
     })
+
+-- and where another ticket was released
+pub old-released : (a b : Core) (id : ℕ) (before after : ContextView) (mark : Mark) (x : TableShown) (stands : IsStanding a before x)
+    → IsOld mark before.kept stands.ticket.id → Fits a before → IsReleased a id before b after → stands.ticket.id ≢ id
+    → (still : IsStanding b after x) × IsOld mark after.kept still.ticket.id
+old-released a b id before after mark x stands old fits released apart = (
+  record {
+    ticket = stands.ticket;
+    there = subst (λ w. Contains (own_at b w).held stands.ticket) (sym released.who) (released.spares.held stands.ticket stands.there apart);
+    shown = shown-spared before.who (λ n. n ≡ id) a b before stands.ticket fits released.spares stands.there apart ∙ stands.shown;
+    firm = λ k among e. stands.firm k (released.fewer k among) e;
+  },
+  λ k among e. old k (released.late mark.transaction k among) e,
+)

@@ -28,6 +28,11 @@ use Rattle.mdl_script_laws.proofs.RowRules.{Any, KeepsTo, keeps-begin, keeps-che
 use Rattle.mdl_script_laws.proofs.ShownPlays.{IsFair, Tells, seen_under, begun}
 use Rattle.mdl_script_laws.proofs.ShownPoints.{shown_as}
 
+-- RELEASE_LOCK
+abbrev pub IsReleaseLock : Statement → Type 0
+IsReleaseLock (statement.ReleaseLock name) = Unit {0}
+IsReleaseLock _ = ⊥
+
 -- ---- SELECT
 
 module _ (old : TableShown → Type 0) (live : Bool) where
@@ -150,15 +155,18 @@ module _ (old : TableShown → Type 0) (live : Bool) where
       by true = λ mark. ((λ s u. u), (λ s was e. was e), (λ x is lives s e. e), λ lives x tell. absurd tell)
       by false = λ lives x tell. absurd tell
 
-  -- whatever is to stay, such a statement leaves it, in a session that has locked no tables while its transaction is open
-  pub fair-leaving : (s : Statement) (state : State) → leaves_transaction s ≡ true → IsUnlocked state → (live ≡ true → state.is_open ≡ true)
-      → IsFair old live [] [] (begun (does.row_of s) state)
-  fair-leaving (statement.Savepoint name) state leaves unlocked opens = fair-save name state
-  fair-leaving (statement.Select tables) state leaves unlocked opens = fair-select tables state unlocked opens
-  fair-leaving (statement.Write table priority) state leaves unlocked opens = fair-write table priority state
-  fair-leaving (statement.KillQuery target) state leaves unlocked opens = λ lives x tell. absurd tell
-  fair-leaving statement.Timeout state leaves unlocked opens = λ lives x tell. absurd tell
-  fair-leaving _ state leaves unlocked opens = absurd (false≢true leaves)
+  -- whatever is to stay, such a statement leaves it, in a session that has locked no tables while its transaction is open. Which ticket a
+  -- RELEASE_LOCK releases isn't said here
+  pub fair-leaving : (s : Statement) (state : State) → leaves_transaction s ≡ true → (IsReleaseLock s → ⊥) → IsUnlocked state
+      → (live ≡ true → state.is_open ≡ true) → IsFair old live [] [] (begun (does.row_of s) state)
+  fair-leaving (statement.Savepoint name) state leaves other unlocked opens = fair-save name state
+  fair-leaving (statement.Select tables) state leaves other unlocked opens = fair-select tables state unlocked opens
+  fair-leaving (statement.Write table priority) state leaves other unlocked opens = fair-write table priority state
+  fair-leaving (statement.KillQuery target) state leaves other unlocked opens = λ lives x tell. absurd tell
+  fair-leaving statement.Timeout state leaves other unlocked opens = λ lives x tell. absurd tell
+  fair-leaving (statement.GetLock name) state leaves other unlocked opens = λ id lives x tell. absurd tell
+  fair-leaving (statement.ReleaseLock name) state leaves other unlocked opens = absurd (other tt)
+  fair-leaving _ state leaves other unlocked opens = absurd (false≢true leaves)
 
 -- ---- all other statements
 
@@ -177,6 +185,8 @@ fair-tidy old locks seen (row.Set change rest) empty tidy =
     (tidy.0, (λ state was e. refl), (λ x is lives state e. absurd (empty x is)), fair-tidy old locks seen rest empty tidy.1)
 fair-tidy old locks seen (row.Here rest) empty tidy = λ mark. fair-tidy old locks seen (rest mark) empty (tidy mark)
 fair-tidy old locks seen (row.Acquire wish rest) empty tidy = λ id. fair-tidy old _ seen (rest id) empty (tidy id)
+fair-tidy old locks seen (row.Try_acquire wish rest) empty tidy = λ got. fair-tidy old locks seen (rest got) empty (tidy got)
+fair-tidy old locks seen (row.Last key rest) empty tidy = λ held. fair-tidy old locks seen (rest held) empty (tidy held)
 fair-tidy old locks seen (row.Upgrade id key mode rest) empty tidy = ((λ x is lives. empty x is), λ new. fair-tidy old [] [] (rest new) empty (tidy new))
 fair-tidy old locks seen (row.Downgrade id mode rest) empty tidy = ((λ x is lives. empty x is), fair-tidy old [] [] rest empty tidy)
 fair-tidy old locks seen (row.Give_up which rest) empty tidy = ((λ x is lives. empty x is), fair-tidy old [] [] rest empty tidy)

@@ -2,6 +2,7 @@
 use Rattle.std.proofs.Common.{◌≡◌, inl, inr, ℕ, Bool, true, false, not, List, [], ◌∷◌, Option, Some, None, Ok, Err, Contains, option_map, refl, sym, ap, ◌∙◌, subst, arith}
 use Rattle.std.proofs.lemmas.Bool.Decides.{nat_tests}
 use Rattle.std.proofs.lemmas.List.Elements.{Contains-append_right}
+use Rattle.mdl_key.specs.declared.mode.Duration.TheVariants.{Transaction}
 use Rattle.mdl_system.proofs.MemberLemmas.{Contains-none}
 use Rattle.mdl_system.proofs.OrderLemmas.{Contains-cons_cases, Contains-here, Contains-later}
 use Rattle.mdl_calls.specs.declared.answers.Held.{Held}
@@ -15,13 +16,14 @@ use Rattle.mdl_context.specs.declared.kept.Kept.{Kept}
 use Rattle.mdl_context.specs.declared.kept.Wanted.{Wanted}
 use Rattle.mdl_context.specs.declared.request.Resume.{Resume}
 use Rattle.mdl_context.specs.declared.request.Resume.TheVariants as resume
-use Rattle.mdl_context.specs.Contexts.{ContextView, has_number, without}
+use Rattle.mdl_context.specs.Contexts.{ContextView, beyond, has_number, lasts, without}
 use Rattle.mdl_context.specs.Gains as gains
 use Rattle.mdl_context.specs.Holdings.{search_over, upgrade_of, without_number, is_ticket}
 use Rattle.mdl_context.specs.Releases as releases
 use Rattle.mdl_context.specs.Requests.{Outcome}
 use Rattle.mdl_context.specs.Waits as waits
-use Rattle.mdl_script_laws.proofs.ShownCalls.{IsQuiet, Leads, Spares, Stays, leads-bind, leads-quiet, none, stays-call, stays-here}
+use Rattle.mdl_script_laws.proofs.ListLemmas.{among-filter, drop-fewer}
+use Rattle.mdl_script_laws.proofs.ShownCalls.{IsQuiet, Leads, Spares, Stays, leads-bind, leads-quiet, none, spares-here, stays-call, stays-here}
 use Rattle.mdl_script_laws.proofs.ShownContexts.{Fits, Followed, fits-fewer, fits-more, fits-same, followed-here, followed-late, followed-same, followed-waiting}
 use Rattle.mdl_script_laws.proofs.ShownAsking.{leads-abandoning, leads-map, quiet-seeking, won-by}
 
@@ -208,19 +210,43 @@ leads-giving_up a gone context fits =
       left = refl;
     })
 
--- one of this number is released, or none is
-pub leads-releasing : (a : Core) (id : ℕ) (context : ContextView) → Fits a context
-    → Leads (λ (outcome : Outcome (Unit {0})) b. Fits b outcome.1 × (outcome.1.who ≡ context.who)) (releases.releasing id context) a
-leads-releasing a id context fits = go (releases.release_fault id context)
+-- a context released the one of this number, or none
+pub record IsReleased (a : Core) (id : ℕ) (before : ContextView) (b : Core) (after : ContextView) : Type 0 where
+  pub fits : Fits b after
+  pub spares : Spares before.who (λ n. n ≡ id) a b
+  pub who : after.who ≡ before.who
+  pub fewer : (k : Kept) → Contains after.kept k → Contains before.kept k
+  pub late : (most : ℕ) (k : Kept) → Contains (beyond Transaction most after.kept) k → Contains (beyond Transaction most before.kept) k
+
+pub leads-released : (a : Core) (id : ℕ) (context : ContextView) → Fits a context
+    → Leads (λ (outcome : Outcome (Unit {0})) b. IsReleased a id context b outcome.1) (releases.releasing id context) a
+leads-released a id context fits = go (releases.release_fault id context)
   where
     other : (k : Kept) → not (is_ticket id k) ≡ true → k.id ≡ id → ⊥
     other k stay e = let h : is_ticket id k ≡ true = grind (arith, nat_tests) in let g = ap not h in cc
 
-    go : (fault : Option ContextError) → Leads (λ (outcome : Outcome (Unit {0})) b. Fits b outcome.1 × (outcome.1.who ≡ context.who))
+    go : (fault : Option ContextError) → Leads (λ (outcome : Outcome (Unit {0})) b. IsReleased a id context b outcome.1)
         (releases.unless fault context (Ask (Release context.who id) (λ _. Give (Ok tt, record context { kept = without_number id context.kept })))) a
-    go (Some fault) = (fits, refl)
+    go (Some fault) = record {
+      fits = fits;
+      spares = spares-here context.who (λ n. n ≡ id) a fits.speaks;
+      who = refl;
+      fewer = λ k among. among;
+      late = λ most k among. among;
+    }
     go None = λ answer b joins. (
-      fits-fewer a b context (λ n. n ≡ id) (λ ticket. not (is_ticket id ticket)) other fits
-          (stays-call context.who (λ n. n ≡ id) a b (Release context.who id) answer fits.speaks (refl, refl, refl) joins),
-      refl,
-    )
+        let step = stays-call context.who (λ n. n ≡ id) a b (Release context.who id) answer fits.speaks (refl, refl, refl) joins in
+        record {
+          fits = fits-fewer a b context (λ n. n ≡ id) (λ ticket. not (is_ticket id ticket)) other fits step;
+          spares = step.0;
+          who = refl;
+          fewer = λ k among. (among-filter (λ ticket. not (is_ticket id ticket)) context.kept k among).0;
+          late = λ most k among. drop-fewer most (lasts Transaction) (λ ticket. not (is_ticket id ticket)) context.kept k among;
+        })
+
+pub leads-releasing : (a : Core) (id : ℕ) (context : ContextView) → Fits a context
+    → Leads (λ (outcome : Outcome (Unit {0})) b. Fits b outcome.1 × (outcome.1.who ≡ context.who)) (releases.releasing id context) a
+leads-releasing a id context fits =
+    leads-map (λ (outcome : Outcome (Unit {0})) b. IsReleased a id context b outcome.1)
+    (λ (outcome : Outcome (Unit {0})) b. Fits b outcome.1 × (outcome.1.who ≡ context.who)) (releases.releasing id context) a
+    (λ outcome b released. (released.fits, released.who)) (leads-released a id context fits)

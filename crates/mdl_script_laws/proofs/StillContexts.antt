@@ -18,6 +18,7 @@ use Rattle.mdl_context.specs.declared.request.Acquire.TheVariants.{Acquired}
 use Rattle.mdl_context.specs.Wishes.{Wish}
 use Rattle.mdl_context.specs.declared.request.Resume.{Resume}
 use Rattle.mdl_context.specs.declared.request.Resume.TheVariants as resume_as
+use Rattle.mdl_context.specs.declared.request.Tried.{Tried}
 use Rattle.mdl_context.specs.Contexts.{ContextView, ticket_kept, without, place_known}
 use Rattle.mdl_context.specs.Gains as gains
 use Rattle.mdl_context.specs.Holdings.{earliest, upgrade_of, without_number}
@@ -101,6 +102,44 @@ still-acquiring request context =
     let place = place_known request.key context.known in
     either {A = Outcome Acquire} AreStill (is_some context.wait) (Give (Err Waiting, context)) (requests.finding place request context)
     tt (still-finding place request context)
+
+-- ---- wishes without a wait
+
+still-tried : (answer : Answer) → AreStill (gains.tried_answered answer)
+still-tried (Granted id) = tt
+still-tried Would_wait = tt
+still-tried _ = tt
+
+still-trying_from : (ticket : Option Held) (who place : ℕ) (mode : Mode) → AreStill (gains.trying_from ticket who place mode)
+still-trying_from (Some ticket) who place mode = (tt, still-tried)
+still-trying_from None who place mode = (tt, still-tried)
+
+still-trying_again : (ticket : Option Held) (place : ℕ) (request : Wish) (context : ContextView)
+    → AreStill (requests.trying_again ticket place request context)
+still-trying_again (Some ticket) place request context = tt
+still-trying_again None place request context =
+    let serving = earliest (requests.suffices place request) context.kept in (
+      tt,
+      calls_bind {A = Result Tried SpaceError} {B = Outcome Tried} IsStill (gains.trying_from serving context.who place request.mode)
+          (λ end. Give (requests.outcome_tried place request context end)) (still-trying_from serving context.who place request.mode) (λ _. tt),
+    )
+
+still-trying_placed : (request : Wish) (context : ContextView) (answer : Answer) → AreStill (requests.trying_placed request context answer)
+still-trying_placed request context (At_place place) =
+    let after = requests.remembering request.key place context in
+    (tt, still-trying_again (earliest (requests.is_reusable place request) after.kept) place request after)
+still-trying_placed request context _ = tt
+
+still-trying_found : (place : Option ℕ) (request : Wish) (context : ContextView) → AreStill (requests.trying_found place request context)
+still-trying_found (Some place) request context =
+    still-trying_again (earliest (requests.is_reusable place request) context.kept) place request context
+still-trying_found None request context = (tt, still-trying_placed request context)
+
+pub still-trying : (request : Wish) (context : ContextView) → EachCall IsStill (requests.trying request context)
+still-trying request context =
+    let place = place_known request.key context.known in
+    either {A = Outcome Tried} AreStill (is_some context.wait) (Give (Err Waiting, context)) (requests.trying_found place request context)
+    tt (still-trying_found place request context)
 
 -- ---- merges
 

@@ -14,7 +14,7 @@ use Rattle.mdl_core.specs.Seats.{is_closed}
 use Rattle.mdl_context.specs.declared.request.Mark.{Mark}
 use Rattle.mdl_context.specs.declared.request.Resume.{Resume}
 use Rattle.mdl_context.specs.declared.request.Resume.TheVariants as resume
-use Rattle.mdl_context.specs.Contexts.{ContextView}
+use Rattle.mdl_context.specs.Contexts.{ContextView, waits_for_user_lock}
 use Rattle.mdl_context.specs.Holdings.{upgrade_of}
 use Rattle.mdl_context.specs.Releases.{giving_up, releasing}
 use Rattle.mdl_context.specs.Requests.{Outcome}
@@ -119,8 +119,9 @@ within-resumed : (n : ℕ) (left : Left) (session : Session) (outcome : Outcome 
 within-resumed n left session (Ok resume.Waiting, context) is over = absurd over
 within-resumed n left session (Ok (resume.Acquired id), context) is over = within-play n (left.rest id) left.mark (with_context session context) (is id)
 within-resumed n left session (Ok (resume.Lost how), context) is over =
-    each-by (Told AreFewTables) (PausesWithin n) (closing (ending_of_loss how) left.mark (with_context session context))
-    (within-closing n (ending_of_loss how) left.mark (with_context session context))
+    let ending = ending_of_loss (waits_for_user_lock session.context) how in
+    each-by (Told AreFewTables) (PausesWithin n) (closing ending left.mark (with_context session context))
+    (within-closing n ending left.mark (with_context session context))
 within-resumed n left session (Err error, context) is over =
     each-by (Told AreFewTables) (PausesWithin n) (closing (ending_of_error error) left.mark (with_context session context))
     (within-closing n (ending_of_error error) left.mark (with_context session context))

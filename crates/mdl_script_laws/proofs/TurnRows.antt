@@ -4,7 +4,7 @@ use Rattle.std.specs.Prelude.{find, if◌then◌else◌, is_some, not}
 use Rattle.std.proofs.lemmas.List.{length-append, length-map}
 use Rattle.std.specs.declared.cmp.Ordering.{Ordering}
 use Rattle.std.specs.declared.cmp.Ordering.TheVariants.{Less, Equal, Greater}
-use Rattle.mdl_key.specs.Keys.{KeyName, global_key, key_cmp, key_eq}
+use Rattle.mdl_key.specs.Keys.{KeyName, global_key, key_cmp, key_eq, user_lock_key}
 use Rattle.mdl_key.specs.declared.mode.Mode.TheVariants.{X}
 use Rattle.mdl_defs.specs.declared.change.Change.{Change}
 use Rattle.mdl_defs.specs.declared.change.Change.TheVariants as change
@@ -52,6 +52,8 @@ few-more n m (row.Acquire wish rest) less (fewer, same, is) =
     let at : m ≡ suc (m - 1) = omega (arith, less, same) in
     let below : fewer ≤ m - 1 = omega (arith, less, same) in
     (m - 1, at, λ id. few-more fewer (m - 1) (rest id) below (is id))
+few-more n m (row.Try_acquire wish rest) less is = λ got. few-more n m (rest got) less (is got)
+few-more n m (row.Last key rest) less is = λ held. few-more n m (rest held) less (is held)
 few-more n m (row.Upgrade id key mode rest) less (fewer, same, is) =
     let at : m ≡ suc (m - 1) = omega (arith, less, same) in
     let below : fewer ≤ m - 1 = omega (arith, less, same) in
@@ -79,6 +81,8 @@ few-then n m most (row.Acquire wish more) next less (fewer, same, is) rest =
     let at : most ≡ suc (most - 1) = omega (arith, less, same) in
     let below : fewer + m ≤ most - 1 = omega (arith, less, same) in
     (most - 1, at, λ id. few-then fewer m (most - 1) (more id) next below (is id) rest)
+few-then n m most (row.Try_acquire wish more) next less is rest = λ got. few-then n m most (more got) next less (is got) rest
+few-then n m most (row.Last key more) next less is rest = λ held. few-then n m most (more held) next less (is held) rest
 few-then n m most (row.Upgrade id key mode more) next less (fewer, same, is) rest =
     let at : most ≡ suc (most - 1) = omega (arith, less, same) in
     let below : fewer + m ≤ most - 1 = omega (arith, less, same) in
@@ -506,6 +510,14 @@ few-unlock_all =
 few-flush : AsksForAtMost 2 stm.flush_after_commit
 few-flush state = few-either 2 (is_some state.read_lock) (row.Give reply.Ok) stm.get_read_lock tt (1, refl, λ global. (0, refl, λ commit. tt))
 
+few-given : (got : Option ℕ) → AsksForAtMost 0 (stm.given got)
+few-given None = tt
+few-given (Some ticket) = tt
+
+few-give_back : (lock : KeyName) (held : Option ℕ) → AsksForAtMost 0 (stm.give_back lock held)
+few-give_back lock (Some ticket) = tt
+few-give_back lock None = λ got. few-given got
+
 few-asked : (asked : Statement) → AsksForAtMost (locks_of asked) (stm.row_of asked)
 few-asked statement.Begin = few-commit_first 0 stm.begin_after_commit few-begin
 few-asked statement.Commit = few-commit_first 0 (row.Give reply.Ok) tt
@@ -533,6 +545,8 @@ few-asked (statement.LockTables locks) =
     (few-check_writes (stm.writes_any locks)) (λ _. few-commit_first (1 + n + n) (stm.lock_tables_after_commit locks) (few-lock_tables locks)))
 few-asked (statement.KillQuery target) = tt
 few-asked statement.Timeout = tt
+few-asked (statement.GetLock name) = (0, refl, λ id. tt)
+few-asked (statement.ReleaseLock name) = λ held. few-give_back (user_lock_key name) held
 
 -- within the limits of the language
 few-named : (asked : Statement) → IsWithinLimits asked → locks_of asked ≤ most_locks

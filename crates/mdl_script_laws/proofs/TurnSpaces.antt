@@ -27,7 +27,7 @@ use Rattle.mdl_syntax.specs.declared.script.Line.{Line}
 use Rattle.mdl_context.specs.declared.kept.Wanted.{Wanted}
 use Rattle.mdl_context.specs.declared.request.Resume.{Resume}
 use Rattle.mdl_context.specs.declared.request.Resume.TheVariants as resume
-use Rattle.mdl_context.specs.Contexts.{ContextView, mark_of}
+use Rattle.mdl_context.specs.Contexts.{ContextView, mark_of, waits_for_user_lock}
 use Rattle.mdl_context.specs.Requests.{Outcome}
 use Rattle.mdl_context.specs.Holdings.{upgrade_of}
 use Rattle.mdl_context.specs.MemoryLaws.{IsOwnCall}
@@ -164,8 +164,9 @@ tied-resumed left session (Ok (resume.Acquired id), context) waits is =
     subst (λ w. Tracks PausesTied (play (left.rest id) left.mark (with_context session context)) w) (sym is)
     (tied-play (left.rest id) left.mark (with_context session context))
 tied-resumed left session (Ok (resume.Lost how), context) waits is =
-    subst (λ w. Tracks PausesTied (closing (ending_of_loss how) left.mark (with_context session context)) w) (sym is)
-    (tied-closing (ending_of_loss how) left.mark (with_context session context))
+    let ending = ending_of_loss (waits_for_user_lock session.context) how in
+    subst (λ w. Tracks PausesTied (closing ending left.mark (with_context session context)) w) (sym is)
+    (tied-closing ending left.mark (with_context session context))
 tied-resumed left session (Err error, context) waits is =
     subst (λ w. Tracks PausesTied (closing (ending_of_error error) left.mark (with_context session context)) w) (sym is)
     (tied-closing (ending_of_error error) left.mark (with_context session context))

@@ -15,7 +15,9 @@ use Rattle.mdl_context.specs.declared.kept.Kept.{Kept}
 use Rattle.mdl_context.specs.declared.request.Acquire.{Acquire}
 use Rattle.mdl_context.specs.declared.request.Acquire.TheVariants as acquire
 use Rattle.mdl_context.specs.declared.request.Mark.{Mark}
-use Rattle.mdl_context.specs.Contexts.{ContextView, mark_of, place_known, ticket_kept, without}
+use Rattle.mdl_context.specs.declared.request.Tried.{Tried}
+use Rattle.mdl_context.specs.declared.request.Tried.TheVariants as try_as
+use Rattle.mdl_context.specs.Contexts.{ContextView, last_ticket, mark_of, place_known, ticket_kept, without}
 use Rattle.mdl_context.specs.Gains as gains
 use Rattle.mdl_context.specs.Gains.{refusal_of}
 use Rattle.mdl_context.specs.Holdings.{earliest, without_number}
@@ -178,6 +180,48 @@ tied-acquiring wish context =
       | false ↦ tied-finding (place_known wish.key context.known) wish context
     ]
 
+-- ---- wishes without a wait
+
+stays-tried : (answer : Answer) (waits : Bool) → Tracks (Stays {A = Result Tried SpaceError} waits) (gains.tried_answered answer) waits
+stays-tried (Granted id) waits = refl
+stays-tried Would_wait waits = refl
+stays-tried _ waits = refl
+
+stays-trying_from : (ticket : Option Held) (who place : ℕ) (mode : Mode) (waits : Bool)
+    → Tracks (Stays {A = Result Tried SpaceError} waits) (gains.trying_from ticket who place mode) waits
+stays-trying_from (Some ticket) who place mode waits = λ answer is. stays-tried answer waits
+stays-trying_from None who place mode waits = λ answer is. stays-tried answer waits
+
+stays-trying_again : (ticket : Option Held) (place : ℕ) (wish : Wish) (context : ContextView) (waits : Bool)
+    → Tracks (Stays {A = Outcome Tried} waits) (requests.trying_again ticket place wish context) waits
+stays-trying_again (Some ticket) place wish context waits = refl
+stays-trying_again None place wish context waits =
+    let serving = earliest (requests.suffices place wish) context.kept in
+    tracks-then {A = Result Tried SpaceError} {B = Outcome Tried} (Stays waits) (Stays waits) (gains.trying_from serving context.who place wish.mode)
+    (λ end. Give (requests.outcome_tried place wish context end)) waits (stays-trying_from serving context.who place wish.mode waits)
+    (λ end after same. same)
+
+stays-trying_placed : (wish : Wish) (context : ContextView) (answer : Answer) (waits : Bool)
+    → Tracks (Stays {A = Outcome Tried} waits) (requests.trying_placed wish context answer) waits
+stays-trying_placed wish context (At_place place) waits =
+    let after = requests.remembering wish.key place context in
+    stays-trying_again (earliest (requests.is_reusable place wish) after.kept) place wish after waits
+stays-trying_placed wish context _ waits = refl
+
+stays-trying_found : (place : Option ℕ) (wish : Wish) (context : ContextView) (waits : Bool)
+    → Tracks (Stays {A = Outcome Tried} waits) (requests.trying_found place wish context) waits
+stays-trying_found (Some place) wish context waits =
+    stays-trying_again (earliest (requests.is_reusable place wish) context.kept) place wish context waits
+stays-trying_found None wish context waits = λ answer is. stays-trying_placed wish context answer waits
+
+stays-trying : (wish : Wish) (context : ContextView) (waits : Bool) → Tracks (Stays {A = Outcome Tried} waits) (requests.trying wish context) waits
+stays-trying wish context waits =
+    elim (is_some context.wait) as (λ has. Tracks (Stays {A = Outcome Tried} waits) (if has then Give (Err Waiting, context) else requests.trying_found
+    (place_known wish.key context.known) wish context) waits) [
+      | true ↦ refl
+      | false ↦ stays-trying_found (place_known wish.key context.known) wish context waits
+    ]
+
 -- ---- other modes
 
 -- what a space was asked for is had or refused, or there is a wait
@@ -263,6 +307,17 @@ tied-asked wish rest mark session more made (Err error, context) waits is =
     tied-at (closing (ending_of_error error) mark (with_context session context)) waits is
     (tied-closing (ending_of_error error) mark (with_context session context))
 
+tied-attempted : (mark : Mark) (session : Session) (more : Option ℕ → Session → Program Pause)
+    → ((got : Option ℕ) (after : Session) → Tracks PausesTied (more got after) false) → (outcome : Outcome Tried) (waits : Bool) → waits ≡ false
+    → Tracks PausesTied (playing.tried mark session more outcome) waits
+tied-attempted mark session more made (Ok (try_as.Acquired id), context) waits none =
+    tied-at (more (Some id) (with_context session context)) waits none (made (Some id) (with_context session context))
+tied-attempted mark session more made (Ok try_as.WouldWait, context) waits none =
+    tied-at (more None (with_context session context)) waits none (made None (with_context session context))
+tied-attempted mark session more made (Err error, context) waits none =
+    tied-at (closing (ending_of_error error) mark (with_context session context)) waits none
+    (tied-closing (ending_of_error error) mark (with_context session context))
+
 tied-read : (mark : Mark) (session : Session) (more : Standing → Program Pause) → ((standing : Standing) → Tracks PausesTied (more standing) false)
     → (answer : Answer) → Tracks PausesTied (playing.read_answered mark session more answer) false
 tied-read mark session more made (Reads version definition) = made (record { version = version; definition = definition })
@@ -300,6 +355,11 @@ tied-play (row.Acquire wish rest) mark session =
     tracks-then {A = Outcome Acquire} {B = Pause} IsAskedTied PausesTied (requests.acquiring wish session.context)
     (playing.acquired wish rest mark session more) false
     (tied-acquiring wish session.context) (tied-asked wish rest mark session more (λ id after. tied-play (rest id) mark after))
+tied-play (row.Try_acquire wish rest) mark session =
+    let more : Option ℕ → Session → Program Pause = λ got after. play (rest got) mark after in
+    tracks-then {A = Outcome Tried} {B = Pause} (Stays false) PausesTied (requests.trying wish session.context) (playing.tried mark session more) false
+    (stays-trying wish session.context false) (tied-attempted mark session more (λ got after. tied-play (rest got) mark after))
+tied-play (row.Last key rest) mark session = tied-play (rest (last_ticket key session.context)) mark session
 tied-play (row.Upgrade id key mode rest) mark session =
     let wish = playing.upgrade_wish key mode in
     let more : ℕ → Session → Program Pause = λ id after. play (rest id) mark after in

@@ -1,5 +1,5 @@
 -- That statements change definitions last: all checks, all locks and all that takes memory come before.
-use Rattle.std.specs.Prelude.{◌≡◌, ℕ, List}
+use Rattle.std.specs.Prelude.{◌≡◌, ℕ, List, Option}
 use Rattle.mdl_key.specs.Keys.{KeyName}
 use Rattle.mdl_context.specs.declared.request.Mark.{Mark}
 use Rattle.mdl_defs.specs.declared.change.Change.TheVariants as change
@@ -34,6 +34,8 @@ BehindItsChange P (row.Look rest) = (state : State) → BehindItsChange P (rest 
 BehindItsChange P (row.Set change rest) = BehindItsChange P rest
 BehindItsChange P (row.Here rest) = (mark : Mark) → BehindItsChange P (rest mark)
 BehindItsChange P (row.Acquire wish rest) = (id : ℕ) → BehindItsChange P (rest id)
+BehindItsChange P (row.Try_acquire wish rest) = (got : Option ℕ) → BehindItsChange P (rest got)
+BehindItsChange P (row.Last key rest) = (held : Option ℕ) → BehindItsChange P (rest held)
 BehindItsChange P (row.Upgrade id key mode rest) = (new : ℕ) → BehindItsChange P (rest new)
 BehindItsChange P (row.Downgrade id mode rest) = BehindItsChange P rest
 BehindItsChange P (row.Give_up which rest) = BehindItsChange P rest

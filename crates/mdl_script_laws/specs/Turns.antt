@@ -1,6 +1,6 @@
 -- That a script's turns come to their end: how many locks a statement asks for, that nobody is left whose turn has come, that a
 -- statement waits just where its session has an unsettled wait, and how many waits are told.
-use Rattle.std.specs.Prelude.{◌≡◌, ℕ, suc, ◌+◌, ◌*◌, ◌≤◌, Bool, true, false, ◌&&◌, ◌==◌, List, length, filter, take, None, Ok}
+use Rattle.std.specs.Prelude.{◌≡◌, ℕ, suc, ◌+◌, ◌*◌, ◌≤◌, Bool, true, false, ◌&&◌, ◌==◌, List, length, filter, take, Option, None, Ok}
 use Rattle.std.specs.List.{All}
 use Rattle.mdl_key.specs.Words.{KeyName, most_places}
 use Rattle.mdl_core.specs.CoreCalls.{has_settled, wait_at}
@@ -10,7 +10,7 @@ use Rattle.mdl_context.specs.declared.request.Mark.{Mark}
 use Rattle.mdl_defs.specs.declared.standing.Standing.{Standing}
 use Rattle.mdl_syntax.specs.declared.script.Line.{Line}
 use Rattle.mdl_syntax.specs.declared.statement.Statement.{Statement}
-use Rattle.mdl_syntax.specs.declared.statement.Statement.TheVariants.{Begin, Commit, Select, Write, CreateTable, CreateSchema, DropTables, RenameTable, FlushTablesWithReadLock, AlterTable, LockTables, DropSchema}
+use Rattle.mdl_syntax.specs.declared.statement.Statement.TheVariants.{Begin, Commit, Select, Write, CreateTable, CreateSchema, DropTables, RenameTable, FlushTablesWithReadLock, AlterTable, LockTables, DropSchema, GetLock}
 use Rattle.mdl_syntax.specs.Laws.{IsWithinLimits}
 use Rattle.mdl_syntax.specs.Scripts.{parsed}
 use Rattle.mdl_rows.specs.Rows.{Row}
@@ -27,7 +27,7 @@ abbrev pub AreFewTables : List ℕ → Type 0
 AreFewTables tables = length tables ≤ most_places
 
 -- a statement asks for at most so many locks, one after the other, whatever it is told meanwhile. To make one stronger is to ask for one
--- more
+-- more; one that it only tries for counts for nothing, since it doesn't wait for it
 abbrev pub AsksForAtMost : {A : Type 0} → ℕ → Row A → Type 0
 AsksForAtMost most (row.Give x) = Unit {0}
 AsksForAtMost most (row.Fail number) = Unit {0}
@@ -36,6 +36,8 @@ AsksForAtMost most (row.Look rest) = (state : State) → AsksForAtMost most (res
 AsksForAtMost most (row.Set change rest) = AsksForAtMost most rest
 AsksForAtMost most (row.Here rest) = (mark : Mark) → AsksForAtMost most (rest mark)
 AsksForAtMost most (row.Acquire wish rest) = (fewer : ℕ) × (most ≡ suc fewer) × ((id : ℕ) → AsksForAtMost fewer (rest id))
+AsksForAtMost most (row.Try_acquire wish rest) = (got : Option ℕ) → AsksForAtMost most (rest got)
+AsksForAtMost most (row.Last key rest) = (held : Option ℕ) → AsksForAtMost most (rest held)
 AsksForAtMost most (row.Upgrade id key mode rest) = (fewer : ℕ) × (most ≡ suc fewer) × ((id : ℕ) → AsksForAtMost fewer (rest id))
 AsksForAtMost most (row.Downgrade id mode rest) = AsksForAtMost most rest
 AsksForAtMost most (row.Give_up which rest) = AsksForAtMost most rest
@@ -50,7 +52,7 @@ AsksForAtMost most (row.Kill target rest) = AsksForAtMost most rest
 -- the most locks that a statement asks for: the COMMIT lock where it has to commit, the global lock where it writes or changes
 -- definitions, and the tables or the schema that it names, with the tables' schemas where these are created, dropped, renamed, altered or
 -- locked for writing, and with the schema's tables where it is dropped; and for the global read lock the global lock and once more the
--- COMMIT lock. A table that is altered is locked up to three times, each time more strongly
+-- COMMIT lock. A table that is altered is locked up to three times, each time more strongly. A user-level lock is asked for alone
 abbrev pub locks_of : Statement → ℕ
 locks_of Begin = 1
 locks_of Commit = 1
@@ -64,6 +66,7 @@ locks_of (RenameTable from to) = 6
 locks_of FlushTablesWithReadLock = 3
 locks_of (AlterTable alteration) = 6
 locks_of (LockTables locks) = 2 + 2 * length locks
+locks_of (GetLock name) = 1
 locks_of _ = 0
 
 -- that of a DROP SCHEMA is the most that the language has

@@ -2,8 +2,8 @@
 ghost use Rattle.mdl_script_laws.specs.Shown.{TransactionsKeepWhatTheySaw, TransactionsSeeOneDefinition};
 
 /// Each time that a session is shown a table within one transaction, it is the same version with the same columns, as long as the
-/// session itself changes no definition and goes back to no savepoint. It is said of what is told of the lines of a script: of
-/// statements that ended at once and of those that waited, whatever the other sessions did between.
+/// session itself changes no definition and goes back to no savepoint. User-level locks it may get and release. It is said of what is
+/// told of the lines of a script: of statements that ended at once and of those that waited, whatever the other sessions did between.
 ///
 /// That the transaction is open in the end is what says that it is one: a session that lost its transaction, as the victim of a
 /// deadlock does, is promised nothing by this law.

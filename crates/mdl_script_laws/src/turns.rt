@@ -4,7 +4,8 @@ ghost use Rattle.mdl_script_laws.specs.Turns.{StatementsAskForFewLocks, Statemen
 
 /// A statement asks for no more locks than it can need, as `locks_of` of specs/Turns counts them: its tables, with their schemas
 /// where definitions are changed or tables are locked to be written, the global lock, and the COMMIT lock; to make a lock stronger
-/// counts as one more. That is at most 259, that of a `DROP SCHEMA` of 256 tables, whatever stands and whatever its session keeps.
+/// counts as one more, and a lock that is only tried for, which isn't waited for, counts for nothing. That is at most 259, that of a
+/// `DROP SCHEMA` of 256 tables, whatever stands and whatever its session keeps.
 pub fn statements_ask_for_few_locks()
     ensures { StatementsAskForFewLocks }
 {}

@@ -45,7 +45,7 @@ struct Drawn {
     text: String,
 }
 
-/// The script of this number: 2 to 8 sessions that lock 3 to 5 tables. Behind the lines that make tables and those
+/// The script of this number: 2 to 8 sessions that lock 3 to 5 tables and 3 user-level locks. Behind the lines that make tables and those
 /// that begin transactions, it has up to 47 others, so that it has 10 to 60 lines in all.
 pub(crate) fn script_by_chance(alloc: Global, number: u64) -> Result<Vec<u8>, AllocError> {
     let mut chance = Chance(number);
@@ -119,7 +119,7 @@ impl Drawn {
     fn line(&mut self) -> Result<(), AllocError> {
         let who = self.draw_below(self.sessions).wrapping_add(1);
         write!(self.text, "{who} ")?;
-        match self.chance.draw(37) {
+        match self.chance.draw(43) {
             0..=6 => self.alone()?,
             7..=14 => self.some("SELECT", 3)?,
             15..=20 => self.write()?,
@@ -131,6 +131,8 @@ impl Drawn {
             32 => self.kill()?,
             33 => self.lock()?,
             34 => self.schema("DROP SCHEMA")?,
+            35..=38 => self.user_lock("GET_LOCK")?,
+            39..=40 => self.user_lock("RELEASE_LOCK")?,
             _ => self.text.push_str("TIMEOUT")?,
         }
         self.text.push('\n')
@@ -241,6 +243,12 @@ impl Drawn {
             2 => write!(self.text, "RENAME TABLE {from} TO s.{from}"),
             _ => write!(self.text, "RENAME TABLE {from} TO {to}"),
         }
+    }
+
+    // A form with a user-level lock, which has the name of a table.
+    fn user_lock(&mut self, word: &str) -> Result<(), AllocError> {
+        let name = table_name(self.chance.draw(3));
+        write!(self.text, "{word} {name}")
     }
 
     // A kill of some session.

@@ -9,6 +9,7 @@ mod plans;
 mod sessions;
 mod steps;
 mod unlocking;
+mod user_locks;
 
 use mdl_defs::{Change, Columns, Definition};
 use mdl_key::{Duration, Key, KeyError, Mode};
@@ -126,6 +127,10 @@ enum Step {
     Lower(Key, Mode),
     // Changes the columns of a table.
     Alter(Key, Change),
+    // Gives up a lock that sessions name, or finds out whether another session has it.
+    LeaveUserLock(Key),
+    // Answers that it is so.
+    AnswerYes,
 }
 
 // How it goes on behind a step.
@@ -279,10 +284,13 @@ impl Plain {
             let Some((who, how)) = self.first_settled() else {
                 return Ok(());
             };
+            let is_user_lock = self.wants_user_lock(who);
             self.end_wait(who, how);
             match how {
                 Settled::Granted => self.go_on(who)?,
+                Settled::Victim if is_user_lock => self.get_nothing(who, 3058)?,
                 Settled::Victim => self.lose_all(who)?,
+                Settled::Timeout if is_user_lock => self.tell_no(who)?,
                 Settled::Timeout => self.get_nothing(who, 1205)?,
                 Settled::Killed => self.get_nothing(who, 1317)?,
             }

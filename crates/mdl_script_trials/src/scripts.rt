@@ -269,6 +269,51 @@ const ROWS: &str = "\
 1 CREATE TABLE t x / 1 ALTER TABLE t DROP x COPY / 1 ALTER TABLE t ADD x COPY / 1 ALTER TABLE t DROP z COPY / \
     1 RENAME TABLE t TO u / 1 SELECT u / 1 SELECT t => 1 1 OK / 2 1 ERR 9001 / 3 1 ERR 1060 / 4 1 ERR 1091 / 5 1 OK / \
     6 1 OK test.u@1(x) / 7 1 ERR 1146
+1 GET_LOCK a / 2 GET_LOCK b / 1 GET_LOCK b / 2 GET_LOCK a / 2 RELEASE_LOCK b / 1 RELEASE_LOCK a / 1 RELEASE_LOCK a => 1 1 \
+    OK 1 / 2 2 OK 1 / 3 1 WAIT USER b X / 4 2 WAIT USER a X / 4 2 ERR 3058 / 5 2 OK 1 / 3 1 OK 1 / 6 1 OK 1 / 7 1 OK NULL
+1 CREATE TABLE t x / 2 GET_LOCK a / 1 BEGIN / 1 SELECT t / 1 GET_LOCK a / 2 DROP TABLE t / 1 COMMIT => 1 1 OK / 2 2 OK 1 / \
+    3 1 OK / 4 1 OK test.t@1(x) / 5 1 WAIT USER a X / 6 2 WAIT TABLE test.t X / 5 1 ERR 3058 / 7 1 OK / 6 2 OK
+1 GET_LOCK a / 1 GET_LOCK a / 1 RELEASE_LOCK a / 2 GET_LOCK a / 2 TIMEOUT / 2 RELEASE_LOCK a => 1 1 OK 1 / 2 1 OK 1 / 3 1 \
+    OK 1 / 4 2 WAIT USER a X / 5 2 OK / 4 2 OK 0 / 6 2 OK 0
+1 CREATE TABLE t x / 1 LOCK TABLES t READ / 1 GET_LOCK a / 1 UNLOCK TABLES / 2 GET_LOCK a / 1 BEGIN / 1 COMMIT / 1 \
+    ROLLBACK / 1 LOCK TABLES t WRITE / 1 BEGIN / 2 TIMEOUT / 2 RELEASE_LOCK a / 1 RELEASE_LOCK a => 1 1 OK / 2 1 OK / 3 1 \
+    OK 1 / 4 1 OK / 5 2 WAIT USER a X / 6 1 OK / 7 1 OK / 8 1 OK / 9 1 OK / 10 1 OK / 11 2 OK / 5 2 OK 0 / 12 2 OK 0 / 13 \
+    1 OK 1
+1 FLUSH TABLES WITH READ LOCK / 1 GET_LOCK a / 2 GET_LOCK b / 2 RELEASE_LOCK b / 1 UNLOCK TABLES / 2 GET_LOCK a / 1 \
+    RELEASE_LOCK a => 1 1 OK / 2 1 OK 1 / 3 2 OK 1 / 4 2 OK 1 / 5 1 OK / 6 2 WAIT USER a X / 7 1 OK 1 / 6 2 OK 1
+1 CREATE TABLE t x / 2 GET_LOCK a / 1 BEGIN / 1 SAVEPOINT p / 1 SELECT t / 1 GET_LOCK a / 2 KILL QUERY 1 / 2 DROP TABLE t \
+    / 1 ROLLBACK TO p => 1 1 OK / 2 2 OK 1 / 3 1 OK / 4 1 OK / 5 1 OK test.t@1(x) / 6 1 WAIT USER a X / 7 2 OK / 6 1 ERR \
+    1317 / 8 2 WAIT TABLE test.t X / 9 1 OK / 8 2 OK
+1 CREATE TABLE t x / 2 GET_LOCK a / 1 BEGIN / 1 SAVEPOINT p / 1 SELECT t / 1 GET_LOCK a / 1 TIMEOUT / 2 DROP TABLE t / 1 \
+    ROLLBACK TO p => 1 1 OK / 2 2 OK 1 / 3 1 OK / 4 1 OK / 5 1 OK test.t@1(x) / 6 1 WAIT USER a X / 7 1 OK / 6 1 OK 0 / 8 \
+    2 WAIT TABLE test.t X / 9 1 OK / 8 2 OK
+1 CREATE TABLE t x / 1 BEGIN / 1 INSERT t / 1 SAVEPOINT p / 1 GET_LOCK a / 2 BEGIN / 2 SELECT t / 2 GET_LOCK a / 1 RENAME \
+    TABLE t TO u / 2 ROLLBACK / 1 RELEASE_LOCK a => 1 1 OK / 2 1 OK / 3 1 OK / 4 1 OK / 5 1 OK 1 / 6 2 OK / 7 2 OK \
+    test.t@1(x) / 8 2 WAIT USER a X / 9 1 WAIT TABLE test.t X / 8 2 ERR 3058 / 10 2 OK / 9 1 OK / 11 1 OK 1
+1 CREATE TABLE a x / 1 BEGIN / 1 INSERT a / 2 GET_LOCK a / 2 GET_LOCK test / 1 SELECT a / 3 DROP SCHEMA test / 1 COMMIT / \
+    3 RELEASE_LOCK test / 3 RELEASE_LOCK s => 1 1 OK / 2 1 OK / 3 1 OK / 4 2 OK 1 / 5 2 OK 1 / 6 1 OK test.a@1(x) / 7 3 \
+    WAIT TABLE test.a X / 8 1 OK / 7 3 OK / 9 3 OK 0 / 10 3 OK NULL
+1 CREATE TABLE t x / 1 GET_LOCK a / 2 LOCK TABLES t WRITE / 1 BEGIN / 1 SELECT t / 2 GET_LOCK a / 3 GET_LOCK a / 1 \
+    RELEASE_LOCK a => 1 1 OK / 2 1 OK 1 / 3 2 OK / 4 1 OK / 5 1 WAIT TABLE test.t SR / 6 2 WAIT USER a X / 5 1 ERR 1213 / \
+    7 3 WAIT USER a X / 8 1 OK 1 / 6 2 OK 1 / END 3 WAIT
+1 GET_LOCK a / 2 GET_LOCK b / 3 GET_LOCK c / 1 GET_LOCK b / 2 GET_LOCK c / 3 GET_LOCK a / 3 RELEASE_LOCK c / 3 \
+    RELEASE_LOCK c / 2 RELEASE_LOCK b => 1 1 OK 1 / 2 2 OK 1 / 3 3 OK 1 / 4 1 WAIT USER b X / 5 2 WAIT USER c X / 6 3 WAIT \
+    USER a X / 6 3 ERR 3058 / 7 3 OK 1 / 5 2 OK 1 / 8 3 OK 0 / 9 2 OK 1 / 4 1 OK 1
+1 GET_LOCK a / 2 GET_LOCK a / 2 RELEASE_LOCK a / 2 GET_LOCK b / 1 KILL QUERY 2 / 2 RELEASE_LOCK a => 1 1 OK 1 / 2 2 WAIT \
+    USER a X / 3 2 BUSY / 4 2 BUSY / 5 1 OK / 2 2 ERR 1317 / 6 2 OK 0
+1 GET_LOCK a / 1 BEGIN / 1 CREATE TABLE t x / 1 DROP TABLE t / 2 RELEASE_LOCK a / 1 ROLLBACK / 2 RELEASE_LOCK a / 1 \
+    RELEASE_LOCK a / 2 RELEASE_LOCK a / 2 GET_LOCK a => 1 1 OK 1 / 2 1 OK / 3 1 OK / 4 1 OK / 5 2 OK 0 / 6 1 OK / 7 2 OK 0 \
+    / 8 1 OK 1 / 9 2 OK NULL / 10 2 OK 1
+1 BEGIN / 1 SAVEPOINT p / 1 GET_LOCK a / 1 ROLLBACK TO p / 2 RELEASE_LOCK a / 1 GET_LOCK a / 1 COMMIT / 1 RELEASE_LOCK a / \
+    2 GET_LOCK a / 1 RELEASE_LOCK a => 1 1 OK / 2 1 OK / 3 1 OK 1 / 4 1 OK / 5 2 OK 0 / 6 1 OK 1 / 7 1 OK / 8 1 OK 1 / 9 2 \
+    WAIT USER a X / 10 1 OK 1 / 9 2 OK 1
+1 CREATE TABLE t x / 1 GET_LOCK a / 2 FLUSH TABLES WITH READ LOCK / 1 INSERT t / 2 GET_LOCK a / 2 UNLOCK TABLES => 1 1 OK \
+    / 2 1 OK 1 / 3 2 OK / 4 1 WAIT GLOBAL IX / 5 2 WAIT USER a X / 5 2 ERR 3058 / 6 2 OK / 4 1 OK
+1 GET_LOCK a / 2 CREATE TABLE t x / 2 BEGIN / 2 INSERT t / 3 FLUSH TABLES WITH READ LOCK / 1 FLUSH TABLES WITH READ LOCK / \
+    2 GET_LOCK a / 3 UNLOCK TABLES / 1 UNLOCK TABLES / 2 TIMEOUT / 2 COMMIT => 1 1 OK 1 / 2 2 OK / 3 2 OK / 4 2 OK / 5 3 \
+    OK / 6 1 OK / 7 2 WAIT USER a X / 8 3 OK / 9 1 OK / 10 2 OK / 7 2 OK 0 / 11 2 OK
+1 GET_LOCK A => line 1: BadName
+1 BEGIN / 1 RELEASE_LOCK => line 2: BadWord
 # \u{80} => line 1: NotAscii";
 
 /// The lines of a row, which are parted by ` / `.
@@ -477,29 +522,54 @@ fn the_global_read_lock_is_had_whole_or_not_at_all(rt: HostRuntime) -> Result<()
     Ok(())
 }
 
+// A user-level lock that nobody holds takes its place by RELEASE_LOCK, too, and keeps it.
+#[test]
+fn names_take_places(rt: HostRuntime) -> Result<(), Fail> {
+    let mut script = String::new(rt.alloc());
+    let mut answers = String::new(rt.alloc());
+    for number in 1..=255 {
+        writeln!(script, "1 RELEASE_LOCK n{number}")?;
+        writeln!(answers, "{number} 1 OK NULL")?;
+    }
+    script.push_str(
+        "1 RELEASE_LOCK n256\n1 GET_LOCK n256\n1 GET_LOCK n255\n2 RELEASE_LOCK n255\n",
+    )?;
+    answers.push_str("256 1 ERR 9004\n257 1 ERR 9004\n258 1 OK 1\n259 2 OK 0\n")?;
+    let told = told(rt.alloc(), script.as_bytes())?;
+    assert_eq!(rt; told.as_str(), answers.as_str());
+    let replayed = replayed(rt.alloc(), script.as_bytes())?;
+    assert_eq!(rt; replayed.as_str(), answers.as_str());
+    Ok(())
+}
+
+// What some of the answers to a script by chance have in them, and how many scripts do.
+const ANSWERED: [(&[&str], u32); 7] = [
+    (&[" WAIT "], 1_750),
+    (&[" ERR 1213"], 200),
+    (&[" ERR 1205", " ERR 1317"], 450),
+    (&[" WAIT USER "], 500),
+    (&[" ERR 3058"], 50),
+    (&[" OK 0\n"], 200),
+    (&[" OK NULL\n"], 500),
+];
+
 // Of the scripts by chance most have a session that waits, and many a deadlock, a kill, a timeout and a savepoint that
-// serves.
+// serves. Many wait for user-level locks, lose such a wait, or give such a lock up in vain.
 #[test]
 fn scripts_by_chance_wait_in_earnest(rt: HostRuntime) -> Result<(), Fail> {
-    let mut waits = 0_u32;
-    let mut victims = 0_u32;
-    let mut lost = 0_u32;
+    let mut counts = [0_u32; 7];
     for number in 0..BY_CHANCE {
         let script = script_by_chance(rt.alloc(), number)?;
         let answers = answers_of(rt.alloc(), script.as_slice())?;
         let answers = str::from_utf8(answers.as_slice())?;
-        if answers.contains(" WAIT ") {
-            waits = waits.wrapping_add(1);
-        }
-        if answers.contains(" ERR 1213") {
-            victims = victims.wrapping_add(1);
-        }
-        if answers.contains(" ERR 1205") || answers.contains(" ERR 1317") {
-            lost = lost.wrapping_add(1);
+        for (count, (words, _)) in counts.iter_mut().zip(ANSWERED) {
+            if words.iter().any(|word| answers.contains(*word)) {
+                *count = count.wrapping_add(1);
+            }
         }
     }
-    assert!(rt; waits >= 1_750, "{waits} scripts wait");
-    assert!(rt; victims >= 200, "{victims} scripts meet a deadlock");
-    assert!(rt; lost >= 500, "{lost} scripts lose a wait otherwise");
+    for (count, (words, least)) in counts.iter().zip(ANSWERED) {
+        assert!(rt; *count >= least, "{count} scripts are answered {words:?}");
+    }
     Ok(())
 }

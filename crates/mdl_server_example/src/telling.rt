@@ -33,5 +33,7 @@ fn tell_reply<W: Write>(output: &mut W, who: u16, reply: &Reply) -> io::Result<(
             }
             Ok(())
         }
+        Reply::Number(yes) => writeln!(output, "session {who}: {}", u8::from(*yes)),
+        Reply::Null => writeln!(output, "session {who}: NULL"),
     }
 }

@@ -1,7 +1,7 @@
 //! Statements of one session, which come to the same over the space of one thread and over a session of one that threads share.
 use crate::alone::Alone;
 use crate::desk::Desk;
-use crate::statements::Outcome::{Done, Fails, Reads};
+use crate::statements::Outcome::{Done, Fails, Null, Reads, Says};
 use crate::statements::{Outcome, say};
 use mdl_shared::Manager;
 use mdl_syntax::{Line, parse};
@@ -166,4 +166,28 @@ const TRANSACTIONS: &[Row] = &[
 #[test]
 fn transactions_end(rt: HostRuntime) -> Result<(), Fail> {
     are_right(&rt, TRANSACTIONS)
+}
+
+const USER_LOCKS: &[Row] = &[
+    ("RELEASE_LOCK a", Null),
+    ("GET_LOCK a", Says(true)),
+    ("BEGIN", Done),
+    ("GET_LOCK a", Says(true)),
+    ("SAVEPOINT p", Done),
+    ("GET_LOCK b", Says(true)),
+    ("ROLLBACK TO p", Done),
+    ("COMMIT", Done),
+    ("RELEASE_LOCK b", Says(true)),
+    ("RELEASE_LOCK b", Null),
+    ("UNLOCK TABLES", Done),
+    ("RELEASE_LOCK a", Says(true)),
+    ("RELEASE_LOCK a", Says(true)),
+    ("RELEASE_LOCK a", Null),
+    ("GET_LOCK a", Says(true)),
+];
+
+// User-level locks are got and released. One of them is held as the session ends.
+#[test]
+fn user_locks_are_got(rt: HostRuntime) -> Result<(), Fail> {
+    are_right(&rt, USER_LOCKS)
 }

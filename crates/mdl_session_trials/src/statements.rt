@@ -13,6 +13,10 @@ pub(crate) enum Outcome {
     Done,
     /// The version of the last table that it read, and the number of its columns.
     Reads(u64, usize),
+    /// A truth value.
+    Says(bool),
+    /// NULL.
+    Null,
     Fails(u16),
     /// It begins to wait.
     Waits,
@@ -66,5 +70,7 @@ fn outcome_of_reply(reply: &Reply) -> Outcome {
             Some(table) => Outcome::Reads(table.version, table.columns.as_slice().len()),
             None => Outcome::Reads(0, 0),
         },
+        Reply::Number(yes) => Outcome::Says(*yes),
+        Reply::Null => Outcome::Null,
     }
 }

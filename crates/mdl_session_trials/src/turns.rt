@@ -191,3 +191,29 @@ const LEFT: &[Turn] = &[
 fn sessions_end_wherever_they_stand(rt: HostRuntime) -> Result<(), Fail> {
     are_right(&rt, LEFT)
 }
+
+const NAMES_CROSSED: &[Turn] = &[
+    Says(1, "GET_LOCK a", Outcome::Says(true)),
+    Says(2, "GET_LOCK b", Outcome::Says(true)),
+    Says(2, "BEGIN", Done),
+    Says(2, "SAVEPOINT p", Done),
+    Says(1, "GET_LOCK b", Waits),
+    Says(2, "GET_LOCK a", Waits),
+    GoesOn(2, Fails(3058)),
+    Says(2, "ROLLBACK TO p", Done),
+    Says(2, "RELEASE_LOCK a", Outcome::Says(false)),
+    GoesOn(1, Pending),
+    Says(2, "RELEASE_LOCK b", Outcome::Says(true)),
+    GoesOn(1, Outcome::Says(true)),
+    Says(2, "GET_LOCK a", Waits),
+    Says(1, "KILL QUERY 2", Done),
+    GoesOn(2, Fails(1317)),
+    Says(2, "ROLLBACK TO p", Done),
+];
+
+// Each waits for a user-level lock of the other, and they weigh the same. The victim keeps its locks and its transaction, as does
+// a session whose wait is killed.
+#[test]
+fn user_locks_are_waited_for(rt: HostRuntime) -> Result<(), Fail> {
+    are_right(&rt, NAMES_CROSSED)
+}

@@ -189,6 +189,7 @@ tables-learnt schema k before after tables more asked places are same those grow
     of-tables of.Schema = refl
     of-tables of.Table = refl
     of-tables of.Commit = refl
+    of-tables of.UserLevelLock = refl
 
     table-told : (key : KeyName) → is_table_told schema key ≡ is_table_of schema key
     table-told key = ap (λ b. b && bytes_eq key.schema schema) (of-tables key.namespace)

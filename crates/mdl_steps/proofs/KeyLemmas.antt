@@ -4,12 +4,12 @@ use Rattle.std.specs.Prelude.{Decides}
 use Rattle.std.proofs.lemmas.Bool.Decides.{Decides-eqb, Decides-and, Decides-like}
 use Rattle.std.proofs.lemmas.Slice.Eq.{bytes_eq-Decides}
 use Rattle.mdl_key.specs.declared.namespace.Namespace.{Namespace}
-use Rattle.mdl_key.specs.declared.namespace.Namespace.TheVariants.{Global, Schema, Table, Commit}
+use Rattle.mdl_key.specs.declared.namespace.Namespace.TheVariants.{Global, Schema, Table, Commit, UserLevelLock}
 use Rattle.mdl_key.specs.Words.{KeyName, namespace_rank, key_eq}
 
 -- a namespace is known by its rank
 namespace_at : ℕ → Namespace
-namespace_at n = get_or (Global ∷ Schema ∷ Table ∷ Commit ∷ []) n Global
+namespace_at n = get_or (Global ∷ Schema ∷ Table ∷ Commit ∷ UserLevelLock ∷ []) n Global
 
 namespace_back : (n : Namespace) → namespace_at (namespace_rank n) ≡ n
 unfolding namespace_at
@@ -17,6 +17,7 @@ namespace_back Global = refl
 namespace_back Schema = refl
 namespace_back Table = refl
 namespace_back Commit = refl
+namespace_back UserLevelLock = refl
 
 -- keys are equal exactly where the test says so
 pub key-Decides : (j k : KeyName) → Decides (key_eq j k) (j ≡ k)

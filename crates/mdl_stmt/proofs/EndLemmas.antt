@@ -8,7 +8,7 @@ use Rattle.mdl_context.specs.declared.request.Mark.{Mark}
 use Rattle.mdl_context.specs.declared.request.Resume.{Resume}
 use Rattle.mdl_context.specs.declared.request.Resume.TheVariants as resume
 use Rattle.mdl_calls.specs.declared.answers.Settled.{Settled}
-use Rattle.mdl_context.specs.Contexts.{ContextView}
+use Rattle.mdl_context.specs.Contexts.{ContextView, waits_for_user_lock}
 use Rattle.mdl_context.specs.Releases.{giving_up}
 use Rattle.mdl_context.specs.Waits.{resuming}
 use Rattle.mdl_rows.specs.declared.ending.Ending.{Ending}
@@ -53,7 +53,7 @@ module _ {S : Type 0} (joins : S → Call → Answer → S → Type 0) where
       (λ work same. subst (λ (w : Option Work). IfSome w (λ work. Runs joins b (play (rest_of work.stage ticket) work.mark (record { context = after; state = runner.state; left = None })) pause c)) same next)
 
   -- it was lost, or memory ran out
-  pub ends-lost : (runner : RunnerView) (after : ContextView) (how : Settled) (ending : Ending) (pause : Pause) (a b c : S) → IsSome runner.work → ending ≡ ending_of_loss how →
+  pub ends-lost : (runner : RunnerView) (after : ContextView) (how : Settled) (ending : Ending) (pause : Pause) (a b c : S) → IsSome runner.work → ending ≡ ending_of_loss (waits_for_user_lock runner.context) how →
       Runs joins a (resuming runner.context) (Ok (resume.Lost how), after) b →
       IfSome runner.work (λ work. Runs joins b (closing ending work.mark (record { context = after; state = runner.state; left = None })) pause c) →
       Runs joins a (going_on (session_of runner)) pause c

@@ -40,6 +40,7 @@ ddl-key key = in-namespace key.namespace key.schema key.table where
   in-namespace of.Schema s t = refl
   in-namespace of.Table s t = refl
   in-namespace of.Commit s t = refl
+  in-namespace of.UserLevelLock s t = refl
 
 ddl-so : (key : KeyName) (mode : Mode) (duration : Duration) → mode ≡ (ddl_lock key).mode → duration ≡ (ddl_lock key).duration →
     record { key = key; mode = mode; duration = duration } ≡ ddl_lock key

@@ -14,7 +14,7 @@ use Rattle.mdl_syntax.specs.declared.statement.Statement.TheVariants as statemen
 use Rattle.mdl_syntax.specs.declared.table_locks.TableLock.{TableLock}
 use Rattle.mdl_stmt.specs.Gets.{at_rest}
 use Rattle.mdl_rows.specs.Playing.{play}
-use Rattle.mdl_rows.specs.Rows.{Row, Give, Fail, Room, Look, Set, Here, Acquire, Upgrade, Downgrade, Give_up, Release, Read, Redefine, Kill, ◌>>=◌, ◌>>◌, check, Keep, Tables_of, Key_of}
+use Rattle.mdl_rows.specs.Rows.{Row, Give, Fail, Room, Look, Set, Here, Acquire, Try_acquire, Last, Upgrade, Downgrade, Give_up, Release, Read, Redefine, Kill, ◌>>=◌, ◌>>◌, check, Keep, Tables_of, Key_of}
 use Rattle.mdl_stmt.specs.Players.{PlayerView}
 use Rattle.mdl_rows.specs.States.{has_locked}
 use Rattle.mdl_rows.specs.Statements.{after_commit, no_read_lock, write, write_locked, write_unlocked}
@@ -28,6 +28,8 @@ bind-assoc (Look rest) f g = ap Look (fun_ext (λ x. bind-assoc (rest x) f g))
 bind-assoc (Set change rest) f g = ap (Set change) (bind-assoc rest f g)
 bind-assoc (Here rest) f g = ap Here (fun_ext (λ x. bind-assoc (rest x) f g))
 bind-assoc (Acquire wish rest) f g = ap (Acquire wish) (fun_ext (λ x. bind-assoc (rest x) f g))
+bind-assoc (Try_acquire wish rest) f g = ap (Try_acquire wish) (fun_ext (λ x. bind-assoc (rest x) f g))
+bind-assoc (Last key rest) f g = ap (Last key) (fun_ext (λ x. bind-assoc (rest x) f g))
 bind-assoc (Upgrade id key mode rest) f g = ap (Upgrade id key mode) (fun_ext (λ x. bind-assoc (rest x) f g))
 bind-assoc (Downgrade id mode rest) f g = ap (Downgrade id mode) (bind-assoc rest f g)
 bind-assoc (Give_up which rest) f g = ap (Give_up which) (bind-assoc rest f g)

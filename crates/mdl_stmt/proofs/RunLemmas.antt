@@ -3,7 +3,7 @@ use Rattle.std.proofs.Common.{◌≡◌, ℕ, Bool, if◌then◌else◌, List, O
 use Rattle.mdl_key.specs.declared.mode.Mode.{Mode}
 use Rattle.mdl_key.specs.declared.mode.Mode.TheVariants.{IX}
 use Rattle.mdl_key.specs.declared.mode.Duration.TheVariants.{Explicit}
-use Rattle.mdl_key.specs.Keys.{KeyName, commit_key}
+use Rattle.mdl_key.specs.Keys.{KeyName, commit_key, user_lock_key}
 use Rattle.mdl_calls.specs.Words.{Answer, Call, Program, Runs}
 use Rattle.mdl_calls.specs.Words as call
 use Rattle.mdl_calls.proofs.RunLemmas.{runs_bind}
@@ -14,9 +14,10 @@ use Rattle.mdl_context.specs.declared.request.Acquire.TheVariants as acquire
 use Rattle.mdl_context.specs.declared.request.Mark.{Mark}
 use Rattle.mdl_context.specs.declared.request.Resume.{Resume}
 use Rattle.mdl_context.specs.declared.request.Resume.TheVariants as resume
-use Rattle.mdl_context.specs.Contexts.{ContextView, of_transaction, beyond_mark}
+use Rattle.mdl_context.specs.declared.request.Tried.TheVariants as try_as
+use Rattle.mdl_context.specs.Contexts.{ContextView, of_transaction, beyond_mark, last_ticket}
 use Rattle.mdl_context.specs.Releases.{giving_up, releasing}
-use Rattle.mdl_context.specs.Requests.{Outcome, acquiring}
+use Rattle.mdl_context.specs.Requests.{Outcome, acquiring, trying}
 use Rattle.mdl_context.specs.Upgrades.{upgrading, downgrading}
 use Rattle.mdl_context.specs.Waits.{giving_up_wait}
 use Rattle.mdl_context.specs.Wishes.{Wish}
@@ -34,12 +35,12 @@ use Rattle.mdl_rows.specs.declared.ending.Ending.TheVariants.{Answers, Starves}
 use Rattle.mdl_rows.specs.declared.error_number.ErrorNumber.TheVariants.{NoSuchSavepoint}
 use Rattle.mdl_rows.specs.declared.state.Savepoint.{Savepoint}
 use Rattle.mdl_stmt.specs.Gets.{Comes, Waits, IsDropped, IsGot, IsRaised, IsStep, IsTold, IsCommitted, IsPlayed, at_rest}
-use Rattle.mdl_rows.specs.Playing.{play, acquired, upgrade_wish, untold, with_context, with_left}
+use Rattle.mdl_rows.specs.Playing.{play, acquired, tried, upgrade_wish, untold, with_context, with_left}
 use Rattle.mdl_rows.specs.Rows.{Row, Act, Give, ◌>>◌, ◌>>=◌}
 use Rattle.mdl_rows.specs.Rows as row
 use Rattle.mdl_rows.specs.Sessions.{Session}
 use Rattle.mdl_stmt.specs.Players.{PlayerView}
-use Rattle.mdl_rows.specs.Statements.{end_under, end_transaction, commit, commit_writes, rollback, wrote, rollback_to, go_back}
+use Rattle.mdl_rows.specs.Statements.{end_under, end_transaction, commit, commit_writes, rollback, wrote, rollback_to, go_back, give_back, release_lock}
 use Rattle.mdl_rows.specs.States.{written, closed, is_named, savepoint_mark, up_to}
 use Rattle.mdl_rows.specs.declared.reply.Reply.TheVariants as reply
 
@@ -118,6 +119,39 @@ module _ {S : Type 0} (joins : S → Call → Answer → S → Type 0) where
       Runs joins a (acquiring wish before.context) (Err error, context) b → IsGot joins wish a before (got.Ends (ending_of_error error)) b (record before { context = context })
   got-error wish before error context a b run rest = record {
     so = λ mark pause c after. asked-runs (acquiring wish before.context) wish rest mark (at_rest before) _ pause a b c run after;
+  }
+
+  -- it was asked for without a wait
+  abbrev IsTried : Wish → S → PlayerView → Result (Option ℕ) Ending → S → PlayerView → Type 0
+  IsTried wish a before got b after = IsStep joins (row.Try_acquire wish Give) a before got b after
+
+  pub tried-had : (wish : Wish) (before : PlayerView) (id : ℕ) (context : ContextView) (a b : S) →
+      Runs joins a (trying wish before.context) (Ok (try_as.Acquired id), context) b → IsTried wish a before (Ok (Some id)) b (record before { context = context })
+  tried-had wish before id context a b run rest = record {
+    so = λ mark pause c after.
+        runs_bind joins (trying wish before.context) (tried mark (at_rest before) (λ got now. play (rest got) mark now)) a b c _ pause run after;
+  }
+
+  pub tried-none : (wish : Wish) (before : PlayerView) (context : ContextView) (a b : S) →
+      Runs joins a (trying wish before.context) (Ok try_as.WouldWait, context) b → IsTried wish a before (Ok None) b (record before { context = context })
+  tried-none wish before context a b run rest = record {
+    so = λ mark pause c after.
+        runs_bind joins (trying wish before.context) (tried mark (at_rest before) (λ got now. play (rest got) mark now)) a b c _ pause run after;
+  }
+
+  pub tried-error : (wish : Wish) (before : PlayerView) (error : ContextError) (context : ContextView) (a b : S) →
+      Runs joins a (trying wish before.context) (Err error, context) b → IsTried wish a before (Err (ending_of_error error)) b (record before { context = context })
+  tried-error wish before error context a b run rest = record {
+    so = λ mark pause c after.
+        runs_bind joins (trying wish before.context) (tried mark (at_rest before) (λ got now. play (rest got) mark now)) a b c _ pause run after;
+  }
+
+  -- the ticket of a key that was gained last was looked up
+  pub looked-up : (name : List ℕ) (held : Option ℕ) (x : PlayerView) (a : S) → last_ticket (user_lock_key name) x.context ≡ held →
+      Comes joins a x (play (release_lock name)) a x (play (give_back (user_lock_key name) held))
+  looked-up name held x a is = record {
+    so = λ mark pause c run.
+        inr (subst (λ (h : Option ℕ). Runs joins a (play (give_back (user_lock_key name) h) mark (at_rest x)) pause c) (sym is) run);
   }
 
   -- a wait was given up: with its ticket, or without

@@ -1,5 +1,5 @@
 -- What is left of a statement at each of its stages, where copies are kept of what it names: the same as in the module Stages.
-use Rattle.std.specs.Prelude.{ℕ, drop, Option}
+use Rattle.std.specs.Prelude.{ℕ, true, drop, Option}
 use Rattle.std.specs.Option.{option_map}
 use Rattle.mdl_defs.specs.Caches.{CacheView}
 use Rattle.mdl_context.specs.Contexts.{ContextView}
@@ -7,7 +7,7 @@ use Rattle.mdl_rows.specs.declared.reply.Reply.{Reply}
 use Rattle.mdl_rows.specs.declared.reply.Reply.TheVariants as reply
 use Rattle.mdl_stmt.specs.declared.kept_stage.KeptWork.{KeptWork}
 use Rattle.mdl_stmt.specs.declared.kept_stage.KeptStage.{KeptStage}
-use Rattle.mdl_stmt.specs.declared.kept_stage.KeptStage.TheVariants.{Commit, Select, Write, Create, CreateSchema, Drop, DropSchema, Rename, Flush, Alter, Lock}
+use Rattle.mdl_stmt.specs.declared.kept_stage.KeptStage.TheVariants.{Commit, Select, Write, Create, CreateSchema, Drop, DropSchema, Rename, Flush, Alter, Lock, GetLock}
 use Rattle.mdl_stmt.specs.declared.kept_stage.KeptWriting.{KeptWriting}
 use Rattle.mdl_stmt.specs.declared.kept_stage.KeptWriting.TheVariants as writing
 use Rattle.mdl_stmt.specs.declared.kept_stage.KeptCreating.{KeptCreating}
@@ -67,6 +67,7 @@ rest_of_kept (Rename from to at) ticket = rest_of_renaming from to at ticket
 rest_of_kept (Flush at) ticket = rest_of_flushing at ticket
 rest_of_kept (Alter alteration at) ticket = rest_of_altering alteration at ticket
 rest_of_kept (Lock tables at) ticket = rest_of_locking tables at ticket
+rest_of_kept GetLock ticket = Give (reply.Number true)
 
 -- the same with where the session stood as the statement began
 abbrev pub left_of_kept : KeptWork → Left

@@ -1,5 +1,5 @@
 -- What is left of a statement at each of its stages, once it has the lock that it waits for.
-use Rattle.std.specs.Prelude.{ℕ, List, [], ◌∷◌, ◌++◌, length, drop, map}
+use Rattle.std.specs.Prelude.{ℕ, true, List, [], ◌∷◌, ◌++◌, length, drop, map}
 use Rattle.std.specs.Option.{option_map}
 use Rattle.mdl_key.specs.Keys.{KeyName}
 use Rattle.mdl_context.specs.Wishes.{Wish}
@@ -12,7 +12,7 @@ use Rattle.mdl_stmt.specs.declared.lock_list.Locking.TheVariants.{Ddl, Tables}
 use Rattle.mdl_syntax.specs.declared.statement.Alteration.{Alteration}
 use Rattle.mdl_syntax.specs.declared.table_locks.TableLock.{TableLock}
 use Rattle.mdl_stmt.specs.declared.stage.Stage.{Stage}
-use Rattle.mdl_stmt.specs.declared.stage.Stage.TheVariants.{Commit, Select, Write, Create, CreateSchema, Drop, DropSchema, Rename, Flush, Alter, Lock}
+use Rattle.mdl_stmt.specs.declared.stage.Stage.TheVariants.{Commit, Select, Write, Create, CreateSchema, Drop, DropSchema, Rename, Flush, Alter, Lock, GetLock}
 use Rattle.mdl_stmt.specs.declared.stage.Writing.{Writing}
 use Rattle.mdl_stmt.specs.declared.stage.Writing.TheVariants as writing
 use Rattle.mdl_stmt.specs.declared.stage.Creating.{Creating}
@@ -135,6 +135,7 @@ rest_of (Rename from to at) ticket = rest_of_renaming from.now to.now at ticket
 rest_of (Flush at) ticket = rest_of_flushing at ticket
 rest_of (Alter alteration at) ticket = rest_of_altering alteration.now at ticket
 rest_of (Lock tables at) ticket = rest_of_locking tables.now at ticket
+rest_of GetLock ticket = Give (reply.Number true)
 
 -- the same with where the session stood as the statement began
 abbrev pub left_of : Work → Left

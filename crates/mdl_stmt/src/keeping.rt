@@ -48,6 +48,7 @@ impl<S: LockSpace> Player<S> {
         ensures goes_on { GoesOn S.LockSpace space.old self.old space.new self.new }
         ensures idle { result.work ≡ None → self.new.context.wait ≡ None }
     {
+        let user = self.context.waits_for_user_lock();
         match self.context.resume(space) {
             Ok(Resume::Waiting) => Turn {
                 progress: Ok(Progress::Pending),
@@ -57,7 +58,7 @@ impl<S: LockSpace> Player<S> {
                 self.proceed_kept(space, work.stage, ticket, work.mark)
             }
             Ok(Resume::Lost(how)) => {
-                self.settle(space, Played::Ends(ending_of_loss(how)), work.mark)
+                self.settle(space, Played::Ends(ending_of_loss(user, how)), work.mark)
             }
             Err(error) => self.settle(space, Played::Ends(ending_of_error(error)), work.mark),
         }
@@ -101,6 +102,7 @@ impl<S: LockSpace> Player<S> {
             KeptStage::Lock(tables, at) => {
                 self.proceed_at(space, Stage::Lock(&tables, at), ticket, mark)
             }
+            KeptStage::GetLock => self.proceed_at(space, Stage::GetLock, ticket, mark),
         }
     }
 

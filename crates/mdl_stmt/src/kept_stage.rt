@@ -37,6 +37,7 @@ pub enum KeptStage {
     Flush(Flushing),
     Alter(Alteration, Altering),
     Lock(TableLocks, LockingTables),
+    GetLock,
 }
 
 /// The lock that a write waits for, as in [`Writing`].
@@ -100,6 +101,7 @@ impl KeptStage {
             Stage::Flush(at) => Ok(KeptStage::Flush(at)),
             Stage::Alter(alteration, at) => Ok(KeptStage::Alter(alteration.clone()?, at)),
             Stage::Lock(tables, at) => Ok(KeptStage::Lock(tables.clone()?, at)),
+            Stage::GetLock => Ok(KeptStage::GetLock),
         }
     }
 }

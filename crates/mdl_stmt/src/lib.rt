@@ -63,6 +63,7 @@ mod savepoint;
 mod stage;
 mod transactions;
 mod unlocking;
+mod user_locks;
 
 pub use mdl_rows::{
     ErrorNumber, Reply, TableShown, TablesShown, sessions_keep_their_number,

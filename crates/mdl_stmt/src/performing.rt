@@ -53,6 +53,8 @@ impl<S: LockSpace> Player<S> {
                 Played::Ends(Ending::Answers(Reply::Ok))
             }
             Statement::Timeout => Played::Ends(Ending::Answers(Reply::Ok)),
+            Statement::GetLock(name) => self.get_lock(space, name),
+            Statement::ReleaseLock(name) => Played::Ends(self.release_lock(space, name)),
         }
     }
 
@@ -99,6 +101,7 @@ impl<S: LockSpace> Player<S> {
             Stage::Flush(at) => self.go_on_flushing(space, at, ticket),
             Stage::Alter(alteration, at) => self.go_on_altering(space, alteration, at, ticket),
             Stage::Lock(tables, at) => self.go_on_locking(space, tables, at, ticket),
+            Stage::GetLock => Played::Ends(Ending::Answers(Reply::Number(true))),
         }
     }
 

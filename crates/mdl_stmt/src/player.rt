@@ -4,14 +4,14 @@ ghost use Rattle.mdl_stmt.specs.Attendance.{AttendsWith, GoesOn, IsCapacity, IsR
 ghost use Rattle.mdl_context.specs.Wishes.{Wish, wish_of};
 ghost use Rattle.mdl_rows.specs.Endings.{closing, ending_of_error, ending_of_refusal, ending_of_loss};
 ghost use Rattle.mdl_stmt.specs.Gets.{at_rest, IsDropped, IsGot, IsRaised, IsStep, IsTold, IdleUnlessGot};
-ghost use Rattle.mdl_rows.specs.Rows.{downgrade};
+ghost use Rattle.mdl_rows.specs.Rows.{Give, Try_acquire, downgrade};
 ghost use Rattle.mdl_rows.specs.States.{at_first};
 
 use crate::explicit::ExplicitLocks;
 use crate::got::Got;
 use crate::savepoint::Savepoints;
-use crate::{ErrorNumber, OutOfMemory};
-use mdl_context::{Acquire, Context, ContextError, Request, Resume};
+use crate::{ErrorNumber, OutOfMemory, Reply};
+use mdl_context::{Acquire, Context, ContextError, Request, Resume, Tried};
 use mdl_defs::{CacheError, DefCache};
 use mdl_key::{Key, Mode};
 use mdl_rows::Ending;
@@ -71,6 +71,24 @@ impl<S: LockSpace> Player<S> {
             Ok(Acquire::Acquired(id)) => Got::Had(id),
             Ok(Acquire::MustWait(_)) => self.tell_wait(space, request.key),
             Err(error) => Got::Ends(ending_of_error(error)),
+        }
+    }
+
+    /// Asks for a lock, but doesn't wait for it.
+    pub(crate) fn try_to_get(
+        &mut self,
+        space: &mut S,
+        request: Request<'_>,
+    ) -> Result<Option<TicketId>, Ending>
+        requires ready { IsReady S.LockSpace space.old self.old }
+        ensures run { IsStep S.joins (Try_acquire (wish_of request.entry) Give) space.old self.old result space.new self.new }
+        ensures goes_on { GoesOn S.LockSpace space.old self.old space.new self.new }
+        ensures idle { self.new.context.wait ≡ None }
+    {
+        match self.context.try_acquire(space, request) {
+            Ok(Tried::Acquired(id)) => Ok(Some(id)),
+            Ok(Tried::WouldWait) => Ok(None),
+            Err(error) => Err(ending_of_error(error)),
         }
     }
 
@@ -157,13 +175,15 @@ pub(crate) fn ending_of_error(error: ContextError) -> Ending
     }
 }
 
-/// How a statement ends whose wait was lost.
-pub(crate) fn ending_of_loss(how: Settled) -> Ending
-    ensures { result ≡ ending_of_loss how }
+/// How a statement ends whose wait was lost: for a user-level lock, or for another one.
+pub(crate) fn ending_of_loss(user: bool, how: Settled) -> Ending
+    ensures { result ≡ ending_of_loss user how }
 {
     match how {
+        Settled::Timeout if user => Ending::Answers(Reply::Number(false)),
         Settled::Timeout => Ending::Misses(ErrorNumber::LockWaitTimeout),
         Settled::Killed => Ending::Misses(ErrorNumber::Interrupted),
+        _ if user => Ending::Misses(ErrorNumber::UserLockDeadlock),
         _ => Ending::Falls,
     }
 }

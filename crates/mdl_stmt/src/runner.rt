@@ -100,10 +100,11 @@ impl<'s, S: LockSpace> Runner<'s, S> {
         ensures who { self.new.context.who ≡ self.old.context.who }
         ensures capacity { self.new.cache.capacity ≡ self.old.cache.capacity }
     {
+        let user = self.player.context.waits_for_user_lock();
         match self.player.context.resume(space) {
             Ok(Resume::Waiting) => Ok(Progress::Pending),
             Ok(Resume::Acquired(ticket)) => self.go_on_with(space, ticket),
-            Ok(Resume::Lost(how)) => self.end_with(space, ending_of_loss(how)),
+            Ok(Resume::Lost(how)) => self.end_with(space, ending_of_loss(user, how)),
             Err(error) => self.end_with(space, ending_of_error(error)),
         }
     }

@@ -35,6 +35,8 @@ pub enum Stage<'s> {
     Alter(&'s Alteration, Altering),
     /// LOCK TABLES.
     Lock(&'s TableLocks, LockingTables),
+    /// GET_LOCK.
+    GetLock,
 }
 
 /// The lock that a write waits for.

@@ -77,7 +77,7 @@ impl<S: LockSpace> Player<S> {
     }
 
     /// Releases a ticket.
-    fn release(&mut self, space: &mut S, ticket: TicketId)
+    pub(crate) fn release(&mut self, space: &mut S, ticket: TicketId)
         requires ready { IsReady S.LockSpace space.old self.old }
         ensures run { IsStep S.joins (release ticket) space.old self.old (Ok tt) space.new self.new }
         ensures goes_on { GoesOn S.LockSpace space.old self.old space.new self.new }

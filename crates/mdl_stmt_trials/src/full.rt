@@ -171,3 +171,21 @@ const OF_COMMITS: &[Row] = &[
 fn the_lock_of_commits_is_full(rt: HostRuntime) {
     assert_eq!(rt; first_wrong(rt.alloc(), PLACES, OF_COMMITS), None);
 }
+
+// Another session has a user-level lock as often as can be. That it has the lock is told before there is no room for a wait.
+const OF_A_USER_LOCK: &[Row] = &[
+    Crowds(Lock::User("a"), Mode::X, MOST_TICKETS),
+    Says("BEGIN", DONE, 0),
+    Says("GET_LOCK b", Outcome::Says(true), 1),
+    Says("GET_LOCK a", FULL, 1),
+    Says("RELEASE_LOCK a", Outcome::Says(false), 1),
+    Leaves,
+    Says("RELEASE_LOCK a", Outcome::Says(false), 1),
+    Says("COMMIT", DONE, 1),
+    Says("GET_LOCK a", Outcome::Waits, 1),
+];
+
+#[test]
+fn a_user_lock_is_full(rt: HostRuntime) {
+    assert_eq!(rt; first_wrong(rt.alloc(), PLACES, OF_A_USER_LOCK), None);
+}

@@ -80,7 +80,10 @@ impl OwnedRoom {
     // Whether each of these statements is done at once.
     fn does(&mut self, statements: &[&str]) -> bool {
         for statement in statements {
-            if self.say(statement) != Some(Outcome::Done) {
+            if !matches!(
+                self.say(statement),
+                Some(Outcome::Done | Outcome::Says(true))
+            ) {
                 return false;
             }
         }
@@ -300,6 +303,21 @@ fn lock_tables_goes_on(rt: HostRuntime) {
         wait_for("LOCK TABLES a WRITE b READ", Lock::Table("a"), Mode::SR),
     ];
     assert_eq!(rt; first_wrong(rt.alloc(), &waits), None);
+}
+
+#[test]
+fn get_lock_goes_on(rt: HostRuntime) {
+    let wait = wait_for("GET_LOCK a", Lock::User("a"), Mode::X);
+    assert!(rt; outcome_after(rt.alloc(), &wait) == Some(Outcome::Says(true)));
+}
+
+#[test]
+fn a_session_leaves_its_user_locks(rt: HostRuntime) {
+    let wait = Wait {
+        before: &["GET_LOCK b", "GET_LOCK b", "BEGIN"],
+        ..wait_for("GET_LOCK a", Lock::User("a"), Mode::X)
+    };
+    assert_eq!(rt; held_after_the_end(rt.alloc(), &wait), Some(0));
 }
 
 #[test]

@@ -180,3 +180,27 @@ const OF_ALL_BUT_ONE: &[Row] = &[
 fn a_place_is_kept(rt: HostRuntime) {
     assert_eq!(rt; first_wrong(rt.alloc(), 4, OF_ALL_BUT_ONE), None);
 }
+
+// A table and a user-level lock have the places. The lock keeps its place when nobody has it.
+const OF_A_USER_LOCK: &[Row] = &[
+    Says("RELEASE_LOCK a", Outcome::Null, 0),
+    Says("BEGIN", DONE, 0),
+    Says("SELECT t", NO_SUCH_TABLE, 1),
+    Says("SAVEPOINT p", DONE, 1),
+    Says("GET_LOCK b", NO_PLACE, 1),
+    Says("RELEASE_LOCK b", NO_PLACE, 1),
+    Says("ROLLBACK TO p", DONE, 1),
+    Says("GET_LOCK a", Outcome::Says(true), 2),
+    Says("GET_LOCK a", Outcome::Says(true), 3),
+    Says("COMMIT", DONE, 2),
+    Says("RELEASE_LOCK a", Outcome::Says(true), 1),
+    Says("UNLOCK TABLES", DONE, 1),
+    Says("RELEASE_LOCK a", Outcome::Says(true), 0),
+    Says("RELEASE_LOCK a", Outcome::Null, 0),
+    Says("GET_LOCK t", NO_PLACE, 0),
+];
+
+#[test]
+fn a_user_lock_has_no_place(rt: HostRuntime) {
+    assert_eq!(rt; first_wrong(rt.alloc(), 2, OF_A_USER_LOCK), None);
+}

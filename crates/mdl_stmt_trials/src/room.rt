@@ -17,6 +17,10 @@ pub(crate) enum Outcome {
     Done,
     /// The version of the last table that it read.
     Reads(u64),
+    /// A truth value.
+    Says(bool),
+    /// NULL.
+    Null,
     Fails(u16),
     Waits,
     NoMemory,
@@ -30,6 +34,8 @@ pub(crate) enum Lock {
     Schema(&'static str),
     /// A table of the schema test.
     Table(&'static str),
+    /// A user-level lock.
+    User(&'static str),
 }
 
 impl Lock {
@@ -40,6 +46,7 @@ impl Lock {
             Lock::Commit => Ok(Key::commit(alloc)),
             Lock::Schema(name) => Key::schema(alloc, name),
             Lock::Table(name) => Key::table(alloc, "test", name),
+            Lock::User(name) => Key::user_lock(alloc, name),
         }
     }
 }
@@ -151,6 +158,8 @@ fn outcome_of_reply(reply: &Reply) -> Outcome {
             Some(table) => Outcome::Reads(table.version),
             None => Outcome::Reads(0),
         },
+        Reply::Number(yes) => Outcome::Says(*yes),
+        Reply::Null => Outcome::Null,
     }
 }
 

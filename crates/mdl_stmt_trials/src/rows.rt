@@ -106,7 +106,7 @@ fn definition_of(alloc: Global, lock: Lock) -> Option<Definition> {
             columns.push(Column::new(alloc, "x").ok()?).ok()?;
             Some(Definition::Table(columns))
         }
-        Lock::Global | Lock::Commit => None,
+        Lock::Global | Lock::Commit | Lock::User(_) => None,
     }
 }
 

@@ -19,9 +19,9 @@ differs word text ne = by (same_text word text) (bytes_eq-Decides word text).0 w
   by false h = refl
 
 -- what is none of the first words of forms begins no statement
-pub statement_of-unknown : (word : List ℕ) (words : List (List ℕ)) → (word ≡ codes "BEGIN" → ⊥) → (word ≡ codes "START" → ⊥) → (word ≡ codes "COMMIT" → ⊥) → (word ≡ codes "ROLLBACK" → ⊥) → (word ≡ codes "SAVEPOINT" → ⊥) → (word ≡ codes "SELECT" → ⊥) → (word ≡ codes "INSERT" → ⊥) → (word ≡ codes "UPDATE" → ⊥) → (word ≡ codes "DELETE" → ⊥) → (word ≡ codes "CREATE" → ⊥) → (word ≡ codes "DROP" → ⊥) → (word ≡ codes "RENAME" → ⊥) → (word ≡ codes "ALTER" → ⊥) → (word ≡ codes "LOCK" → ⊥) → (word ≡ codes "UNLOCK" → ⊥) → (word ≡ codes "FLUSH" → ⊥) → (word ≡ codes "KILL" → ⊥) → (word ≡ codes "TIMEOUT" → ⊥) →
+pub statement_of-unknown : (word : List ℕ) (words : List (List ℕ)) → (word ≡ codes "BEGIN" → ⊥) → (word ≡ codes "START" → ⊥) → (word ≡ codes "COMMIT" → ⊥) → (word ≡ codes "ROLLBACK" → ⊥) → (word ≡ codes "SAVEPOINT" → ⊥) → (word ≡ codes "SELECT" → ⊥) → (word ≡ codes "INSERT" → ⊥) → (word ≡ codes "UPDATE" → ⊥) → (word ≡ codes "DELETE" → ⊥) → (word ≡ codes "CREATE" → ⊥) → (word ≡ codes "DROP" → ⊥) → (word ≡ codes "RENAME" → ⊥) → (word ≡ codes "ALTER" → ⊥) → (word ≡ codes "LOCK" → ⊥) → (word ≡ codes "UNLOCK" → ⊥) → (word ≡ codes "FLUSH" → ⊥) → (word ≡ codes "KILL" → ⊥) → (word ≡ codes "TIMEOUT" → ⊥) → (word ≡ codes "GET_LOCK" → ⊥) → (word ≡ codes "RELEASE_LOCK" → ⊥) →
     statement_of (word ∷ words) ≡ Err BadWord
-statement_of-unknown word words n0 n1 n2 n3 n4 n5 n6 n7 n8 n9 n10 n11 n12 n13 n14 n15 n16 n17 =
+statement_of-unknown word words n0 n1 n2 n3 n4 n5 n6 n7 n8 n9 n10 n11 n12 n13 n14 n15 n16 n17 n18 n19 =
     rw (
       differs word (codes "BEGIN") n0,
       differs word (codes "START") n1,
@@ -41,6 +41,8 @@ statement_of-unknown word words n0 n1 n2 n3 n4 n5 n6 n7 n8 n9 n10 n11 n12 n13 n1
       differs word (codes "FLUSH") n15,
       differs word (codes "KILL") n16,
       differs word (codes "TIMEOUT") n17,
+      differs word (codes "GET_LOCK") n18,
+      differs word (codes "RELEASE_LOCK") n19,
     ) refl
 
 -- what is no text is no key word
@@ -65,7 +67,9 @@ statement_of-no_text word words bad =
     (not_it (codes "UNLOCK") (codes "UNLOCK", (refl, refl)))
     (not_it (codes "FLUSH") (codes "FLUSH", (refl, refl)))
     (not_it (codes "KILL") (codes "KILL", (refl, refl)))
-    (not_it (codes "TIMEOUT") (codes "TIMEOUT", (refl, refl))) where
+    (not_it (codes "TIMEOUT") (codes "TIMEOUT", (refl, refl)))
+    (not_it (codes "GET_LOCK") (codes "GET_LOCK", (refl, refl)))
+    (not_it (codes "RELEASE_LOCK") (codes "RELEASE_LOCK", (refl, refl))) where
       not_it : (text : List ℕ) → IsUtf8 text → word ≡ text → ⊥
       not_it text is e = bad (subst IsUtf8 (sym e) is)
 

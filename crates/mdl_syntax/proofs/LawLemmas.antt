@@ -25,7 +25,7 @@ use Rattle.mdl_syntax.specs.declared.statement.Statement.{Statement}
 use Rattle.mdl_syntax.specs.declared.statement.Alteration.{Alteration}
 use Rattle.mdl_syntax.specs.declared.statement.Priority.{Priority}
 use Rattle.mdl_syntax.specs.declared.statement.Priority.TheVariants.{Normal, Low}
-use Rattle.mdl_syntax.specs.declared.statement.Statement.TheVariants.{Begin, Commit, Rollback, Savepoint, RollbackTo, Select, Write, CreateTable, CreateSchema, DropTables, RenameTable, UnlockTables, FlushTablesWithReadLock, KillQuery, Timeout, AlterTable, LockTables, DropSchema}
+use Rattle.mdl_syntax.specs.declared.statement.Statement.TheVariants.{Begin, Commit, Rollback, Savepoint, RollbackTo, Select, Write, CreateTable, CreateSchema, DropTables, RenameTable, UnlockTables, FlushTablesWithReadLock, KillQuery, Timeout, AlterTable, LockTables, DropSchema, GetLock, ReleaseLock}
 use Rattle.mdl_syntax.specs.declared.table_locks.TableLock.{TableLock}
 use Rattle.mdl_syntax.specs.KeyWords.{behind}
 use Rattle.mdl_syntax.specs.Laws.{AreColumns, AreTables, IsColumnChange, IsName, IsTable, IsWithinLimits, RiseFrom}
@@ -298,7 +298,13 @@ forms-hold =
                                                 λ words. no_more-holds IsWithinLimits FlushTablesWithReadLock words tt,
                                                 (
                                                   makes-holds IsScriptSession KillQuery one_session (one_word-holds IsScriptSession BadSession session_of session_of-IsScriptSession) (λ value h. h),
-                                                  (λ words. no_more-holds IsWithinLimits Timeout words tt, tt),
+                                                  (
+                                                    λ words. no_more-holds IsWithinLimits Timeout words tt,
+                                                    (
+                                                      makes-holds IsName GetLock one_name name (λ value h. h),
+                                                      (makes-holds IsName ReleaseLock one_name name (λ value h. h), tt),
+                                                    ),
+                                                  ),
                                                 ),
                                               ),
                                             ),

@@ -19,7 +19,7 @@ use Rattle.mdl_syntax.specs.declared.statement.LockType.TheVariants as to
 use Rattle.mdl_syntax.specs.declared.statement.Priority.{Priority}
 use Rattle.mdl_syntax.specs.declared.statement.Priority.TheVariants.{Normal, Low}
 use Rattle.mdl_syntax.specs.declared.statement.Statement.{Statement}
-use Rattle.mdl_syntax.specs.declared.statement.Statement.TheVariants.{Begin, Commit, Rollback, Savepoint, RollbackTo, Select, Write, CreateTable, CreateSchema, DropTables, RenameTable, UnlockTables, FlushTablesWithReadLock, KillQuery, Timeout, AlterTable, LockTables, DropSchema}
+use Rattle.mdl_syntax.specs.declared.statement.Statement.TheVariants.{Begin, Commit, Rollback, Savepoint, RollbackTo, Select, Write, CreateTable, CreateSchema, DropTables, RenameTable, UnlockTables, FlushTablesWithReadLock, KillQuery, Timeout, AlterTable, LockTables, DropSchema, GetLock, ReleaseLock}
 use Rattle.mdl_syntax.specs.declared.table_locks.TableLock.{TableLock}
 use Rattle.mdl_syntax.specs.KeyWords.{behind}
 use Rattle.mdl_syntax.specs.Names.{name_of, table_of}
@@ -212,6 +212,8 @@ forms =
     ∷ form (codes "FLUSH TABLES WITH READ LOCK") (no_more FlushTablesWithReadLock)
     ∷ form (codes "KILL QUERY") (makes KillQuery one_session)
     ∷ form (codes "TIMEOUT") (no_more Timeout)
+    ∷ form (codes "GET_LOCK") (makes GetLock one_name)
+    ∷ form (codes "RELEASE_LOCK") (makes ReleaseLock one_name)
     ∷ []
 
 -- what the first of these forms that fits says; where none fits, a key word is misspelled or missing

@@ -9,7 +9,7 @@ use Rattle.mdl_defs.specs.Definitions.{most_columns}
 use Rattle.mdl_lines.specs.Sessions.{IsScriptSession}
 use Rattle.mdl_syntax.specs.declared.script.Line.{Line}
 use Rattle.mdl_syntax.specs.declared.statement.Statement.{Statement}
-use Rattle.mdl_syntax.specs.declared.statement.Statement.TheVariants.{Begin, Commit, Rollback, Savepoint, RollbackTo, Select, Write, CreateTable, CreateSchema, DropTables, RenameTable, UnlockTables, FlushTablesWithReadLock, KillQuery, Timeout, AlterTable, LockTables, DropSchema}
+use Rattle.mdl_syntax.specs.declared.statement.Statement.TheVariants.{Begin, Commit, Rollback, Savepoint, RollbackTo, Select, Write, CreateTable, CreateSchema, DropTables, RenameTable, UnlockTables, FlushTablesWithReadLock, KillQuery, Timeout, AlterTable, LockTables, DropSchema, GetLock, ReleaseLock}
 use Rattle.mdl_syntax.specs.Forms.{tables_of}
 use Rattle.mdl_syntax.specs.Scripts.{parsed}
 
@@ -55,6 +55,8 @@ IsWithinLimits (AlterTable alteration) = IsTable alteration.table × IsColumnCha
 IsWithinLimits (LockTables locks) = AreTables (tables_of locks)
 IsWithinLimits (KillQuery session) = IsScriptSession session
 IsWithinLimits Timeout = Unit {0}
+IsWithinLimits (GetLock name) = IsName name
+IsWithinLimits (ReleaseLock name) = IsName name
 
 -- every statement that is read is within the limits, and asked of a session that a script can name
 abbrev pub StatementsAreWithinLimits : Type 0

@@ -2,7 +2,7 @@
 ghost use Rattle.std.specs.Prelude.{◌≡◌, ◌<◌, ◌++◌, ◌∷◌, [], Ok, Err, length, map, IfOk, MatchResult};
 ghost use Rattle.mdl_key.specs.Keys.{table_key};
 ghost use Rattle.mdl_lines.specs.Lines.{words_of};
-ghost use Rattle.mdl_syntax.specs.declared.statement.Statement.TheVariants.{Savepoint, RollbackTo, CreateTable, RenameTable, AlterTable, KillQuery};
+ghost use Rattle.mdl_syntax.specs.declared.statement.Statement.TheVariants.{Savepoint, RollbackTo, CreateTable, RenameTable, AlterTable, KillQuery, GetLock, ReleaseLock};
 ghost use Rattle.mdl_syntax.specs.Forms as forms;
 ghost use Rattle.mdl_syntax.specs.Reading.{alter_of, kill_of, ReadsAs, create_of, rename_of, flush_of, unlock_of, write_of, lock_of, next_lock_type, drop_of};
 
@@ -52,6 +52,8 @@ pub(crate) fn statement_of(alloc: Global, words: &[u8]) -> Result<Statement, NoS
         "FLUSH" => flush(rest),
         "KILL" => kill(rest),
         "TIMEOUT" => no_more(Statement::Timeout, rest),
+        "GET_LOCK" => get_lock(alloc, rest),
+        "RELEASE_LOCK" => release_lock(alloc, rest),
         _ => bad_word(),
     }
 }
@@ -473,4 +475,18 @@ fn kill_query(words: &[u8]) -> Result<Statement, NoStatement>
         return Err(NoStatement::Refused(LineError::BadSession));
     };
     no_more(Statement::KillQuery(session), rest)
+}
+
+// A user-level lock to get.
+fn get_lock(alloc: Global, words: &[u8]) -> Result<Statement, NoStatement>
+    ensures { ReadsAs (forms.makes GetLock forms.one_name (words_of words.now)) result }
+{
+    Ok(Statement::GetLock(one_name(alloc, words)?))
+}
+
+// A user-level lock to release.
+fn release_lock(alloc: Global, words: &[u8]) -> Result<Statement, NoStatement>
+    ensures { ReadsAs (forms.makes ReleaseLock forms.one_name (words_of words.now)) result }
+{
+    Ok(Statement::ReleaseLock(one_name(alloc, words)?))
 }

@@ -60,6 +60,10 @@ pub enum Statement {
     KillQuery(u16),
     /// `TIMEOUT`: the session gives up its own wait.
     Timeout,
+    /// `GET_LOCK` and the name of a user-level lock.
+    GetLock(Name),
+    /// `RELEASE_LOCK` and the name of a user-level lock.
+    ReleaseLock(Name),
 }
 
 impl Clone for Statement {
@@ -94,6 +98,8 @@ impl Clone for Statement {
             Statement::LockTables(tables) => Ok(Statement::LockTables(tables.clone()?)),
             Statement::KillQuery(target) => Ok(Statement::KillQuery(*target)),
             Statement::Timeout => Ok(Statement::Timeout),
+            Statement::GetLock(name) => Ok(Statement::GetLock(name.clone()?)),
+            Statement::ReleaseLock(name) => Ok(Statement::ReleaseLock(name.clone()?)),
         }
     }
 }

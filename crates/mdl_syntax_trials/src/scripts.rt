@@ -33,6 +33,8 @@ const ROWS: &str = "\
 1 LOCK TABLES a READ b WRITE c READ d READ e READ f READ g READ h WRITE => 1 1 lock TABLE test.a to read TABLE test.b to write \
     TABLE test.c to read TABLE test.d to read TABLE test.e to read TABLE test.f to read TABLE test.g to read TABLE test.h to write
 1 KILL QUERY 64 / 9 KILL QUERY 1 / 9 TIMEOUT => 1 1 kill 64 / 2 9 kill 1 / 3 9 time out
+1 GET_LOCK a / 2 RELEASE_LOCK a / 64 GET_LOCK az09_ / 1 RELEASE_LOCK get_lock => 1 1 get a / 2 2 release a / 3 64 get az09_ / \
+    4 1 release get_lock
 1 SELECT a b c d e f g h => 1 1 read TABLE test.a TABLE test.b TABLE test.c TABLE test.d TABLE test.e TABLE test.f \
     TABLE test.g TABLE test.h
 1 DROP TABLE a b c d e f g h => 1 1 drop TABLE test.a TABLE test.b TABLE test.c TABLE test.d TABLE test.e TABLE test.f \
@@ -188,6 +190,21 @@ BEGIN => line 1: BadSession
 1 LOCK TABLES a READ b READ c READ d READ e READ f READ g READ h READ a READ => line 1: BadWord
 1 LOCK TABLES a READ b READ c READ d READ e READ f READ g READ T READ => line 1: BadName
 1 LOCK TABLES a READ b READ c READ d READ e READ f READ g READ a READ => line 1: BadName
+1 GET_LOCK => line 1: BadWord
+1 GET_LOCK A => line 1: BadName
+1 GET_LOCK a b => line 1: BadWord
+1 GET_LOCK A b => line 1: BadName
+1 GET_LOCK a 10 => line 1: BadWord
+1 get_lock a => line 1: BadWord
+1 GET_LOCK a.b => line 1: BadName
+1 GET_LOCKS a => line 1: BadWord
+1 GET LOCK a => line 1: BadWord
+1 RELEASE_LOCK => line 1: BadWord
+1 RELEASE_LOCK A => line 1: BadName
+1 RELEASE_LOCK a b => line 1: BadWord
+1 release_lock a => line 1: BadWord
+1 RELEASE_LOCK a.b => line 1: BadName
+1 RELEASE a => line 1: BadWord
 1 SELECT t\u{e9} => line 1: NotAscii
 #\u{e9} => line 1: NotAscii";
 
@@ -262,6 +279,7 @@ fn lines_and_names_have_a_longest(rt: HostRuntime) -> Result<(), Fail> {
         ("1 COMMIT", ' ', 4097, "", "line 1: LongLine"),
         ("1 SELECT s.", 'x', 76, "\n", "line 1: BadName"),
         ("1 SAVEPOINT ", 'x', 77, "\n", "line 1: BadName"),
+        ("1 GET_LOCK ", 'x', 76, "\n", "line 1: BadName"),
         ("1 CREATE TABLE t ", 'x', 82, "\n", "line 1: BadName"),
     ] {
         let mut script = stretched(alloc, start, byte, count)?;
@@ -277,6 +295,8 @@ fn lines_and_names_have_a_longest(rt: HostRuntime) -> Result<(), Fail> {
         ("1 INSERT ", 73),
         ("1 SELECT s.", 75),
         ("1 SAVEPOINT ", 76),
+        ("1 GET_LOCK ", 75),
+        ("1 RELEASE_LOCK ", 79),
         ("1 CREATE TABLE t ", 81),
     ] {
         let script = stretched(alloc, start, 'x', count)?;

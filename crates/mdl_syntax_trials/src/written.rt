@@ -70,6 +70,14 @@ fn statement_text(alloc: Global, statement: &Statement) -> Result<String, Fail> 
         Statement::LockTables(locks) => lock_text(alloc, locks),
         Statement::KillQuery(session) => Ok(format!(in alloc; "kill {session}")?),
         Statement::Timeout => Ok(String::from_str(alloc, "time out")?),
+        Statement::GetLock(name) => {
+            let name = name.as_str();
+            Ok(format!(in alloc; "get {name}")?)
+        }
+        Statement::ReleaseLock(name) => {
+            let name = name.as_str();
+            Ok(format!(in alloc; "release {name}")?)
+        }
     }
 }
 

@@ -4,7 +4,7 @@ use Rattle.std.specs.Prelude.{Decides}
 use Rattle.std.proofs.lemmas.Bool.Decides.{eqb_tells, Decides-eqb, Decides-and, Decides-like}
 use Rattle.std.proofs.lemmas.Slice.Eq.{bytes_eq-Decides}
 use Rattle.mdl_key.specs.declared.namespace.Namespace.{Namespace}
-use Rattle.mdl_key.specs.declared.namespace.Namespace.TheVariants.{Global, Schema, Table, Commit}
+use Rattle.mdl_key.specs.declared.namespace.Namespace.TheVariants.{Global, Schema, Table, Commit, UserLevelLock}
 use Rattle.mdl_key.specs.declared.mode.Mode.{Mode}
 use Rattle.mdl_key.specs.declared.mode.Mode.TheVariants.{IX}
 use Rattle.mdl_key.specs.Words.{KeyName, namespace_rank, key_eq, all_modes, mode_rank}
@@ -33,7 +33,7 @@ like_told there back (inr p) = inr (λ q. p (back q))
 -- ---- namespaces and modes, by their ranks
 
 namespace_at : ℕ → Namespace
-namespace_at n = get_or (Global ∷ Schema ∷ Table ∷ Commit ∷ []) n Global
+namespace_at n = get_or (Global ∷ Schema ∷ Table ∷ Commit ∷ UserLevelLock ∷ []) n Global
 
 namespace_back : (n : Namespace) → namespace_at (namespace_rank n) ≡ n
 unfolding namespace_at
@@ -41,6 +41,7 @@ namespace_back Global = refl
 namespace_back Schema = refl
 namespace_back Table = refl
 namespace_back Commit = refl
+namespace_back UserLevelLock = refl
 
 namespace_told : (m n : Namespace) → (m ≡ n) ⊎ (m ≢ n)
 namespace_told m n =

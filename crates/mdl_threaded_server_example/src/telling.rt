@@ -22,5 +22,7 @@ fn push_reply(text: &mut String, reply: &Reply) -> Result<(), AllocError> {
             }
             writeln!(text, "done")
         }
+        Reply::Number(yes) => writeln!(text, "{}", u8::from(*yes)),
+        Reply::Null => writeln!(text, "NULL"),
     }
 }

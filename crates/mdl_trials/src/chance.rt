@@ -114,14 +114,15 @@ impl Chance {
         FALLEN_MODES[usize::from(self.draw(8))]
     }
 
-    /// Some key, of five.
+    /// Some key, of six.
     pub(crate) fn draw_key(&mut self, alloc: Global) -> Result<Key, KeyError> {
-        match self.draw(8) {
-            0..=2 => Key::table(alloc, "test", "a"),
-            3 | 4 => Key::table(alloc, "test", "b"),
-            5 => Key::schema(alloc, "test"),
-            6 => Ok(Key::global(alloc)),
-            _ => Ok(Key::commit(alloc)),
+        match self.draw(10) {
+            0..=3 => Key::table(alloc, "test", "a"),
+            4 | 5 => Key::table(alloc, "test", "b"),
+            6 => Key::schema(alloc, "test"),
+            7 => Ok(Key::global(alloc)),
+            8 => Ok(Key::commit(alloc)),
+            _ => Key::user_lock(alloc, "a"),
         }
     }
 

@@ -27,7 +27,7 @@ fn draw_call(trial: &mut Trial, who: u16) -> u16 {
             _ => {}
         }
     }
-    trial.chance.draw(80)
+    trial.chance.draw(83)
 }
 
 // A mark of where the session stood, or at times where it never was.
@@ -63,6 +63,41 @@ fn acquires_alike<S: LockSpace>(
         duration,
     };
     context.acquire(space, request) == wanted
+}
+
+// Tries some lock, likewise.
+fn tries_alike<S: LockSpace>(
+    space: &mut S,
+    context: &mut Context<S>,
+    trial: &mut Trial,
+    who: u16,
+) -> bool
+    requires { Attends S.LockSpace space.old context.old }
+    ensures attends { Attends S.LockSpace space.new context.new }
+    ensures who { context.new.who ≡ context.old.who }
+    ensures others { LeavesOthers S.LockSpace context.old.who space.old space.new }
+{
+    let Ok(key) = trial.chance.draw_key(trial.alloc) else {
+        return false;
+    };
+    let mode = trial.chance.draw_mode(key.kind());
+    let duration = trial.chance.draw_duration();
+    let wanted = trial.plain.try_acquire(who, &key, mode, duration);
+    let request = Request {
+        key: &key,
+        mode,
+        duration,
+    };
+    context.try_acquire(space, request) == wanted
+}
+
+// Whether a context finds the same: the last ticket of some key, and whether a user-level lock is waited for.
+fn finds_alike<S: LockSpace>(context: &Context<S>, trial: &mut Trial, who: u16) -> bool {
+    let Ok(key) = trial.chance.draw_key(trial.alloc) else {
+        return false;
+    };
+    context.last_ticket(&key) == trial.plain.last_ticket(who, &key)
+        && context.waits_for_user_lock() == trial.plain.waits_for_user_lock(who)
 }
 
 // Releases all tickets of some key, likewise.
@@ -136,6 +171,8 @@ pub(crate) fn acts_alike<S: LockSpace>(
         60 => context.resume(space) == trial.plain.resume(who),
         61 => context.give_up(space) == trial.plain.give_up(who),
         64..=79 => alters_alike(space, context, trial, who),
+        80 | 81 => tries_alike(space, context, trial, who),
+        82 => finds_alike(context, trial, who),
         _ => {
             let (target, number) = trial.chance.draw_wait(&trial.plain);
             space.kill(target, number) == trial.plain.kill(target, number)
@@ -175,6 +212,7 @@ fn contexts_stand_where_the_plain_ones_do(rt: HostRuntime) -> Result<(), Fail> {
         assert!(rt; seen.victims >= 20, "{} waits of victims", seen.victims);
         assert!(rt; seen.stale >= 20, "{} marks stale", seen.stale);
         assert!(rt; seen.reused >= 100, "{} tickets used again", seen.reused);
+        assert!(rt; seen.not_had >= 10, "{} locks tried in vain", seen.not_had);
         assert!(rt; seen.cloned >= 100, "{} tickets cloned", seen.cloned);
         assert!(rt;
             seen.upgraded >= 20,

@@ -11,7 +11,7 @@ use std::alloc::Global;
 use std::marker::Model;
 
 // One fewer than there are keys.
-pub(crate) const PLACES: u16 = 4;
+pub(crate) const PLACES: u16 = 5;
 
 /// The space speaks for each of these sessions, numbered from 1, and keeps what its context does.
 #[derive(Drop)]

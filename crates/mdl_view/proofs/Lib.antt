@@ -1,9 +1,14 @@
 pub mod AnyLemmas
 pub mod CourseLemmas
+pub mod DeadlockLemmas
 pub mod FollowLemmas
+pub mod GraphLemmas
 pub mod ListLemmas
 pub mod LockLemmas
+pub mod NobodyLemmas
 pub mod RootLaws
 pub mod RootLemmas
 pub mod SetLemmas
+pub mod SomeLemmas
 pub mod ToldLemmas
+pub mod TurnLemmas

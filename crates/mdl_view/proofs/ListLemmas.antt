@@ -1,7 +1,8 @@
 -- Lists that grow by one element.
-use Rattle.std.proofs.Common.{◌≡◌, ◌∙◌, ℕ, zero, suc, ◌+◌, ◌-◌, ◌<◌, ◌≤◌, Bool, cond, List, [], ◌∷◌, ◌++◌, length, take, filter, get_or, refl, sym, ap, arith, append_assoc}
+use Rattle.std.proofs.Common.{◌≡◌, ◌∙◌, ℕ, zero, suc, ◌+◌, ◌-◌, ◌<◌, ◌≤◌, Bool, cond, List, [], ◌∷◌, ◌++◌, length, take, drop, map, filter, get_or, refl, sym, ap, arith, append_assoc, add-one, drop-cons}
 use Rattle.std.specs.List.{flat_map, range_with_len}
-use Rattle.std.proofs.lemmas.List.{take_more}
+use Rattle.std.specs.Prelude.{fold}
+use Rattle.std.proofs.lemmas.List.{take_more, map-append}
 use Rattle.std.proofs.lemmas.List.Elements.{filter-append}
 use Rattle.std.proofs.lemmas.Grind.{flat_map-append}
 
@@ -18,6 +19,28 @@ added f p xs ys i d old now new same inside so more =
     let known : now ≡ old ++ flat_map f (filter p before) = so ∙ ap (λ zs. old ++ flat_map f (filter p (take i zs))) (sym same) in
     more ∙ ap (λ zs. zs ++ flat_map f (filter p this)) known ∙ append_assoc old (flat_map f (filter p before)) (flat_map f (filter p this))
     ∙ ap (λ zs. old ++ zs) (sym all) ∙ ap (λ zs. old ++ flat_map f (filter p (take (i + 1) zs))) same
+
+-- likewise, where each that passes adds one
+pub added_each : {X Y : Type 0} (f : X → Y) (p : X → Bool) (xs ys : List X) (i : ℕ) (d : X) (old now new : List Y) → ys ≡ xs → i < length ys
+    → now ≡ old ++ map f (filter p (take i xs)) → new ≡ now ++ map f (filter p (get_or ys i d ∷ []))
+    → new ≡ old ++ map f (filter p (take (i + 1) xs))
+added_each f p xs ys i d old now new same inside so more =
+    let this = get_or ys i d ∷ [] in
+    let before = take i ys in
+    let taken : take (i + 1) ys ≡ before ++ this = take_more ys i d inside in
+    let all : map f (filter p (take (i + 1) ys)) ≡ map f (filter p before) ++ map f (filter p this) =
+    ap (λ zs. map f (filter p zs)) taken ∙ ap (map f) (filter-append p before this) ∙ map-append f (filter p before) (filter p this) in
+    let known : now ≡ old ++ map f (filter p before) = so ∙ ap (λ zs. old ++ map f (filter p (take i zs))) (sym same) in
+    more ∙ ap (λ zs. zs ++ map f (filter p this)) known ∙ append_assoc old (map f (filter p before)) (map f (filter p this))
+    ∙ ap (λ zs. old ++ zs) (sym all) ∙ ap (λ zs. old ++ map f (filter p (take (i + 1) zs))) same
+
+-- the element at a place, and those behind it
+pub drop-here : {A : Type 0} (xs : List A) (i : ℕ) (x : A) → i < length xs → x ≡ get_or xs i x → drop i xs ≡ x ∷ drop (i + 1) xs
+drop-here xs i x inside e = drop-cons xs i x inside ∙ (λ k. sym e k ∷ drop (sym (add-one i) k) xs)
+
+fold-append : {A B : Type 0} (f : B → A → B) (start : B) (xs ys : List A) → fold f start (xs ++ ys) ≡ fold f (fold f start xs) ys
+fold-append f start [] ys = refl
+fold-append f start (x ∷ xs) ys = fold-append f (f start x) xs ys
 
 -- one more number
 pub range_more : (a n j : ℕ) → a + n ≡ j → range_with_len a (suc n) ≡ range_with_len a n ++ j ∷ []
@@ -41,3 +64,8 @@ same_range p q limit agree a (suc n) low high =
     let rest = same_range p q limit agree (a + 1) n (omega arith) (omega arith) in
     let this = agree a low (omega arith) in
     ap (λ ys. cond (p a) (a ∷ ys) ys) rest ∙ ap (λ b. cond b (a ∷ filter q (range_with_len (a + 1) n)) (filter q (range_with_len (a + 1) n))) this
+
+-- one more number is folded in
+pub range_folded : {B : Type 0} (f : B → ℕ → B) (start : B) (n : ℕ) → fold f start (range_with_len 1 (suc n)) ≡ f (fold f start (range_with_len 1 n)) (suc n)
+range_folded f start n =
+    ap (fold f start) (range_more 1 n (suc n) (omega arith)) ∙ fold-append f start (range_with_len 1 n) (suc n ∷ [])

@@ -31,7 +31,7 @@ held_by held wish waiter other true = grind (arith, nat_tests)
 held_by held wish waiter other false = grind (arith, nat_tests)
 
 -- tests of a number that is another one
-at_same : (u : ℕ → Bool) (a b : ℕ) (rest : Bool) → (u a && (a == b && rest)) ≡ (u b && (a == b && rest))
+pub at_same : (u : ℕ → Bool) (a b : ℕ) (rest : Bool) → (u a && (a == b && rest)) ≡ (u b && (a == b && rest))
 at_same u a b rest =
     elim (a == b) as (λ t. (a == b) ≡ t → (u a && (t && rest)) ≡ (u b && (t && rest))) [
       | true ↦ λ e. ap (λ n. u n && rest) (eqb-true a b e)

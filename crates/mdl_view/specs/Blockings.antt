@@ -1,6 +1,7 @@
 -- Who is in whose way, and why, after MySQL 5.7: `MDL_lock::visit_subgraph` of sql/mdl.cc. That it is told ticket by ticket, and in
 -- which order, is this project's own choice.
-use Rattle.std.specs.Prelude.{ℕ, suc, Bool, not, ◌&&◌, List, [], ◌∷◌, ◌++◌, filter, flat_map, map}
+use Rattle.std.specs.Prelude.{ℕ, suc, Bool, not, ◌&&◌, ◌||◌, List, [], ◌∷◌, ◌++◌, filter, flat_map, map}
+use Rattle.std.specs.List.{list_any}
 use Rattle.mdl_book.specs.declared.book_view.BookView.{BookView}
 use Rattle.mdl_book.specs.declared.ticket.Ticket.{Ticket}
 use Rattle.mdl_book.specs.Books.{lock_kind}
@@ -41,3 +42,11 @@ blockings_at settled place book = flat_map (blockings_of settled place book) (fi
 abbrev pub blockings_in : SessionTest → ℕ → List BookView → List Blocking
 blockings_in settled place [] = []
 blockings_in settled place (book ∷ books) = blockings_at settled place book ++ blockings_in settled (suc place) books
+
+-- whether some ticket is in the way of a wish
+abbrev pub is_wish_blocked : SessionTest → BookView → Ticket → Bool
+is_wish_blocked settled book wish = list_any (holds_against book wish) book.granted || list_any (waits_before settled book wish) book.waiting
+
+-- whether some ticket is in the way of some waiter at a lock
+abbrev pub has_waiter_blocked : SessionTest → BookView → Bool
+has_waiter_blocked settled book = list_any (λ wish. has_open_wait settled wish && is_wish_blocked settled book wish) book.waiting

@@ -1,5 +1,5 @@
 -- What would follow, at all locks, if a session ended. In which order that is listed is this project's own choice.
-use Rattle.std.specs.Prelude.{ℕ, suc, Bool, ◌==◌, nat_lt, List, [], ◌∷◌, ◌++◌, filter, length, map, IsPermutation, IsSortedBy}
+use Rattle.std.specs.Prelude.{◌≡◌, ℕ, suc, Bool, ◌==◌, nat_lt, List, [], ◌∷◌, ◌++◌, filter, length, map, slice_get, IsPermutation, IsSortedBy}
 use Rattle.std.specs.List.Sorted.{IsStableBy}
 use Rattle.std.specs.FinSet as set
 use Rattle.std.specs.Ordering.{nat_cmp}
@@ -7,17 +7,19 @@ use Rattle.mdl_book.specs.declared.book_view.BookView.{BookView}
 use Rattle.mdl_book.specs.declared.ticket.Ticket.{Ticket}
 use Rattle.mdl_graph.specs.WaitsFor.{SessionTest}
 use Rattle.mdl_view.specs.declared.blocking.Blocking.{Blocking}
+use Rattle.mdl_view.specs.declared.root_rank.RootRank.{RootRank}
+use Rattle.mdl_view.specs.declared.still_waiting.StillWaiting.{StillWaiting}
 use Rattle.mdl_view.specs.declared.what_follows.AtLock.{AtLock}
-use Rattle.mdl_view.specs.Blockings.{blockings_at, blockings_in}
+use Rattle.mdl_view.specs.Blockings.{blockings_of, blockings_in, has_open_wait}
 use Rattle.mdl_view.specs.Endings.{grants_after}
 use Rattle.mdl_view.specs.Roots.{roots}
 
--- what a session that ends gives up, who gets what, and who goes on waiting for whom
+-- what a session that ends gives up, who gets what, and who goes on waiting
 pub record EndingView : Type 0 where
   pub session : ℕ
   pub holds : List AtLock
   pub gets : List AtLock
-  pub waits : List Blocking
+  pub waits : List StillWaiting
 
 -- a ticket at the lock of this place
 abbrev pub at_lock : ℕ → Ticket → AtLock
@@ -38,11 +40,23 @@ got_from unsettled session place [] = []
 got_from unsettled session place (book ∷ books) =
     map (at_lock place) (grants_after unsettled session book).tickets ++ got_from unsettled session (suc place) books
 
--- who is in whose way there then
-abbrev pub still_waiting_from : SessionTest → set.FinSet nat_cmp → ℕ → ℕ → List BookView → List Blocking
+-- a ticket that waits at the lock of this place, with all that is in its way there
+abbrev pub waiting_for : ℕ → Ticket → List Blocking → StillWaiting
+waiting_for place wish blockings = record { lock = place; waiter = wish; first = slice_get blockings 0; count = length blockings }
+
+-- nothing is in its way where it only waits behind a settled wait
+abbrev pub still_waiting : SessionTest → ℕ → BookView → Ticket → StillWaiting
+still_waiting settled place book wish = waiting_for place wish (blockings_of settled place book wish)
+
+-- those of the unsettled sessions that wait at a lock, in order of arrival
+abbrev pub still_waiting_at : SessionTest → ℕ → BookView → List StillWaiting
+still_waiting_at settled place book = map (still_waiting settled place book) (filter (has_open_wait settled) book.waiting)
+
+-- those that wait there then
+abbrev pub still_waiting_from : SessionTest → set.FinSet nat_cmp → ℕ → ℕ → List BookView → List StillWaiting
 still_waiting_from settled unsettled session place [] = []
 still_waiting_from settled unsettled session place (book ∷ books) =
-    blockings_at settled place (grants_after unsettled session book).book ++ still_waiting_from settled unsettled session (suc place) books
+    still_waiting_at settled place (grants_after unsettled session book).book ++ still_waiting_from settled unsettled session (suc place) books
 
 abbrev pub ending_of : SessionTest → set.FinSet nat_cmp → List BookView → ℕ → EndingView
 ending_of settled unsettled books session = record {
@@ -52,16 +66,29 @@ ending_of settled unsettled books session = record {
   waits = still_waiting_from settled unsettled session 0 books;
 }
 
--- what follows if each of the roots ends
-abbrev pub root_endings : SessionTest → set.FinSet nat_cmp → List BookView → List EndingView
-root_endings settled unsettled books = map (ending_of settled unsettled books) (roots (blockings_in settled 0 books))
+-- a root, with how many waits are granted if it ends
+abbrev pub rank_of : set.FinSet nat_cmp → List BookView → ℕ → RootRank
+rank_of unsettled books session = record { session = session; gets = length (got_from unsettled session 0 books) }
+
+-- all roots
+abbrev pub root_ranks : SessionTest → set.FinSet nat_cmp → List BookView → List RootRank
+root_ranks settled unsettled books = map (rank_of unsettled books) (roots (blockings_in settled 0 books))
 
 -- whether one lets more be granted than another
-abbrev pub lets_more : EndingView → EndingView → Bool
-lets_more one other = nat_lt (length other.gets) (length one.gets)
+abbrev pub lets_more : RootRank → RootRank → Bool
+lets_more one other = nat_lt other.gets one.gets
 
 -- the same, those first that let most be granted, the others in the order in which they were
-pub record AreMostFirst (endings sorted : List EndingView) : Type 0 where
-  pub same : IsPermutation endings sorted
+pub record AreMostFirst (ranks sorted : List RootRank) : Type 0 where
+  pub same : IsPermutation ranks sorted
   pub falling : IsSortedBy lets_more sorted
-  pub others : IsStableBy lets_more endings sorted
+  pub others : IsStableBy lets_more ranks sorted
+
+-- what follows if each of these ends
+abbrev pub endings_of : SessionTest → set.FinSet nat_cmp → List BookView → List RootRank → List EndingView
+endings_of settled unsettled books ranks = map (λ rank. ending_of settled unsettled books rank.session) ranks
+
+-- what follows if each of the roots ends, in that order
+abbrev pub AreRootEndings : SessionTest → set.FinSet nat_cmp → List BookView → List EndingView → Type 0
+AreRootEndings settled unsettled books endings =
+    (ranks : List RootRank) × AreMostFirst (root_ranks settled unsettled books) ranks × (endings ≡ endings_of settled unsettled books ranks)

@@ -1,6 +1,9 @@
 -- Who is at the root of the waits. The word is this project's own.
-use Rattle.std.specs.Prelude.{ℕ, Bool, not, ◌&&◌, ◌==◌, List, filter}
+use Rattle.std.specs.Prelude.{◌≡◌, ℕ, Bool, not, ◌&&◌, ◌||◌, ◌==◌, List, filter}
+use Rattle.std.specs.FinSet as set
 use Rattle.std.specs.List.{list_any, range_with_len}
+use Rattle.std.specs.Ordering.{nat_cmp}
+use Rattle.mdl_book.specs.SessionSets.{is_session}
 use Rattle.mdl_view.specs.declared.blocking.Blocking.{Blocking}
 
 -- whether somebody is in the way of a session
@@ -26,3 +29,21 @@ roots_up_to most blockings = filter (is_root blockings) (range_with_len 1 most)
 -- all roots
 abbrev pub roots : List Blocking → List ℕ
 roots blockings = roots_up_to 1024 blockings
+
+-- ---- representations
+
+-- the session that waits, and the one that is in its way
+abbrev pub waiter_of : Blocking → ℕ
+waiter_of blocking = blocking.waiter.session
+
+abbrev pub other_of : Blocking → ℕ
+other_of blocking = blocking.other.session
+
+-- a set gains these sessions of some that are listed
+abbrev pub Gains : (Blocking → ℕ) → List Blocking → set.FinSet nat_cmp → set.FinSet nat_cmp → Type 0
+Gains who blockings old new =
+    (session : ℕ) → set.contains new session ≡ (set.contains old session || (is_session session && list_any (λ blocking. who blocking == session) blockings))
+
+-- the sessions up to this one that are in the second set and not in the first, in rising number
+unfoldable pub sessions_between : ℕ → set.FinSet nat_cmp → set.FinSet nat_cmp → List ℕ
+sessions_between most waiters others = filter (is_between (set.contains waiters) (set.contains others)) (range_with_len 1 most)

@@ -1,13 +1,19 @@
 -- What is told of who is in whose way, and what follows if a session ends, against the definitions of waits.
-use Rattle.std.specs.Prelude.{◌≡◌, ◌↔◌, ℕ, Bool, ◌&&◌, ◌==◌, List, None, IsTrue}
+use Rattle.std.specs.Prelude.{◌≡◌, ◌↔◌, ℕ, Bool, ◌&&◌, ◌==◌, List, ◌++◌, map, None, IsTrue, All, IsPermutation}
 use Rattle.std.specs.FinSet as set
 use Rattle.std.specs.List.{list_any}
 use Rattle.std.specs.Ordering.{nat_cmp}
 use Rattle.mdl_book.specs.declared.book_view.BookView.{BookView}
+use Rattle.mdl_book.specs.SessionSets.{is_session}
+use Rattle.mdl_book.specs.Tickets.{ticket_id}
+use Rattle.mdl_graph.specs.declared.cycle.Member.{Member}
+use Rattle.mdl_graph.specs.Cycles.{IsCycleThrough}
+use Rattle.mdl_graph.specs.GraphLaws.{IsChosen}
 use Rattle.mdl_graph.specs.WaitsFor.{SessionTest, WaitsFor, waits_for}
 use Rattle.mdl_view.specs.declared.blocking.Blocking.{Blocking}
 use Rattle.mdl_view.specs.Blockings.{blockings_in}
-use Rattle.mdl_view.specs.Endings.{next_waiter, grants_after}
+use Rattle.mdl_view.specs.Deadlocks.{deadlocks_in, is_member_of}
+use Rattle.mdl_view.specs.Endings.{leaving, next_waiter, grants_after}
 use Rattle.mdl_view.specs.Roots.{is_root}
 
 -- whether it is told that one session is in the way of another one
@@ -32,3 +38,20 @@ abbrev pub EndingsForgetNobody : Type 0
 EndingsForgetNobody =
     (unsettled : set.FinSet nat_cmp) (session : ℕ) (book : BookView) →
     next_waiter unsettled (grants_after unsettled session book).book ≡ None
+
+-- those of the others who wait at a lock are granted, or wait there still, each ticket once
+abbrev pub WaitersAreGrantedOrWait : Type 0
+WaitersAreGrantedOrWait =
+    (unsettled : set.FinSet nat_cmp) (session : ℕ) (book : BookView) →
+    IsPermutation (map ticket_id (leaving session book).waiting)
+    (map ticket_id (grants_after unsettled session book).tickets ++ map ticket_id (grants_after unsettled session book).book.waiting)
+
+-- each of these is the chosen cycle through a session, and each session that is in any cycle is a member of one
+pub record AreAllDeadlocks (settled : SessionTest) (books : List BookView) (found : List (List Member)) : Type 0 where
+  pub cycles : All (λ members. (from : ℕ) × IsChosen settled books from members) found
+  pub all : (session : ℕ) (cycle : List ℕ) → IsTrue (is_session session) → IsCycleThrough (waits_for settled books) session cycle
+      → IsTrue (is_member_of found session)
+
+-- so it is with the deadlocks
+abbrev pub DeadlocksAreAll : Type 0
+DeadlocksAreAll = (settled : SessionTest) (books : List BookView) → AreAllDeadlocks settled books (deadlocks_in settled books)

@@ -1,7 +1,8 @@
 //! Who is in whose way.
-ghost use Rattle.std.specs.Prelude.{◌≡◌, ◌++◌, ◌∷◌, [], map, filter, flat_map, OnOk, IfOk};
+ghost use Rattle.std.specs.Prelude.{◌≡◌, ◌++◌, ◌∷◌, [], ◌==◌, ◌&&◌, not, length, map, filter, flat_map, OnOk, IfOk};
 ghost use Rattle.std.specs.FinSet as set;
-ghost use Rattle.mdl_view.specs.Blockings.{has_open_wait, holds_against, waits_before, blocking, blockings_of, blockings_at, blockings_in};
+ghost use Rattle.std.specs.List.{list_any};
+ghost use Rattle.mdl_view.specs.Blockings.{has_open_wait, has_waiter_blocked, holds_against, is_wish_blocked, waits_before, blocking, blockings_of, blockings_at, blockings_in};
 
 use crate::lock::Lock;
 use mdl_book::{Sessions, Ticket};
@@ -46,8 +47,59 @@ pub fn blockings(
     Ok(found)
 }
 
-/// Adds those of one lock.
-pub(crate) fn add_lock(
+/// Whether somebody is in somebody's way. It lists nothing, and takes no memory.
+pub fn has_blockings(settled: &Sessions, locks: &[Lock]) -> bool
+    ensures { result ≡ not (length (blockings_in (set.contains settled.now) 0 locks.now) == 0) }
+{
+    has_lock_blocked(settled, locks)
+}
+
+// Whether somebody is in the way of a waiter at some lock.
+fn has_lock_blocked(settled: &Sessions, locks: &[Lock]) -> bool
+    ensures { result ≡ list_any (has_waiter_blocked (set.contains settled.now)) locks.now }
+{
+    locks.iter().any(|lock| has_waiter_blocked(settled, lock))
+}
+
+// Whether somebody is in the way of a waiter at a lock.
+fn has_waiter_blocked(settled: &Sessions, lock: &Lock) -> bool
+    ensures { result ≡ has_waiter_blocked (set.contains settled.now) lock.now }
+{
+    lock.waiting().iter().any(|wish| !settled.contains(wish.session)
+        && is_wish_blocked(settled, lock, *wish))
+}
+
+// Whether somebody is in the way of a wish.
+fn is_wish_blocked(settled: &Sessions, lock: &Lock, wish: Ticket) -> bool
+    ensures { result ≡ is_wish_blocked (set.contains settled.now) lock.now wish }
+{
+    is_held_against(lock, wish) || is_waited_before(settled, lock, wish)
+}
+
+// Whether a granted ticket is in the way of a wish.
+fn is_held_against(lock: &Lock, wish: Ticket) -> bool
+    ensures { result ≡ list_any (holds_against lock.now wish) lock.now.granted }
+{
+    let kind = lock.namespace().kind();
+    lock.granted().iter().any(|held| {
+        held.session != wish.session && conflicts_granted(kind, wish.mode, held.mode)
+    })
+}
+
+// Whether a waiting ticket is.
+fn is_waited_before(settled: &Sessions, lock: &Lock, wish: Ticket) -> bool
+    ensures { result ≡ list_any (waits_before (set.contains settled.now) lock.now wish) lock.now.waiting }
+{
+    let kind = lock.namespace().kind();
+    lock.waiting().iter().any(|pending| {
+        !settled.contains(pending.session)
+            && pending.session != wish.session
+            && conflicts_waiting(kind, wish.mode, pending.mode)
+    })
+}
+
+// Adds those of one lock.
+fn add_lock(
     found: &mut Vec<Blocking>,
     settled: &Sessions,
     place: usize,
@@ -61,8 +113,8 @@ pub(crate) fn add_lock(
     Ok(())
 }
 
-// Adds those of one waiting ticket, if its session is unsettled.
-fn add_unsettled(
+/// Adds those of one waiting ticket, if its session is unsettled.
+pub(crate) fn add_unsettled(
     found: &mut Vec<Blocking>,
     settled: &Sessions,
     place: usize,
@@ -78,8 +130,8 @@ fn add_unsettled(
     add_wish(found, settled, place, lock, wish)
 }
 
-// Adds those of one waiting ticket.
-fn add_wish(
+/// Adds those of one waiting ticket.
+pub(crate) fn add_wish(
     found: &mut Vec<Blocking>,
     settled: &Sessions,
     place: usize,

@@ -1,5 +1,5 @@
 //! Laws of what is told. Each is proved as the contract of a function that does nothing.
-ghost use Rattle.mdl_view.specs.ViewLaws.{BlockingsAreWaits, RootsWaitForNobody, EndingsForgetNobody};
+ghost use Rattle.mdl_view.specs.ViewLaws.{BlockingsAreWaits, RootsWaitForNobody, EndingsForgetNobody, WaitersAreGrantedOrWait, DeadlocksAreAll};
 
 /// It is told that one session is in the way of another one exactly where the other waits for it.
 pub fn blockings_are_waits()
@@ -14,4 +14,15 @@ pub fn roots_wait_for_nobody()
 /// After the waiters that are granted when a session ends, none can be granted.
 pub fn endings_forget_nobody()
     ensures { EndingsForgetNobody }
+{}
+
+/// If a session ends, each waiting ticket of the others is granted or waits still.
+pub fn waiters_are_granted_or_wait()
+    ensures { WaitersAreGrantedOrWait }
+{}
+
+/// Each deadlock that is found is the chosen cycle through a session, and each session from 1 to 1,024 that is in any cycle is a member of
+/// one that is found.
+pub fn deadlocks_are_all()
+    ensures { DeadlocksAreAll }
 {}

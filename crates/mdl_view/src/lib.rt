@@ -46,15 +46,24 @@
 #![tactic(auto)]
 
 mod blocking;
+mod deadlock;
 mod ending;
 mod laws;
 mod lock;
 mod root;
+mod root_rank;
+mod still_waiting;
 mod what_follows;
 
-pub use blocking::{Blocking, Reason, blockings};
+pub use blocking::{Blocking, Reason, blockings, has_blockings};
+pub use deadlock::deadlocks;
 pub use ending::{Course, course_after};
-pub use laws::{blockings_are_waits, endings_forget_nobody, roots_wait_for_nobody};
+pub use laws::{
+    blockings_are_waits, deadlocks_are_all, endings_forget_nobody, roots_wait_for_nobody,
+    waiters_are_granted_or_wait,
+};
 pub use lock::{Lock, locks_of};
 pub use root::roots;
-pub use what_follows::{AtLock, Ending, Scene, ending_of, root_endings};
+pub use root_rank::{RootRank, ranked_roots, root_endings};
+pub use still_waiting::StillWaiting;
+pub use what_follows::{AtLock, Ending, Scene, ending_of};

@@ -1,14 +1,12 @@
 //! What would follow, at all locks, if a session ended.
 ghost use Rattle.std.specs.Prelude.{◌≡◌, ◌++◌, ◌∷◌, [], map, filter, OnOk, IfOk};
 ghost use Rattle.std.specs.FinSet as set;
-ghost use Rattle.mdl_view.specs.Blockings.{blockings_at, blockings_in};
 ghost use Rattle.mdl_view.specs.Endings.{grants_after};
-ghost use Rattle.mdl_view.specs.Following.{AreMostFirst, at_lock, ending_of, got_from, held_from, is_of, root_endings, still_waiting_from};
+ghost use Rattle.mdl_view.specs.Following.{at_lock, ending_of, got_from, held_from, is_of, still_waiting_from};
 
-use crate::blocking::{Blocking, add_lock, blockings};
 use crate::ending::course_after;
 use crate::lock::Lock;
-use crate::root::roots;
+use crate::still_waiting::{StillWaiting, add_still_waiting};
 use mdl_book::{Sessions, Ticket};
 use std::alloc::{AllocError, Global};
 use std::marker::Model;
@@ -39,7 +37,7 @@ pub struct Ending {
     session: u16,
     holds: Vec<AtLock>,
     gets: Vec<AtLock>,
-    waits: Vec<Blocking>,
+    waits: Vec<StillWaiting>,
 }
 
 impl Model for Ending {
@@ -77,8 +75,8 @@ impl Ending {
         self.gets.as_slice()
     }
 
-    /// Who would go on waiting, and who would be in whose way then.
-    pub fn waits(&self) -> &[Blocking]
+    /// The waiting tickets that would go on waiting, lock by lock, and there in order of arrival, with what would be in their way.
+    pub fn waits(&self) -> &[StillWaiting]
         ensures { result.now ≡ self.now.waits }
     {
         self.waits.as_slice()
@@ -95,7 +93,7 @@ pub fn ending_of(alloc: Global, scene: Scene<'_>, session: u16) -> Result<Ending
     for (place, lock) in scene.locks.iter().enumerate() {
         let course = course_after(alloc, lock, scene.unsettled, session)?;
         add_tickets(&mut gets, place, &course.granted)?;
-        add_lock(&mut waits, scene.settled, place, &course.left)?;
+        add_still_waiting(alloc, &mut waits, scene.settled, place, &course.left)?;
     }
     Ok(Ending {
         session,
@@ -105,35 +103,20 @@ pub fn ending_of(alloc: Global, scene: Scene<'_>, session: u16) -> Result<Ending
     })
 }
 
-/// What would follow if each of those ended that are in somebody's way and have nobody in theirs. Those come first whose end would let
-/// most waits be granted, and of the others those of a lower number.
-pub fn root_endings(alloc: Global, scene: Scene<'_>) -> Result<Vec<Ending>, AllocError>
-    ensures { IfOk result (λ found. AreMostFirst (root_endings (set.contains scene.entry.settled.now) scene.entry.unsettled.now scene.entry.locks.now) found.items) }
+/// The waiting tickets that would be granted if this session ended, lock by lock.
+pub(crate) fn gets_of(
+    alloc: Global,
+    scene: Scene<'_>,
+    session: u16,
+) -> Result<Vec<AtLock>, AllocError>
+    ensures { IfOk result (λ gets. gets.items ≡ got_from scene.entry.unsettled.now session 0 scene.entry.locks.now) }
 {
-    let found = blockings(alloc, scene.settled, scene.locks)?;
-    let sessions = roots(alloc, &found)?;
-    let mut endings = endings_of(alloc, scene, &sessions)?;
-    sort_most_first(&mut endings)?;
-    Ok(endings)
-}
-
-// What would follow if each of these ended.
-fn endings_of(alloc: Global, scene: Scene<'_>, sessions: &[u16]) -> Result<Vec<Ending>, AllocError>
-    ensures { IfOk result (λ found. found.items
-        ≡ map (ending_of (set.contains scene.entry.settled.now) scene.entry.unsettled.now scene.entry.locks.now) sessions.now) }
-{
-    let mut endings = Vec::new(alloc);
-    for session in sessions {
-        endings.push(ending_of(alloc, scene, *session)?)?;
+    let mut gets = Vec::new(alloc);
+    for (place, lock) in scene.locks.iter().enumerate() {
+        let course = course_after(alloc, lock, scene.unsettled, session)?;
+        add_tickets(&mut gets, place, &course.granted)?;
     }
-    Ok(endings)
-}
-
-// Puts those first that let most waits be granted.
-fn sort_most_first(endings: &mut Vec<Ending>) -> Result<(), AllocError>
-    ensures { OnOk result (AreMostFirst endings.old.items endings.new.items) }
-{
-    endings.sort_by(|one, other| other.gets.len().cmp(&one.gets.len()))
+    Ok(gets)
 }
 
 // The granted tickets of a session.

@@ -21,13 +21,13 @@ use Rattle.mdl_view_program.specs.Programs.{AnswersScript, LeavesAnswer}
 -- the locks and the names of books are answered about
 pub books_answered : (question : Question) (books : List BookView) (names : NamesView) (settled everyone : set.FinSet nat_cmp) (locks : List BookView) (text : List ℕ)
     → names ≡ record { locks = map book_text books; owners = [] } → settled ≡ set.empty → IsEverySession everyone → locks ≡ map lock_of_book books
-    → IsAnswer question names (set.contains settled) everyone locks text → AnswersBooks question books text
+    → IsAnswer question names (set.contains settled) everyone locks [] text → AnswersBooks question books text
 books_answered question books names settled everyone locks text called none every are answered = (
   everyone,
   every,
-  subst (λ (ls : List BookView). IsAnswer question (record { locks = map book_text books; owners = [] }) (set.contains (set.empty {R = nat_cmp})) everyone ls text) are
-      (subst (λ (s : set.FinSet nat_cmp). IsAnswer question (record { locks = map book_text books; owners = [] }) (set.contains s) everyone locks text) none
-      (subst (λ (ns : NamesView). IsAnswer question ns (set.contains settled) everyone locks text) called answered)),
+  subst (λ (ls : List BookView). IsAnswer question (record { locks = map book_text books; owners = [] }) (set.contains (set.empty {R = nat_cmp})) everyone ls [] text) are
+      (subst (λ (s : set.FinSet nat_cmp). IsAnswer question (record { locks = map book_text books; owners = [] }) (set.contains s) everyone locks [] text) none
+      (subst (λ (ns : NamesView). IsAnswer question ns (set.contains settled) everyone locks [] text) called answered)),
 )
 
 -- so are the books that a script leaves

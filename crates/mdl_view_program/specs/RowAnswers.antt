@@ -6,13 +6,15 @@ use Rattle.std.specs.List.{list_any}
 use Rattle.std.specs.Ordering.{nat_cmp}
 use Rattle.mdl_book.specs.SessionSets.{is_session}
 use Rattle.mdl_key.specs.Words.{KeyName}
-use Rattle.mdl_lines.specs.declared.fault.Fault.TheVariants.{Write}
+use Rattle.mdl_lines.specs.declared.fault.Fault.{Fault}
+use Rattle.mdl_lines.specs.declared.fault.Fault.TheVariants.{Refused, Write}
 use Rattle.mdl_lines.specs.Words.{AppendsPart}
 use Rattle.mdl_lock_rows.specs.declared.row.Row.{Row}
+use Rattle.mdl_lock_rows.specs.declared.row_class.LeftOut.{LeftOut}
 use Rattle.mdl_lock_rows.specs.declared.row_error.RowError.{RowError}
 use Rattle.mdl_lock_rows.specs.Numbering.{keys_of, threads_of}
-use Rattle.mdl_lock_rows.specs.Reading.{lines_read}
-use Rattle.mdl_lock_rows.specs.Tables.{IsRefusalOf, is_settled_wait, locks_of}
+use Rattle.mdl_lock_rows.specs.Reading.{lines_read, rows_read}
+use Rattle.mdl_lock_rows.specs.Tables.{IsRefusalOf, is_settled_wait, left_out_read, locks_of}
 use Rattle.mdl_view_text.specs.Names.{NamesView, key_text}
 use Rattle.mdl_view_program.specs.declared.question.Question.{Question}
 use Rattle.mdl_view_program.specs.declared.rows.RowsFault.{RowsFault}
@@ -35,21 +37,31 @@ AreSettled threads rows settled =
 abbrev pub AreOthers : set.FinSet nat_cmp → set.FinSet nat_cmp → Type 0
 AreOthers settled others = (session : ℕ) → set.contains others session ≡ (is_session session && not (set.contains settled session))
 
--- the text answers the question about the locks of these rows
-abbrev pub AnswersRows : Question → List Row → List ℕ → Type 0
-AnswersRows question rows text =
+-- the text answers the question about the locks of these rows, where others were left out
+abbrev pub AnswersRows : Question → List Row → List LeftOut → List ℕ → Type 0
+AnswersRows question rows left_out text =
     (settled : set.FinSet nat_cmp) × (others : set.FinSet nat_cmp) × AreSettled (threads_of rows) rows settled × AreOthers settled others
-    × IsAnswer question (names_of_rows (threads_of rows) (keys_of rows)) (set.contains settled) others (locks_of (threads_of rows) rows (keys_of rows)) text
+    × IsAnswer question (names_of_rows (threads_of rows) (keys_of rows)) (set.contains settled) others (locks_of (threads_of rows) rows (keys_of rows)) left_out text
 
 -- to refused rows there is no answer
-abbrev pub AnswersRead : Question → Result (List Row) (ℕ × RowError) → List ℕ → Type 0
-AnswersRead question (Ok rows) text = AnswersRows question rows text
-AnswersRead question (Err refusal) text = ⊥
+abbrev pub AnswersRead : Question → Result (List Row) (ℕ × RowError) → Result (List LeftOut) (ℕ × RowError) → List ℕ → Type 0
+AnswersRead question (Ok rows) (Ok left_out) text = AnswersRows question rows left_out text
+AnswersRead question (Ok rows) (Err refusal) text = ⊥
+AnswersRead question (Err refusal) left_out text = ⊥
+
+-- the text answers the question about the locks of the rows that these bytes are
+abbrev pub AnswersBytes : Question → List ℕ → List ℕ → Type 0
+AnswersBytes question bytes text = AnswersRead question (rows_read bytes) (left_out_read bytes) text
+
+-- a line is not refused by want of memory, or by a device
+abbrev pub RefusesNoLine : Fault → Type 0
+RefusesNoLine (Refused number error) = ⊥
+RefusesNoLine fault = Unit {0}
 
 -- why rows may be refused
 abbrev pub IsRowsFault : List ℕ → RowsFault → Type 0
 IsRowsFault bytes (Rows refusal) = IsRefusalOf (lines_read bytes) refusal
-IsRowsFault bytes (Fails fault) = Unit {0}
+IsRowsFault bytes (Fails fault) = RefusesNoLine fault
 
 -- what is left written by a run that ends so: an answer, where writing failed a beginning of one that is not all of it, and else nothing
 abbrev pub LeavesRowsAnswer : (List ℕ → Type 0) → Result (Unit {0}) RowsFault → Option (List ℕ) → Option (List ℕ) → Type 0

@@ -1,44 +1,128 @@
 //! The answers to questions about a table of locks.
 ghost use Rattle.std.specs.Prelude.{◌≡◌, IfOk};
 ghost use Rattle.std.specs.FinSet as set;
-ghost use Rattle.mdl_view_program.specs.Answers.{AnswersBooks, IsAnswer};
+ghost use Rattle.mdl_view.specs.Blockings.{blockings_in};
+ghost use Rattle.mdl_view_program.specs.Answers.{AnswersBooks, IsAnswer, locks_answer, waits_answer, why_answer, is_jammed};
+ghost use Rattle.mdl_view.specs.Deadlocks.{deadlocks_in};
+ghost use Rattle.mdl_view.specs.Following.{endings_of};
 
-use crate::question::Question;
+use crate::question::{Form, Question};
 use mdl_book::{Book, Sessions};
-use mdl_view::{Scene, blockings, locks_of, root_endings};
-use mdl_view_text::{Names, graph_text, locks_text, names_of, waits_text, why_text};
+use mdl_graph::Cycle;
+use mdl_lock_rows::LeftOut;
+use mdl_view::{RootRank, Scene, blockings, deadlocks, has_blockings, locks_of, ranked_roots};
+use mdl_view_text::{
+    Names, add_left_out, add_left_out_comment, graph_text, locks_json, locks_text, names_of,
+    waits_json, waits_text, why_json, why_text,
+};
 use std::alloc::{AllocError, Global};
 
-/// The answer to a question about locks, as text.
+/// The answer to a question about locks, as text, with the rows of a server that were left out.
 pub fn answer(
     alloc: Global,
     question: Question,
     names: &Names,
     scene: Scene<'_>,
+    left_out: &[LeftOut],
 ) -> Result<Vec<u8>, AllocError>
-    ensures { IfOk result (λ text. IsAnswer question names.now (set.contains scene.entry.settled.now) scene.entry.unsettled.now scene.entry.locks.now text.items) }
+    ensures { IfOk result (λ text. IsAnswer question names.now (set.contains scene.entry.settled.now) scene.entry.unsettled.now scene.entry.locks.now left_out.now text.items) }
 {
     match question {
-        Question::Locks => locks_text(alloc, names, scene),
-        Question::Why => answer_why(alloc, names, scene),
-        Question::Waits => {
-            let found = blockings(alloc, scene.settled, scene.locks)?;
-            waits_text(alloc, names, &found)
-        }
-        Question::Graph => {
-            let found = blockings(alloc, scene.settled, scene.locks)?;
-            graph_text(alloc, names, &found)
-        }
+        Question::Why(form) => answer_why(alloc, form, names, scene, left_out),
+        Question::Locks(form) => answer_locks(alloc, form, names, scene, left_out),
+        Question::Waits(form) => answer_waits(alloc, form, names, scene, left_out),
+        Question::Graph => answer_graph(alloc, names, scene, left_out),
     }
 }
 
-// Who is at the root, and what would follow.
-fn answer_why(alloc: Global, names: &Names, scene: Scene<'_>) -> Result<Vec<u8>, AllocError>
-    ensures { IfOk result (λ text. IsAnswer Question.Why names.now (set.contains scene.entry.settled.now) scene.entry.unsettled.now scene.entry.locks.now text.items) }
+// Which deadlocks there are, who is at the root, and what would follow.
+fn answer_why(
+    alloc: Global,
+    form: Form,
+    names: &Names,
+    scene: Scene<'_>,
+    left_out: &[LeftOut],
+) -> Result<Vec<u8>, AllocError>
+    ensures { IfOk result (λ text. IsAnswer (Question.Why form) names.now (set.contains scene.entry.settled.now) scene.entry.unsettled.now scene.entry.locks.now left_out.now text.items) }
+{
+    let found = deadlocks(alloc, scene)?;
+    let roots = ranked_roots(alloc, scene)?;
+    why_in_form(alloc, form, names, scene, &found, &roots, left_out)
+}
+
+// The same in its form.
+fn why_in_form(
+    alloc: Global,
+    form: Form,
+    names: &Names,
+    scene: Scene<'_>,
+    deadlocks: &[Cycle],
+    roots: &[RootRank],
+    left_out: &[LeftOut],
+) -> Result<Vec<u8>, AllocError>
+    ensures { IfOk result (λ text. text.items ≡ why_answer form names.now (is_jammed (set.contains scene.entry.settled.now) scene.entry.locks.now) deadlocks.now
+        (endings_of (set.contains scene.entry.settled.now) scene.entry.unsettled.now scene.entry.locks.now roots.now) left_out.now) }
+{
+    if form == Form::Json {
+        return why_json(alloc, names, scene, deadlocks, roots, left_out);
+    }
+    let is_jammed = has_blockings(scene.settled, scene.locks);
+    let mut text = why_text(alloc, names, scene, is_jammed, deadlocks, roots)?;
+    add_left_out(&mut text, alloc, left_out)?;
+    Ok(text)
+}
+
+// Which tickets there are.
+fn answer_locks(
+    alloc: Global,
+    form: Form,
+    names: &Names,
+    scene: Scene<'_>,
+    left_out: &[LeftOut],
+) -> Result<Vec<u8>, AllocError>
+    ensures { IfOk result (λ text. text.items ≡ locks_answer form names.now (set.contains scene.entry.settled.now) scene.entry.locks.now left_out.now) }
+{
+    if form == Form::Json {
+        return locks_json(alloc, names, scene, left_out);
+    }
+    let mut text = locks_text(alloc, names, scene)?;
+    add_left_out(&mut text, alloc, left_out)?;
+    Ok(text)
+}
+
+// Who is in whose way.
+fn answer_waits(
+    alloc: Global,
+    form: Form,
+    names: &Names,
+    scene: Scene<'_>,
+    left_out: &[LeftOut],
+) -> Result<Vec<u8>, AllocError>
+    ensures { IfOk result (λ text. text.items
+        ≡ waits_answer form names.now (blockings_in (set.contains scene.entry.settled.now) 0 scene.entry.locks.now) left_out.now) }
 {
     let found = blockings(alloc, scene.settled, scene.locks)?;
-    let endings = root_endings(alloc, scene)?;
-    why_text(alloc, names, !found.is_empty(), &endings)
+    if form == Form::Json {
+        return waits_json(alloc, names, &found, left_out);
+    }
+    let mut text = waits_text(alloc, names, &found)?;
+    add_left_out(&mut text, alloc, left_out)?;
+    Ok(text)
+}
+
+// The same as a graph.
+fn answer_graph(
+    alloc: Global,
+    names: &Names,
+    scene: Scene<'_>,
+    left_out: &[LeftOut],
+) -> Result<Vec<u8>, AllocError>
+    ensures { IfOk result (λ text. IsAnswer Question.Graph names.now (set.contains scene.entry.settled.now) scene.entry.unsettled.now scene.entry.locks.now left_out.now text.items) }
+{
+    let found = blockings(alloc, scene.settled, scene.locks)?;
+    let mut text = graph_text(alloc, names, &found)?;
+    add_left_out_comment(&mut text, alloc, left_out)?;
+    Ok(text)
 }
 
 /// The answer to a question about the locks of books, where no wait is settled.
@@ -57,5 +141,5 @@ pub fn answer_of_books(
         settled: &Sessions::new(),
         unsettled: &Sessions::all(),
     };
-    answer(alloc, question, &names, scene)
+    answer(alloc, question, &names, scene, &[])
 }

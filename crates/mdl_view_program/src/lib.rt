@@ -5,12 +5,18 @@
 //! # Example
 //!
 //! ```
-//! use mdl_view_program::{Question, view_script};
+//! use mdl_view_program::{Form, Question, view_script};
 //!
 //! let alloc = rt.alloc();
 //! let mut script = b"1 CREATE TABLE t x\n1 BEGIN\n1 SELECT t\n2 DROP TABLE t\n".as_slice();
 //! let mut output = Vec::new(alloc);
-//! let end = view_script(alloc, Question::Why, u64::MAX, &mut script, &mut output);
+//! let end = view_script(
+//!     alloc,
+//!     Question::Why(Form::Text),
+//!     u64::MAX,
+//!     &mut script,
+//!     &mut output,
+//! );
 //! assert!(rt; end.is_ok());
 //! assert_eq!(rt;
 //!     output.as_slice(),
@@ -26,5 +32,5 @@ mod rows;
 
 pub use answers::{answer, answer_of_books};
 pub use program::view_script;
-pub use question::Question;
+pub use question::{Form, Question};
 pub use rows::{RowsFault, view_rows};

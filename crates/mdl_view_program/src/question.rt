@@ -1,14 +1,23 @@
 //! What can be asked of a table of locks.
 
+/// The form of an answer.
+#[derive(Clone, Copy, Debug, PartialEq, Eq)]
+pub enum Form {
+    /// Lines for people.
+    Text,
+    /// An object of JSON for other programs.
+    Json,
+}
+
 /// A question about a table of locks.
 #[derive(Clone, Copy, Debug, PartialEq, Eq)]
 pub enum Question {
-    /// Who is at the root of the waits, and what would follow if that session ended.
-    Why,
+    /// Which deadlocks there are, who is at the root of the waits, and what would follow if that session ended.
+    Why(Form),
     /// Which tickets there are.
-    Locks,
+    Locks(Form),
     /// Who is in whose way.
-    Waits,
+    Waits(Form),
     /// The same as a graph.
     Graph,
 }

@@ -4,8 +4,7 @@ ghost use Rattle.std.specs.Io.KnownBytes.{Appends};
 ghost use Rattle.mdl_lines.specs.Words.{AppendsPart};
 ghost use Rattle.std.specs.FinSet as set;
 ghost use Rattle.mdl_book.specs.SessionSets.{is_session};
-ghost use Rattle.mdl_lock_rows.specs.Reading.{lines_read, rows_read};
-ghost use Rattle.mdl_view_program.specs.RowAnswers.{AnswersRead, AreOthers, IsRowsFault, LeavesRowsAnswer, key_name, names_of_rows};
+ghost use Rattle.mdl_view_program.specs.RowAnswers.{AnswersBytes, AreOthers, IsRowsFault, LeavesRowsAnswer, key_name, names_of_rows};
 
 use crate::answers::answer;
 use crate::question::Question;
@@ -32,6 +31,7 @@ pub enum RowsFault {
 
 /// Reads the rows of a server's metadata locks, as `mysql -B` prints them, and writes the answer to a question about the locks. It reads
 /// all, and only then writes.
+#[tactic(auto, using(crate::proofs::RowLemmas::read_refuses_none))]
 pub fn view_rows<R: Read, W: Write>(
     alloc: Global,
     question: Question,
@@ -40,7 +40,7 @@ pub fn view_rows<R: Read, W: Write>(
 ) -> Result<(), RowsFault>
     ensures refused { IfSome (R.remaining input.old) (λ bytes. IfErr result (IsRowsFault bytes)) }
     ensures written { IfSome (R.remaining input.old) (λ bytes.
-        LeavesRowsAnswer (AnswersRead question (rows_read bytes)) result (W.contents output.old) (W.contents output.new)) }
+        LeavesRowsAnswer (AnswersBytes question bytes) result (W.contents output.old) (W.contents output.new)) }
 {
     let text = match read_all(alloc, input) {
         Ok(text) => text,
@@ -66,7 +66,7 @@ fn write_answer<W: Write>(output: &mut W, answer: &[u8]) -> Result<(), RowsFault
 
 // The answer to a question about the locks of rows.
 fn answer_of_rows(alloc: Global, question: Question, text: &[u8]) -> Result<Vec<u8>, LockRowsError>
-    ensures answer { IfOk result (λ answer. AnswersRead question (rows_read text.now) answer.items) }
+    ensures answer { IfOk result (λ answer. AnswersBytes question text.now answer.items) }
     ensures refused { IfErr result (λ refusal. IsRowsFault text.now (RowsFault.Rows refusal)) }
 {
     let found = read_lock_rows(alloc, text)?;
@@ -76,7 +76,7 @@ fn answer_of_rows(alloc: Global, question: Question, text: &[u8]) -> Result<Vec<
         settled: &found.settled,
         unsettled: &others_of(&found.settled),
     };
-    Ok(answer(alloc, question, &names, scene)?)
+    Ok(answer(alloc, question, &names, scene, &found.left_out)?)
 }
 
 // What the locks of these keys are called, and the sessions of these threads.

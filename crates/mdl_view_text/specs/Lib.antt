@@ -1,4 +1,9 @@
+pub mod Explanations
 pub mod Graph
+pub mod Json
+pub mod LeftOuts
 pub mod Names
+pub mod Layouts
+pub mod Refusals
 pub mod Rows
 pub mod Why

@@ -1,7 +1,7 @@
 -- What locks and sessions are called, and how names of bytes are printed. The wording is this project's own.
-use Rattle.std.specs.Prelude.{ℕ, Bool, ◌||◌, ◌==◌, ◌-◌, ◌+◌, ◌/◌, ◌%◌, nat_lt, List, [], ◌∷◌, ◌++◌, codes, flat_map, get_or, if◌then◌else◌}
+use Rattle.std.specs.Prelude.{ℕ, Bool, ◌&&◌, ◌||◌, ◌==◌, ◌-◌, ◌+◌, ◌/◌, ◌%◌, nat_le, nat_lt, List, [], ◌∷◌, ◌++◌, codes, flat_map, get_or, length, if◌then◌else◌}
 use Rattle.mdl_key.specs.declared.namespace.Namespace.{Namespace}
-use Rattle.mdl_key.specs.declared.namespace.Namespace.TheVariants.{Global, Commit, Schema, Table}
+use Rattle.mdl_key.specs.declared.namespace.Namespace.TheVariants.{Global, Commit, Schema, Table, UserLevelLock}
 use Rattle.mdl_book.specs.declared.book_view.BookView.{BookView}
 
 -- the names of locks, by their places from 0 on, and the numbers by which a server knows the sessions 1, 2, ..
@@ -13,9 +13,13 @@ pub record NamesView : Type 0 where
 abbrev pub lock_name : NamesView → ℕ → List ℕ
 lock_name names place = get_or names.locks place []
 
--- a session that a server knows by no number is printed by its own
+-- a session that a server knows by no number is printed by its own; no session has the number 0
 abbrev pub owner_of : NamesView → ℕ → ℕ
-owner_of names session = get_or names.owners (session - 1) session
+owner_of names session = if session == 0 then 0 else get_or names.owners (session - 1) session
+
+-- whether a server has a number for it
+abbrev pub knows_session : NamesView → ℕ → Bool
+knows_session names session = nat_le 1 session && nat_le session (length names.owners)
 
 -- a control byte would change how a line looks
 abbrev pub is_control : ℕ → Bool
@@ -25,10 +29,11 @@ is_control byte = nat_lt byte 32 || byte == 127
 abbrev pub hex_digit : ℕ → ℕ
 hex_digit half = if nat_lt half 10 then 48 + half else 87 + half
 
--- a byte of a name as it is printed: a backslash is doubled, and a control byte is a backslash, an x and its two digits
+-- a byte of a name as it is printed: a backslash or a dot has a backslash before it, and a control byte is a backslash, an x and its two
+-- digits
 abbrev pub printed_byte : ℕ → List ℕ
 printed_byte byte =
-    if byte == 92 then 92 ∷ 92 ∷ []
+    if byte == 92 || byte == 46 then 92 ∷ byte ∷ []
     else (if is_control byte then 92 ∷ 120 ∷ hex_digit (byte / 16) ∷ hex_digit (byte % 16) ∷ [] else byte ∷ [])
 
 abbrev pub printed : List ℕ → List ℕ
@@ -40,6 +45,7 @@ key_text Global schema table = codes "GLOBAL"
 key_text Commit schema table = codes "COMMIT"
 key_text Schema schema table = codes "SCHEMA " ++ printed schema
 key_text Table schema table = codes "TABLE " ++ printed schema ++ 46 ∷ printed table
+key_text UserLevelLock name table = codes "USER " ++ printed name
 
 -- what the lock of a book is called
 abbrev pub book_text : BookView → List ℕ

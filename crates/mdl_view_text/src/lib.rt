@@ -1,15 +1,16 @@
 //! The answers of [`mdl_view`] as text: tables of locks and waits, the graph of waits, and what would follow if a session ended.
 //!
 //! [`Names`] says what locks and sessions are called. [`locks_text`] and [`waits_text`] print tables, a line for each row, with tabs
-//! between the columns; [`graph_text`] prints a graph in Graphviz's DOT language; and [`why_text`] prints what would follow if one of the
-//! sessions ended that are in the way of others and wait for nobody.
+//! between the columns; [`graph_text`] prints a graph in Graphviz's DOT language; and [`why_text`] prints the deadlocks, and what would
+//! follow if one of the sessions ended that are in the way of others and wait for nobody. [`locks_json`], [`waits_json`] and
+//! [`why_json`] print the same facts as JSON, and [`add_left_out`] names the rows of a server that were left out.
 //!
 //! # Example
 //!
 //! ```
 //! use mdl_book::{Sessions, Ticket};
 //! use mdl_key::{Mode, Namespace};
-//! use mdl_view::{Lock, Scene, root_endings};
+//! use mdl_view::{Lock, Scene, ranked_roots};
 //! use mdl_view_text::{Names, key_text, why_text};
 //!
 //! let alloc = rt.alloc();
@@ -38,22 +39,40 @@
 //!     settled: &Sessions::new(),
 //!     unsettled: &Sessions::all(),
 //! };
-//! let endings = root_endings(alloc, scene)?;
-//! let text = why_text(alloc, &names, false, &endings)?;
+//! let roots = ranked_roots(alloc, scene)?;
+//! let text = why_text(alloc, &names, scene, true, &[], &roots)?;
 //! assert_eq!(rt;
 //!     text.as_slice(),
-//!     b"If 48 ended, waits granted: 1\n  holds SR of TABLE shop.orders\n  then 52 gets X of TABLE shop.orders\n".as_slice()
+//!     b"If 48 ended, waits granted: 1
+//!   KILL: SELECT processlist_id FROM performance_schema.threads WHERE thread_id = 48
+//!   holds SR of TABLE shop.orders
+//!   then 52 gets X of TABLE shop.orders
+//! "
+//!         .as_slice()
 //! );
 //! ```
 #![tactic(auto)]
 
+mod deadlock;
 mod graph;
+mod json_rows;
+mod json_text;
+mod json_why;
+mod layout;
+mod left_out;
 mod names;
+mod refusal;
+mod refused_words;
 mod rows;
 mod text;
 mod why;
 
 pub use graph::graph_text;
+pub use json_rows::{locks_json, waits_json};
+pub use json_why::why_json;
+pub use layout::lines_fit;
+pub use left_out::{add_left_out, add_left_out_comment};
 pub use names::{Names, key_text, names_of};
+pub use refused_words::explanation;
 pub use rows::{locks_text, waits_text};
 pub use why::why_text;

@@ -1,6 +1,6 @@
 //! What locks and sessions are called.
 ghost use Rattle.std.specs.Prelude.{◌≡◌, ◌<◌, ◌/◌, ◌%◌, ◌++◌, ◌∷◌, [], map, OnErr, OnOk, IfOk};
-ghost use Rattle.mdl_view_text.specs.Names.{book_text, hex_digit, key_text, lock_name, owner_of, printed, printed_byte};
+ghost use Rattle.mdl_view_text.specs.Names.{book_text, hex_digit, key_text, knows_session, lock_name, owner_of, printed, printed_byte};
 
 use crate::text::push;
 use mdl_book::Book;
@@ -67,20 +67,30 @@ impl Names {
         }
     }
 
-    /// By which number the server knows a session: by its own, where that isn't known.
+    /// By which number the server knows a session: by its own, where that isn't known. No session has the number 0.
     pub fn session(&self, session: u16) -> u64
         ensures { result ≡ owner_of self.now session }
     {
-        let place = usize::from(session).saturating_sub(1);
-        match self.owners.get(place) {
+        if session == 0 {
+            return 0;
+        }
+        match self.owners.get(usize::from(session) - 1) {
             Some(owner) => *owner,
             None => u64::from(session),
         }
     }
+
+    /// Whether the server has a number for a session.
+    pub fn knows_session(&self, session: u16) -> bool
+        ensures { result ≡ knows_session self.now session }
+    {
+        session >= 1 && usize::from(session) <= self.owners.len()
+    }
 }
 
-/// What a lock is called whose schema and table have these names: `TABLE shop.orders`. A backslash in a name is doubled, and a control
-/// byte is printed as `\x` and two digits. Names that the namespace doesn't have are left out.
+/// What a lock is called whose schema and table have these names: `TABLE shop.orders`, or `USER n` for a user-level lock, whose name
+/// stands in place of a schema's. A backslash or a dot in a name has a backslash before it, and a control byte is printed as `\x` and
+/// two digits. Names that the namespace doesn't have are left out.
 pub fn key_text(
     alloc: Global,
     namespace: Namespace,
@@ -95,6 +105,7 @@ pub fn key_text(
         Namespace::Commit => push(&mut out, b"COMMIT")?,
         Namespace::Schema => push_schema(&mut out, schema)?,
         Namespace::Table => push_table(&mut out, schema, table)?,
+        Namespace::UserLevelLock => push_user_lock(&mut out, schema)?,
     }
     Ok(out)
 }
@@ -130,6 +141,14 @@ fn push_schema(out: &mut Vec<u8>, schema: &[u8]) -> Result<(), AllocError>
     push_name(out, schema)
 }
 
+// What a user-level lock is called.
+fn push_user_lock(out: &mut Vec<u8>, name: &[u8]) -> Result<(), AllocError>
+    ensures { OnOk result (out.new.items ≡ out.old.items ++ key_text Namespace.UserLevelLock name.now []) }
+{
+    push(out, b"USER ")?;
+    push_name(out, name)
+}
+
 // What the lock of a table is called.
 fn push_table(out: &mut Vec<u8>, schema: &[u8], table: &[u8]) -> Result<(), AllocError>
     ensures { OnOk result (out.new.items ≡ out.old.items ++ key_text Namespace.Table schema.now table.now) }
@@ -140,8 +159,8 @@ fn push_table(out: &mut Vec<u8>, schema: &[u8], table: &[u8]) -> Result<(), Allo
     push_name(out, table)
 }
 
-// A name as it is printed.
-fn push_name(out: &mut Vec<u8>, name: &[u8]) -> Result<(), AllocError>
+/// Puts a name last, as it is printed.
+pub(crate) fn push_name(out: &mut Vec<u8>, name: &[u8]) -> Result<(), AllocError>
     ensures { OnOk result (out.new.items ≡ out.old.items ++ printed name.now) }
 {
     for byte in name {
@@ -154,8 +173,10 @@ fn push_name(out: &mut Vec<u8>, name: &[u8]) -> Result<(), AllocError>
 fn push_byte(out: &mut Vec<u8>, byte: u8) -> Result<(), AllocError>
     ensures { OnOk result (out.new.items ≡ out.old.items ++ printed_byte byte) }
 {
-    if byte == b'\\' {
-        push(out, b"\\\\")
+    if byte == b'\\' || byte == b'.' {
+        push(out, b"\\")?;
+        out.push(byte)?;
+        Ok(())
     } else if byte < 32 || byte == 127 {
         push_escaped(out, byte)
     } else {
@@ -174,8 +195,8 @@ fn push_escaped(out: &mut Vec<u8>, byte: u8) -> Result<(), AllocError>
     Ok(())
 }
 
-// Half a byte as a digit.
-fn hex_digit(half: u8) -> u8
+/// Half a byte as a digit.
+pub(crate) fn hex_digit(half: u8) -> u8
     requires { half < 16 }
     ensures { result ≡ hex_digit half }
 {

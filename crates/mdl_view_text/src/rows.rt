@@ -68,8 +68,8 @@ fn push_waiting(
     Ok(())
 }
 
-// What becomes of a wait.
-fn wait_status(is_settled: bool) -> &'static [u8]
+/// What becomes of a wait.
+pub(crate) fn wait_status(is_settled: bool) -> &'static [u8]
     ensures { result.now ≡ wait_status is_settled }
 {
     if is_settled { b"SETTLED" } else { b"PENDING" }

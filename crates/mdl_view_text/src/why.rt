@@ -1,33 +1,59 @@
 //! What would follow if sessions ended that are in the way of others.
-ghost use Rattle.std.specs.Prelude.{◌≡◌, ◌++◌, ◌-◌, flat_map, take, OnOk, IfOk};
-ghost use Rattle.mdl_view_text.specs.Why.{and_more, blocker_text, ending_text, gets_line, granted_text, head_line, holds_line, lines_of, mode_of_lock, most_lines, no_root_text, waits_line, why_text};
+ghost use Rattle.std.specs.Prelude.{◌≡◌, ◌++◌, ◌-◌, drop, flat_map, take, OnOk, IfOk};
+ghost use Rattle.std.specs.FinSet as set;
+ghost use Rattle.mdl_view.specs.Following.{ending_of, endings_of};
+ghost use Rattle.mdl_view_text.specs.Why.{and_more, blocker_text, ending_text, gets_line, gets_start, granted_text, head_line, holds_line, is_reading, just_more, kill_line, lines_of, mode_of, more_gets, more_in_its_way, most_lines, no_root_text, roots_text, waits_line, waits_start, why_text};
 
+use crate::deadlock::push_deadlocks;
+use crate::layout::push_line_with;
 use crate::names::Names;
 use crate::text::{push, push_mode, push_number, push_reason, push_session};
+use mdl_book::Ticket;
+use mdl_graph::Cycle;
 use mdl_key::Mode;
-use mdl_view::{AtLock, Blocking, Ending};
+use mdl_view::{AtLock, Blocking, Ending, RootRank, Scene, StillWaiting, ending_of};
 use std::alloc::{AllocError, Global};
 
 // How many lines of a kind are printed at most.
 const MOST_LINES: usize = 8;
 
-/// What would follow if one of these sessions ended, in the order given: how many waits would be granted, what it holds, who gets what,
-/// and who goes on waiting and why. Of each of the three there are at most eight lines, and then one that says how many more there
-/// would be. Where there is no such session, one line says whether that is so although some are in the way of others.
+/// The deadlocks, and what would follow if one of these sessions ended, in the order given: how many waits would be granted, how a
+/// server's session is ended, what it holds, who gets what, and who goes on waiting and why. Of each of the three there are at most
+/// eight lines, and then one that says how many more there would be. Where there is no such session, one line says whether that is so
+/// although some are in the way of others. Names are cut where a line would have more than 100 bytes.
 pub fn why_text(
     alloc: Global,
     names: &Names,
+    scene: Scene<'_>,
     is_jammed: bool,
-    endings: &[Ending],
+    deadlocks: &[Cycle],
+    roots: &[RootRank],
 ) -> Result<Vec<u8>, AllocError>
-    ensures { IfOk result (λ text. text.items ≡ why_text names.now is_jammed endings.now) }
+    ensures { IfOk result (λ text. text.items ≡ why_text names.now is_jammed deadlocks.now
+        (endings_of (set.contains scene.entry.settled.now) scene.entry.unsettled.now scene.entry.locks.now roots.now)) }
 {
     let mut out = Vec::new(alloc);
-    if endings.is_empty() {
-        push(&mut out, no_root_text(is_jammed))?;
-    }
-    push_endings(&mut out, names, endings)?;
+    push_deadlocks(&mut out, alloc, names, deadlocks)?;
+    push_roots(&mut out, alloc, names, scene, is_jammed, roots)?;
     Ok(out)
+}
+
+// The roots, or that there is none.
+fn push_roots(
+    out: &mut Vec<u8>,
+    alloc: Global,
+    names: &Names,
+    scene: Scene<'_>,
+    is_jammed: bool,
+    roots: &[RootRank],
+) -> Result<(), AllocError>
+    ensures { OnOk result (out.new.items ≡ out.old.items ++ roots_text names.now is_jammed
+        (endings_of (set.contains scene.entry.settled.now) scene.entry.unsettled.now scene.entry.locks.now roots.now)) }
+{
+    if roots.is_empty() {
+        return push(out, no_root_text(is_jammed));
+    }
+    push_endings(out, alloc, names, scene, roots)
 }
 
 // What is said where no session is a root.
@@ -42,23 +68,51 @@ fn no_root_text(is_jammed: bool) -> &'static [u8]
 }
 
 // What would follow if one of them ended.
-fn push_endings(out: &mut Vec<u8>, names: &Names, endings: &[Ending]) -> Result<(), AllocError>
-    ensures { OnOk result (out.new.items ≡ out.old.items ++ flat_map (ending_text names.now) endings.now) }
+fn push_endings(
+    out: &mut Vec<u8>,
+    alloc: Global,
+    names: &Names,
+    scene: Scene<'_>,
+    roots: &[RootRank],
+) -> Result<(), AllocError>
+    ensures { OnOk result (out.new.items ≡ out.old.items ++ flat_map (ending_text names.now)
+        (endings_of (set.contains scene.entry.settled.now) scene.entry.unsettled.now scene.entry.locks.now roots.now)) }
 {
-    for ending in endings {
-        push_ending(out, names, ending)?;
+    for root in roots {
+        push_root(out, alloc, names, scene, root)?;
     }
     Ok(())
 }
 
+// What would follow if a root ended.
+fn push_root(
+    out: &mut Vec<u8>,
+    alloc: Global,
+    names: &Names,
+    scene: Scene<'_>,
+    root: &RootRank,
+) -> Result<(), AllocError>
+    ensures { OnOk result (out.new.items ≡ out.old.items ++ ending_text names.now
+        (ending_of (set.contains scene.entry.settled.now) scene.entry.unsettled.now scene.entry.locks.now root.now.session)) }
+{
+    let ending = ending_of(alloc, scene, root.session)?;
+    push_ending(out, alloc, names, &ending)
+}
+
 // What would follow if this one ended.
-fn push_ending(out: &mut Vec<u8>, names: &Names, ending: &Ending) -> Result<(), AllocError>
+fn push_ending(
+    out: &mut Vec<u8>,
+    alloc: Global,
+    names: &Names,
+    ending: &Ending,
+) -> Result<(), AllocError>
     ensures { OnOk result (out.new.items ≡ out.old.items ++ ending_text names.now ending.now) }
 {
     push_head(out, names, ending)?;
-    push_holds(out, names, ending.holds())?;
-    push_gets(out, names, ending.gets())?;
-    push_waits(out, names, ending.waits())
+    push_kill(out, names, ending.session())?;
+    push_holds(out, alloc, names, ending.holds())?;
+    push_gets(out, alloc, names, ending.gets())?;
+    push_waits(out, alloc, names, ending.waits())
 }
 
 // How many waits would be granted.
@@ -79,90 +133,177 @@ fn push_granted(out: &mut Vec<u8>, count: usize) -> Result<(), AllocError>
     push(out, b"\n")
 }
 
+// How a server's session is ended.
+fn push_kill(out: &mut Vec<u8>, names: &Names, session: u16) -> Result<(), AllocError>
+    ensures { OnOk result (out.new.items ≡ out.old.items ++ kill_line names.now session) }
+{
+    if !names.knows_session(session) {
+        return Ok(());
+    }
+    push(
+        out,
+        b"  KILL: SELECT processlist_id FROM performance_schema.threads WHERE thread_id = ",
+    )?;
+    push_session(out, names, session)?;
+    push(out, b"\n")
+}
+
 // What the session holds.
-fn push_holds(out: &mut Vec<u8>, names: &Names, holds: &[AtLock]) -> Result<(), AllocError>
-    ensures { OnOk result (out.new.items ≡ out.old.items ++ lines_of (holds_line names.now) holds.now) }
+fn push_holds(
+    out: &mut Vec<u8>,
+    alloc: Global,
+    names: &Names,
+    holds: &[AtLock],
+) -> Result<(), AllocError>
+    ensures { OnOk result (out.new.items ≡ out.old.items ++ lines_of (holds_line names.now) just_more holds.now) }
 {
     for held in first_lines(holds) {
-        push_hold(out, names, *held)?;
+        push_hold(out, alloc, names, *held)?;
     }
-    push_more(out, holds.len())
+    push_more(out, holds.len(), b" more")
 }
 
 // A ticket that it holds.
-fn push_hold(out: &mut Vec<u8>, names: &Names, held: AtLock) -> Result<(), AllocError>
+fn push_hold(
+    out: &mut Vec<u8>,
+    alloc: Global,
+    names: &Names,
+    held: AtLock,
+) -> Result<(), AllocError>
     ensures { OnOk result (out.new.items ≡ out.old.items ++ holds_line names.now held) }
 {
-    push(out, b"  holds ")?;
-    push_mode_of_lock(out, names, held.lock, held.ticket.mode)?;
-    push(out, b"\n")
+    let mut start = Vec::new(alloc);
+    push(&mut start, b"  holds ")?;
+    push_mode_of(&mut start, held.ticket.mode)?;
+    push_line_with(out, alloc, &start, names.lock(held.lock), b"")
 }
 
 // Who gets what.
-fn push_gets(out: &mut Vec<u8>, names: &Names, gets: &[AtLock]) -> Result<(), AllocError>
-    ensures { OnOk result (out.new.items ≡ out.old.items ++ lines_of (gets_line names.now) gets.now) }
+fn push_gets(
+    out: &mut Vec<u8>,
+    alloc: Global,
+    names: &Names,
+    gets: &[AtLock],
+) -> Result<(), AllocError>
+    ensures { OnOk result (out.new.items ≡ out.old.items ++ lines_of (gets_line names.now) more_gets gets.now) }
 {
     for got in first_lines(gets) {
-        push_got(out, names, *got)?;
+        push_got(out, alloc, names, *got)?;
     }
-    push_more(out, gets.len())
+    push_more(out, gets.len(), more_gets(last_lines(gets)))
 }
 
 // A wait that is granted.
-fn push_got(out: &mut Vec<u8>, names: &Names, got: AtLock) -> Result<(), AllocError>
+fn push_got(out: &mut Vec<u8>, alloc: Global, names: &Names, got: AtLock) -> Result<(), AllocError>
     ensures { OnOk result (out.new.items ≡ out.old.items ++ gets_line names.now got) }
 {
+    let mut start = Vec::new(alloc);
+    push_gets_start(&mut start, names, got.ticket)?;
+    push_line_with(out, alloc, &start, names.lock(got.lock), b"")
+}
+
+// What stands before the lock's name there.
+fn push_gets_start(out: &mut Vec<u8>, names: &Names, ticket: Ticket) -> Result<(), AllocError>
+    ensures { OnOk result (out.new.items ≡ out.old.items ++ gets_start names.now ticket) }
+{
     push(out, b"  then ")?;
-    push_session(out, names, got.ticket.session)?;
+    push_session(out, names, ticket.session)?;
     push(out, b" gets ")?;
-    push_mode_of_lock(out, names, got.lock, got.ticket.mode)?;
-    push(out, b"\n")
+    push_mode_of(out, ticket.mode)
+}
+
+// What those are who get a lock, and whose lines aren't printed.
+fn more_gets(gets: &[AtLock]) -> &'static [u8]
+    ensures { result.now ≡ more_gets gets.now }
+{
+    for got in gets {
+        if !is_reading(got.ticket.mode) {
+            return b" more";
+        }
+    }
+    b" more readers"
+}
+
+// Whether a mode lets its session read, and no more.
+fn is_reading(mode: Mode) -> bool
+    ensures { result ≡ is_reading mode }
+{
+    matches!(mode, Mode::SH | Mode::SR | Mode::SRO)
 }
 
 // Who goes on waiting.
-fn push_waits(out: &mut Vec<u8>, names: &Names, waits: &[Blocking]) -> Result<(), AllocError>
-    ensures { OnOk result (out.new.items ≡ out.old.items ++ lines_of (waits_line names.now) waits.now) }
+fn push_waits(
+    out: &mut Vec<u8>,
+    alloc: Global,
+    names: &Names,
+    waits: &[StillWaiting],
+) -> Result<(), AllocError>
+    ensures { OnOk result (out.new.items ≡ out.old.items ++ lines_of (waits_line names.now) just_more waits.now) }
 {
-    for blocking in first_lines(waits) {
-        push_wait(out, names, *blocking)?;
+    for wait in first_lines(waits) {
+        push_wait(out, alloc, names, *wait)?;
     }
-    push_more(out, waits.len())
+    push_more(out, waits.len(), b" more")
 }
 
 // A wait that goes on, and what is in its way.
-fn push_wait(out: &mut Vec<u8>, names: &Names, blocking: Blocking) -> Result<(), AllocError>
-    ensures { OnOk result (out.new.items ≡ out.old.items ++ waits_line names.now blocking) }
+fn push_wait(
+    out: &mut Vec<u8>,
+    alloc: Global,
+    names: &Names,
+    wait: StillWaiting,
+) -> Result<(), AllocError>
+    ensures { OnOk result (out.new.items ≡ out.old.items ++ waits_line names.now wait) }
 {
-    push(out, b"  then ")?;
-    push_session(out, names, blocking.waiter.session)?;
-    push(out, b" waits for ")?;
-    push_mode_of_lock(out, names, blocking.lock, blocking.waiter.mode)?;
-    push_blocker(out, names, blocking)
+    let mut start = Vec::new(alloc);
+    push_waits_start(&mut start, names, wait.waiter)?;
+    let mut rest = Vec::new(alloc);
+    push_blocker(&mut rest, names, wait.first)?;
+    push_more_in_its_way(&mut rest, wait.count)?;
+    push_line_with(out, alloc, &start, names.lock(wait.lock), &rest)
 }
 
-// What is in its way.
-fn push_blocker(out: &mut Vec<u8>, names: &Names, blocking: Blocking) -> Result<(), AllocError>
-    ensures { OnOk result (out.new.items ≡ out.old.items ++ blocker_text names.now blocking) }
+// What stands before the lock's name there.
+fn push_waits_start(out: &mut Vec<u8>, names: &Names, ticket: Ticket) -> Result<(), AllocError>
+    ensures { OnOk result (out.new.items ≡ out.old.items ++ waits_start names.now ticket) }
 {
+    push(out, b"  then ")?;
+    push_session(out, names, ticket.session)?;
+    push(out, b" waits for ")?;
+    push_mode_of(out, ticket.mode)
+}
+
+// What is in its way first.
+fn push_blocker(out: &mut Vec<u8>, names: &Names, first: Option<Blocking>) -> Result<(), AllocError>
+    ensures { OnOk result (out.new.items ≡ out.old.items ++ blocker_text names.now first) }
+{
+    let Some(blocking) = first else {
+        return push(out, b": behind a settled wait");
+    };
     push(out, b": ")?;
     push_session(out, names, blocking.other.session)?;
     push(out, b" ")?;
-    push_reason(out, blocking.reason, blocking.other.mode)?;
-    push(out, b"\n")
+    push_reason(out, blocking.reason, blocking.other.mode)
 }
 
-// A mode of a lock.
-fn push_mode_of_lock(
-    out: &mut Vec<u8>,
-    names: &Names,
-    place: usize,
-    mode: Mode,
-) -> Result<(), AllocError>
-    ensures { OnOk result (out.new.items ≡ out.old.items ++ mode_of_lock names.now place mode) }
+// How many more of so many tickets are in its way.
+fn push_more_in_its_way(out: &mut Vec<u8>, count: usize) -> Result<(), AllocError>
+    ensures { OnOk result (out.new.items ≡ out.old.items ++ more_in_its_way count) }
+{
+    if count <= 1 {
+        return Ok(());
+    }
+    push(out, b", and ")?;
+    push_number(out, (count - 1) as u64)?;
+    push(out, b" more")
+}
+
+// A mode before the name of its lock.
+fn push_mode_of(out: &mut Vec<u8>, mode: Mode) -> Result<(), AllocError>
+    ensures { OnOk result (out.new.items ≡ out.old.items ++ mode_of mode) }
 {
     push_mode(out, mode)?;
-    push(out, b" of ")?;
-    push(out, names.lock(place))
+    push(out, b" of ")
 }
 
 // The first of some facts, as many as are printed.
@@ -175,14 +316,25 @@ fn first_lines<T>(facts: &[T]) -> &[T]
     &facts[..MOST_LINES]
 }
 
-// How many lines of so many aren't printed.
-fn push_more(out: &mut Vec<u8>, lines: usize) -> Result<(), AllocError>
-    ensures { OnOk result (out.new.items ≡ out.old.items ++ and_more (lines - most_lines)) }
+// Those that aren't printed.
+fn last_lines<T>(facts: &[T]) -> &[T]
+    ensures { result.now ≡ drop most_lines facts.now }
+{
+    if facts.len() <= MOST_LINES {
+        return &[];
+    }
+    &facts[MOST_LINES..]
+}
+
+// How many lines of so many aren't printed, and of what.
+fn push_more(out: &mut Vec<u8>, lines: usize, what: &[u8]) -> Result<(), AllocError>
+    ensures { OnOk result (out.new.items ≡ out.old.items ++ and_more what.now (lines - most_lines)) }
 {
     if lines <= MOST_LINES {
         return Ok(());
     }
     push(out, b"  and ")?;
     push_number(out, (lines - MOST_LINES) as u64)?;
-    push(out, b" more\n")
+    push(out, what)?;
+    push(out, b"\n")
 }

@@ -2,13 +2,17 @@
 //!
 //! Everything here is for tests. `examples` has those that `mdl_view`, `mdl_view_text` and `mdl_view_program` show, `by_hand` small tables, with who is in
 //! whose way, the roots, and what follows if a session ends, worked out by hand, `texts` the answers as text, `scripts` looks at the locks that
-//! scripts leave, and `server` at those of a server's rows.
+//! scripts leave, `server` at those of a server's rows, and `refusals` at the words that refuse a script.
 #![tactic(auto)]
 
 #[cfg(test)]
 mod by_hand;
 #[cfg(test)]
+mod deadlocks;
+#[cfg(test)]
 mod examples;
+#[cfg(test)]
+mod refusals;
 #[cfg(test)]
 mod scripts;
 #[cfg(test)]

@@ -1,6 +1,6 @@
 //! Scripts that are looked at: after each of their lines, refused ones, and devices that fail.
 use mdl_lines::Fault;
-use mdl_view_program::{Question, view_script};
+use mdl_view_program::{Form, Question, view_script};
 use std::alloc::Global;
 use std::test::Fail;
 
@@ -18,12 +18,12 @@ fn answer_after(alloc: Global, question: Question, last: u64) -> Result<Vec<u8>,
 #[test]
 fn each_line_has_its_locks(rt: HostRuntime) -> Result<(), Fail> {
     let alloc = rt.alloc();
-    let none = answer_after(alloc, Question::Why, 4)?;
+    let none = answer_after(alloc, Question::Why(Form::Text), 4)?;
     assert_eq!(rt;
         none.as_slice(),
         b"No session is in the way of another one.\n".as_slice()
     );
-    let one = answer_after(alloc, Question::Waits, 5)?;
+    let one = answer_after(alloc, Question::Waits(Form::Text), 5)?;
     assert_eq!(rt;
         one.as_slice(),
         b"LOCK\tWAITING\tFOR\tBLOCKING\tREASON\nTABLE test.t\t2\tX\t1\tholds SR\n".as_slice()
@@ -34,7 +34,7 @@ fn each_line_has_its_locks(rt: HostRuntime) -> Result<(), Fail> {
         b"digraph waits {\n  2 -> 1 [label=\"TABLE test.t: holds SR\"];\n  3 -> 2 [label=\"TABLE test.t: waits before it for X\"];\n}\n".as_slice()
     );
     // The transaction has ended, the table is gone, and nobody holds anything.
-    let end = answer_after(alloc, Question::Locks, u64::MAX)?;
+    let end = answer_after(alloc, Question::Locks(Form::Text), u64::MAX)?;
     assert_eq!(rt; end.as_slice(), b"LOCK\tSESSION\tMODE\tSTATUS\n".as_slice());
     Ok(())
 }
@@ -44,7 +44,7 @@ fn a_refused_line_refuses_the_script(rt: HostRuntime) -> Result<(), Fail> {
     let alloc = rt.alloc();
     let mut input = b"1 BEGIN\n1 SELECT\n".as_slice();
     let mut output = Vec::new(alloc);
-    let end = view_script(alloc, Question::Why, 1, &mut input, &mut output);
+    let end = view_script(alloc, Question::Why(Form::Text), 1, &mut input, &mut output);
     assert!(rt; matches!(end, Err(Fault::Refused(2, _))));
     assert!(rt; output.is_empty());
     Ok(())

@@ -10,10 +10,12 @@ use Rattle.mdl_context.specs.declared.request.Acquire.TheVariants as acquire
 use Rattle.mdl_context.specs.declared.request.Mark.{Mark}
 use Rattle.mdl_context.specs.declared.request.Resume.{Resume}
 use Rattle.mdl_context.specs.declared.request.Resume.TheVariants as resume
-use Rattle.mdl_context.specs.Contexts.{mark_of}
+use Rattle.mdl_context.specs.declared.request.Tried.{Tried}
+use Rattle.mdl_context.specs.declared.request.Tried.TheVariants as try_as
+use Rattle.mdl_context.specs.Contexts.{last_ticket, mark_of, waits_for_user_lock}
 use Rattle.mdl_context.specs.Gains.{refusal_of}
 use Rattle.mdl_context.specs.Releases.{giving_up, releasing}
-use Rattle.mdl_context.specs.Requests.{Outcome, acquiring}
+use Rattle.mdl_context.specs.Requests.{Outcome, acquiring, trying}
 use Rattle.mdl_context.specs.Upgrades.{upgrading, downgrading}
 use Rattle.mdl_context.specs.Waits.{giving_up_wait, resuming}
 use Rattle.mdl_context.specs.Wishes.{Wish}
@@ -81,6 +83,13 @@ left_acquired wish rest mark session more made (Ok (acquire.MustWait number), co
     left_waiting wish (record { rest = rest; mark = mark }) (with_context session context)
 left_acquired wish rest mark session more made (Err error, context) = left_closing (ending_of_error error) mark (with_context session context)
 
+left_tried : (mark : Mark) (session : Session) (more : Option ℕ → Session → Program Pause) →
+    ((got : Option ℕ) (after : Session) → LeavesWhileWaiting (more got after)) → (outcome : Outcome Tried) →
+    LeavesWhileWaiting (playing.tried mark session more outcome)
+left_tried mark session more made (Ok (try_as.Acquired id), context) = made (Some id) (with_context session context)
+left_tried mark session more made (Ok try_as.WouldWait, context) = made None (with_context session context)
+left_tried mark session more made (Err error, context) = left_closing (ending_of_error error) mark (with_context session context)
+
 -- ---- what stands
 
 left_read : (mark : Mark) (session : Session) (more : Standing → Program Pause) → ((standing : Standing) → LeavesWhileWaiting (more standing)) →
@@ -116,6 +125,11 @@ left_play (row.Acquire wish rest) mark session =
     let more = λ (id : ℕ) (after : Session). play (rest id) mark after in
     each_then {A = Outcome Acquire} LeftWhileWaiting (acquiring wish session.context) (playing.acquired wish rest mark session more)
     (left_acquired wish rest mark session more (λ id after. left_play (rest id) mark after))
+left_play (row.Try_acquire wish rest) mark session =
+    let more = λ (got : Option ℕ) (after : Session). play (rest got) mark after in
+    each_then {A = Outcome Tried} LeftWhileWaiting (trying wish session.context) (playing.tried mark session more)
+    (left_tried mark session more (λ got after. left_play (rest got) mark after))
+left_play (row.Last key rest) mark session = left_play (rest (last_ticket key session.context)) mark session
 left_play (row.Upgrade id key mode rest) mark session =
     let wish = playing.upgrade_wish key mode in
     let more = λ (id : ℕ) (after : Session). play (rest id) mark after in
@@ -148,7 +162,8 @@ left_starting statement session = left_play (row_of statement) (mark_of session.
 left_resumed : (left : Left) (session : Session) (outcome : Outcome Resume) → LeavesWhileWaiting (playing.resumed left session outcome)
 left_resumed left session (Ok resume.Waiting, context) = refl
 left_resumed left session (Ok (resume.Acquired id), context) = left_play (left.rest id) left.mark (with_context session context)
-left_resumed left session (Ok (resume.Lost how), context) = left_closing (ending_of_loss how) left.mark (with_context session context)
+left_resumed left session (Ok (resume.Lost how), context) =
+    left_closing (ending_of_loss (waits_for_user_lock session.context) how) left.mark (with_context session context)
 left_resumed left session (Err error, context) = left_closing (ending_of_error error) left.mark (with_context session context)
 
 left_going_on_with : (left : Option Left) (session : Session) → LeavesWhileWaiting (playing.going_on_with left session)

@@ -1,10 +1,30 @@
 //! What the command line asks for.
 use clap::{Arg, ArgAction, ArgMatches, Command, Error, value_parser};
-use mdl_view_program::Question;
+use mdl_view_program::{Form, Question};
 use std::alloc::{AllocError, Global};
+use std::convert::AsStr;
 
-// The words that ask a question.
-const QUESTIONS: &[&str] = &["why", "locks", "waits", "graph"];
+const WHY_EXAMPLES: &str = "Examples:
+  mysql -B -e 'SELECT * FROM performance_schema.metadata_locks' | mdlview why
+  mdlview why --script --at 8 < examples/alter_stops_a_table.replay
+
+Rows don't show in which order sessions began to wait: waits are taken in the order of the rows.";
+
+const LOCKS_EXAMPLES: &str = "Examples:
+  mysql -B -e 'SELECT * FROM performance_schema.metadata_locks' | mdlview locks
+  mdlview locks --script --json < examples/alter_stops_a_table.replay";
+
+const WAITS_EXAMPLES: &str = "Examples:
+  mysql -B -e 'SELECT * FROM performance_schema.metadata_locks' | mdlview waits
+  mdlview waits --script --at 8 < examples/alter_stops_a_table.replay
+
+Rows don't show in which order sessions began to wait: waits are taken in the order of the rows.";
+
+const GRAPH_EXAMPLES: &str = "Examples:
+  mysql -B -e 'SELECT * FROM performance_schema.metadata_locks' | mdlview graph | dot -Tsvg > waits.svg
+  mdlview graph --script --at 8 < examples/alter_stops_a_table.replay
+
+Rows don't show in which order sessions began to wait: waits are taken in the order of the rows.";
 
 /// What is asked, and of which locks.
 #[derive(Clone, Copy)]
@@ -25,30 +45,40 @@ pub enum Source {
 }
 
 /// Reads the words of a command line; the first is the program's name.
-pub fn words_read(alloc: Global, words: &[String]) -> Result<Asked, Error> {
+pub fn words_read<S: AsStr>(alloc: Global, words: &[S]) -> Result<Asked, Error> {
     let matches = program(alloc)?.try_get_matches_from(words)?;
-    Ok(Asked {
-        question: question_found(&matches),
-        source: source_found(&matches),
+    Ok(match matches.subcommand() {
+        Some(("locks", options)) => asks(Question::Locks(form_found(options)), options),
+        Some(("waits", options)) => asks(Question::Waits(form_found(options)), options),
+        Some(("graph", options)) => asks(Question::Graph, options),
+        Some((_, options)) => asks(Question::Why(form_found(options)), options),
+        None => asks(Question::Why(form_found(&matches)), &matches),
     })
 }
 
-// The question that was found.
-fn question_found(matches: &ArgMatches) -> Question {
-    match matches.get_str("question") {
-        Some("locks") => Question::Locks,
-        Some("waits") => Question::Waits,
-        Some("graph") => Question::Graph,
-        _ => Question::Why,
+// A question, with the locks that the options name.
+fn asks(question: Question, options: &ArgMatches) -> Asked {
+    Asked {
+        question,
+        source: source_found(options),
+    }
+}
+
+// The form that was found.
+fn form_found(options: &ArgMatches) -> Form {
+    if options.get_flag("json") {
+        Form::Json
+    } else {
+        Form::Text
     }
 }
 
 // The source that was found: where there is no line, the whole script is played.
-fn source_found(matches: &ArgMatches) -> Source {
-    if !matches.get_flag("script") {
+fn source_found(options: &ArgMatches) -> Source {
+    if !options.get_flag("script") {
         return Source::Rows;
     }
-    match matches.get_one::<u64>("at") {
+    match options.get_one::<u64>("at") {
         Some(line) => Source::Script(line),
         None => Source::Script(u64::MAX),
     }
@@ -56,11 +86,64 @@ fn source_found(matches: &ArgMatches) -> Source {
 
 // The program's words, with what help shows of them.
 fn program<'a>(alloc: Global) -> Result<Command<'a>, AllocError> {
-    let question = Arg::new(alloc, "question")
-        .value_name("QUESTION")
-        .value_parser(QUESTIONS)
-        .default_value("why")
-        .help("why: who is at the root of the waits, and what would follow if it ended");
+    let program = Command::new(alloc, "mdlview")
+        .about(
+            "Says who blocks whom at metadata locks: a server's, by its rows, or those that a script leaves",
+        )
+        .after_help(WHY_EXAMPLES)
+        .args_conflicts_with_subcommands(true);
+    with_form(alloc, program)?
+        .subcommand(why(alloc)?)?
+        .subcommand(locks(alloc)?)?
+        .subcommand(waits(alloc)?)?
+        .subcommand(graph(alloc)?)
+}
+
+// The subcommand `why`.
+fn why<'a>(alloc: Global) -> Result<Command<'a>, AllocError> {
+    let command = Command::new(alloc, "why")
+        .about(
+            "Prints the deadlocks, who is at the root of the waits, and what would follow if it ended; this is done without a command, too",
+        )
+        .after_help(WHY_EXAMPLES);
+    with_form(alloc, command)
+}
+
+// The subcommand `locks`.
+fn locks<'a>(alloc: Global) -> Result<Command<'a>, AllocError> {
+    let command = Command::new(alloc, "locks")
+        .about("Prints a row for each ticket that is held or waited for")
+        .after_help(LOCKS_EXAMPLES);
+    with_form(alloc, command)
+}
+
+// The subcommand `waits`.
+fn waits<'a>(alloc: Global) -> Result<Command<'a>, AllocError> {
+    let command = Command::new(alloc, "waits")
+        .about("Prints a row for each ticket that waits, and each ticket in its way")
+        .after_help(WAITS_EXAMPLES);
+    with_form(alloc, command)
+}
+
+// The subcommand `graph`.
+fn graph<'a>(alloc: Global) -> Result<Command<'a>, AllocError> {
+    let command = Command::new(alloc, "graph")
+        .about("Prints the waits as a graph, in the DOT language of Graphviz")
+        .after_help(GRAPH_EXAMPLES);
+    with_source(alloc, command)
+}
+
+// A command with the options that name the form and the locks.
+fn with_form<'a>(alloc: Global, command: Command<'a>) -> Result<Command<'a>, AllocError> {
+    let json = Arg::new(alloc, "json")
+        .long("json")
+        .action(ArgAction::SetTrue)
+        .help("Prints an object of JSON");
+    with_source(alloc, command)?.arg(json)
+}
+
+// A command with the options that name the locks.
+fn with_source<'a>(alloc: Global, command: Command<'a>) -> Result<Command<'a>, AllocError> {
     let script = Arg::new(alloc, "script")
         .long("script")
         .action(ArgAction::SetTrue)
@@ -72,9 +155,5 @@ fn program<'a>(alloc: Global) -> Result<Command<'a>, AllocError> {
         .value_parser(value_parser!(u64).range(1..))
         .requires_arg("script")?
         .help("Looks at the locks after this line of the script, with all that follows from it");
-    Command::new(alloc, "mdlview")
-        .about("Says who blocks whom at metadata locks")
-        .arg(question)?
-        .arg(script)?
-        .arg(at)
+    command.arg(script)?.arg(at)
 }

@@ -52,7 +52,7 @@ const UNDER_A_SCHEMA: &[Step] = &[
     (Act::Drop, Ok(3), None),
 ];
 
-const UNDER_COMMIT: &[Step] = &[
+const UNDER_OTHERS: &[Step] = &[
     (Act::Create(What::Schema), Err(ChangeError::WrongKind), None),
     (Act::Put(X), Err(ChangeError::WrongKind), None),
     (Act::Drop, Err(ChangeError::WrongKind), None),
@@ -105,8 +105,10 @@ fn books_keep_what_stands(rt: HostRuntime) {
     assert!(rt; wrong.is_none(), "under a table: {wrong:?}");
     let wrong = first_wrong(alloc, Key::schema(alloc, "test"), UNDER_A_SCHEMA);
     assert!(rt; wrong.is_none(), "under a schema: {wrong:?}");
-    let wrong = first_wrong(alloc, Ok(Key::commit(alloc)), UNDER_COMMIT);
+    let wrong = first_wrong(alloc, Ok(Key::commit(alloc)), UNDER_OTHERS);
     assert!(rt; wrong.is_none(), "under commit: {wrong:?}");
+    let wrong = first_wrong(alloc, Key::user_lock(alloc, "t"), UNDER_OTHERS);
+    assert!(rt; wrong.is_none(), "under a user-level lock: {wrong:?}");
 }
 
 // What a change answers where there were so many before it.

@@ -4,7 +4,7 @@ use mdl_key::{Kind, Mode, ModeError, Namespace, is_obtrusive, weight};
 use std::alloc::Global;
 
 // A mode and its name; whether scopes and objects have it, and whether it is obtrusive there; and what a wish for it
-// weighs elsewhere than at the global lock.
+// weighs elsewhere than at the global lock and at user-level locks.
 type Row = (Mode, &'static str, [bool; 2], [bool; 2], u8);
 
 const ROWS: [Row; 11] = [
@@ -35,12 +35,13 @@ fn is_as_told((mode, _, had, obtrusive, _): Row) -> bool {
         ] == obtrusive
 }
 
-// Whether a wish for a mode weighs so, and 100 at the global lock.
+// Whether a wish for a mode weighs so, 100 at the global lock, and 50 at user-level locks.
 fn weighs(mode: Mode, elsewhere: u8) -> bool {
     weight(Namespace::Global, mode) == 100
         && weight(Namespace::Schema, mode) == elsewhere
         && weight(Namespace::Table, mode) == elsewhere
         && weight(Namespace::Commit, mode) == elsewhere
+        && weight(Namespace::UserLevelLock, mode) == 50
 }
 
 #[test]

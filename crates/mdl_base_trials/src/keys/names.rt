@@ -21,6 +21,7 @@ fn key_of(alloc: Global, (namespace, schema, table): Name) -> Result<Key, KeyErr
         Namespace::Schema => Key::schema(alloc, schema),
         Namespace::Table => Key::table(alloc, schema, table),
         Namespace::Commit => Ok(Key::commit(alloc)),
+        Namespace::UserLevelLock => Key::user_lock(alloc, schema),
     }
 }
 
@@ -48,6 +49,11 @@ fn names_locks(rt: HostRuntime) {
             "TABLE test.t_1",
         ),
         ((Namespace::Commit, "", ""), Kind::Scoped, "COMMIT"),
+        (
+            (Namespace::UserLevelLock, "job_1", ""),
+            Kind::Object,
+            "USER job_1",
+        ),
     ] {
         assert!(rt; is_named(rt.alloc(), name, kind, text), "{text}");
     }
@@ -64,6 +70,7 @@ fn is_refused(alloc: Global, name: &'static str, want: Option<KeyError>) -> bool
         && refusal(alloc, (Namespace::Schema, name, "")) == want
         && refusal(alloc, (Namespace::Table, name, "t")) == want
         && refusal(alloc, (Namespace::Table, "s", name)) == want
+        && refusal(alloc, (Namespace::UserLevelLock, name, "")) == want
 }
 
 #[test]
@@ -103,7 +110,7 @@ fn looks_at_the_schema_first(rt: HostRuntime) {
 }
 
 // Keys in their order.
-const RISING: [Name; 10] = [
+const RISING: [Name; 13] = [
     (Namespace::Global, "", ""),
     (Namespace::Schema, "a", ""),
     (Namespace::Schema, "b", ""),
@@ -114,6 +121,9 @@ const RISING: [Name; 10] = [
     (Namespace::Table, "b", "aa"),
     (Namespace::Table, "b", "b"),
     (Namespace::Commit, "", ""),
+    (Namespace::UserLevelLock, "a", ""),
+    (Namespace::UserLevelLock, "aa", ""),
+    (Namespace::UserLevelLock, "b", ""),
 ];
 
 // Whether two keys stand in this order.

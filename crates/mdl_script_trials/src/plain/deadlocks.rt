@@ -89,6 +89,7 @@ impl Plain {
         };
         match (self.places.get(wish.place), wish.mode) {
             (Some(place), _) if place.key.namespace() == Namespace::Global => 100,
+            (Some(place), _) if place.key.namespace() == Namespace::UserLevelLock => 50,
             (_, Mode::SU | Mode::SRO | Mode::SNW | Mode::SNRW | Mode::X) => 100,
             _ => 0,
         }

@@ -62,12 +62,7 @@ impl Plain {
     // Answers its version and columns.
     pub(super) fn read(&mut self, who: u16, table: &Key) -> Result<Taken, AllocError> {
         let text = self.text_of(table)?;
-        for session in &mut self.sessions {
-            if session.number == who {
-                session.answer.push_str(text.as_str())?;
-            }
-        }
-        Ok(Taken::Done)
+        self.answer(who, text.as_str())
     }
 
     // A blank, and a table with its version and columns.

@@ -1,4 +1,5 @@
 //! The steps of each statement.
+use super::user_locks::user_lock;
 use super::{Plain, Step, made};
 use mdl_defs::Columns;
 use mdl_key::{Duration, Key, Mode};
@@ -57,6 +58,10 @@ impl Plan<'_> {
             Statement::UnlockTables => self.push(Step::UnlockAll),
             Statement::FlushTablesWithReadLock => self.flush(),
             Statement::KillQuery(_) | Statement::Timeout => Ok(()),
+            Statement::GetLock(name) => self.get_user_lock(name),
+            Statement::ReleaseLock(name) => {
+                self.push(Step::LeaveUserLock(user_lock(self.alloc, name)?))
+            }
         }
     }
 
@@ -333,6 +338,12 @@ impl Plan<'_> {
             self.push(Step::Look(key.clone()?))?;
         }
         self.push(Step::Keep)
+    }
+
+    // A lock that sessions name. No transaction begins or ends, and nothing else is locked.
+    fn get_user_lock(&mut self, name: &Name) -> Result<(), AllocError> {
+        self.ask(user_lock(self.alloc, name)?, Mode::X, Duration::Explicit)?;
+        self.push(Step::AnswerYes)
     }
 
     // Tables in the order of their keys.

@@ -1,5 +1,5 @@
 //! What the sessions of the plain program are at.
-use super::{Mark, Plain, Session, Settled, Step, Wait};
+use super::{Mark, Plain, Session, Settled, Step, Taken, Wait};
 use mdl_key::{Key, Mode};
 use std::alloc::{AllocError, Global};
 
@@ -129,6 +129,23 @@ impl Plain {
             }
         }
         None
+    }
+
+    // A word more of its answer.
+    pub(super) fn answer(&mut self, who: u16, word: &str) -> Result<Taken, AllocError> {
+        for session in &mut self.sessions {
+            if session.number == who {
+                session.answer.push_str(word)?;
+            }
+        }
+        Ok(Taken::Done)
+    }
+
+    // Its statement is done, and nothing came of it: no step of it is left.
+    pub(super) fn tell_no(&mut self, who: u16) -> Result<(), AllocError> {
+        self.give_steps(who, Vec::new(self.alloc));
+        self.answer(who, " 0")?;
+        self.tell_done(who)
     }
 
     // Its statement is done.

@@ -21,6 +21,8 @@ impl Plain {
             Step::Raise(table, mode) => self.raise(who, &table, mode),
             Step::Lower(table, mode) => Ok(self.lower(who, &table, mode)),
             Step::Alter(table, change) => self.alter(&table, &change),
+            Step::LeaveUserLock(key) => self.leave_user_lock(who, &key),
+            Step::AnswerYes => self.answer(who, " 1"),
             Step::Fail(number) => Ok(Taken::Failed(number)),
             Step::Save(name) => self.save(who, name),
             Step::GoBack(name) => self.go_back(who, &name),
@@ -124,9 +126,13 @@ impl Plain {
         }
     }
 
-    // Gives up all that is kept until it is given up.
+    // Gives up locked tables, what was locked around them, and the global read lock.
     fn unlock_all(&mut self, who: u16) -> Result<(), AllocError> {
-        self.release_all(who, Duration::Explicit)?;
+        for ticket in &self.explicit(who)? {
+            if !self.is_of_user_lock(ticket) {
+                self.let_go(*ticket);
+            }
+        }
         for session in &mut self.sessions {
             if session.number == who {
                 session.has_read_lock = false;

@@ -5,7 +5,7 @@ use std::alloc::AllocError;
 
 impl Plain {
     // The tickets that stay with a session until it gives them up.
-    fn explicit(&self, who: u16) -> Result<Vec<Ticket>, AllocError> {
+    pub(super) fn explicit(&self, who: u16) -> Result<Vec<Ticket>, AllocError> {
         let mut tickets = Vec::new(self.alloc);
         for ticket in &self.tickets {
             if ticket.session == who && ticket.duration == Duration::Explicit {

@@ -1,8 +1,8 @@
 //! What the contexts of the plain program's sessions do, each told by the number of its session.
 use super::{Plain, Ticket};
-use mdl_context::{Acquire, ContextError, Mark, Resume};
-use mdl_key::{Duration, Key, Mode, at_least};
-use mdl_space::{Begun, Ended, Place, Search, Settled, SpaceError, TicketId, Upgrade};
+use mdl_context::{Acquire, ContextError, Mark, Resume, Tried};
+use mdl_key::{Duration, Key, Mode, Namespace, at_least};
+use mdl_space::{Attempt, Begun, Ended, Place, Search, Settled, SpaceError, TicketId, Upgrade};
 
 impl Plain {
     /// A lock is had by a ticket that is used again, by a clone, by a new ticket, or not yet.
@@ -29,6 +29,64 @@ impl Plain {
                 Ok(Acquire::MustWait(number))
             }
             Err(cause) => Err(ContextError::Space(cause)),
+        }
+    }
+
+    /// A lock is had likewise, or not at all.
+    pub(crate) fn try_acquire(
+        &mut self,
+        who: u16,
+        key: &Key,
+        mode: Mode,
+        duration: Duration,
+    ) -> Result<Tried, ContextError> {
+        self.check_idle(who)?;
+        if let Some(ticket) = self.first_that_serves(who, key, mode, Some(duration)) {
+            self.seen.reused = self.seen.reused.wrapping_add(1);
+            return Ok(Tried::Acquired(ticket.number));
+        }
+        match self.ask_once(who, key, mode) {
+            Ok(Attempt::Granted(id)) => {
+                self.keep_newest(who, duration);
+                Ok(Tried::Acquired(id))
+            }
+            Ok(Attempt::WouldWait) => {
+                self.seen.not_had = self.seen.not_had.wrapping_add(1);
+                Ok(Tried::WouldWait)
+            }
+            Err(cause) => Err(ContextError::Space(cause)),
+        }
+    }
+
+    // A clone, or a new ticket if it can be had now.
+    fn ask_once(&mut self, who: u16, key: &Key, mode: Mode) -> Result<Attempt, SpaceError> {
+        if let Some(ticket) = self.first_that_serves(who, key, mode, None) {
+            return Ok(Attempt::Granted(self.clone_ticket(who, ticket.number, mode)?));
+        }
+        let place = self.resolve(key)?;
+        self.try_now(who, place, mode)
+    }
+
+    /// The number of the last held ticket of a key.
+    pub(crate) fn last_ticket(&self, who: u16, key: &Key) -> Option<TicketId> {
+        let place = self.place_of(key);
+        let mut last = None;
+        for ticket in &self.tickets {
+            if self.is_held(ticket, who) && ticket.place == place {
+                last = Some(ticket.number);
+            }
+        }
+        last
+    }
+
+    /// Whether a session waits for a user-level lock.
+    pub(crate) fn waits_for_user_lock(&self, who: u16) -> bool {
+        let Some(wait) = self.wait(who) else {
+            return false;
+        };
+        match self.ticket(who, wait.ticket) {
+            Some(ticket) => is_user_lock(&self.keys, ticket.place),
+            None => false,
         }
     }
 
@@ -193,11 +251,14 @@ impl Plain {
         Ok(())
     }
 
-    /// Its explicit ones end with the transaction from now on.
+    /// Its explicit ones end with the transaction from now on, but for those of user-level locks.
     pub(crate) fn make_transactional(&mut self, who: u16) -> Result<(), ContextError> {
         self.check_idle(who)?;
         for ticket in &mut self.tickets {
-            if ticket.session == who && ticket.duration == Duration::Explicit {
+            if ticket.session == who
+                && ticket.duration == Duration::Explicit
+                && !is_user_lock(&self.keys, ticket.place)
+            {
                 ticket.duration = Duration::Transaction;
             }
         }
@@ -301,5 +362,13 @@ impl Plain {
             }
         }
         mark
+    }
+}
+
+// Whether the key of a place is that of a user-level lock.
+fn is_user_lock(keys: &[Key], place: Place) -> bool {
+    match keys.get(usize::from(place.wrapping_sub(1))) {
+        Some(key) => key.namespace() == Namespace::UserLevelLock,
+        None => false,
     }
 }

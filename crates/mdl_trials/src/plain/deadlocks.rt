@@ -65,6 +65,7 @@ impl Plain {
         };
         match (self.key_at(wish.place), wish.mode) {
             (Some(key), _) if key.namespace() == Namespace::Global => 100,
+            (Some(key), _) if key.namespace() == Namespace::UserLevelLock => 50,
             (_, Mode::SU | Mode::SRO | Mode::SNW | Mode::SNRW | Mode::X) => 100,
             _ => 0,
         }

@@ -1,5 +1,5 @@
 //! `mdl_view_program`: a reader's transaction stops a DROP TABLE.
-use mdl_view_program::{Question, view_script};
+use mdl_view_program::{Form, Question, view_script};
 use std::test::Fail;
 
 #[test]
@@ -7,7 +7,13 @@ fn a_script_is_looked_at(rt: HostRuntime) -> Result<(), Fail> {
     let alloc = rt.alloc();
     let mut script = b"1 CREATE TABLE t x\n1 BEGIN\n1 SELECT t\n2 DROP TABLE t\n".as_slice();
     let mut output = Vec::new(alloc);
-    let end = view_script(alloc, Question::Why, u64::MAX, &mut script, &mut output);
+    let end = view_script(
+        alloc,
+        Question::Why(Form::Text),
+        u64::MAX,
+        &mut script,
+        &mut output,
+    );
     assert!(rt; end.is_ok());
     assert_eq!(rt;
         output.as_slice(),

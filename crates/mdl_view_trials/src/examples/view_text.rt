@@ -1,7 +1,7 @@
 //! `mdl_view_text`: what would follow if a reader ended, as text.
 use mdl_book::{Sessions, Ticket};
 use mdl_key::{Mode, Namespace};
-use mdl_view::{Lock, Scene, root_endings};
+use mdl_view::{Lock, Scene, ranked_roots};
 use mdl_view_text::{Names, key_text, why_text};
 use std::test::Fail;
 
@@ -33,11 +33,16 @@ fn a_reader_stops_a_change(rt: HostRuntime) -> Result<(), Fail> {
         settled: &Sessions::new(),
         unsettled: &Sessions::all(),
     };
-    let endings = root_endings(alloc, scene)?;
-    let text = why_text(alloc, &names, false, &endings)?;
+    let roots = ranked_roots(alloc, scene)?;
+    let text = why_text(alloc, &names, scene, true, &[], &roots)?;
     assert_eq!(rt;
         text.as_slice(),
-        b"If 48 ended, waits granted: 1\n  holds SR of TABLE shop.orders\n  then 52 gets X of TABLE shop.orders\n".as_slice()
+        b"If 48 ended, waits granted: 1
+  KILL: SELECT processlist_id FROM performance_schema.threads WHERE thread_id = 48
+  holds SR of TABLE shop.orders
+  then 52 gets X of TABLE shop.orders
+"
+            .as_slice()
     );
     Ok(())
 }

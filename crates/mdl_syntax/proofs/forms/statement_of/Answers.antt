@@ -61,6 +61,17 @@ returns-in-TIMEOUT c =
     let word : c.in-Some.word.now ≡ codes "TIMEOUT" = search rules in
     says-at (codes "TIMEOUT") (words_of c.args.words.now) (words_of c.in-Some.rest.now) c.in-Some.word.now c.no_more-in-TIMEOUT.result c.in-Some.ensures.word word c.no_more-in-TIMEOUT.ensures
 
+pub returns-in-GET_LOCK : goal.returns-in-GET_LOCK
+returns-in-GET_LOCK c =
+    let word : c.in-Some.word.now ≡ codes "GET_LOCK" = search rules in
+    says-at (codes "GET_LOCK") (words_of c.args.words.now) (words_of c.in-Some.rest.now) c.in-Some.word.now c.get_lock.result c.in-Some.ensures.word word c.get_lock.ensures
+
+pub returns-in-RELEASE_LOCK : goal.returns-in-RELEASE_LOCK
+returns-in-RELEASE_LOCK c =
+    let same : c.in-Some.word.now ≡ c.in-Ok.key_word.now = search rules in
+    let word : c.in-Some.word.now ≡ codes "RELEASE_LOCK" = same ∙ c.in-RELEASE_LOCK.is in
+    says-at (codes "RELEASE_LOCK") (words_of c.args.words.now) (words_of c.in-Some.rest.now) c.in-Some.word.now c.release_lock.result c.in-Some.ensures.word word c.release_lock.ensures
+
 pub returns-in_default-key_word : goal.returns-in_default-key_word
 returns-in_default-key_word c =
     let same : c.in-Some.word.now ≡ c.in-Ok.key_word.now = search rules in
@@ -84,4 +95,6 @@ returns-in_default-key_word c =
     (λ e. other.not-UNLOCK (sym same ∙ e))
     (λ e. other.not-FLUSH (sym same ∙ e))
     (λ e. other.not-KILL (sym same ∙ e))
-    (λ e. other.not-TIMEOUT (sym same ∙ e)))
+    (λ e. other.not-TIMEOUT (sym same ∙ e))
+    (λ e. other.not-GET_LOCK (sym same ∙ e))
+    (λ e. other.not-RELEASE_LOCK (sym same ∙ e)))

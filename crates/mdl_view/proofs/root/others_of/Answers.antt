@@ -1,7 +1,7 @@
 -- At first the set is empty.
-use Rattle.mdl_book.specs.SessionSets.{is_session}
-use Rattle.mdl_view.proofs.SetLemmas.{none_noted}
+use Rattle.mdl_view.specs.Roots.{other_of}
+use Rattle.mdl_view.proofs.SetLemmas.{gained}
 use Rattle.mdl_view.proofs.root.others_of.Goals as goal
 
-pub loop-blocking-init : goal.loop-blocking-init
-loop-blocking-init c = λ session. none_noted c.new-others.result session (is_session session) c.new-others.ensures
+pub returns : goal.returns
+returns c = λ session. gained other_of c.args.blockings.now c.new-others.result c.note_others.new.others session c.new-others.ensures c.note_others.ensures

@@ -1,7 +1,7 @@
 -- At first the set is empty.
-use Rattle.mdl_book.specs.SessionSets.{is_session}
-use Rattle.mdl_view.proofs.SetLemmas.{none_noted}
+use Rattle.mdl_view.specs.Roots.{waiter_of}
+use Rattle.mdl_view.proofs.SetLemmas.{gained}
 use Rattle.mdl_view.proofs.root.waiters_of.Goals as goal
 
-pub loop-blocking-init : goal.loop-blocking-init
-loop-blocking-init c = λ session. none_noted c.new-waiters.result session (is_session session) c.new-waiters.ensures
+pub returns : goal.returns
+returns c = λ session. gained waiter_of c.args.blockings.now c.new-waiters.result c.note_waiters.new.waiters session c.new-waiters.ensures c.note_waiters.ensures

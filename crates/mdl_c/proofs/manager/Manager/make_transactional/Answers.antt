@@ -29,5 +29,5 @@ returns c =
     let is = is-seat manager c.args.self.now c.args.who i seat c.self.view_is c.in_ok-index.ensures c.index_mut.ensures.value in
     rw (← c.self.view_is)
     (runs-for manager c.args.who i seat is making_transactional c.in-Kept.context c.make_transactional.new.self c.self.inside.space c.make_transactional.result c.in-Kept.is
-    (run-unless (waiting_fault c.in-Kept.context) c.in-Kept.context (record c.in-Kept.context { kept = map transactional c.in-Kept.context.kept }) c.make_transactional.new.self c.make_transactional.result
+    (run-unless (waiting_fault c.in-Kept.context) c.in-Kept.context (record c.in-Kept.context { kept = map (transactional c.in-Kept.context.known) c.in-Kept.context.kept }) c.make_transactional.new.self c.make_transactional.result
     c.self.inside.space c.make_transactional.ensures.refused c.make_transactional.ensures.done c.make_transactional.ensures.unchanged))

@@ -1,10 +1,10 @@
 -- The wait goes on, and then the statement as the wait stands.
-use Rattle.std.proofs.Common.{Some, Ok, Err, refl, subst}
+use Rattle.std.proofs.Common.{Bool, Some, Ok, Err, ap, refl, ◌∙◌, subst}
 use Rattle.mdl_calls.specs.Words.{Runs, ◌>>=◌}
 use Rattle.mdl_context.specs.Contexts.{ContextView}
 use Rattle.mdl_context.specs.declared.request.Resume.TheVariants as resume
 use Rattle.mdl_rows.specs.declared.ending.Ending.{Ending}
-use Rattle.mdl_rows.specs.Endings.{Waits_on, closing}
+use Rattle.mdl_rows.specs.Endings.{Waits_on, closing, ending_of_loss}
 use Rattle.mdl_stmt.specs.Gets.{at_rest, ran}
 use Rattle.mdl_rows.specs.Keepings.{going_on_kept, keeping}
 use Rattle.mdl_stmt.specs.KeptStages.{session_with}
@@ -31,7 +31,8 @@ returns-in-Ok-Lost-clause-run g c =
     let turn = c.settle.result in
     subst (λ (before : PlayerView). Runs g.S.LockSpace.joins c.args.space.now (going_on_kept (session_with before (Some c.args.work))) (ran turn.progress (session_with c.settle.new.self turn.work)) c.settle.new.space) c.self.view_is
     (goes-on-kept g.S.LockSpace.joins (seat c.self.inside.context) c.args.work c.resume.new.self (Ok (resume.Lost c.in-Ok-Lost.how)) _ _ _ _ (rw (c.in-Ok-Lost.is, c.in-Ok-Lost.field-0-is) at c.resume.ensures.run)
-    (subst (λ (e : Ending). Runs g.S.LockSpace.joins c.resume.new.space (closing e c.args.work.mark (at_rest (seat c.resume.new.self)) >>= keeping) (ran turn.progress (session_with c.settle.new.self turn.work)) c.settle.new.space) c.ending_of_loss.ensures
+    (subst (λ (e : Ending). Runs g.S.LockSpace.joins c.resume.new.space (closing e c.args.work.mark (at_rest (seat c.resume.new.self)) >>= keeping) (ran turn.progress (session_with c.settle.new.self turn.work)) c.settle.new.space)
+    (c.ending_of_loss.ensures ∙ ap (λ (user : Bool). ending_of_loss user c.in-Ok-Lost.how) c.waits_for_user_lock-user.ensures)
     (ends-kept g.S.LockSpace.joins c.ending_of_loss.result c.args.work.mark (seat c.resume.new.self) c.settle.new.self turn _ _ c.settle.ensures.run)))
 
 pub returns-in-Err-clause-run : goal.returns-in-Err-clause-run

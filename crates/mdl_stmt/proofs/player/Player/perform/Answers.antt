@@ -25,6 +25,14 @@ returns-in-KillQuery-clause-run g c =
     subst (λ (s : Statement). Comes g.S.LockSpace.joins c.args.space.now c.args.self.now (play (row_of s)) c.kill.new.space c.kill.new.self (closing (Answers reply.Ok))) (sym c.in-KillQuery.is)
     (c.kill.ensures.run (λ _. Give reply.Ok))
 
+pub returns-in-GetLock-clause-run : goal.returns-in-GetLock-clause-run
+returns-in-GetLock-clause-run g c =
+    subst (λ (s : Statement). IsPlayed g.S.LockSpace.joins (row_of s) c.args.space.now c.args.self.now c.get_lock.result c.get_lock.new.space c.get_lock.new.self) (sym c.in-GetLock.is) c.get_lock.ensures.run
+
+pub returns-in-ReleaseLock-clause-run : goal.returns-in-ReleaseLock-clause-run
+returns-in-ReleaseLock-clause-run g c =
+    subst (λ (s : Statement). Comes g.S.LockSpace.joins c.args.space.now c.args.self.now (play (row_of s)) c.release_lock.new.space c.release_lock.new.self (closing c.release_lock.result)) (sym c.in-ReleaseLock.is) c.release_lock.ensures.run
+
 pub returns-in-FlushTablesWithReadLock-clause-run : goal.returns-in-FlushTablesWithReadLock-clause-run
 returns-in-FlushTablesWithReadLock-clause-run g c =
     let is = c.in-FlushTablesWithReadLock.is in

@@ -1,7 +1,7 @@
 -- The wait goes on, and then the statement as the wait stands.
-use Rattle.std.proofs.Common.{◌≡◌, IsSome, rules, sym, subst}
+use Rattle.std.proofs.Common.{◌≡◌, Bool, IsSome, ap, rules, sym, ◌∙◌, subst}
 use Rattle.mdl_calls.specs.Words.{Runs}
-use Rattle.mdl_rows.specs.Endings.{Waits_on}
+use Rattle.mdl_rows.specs.Endings.{Waits_on, ending_of_loss}
 use Rattle.mdl_stmt.specs.Gets.{ran}
 use Rattle.mdl_rows.specs.Playing.{going_on}
 use Rattle.mdl_stmt.specs.Players.{RunnerView, state_of}
@@ -31,7 +31,8 @@ returns-in-Ok-Lost-clause-run g c =
     let same : before ≡ c.args.self.now = search rules in
     let some : IsSome before.work = subst (λ (r : RunnerView). IsSome r.work) (sym same) c.requires.waits in
     subst (λ (r : RunnerView). Runs g.S.LockSpace.joins c.args.space.now (going_on (session_of r)) (ran c.end_with.result (session_of c.end_with.new.self)) c.end_with.new.space) same
-    (ends-lost g.S.LockSpace.joins before c.resume.new.self c.in-Ok-Lost.how c.ending_of_loss.result _ _ _ _ some c.ending_of_loss.ensures (rw (c.in-Ok-Lost.is, c.in-Ok-Lost.field-0-is) at c.resume.ensures.run) c.end_with.ensures.run)
+    (ends-lost g.S.LockSpace.joins before c.resume.new.self c.in-Ok-Lost.how c.ending_of_loss.result _ _ _ _ some
+    (c.ending_of_loss.ensures ∙ ap (λ (user : Bool). ending_of_loss user c.in-Ok-Lost.how) c.waits_for_user_lock-user.ensures) (rw (c.in-Ok-Lost.is, c.in-Ok-Lost.field-0-is) at c.resume.ensures.run) c.end_with.ensures.run)
 
 pub returns-in-Err-clause-run : goal.returns-in-Err-clause-run
 returns-in-Err-clause-run g c =

@@ -1,0 +1,101 @@
+//! How a session comes by a ticket that it doesn't wait for.
+ghost use Rattle.std.specs.Prelude.{◌≡◌, Some, None};
+ghost use Rattle.mdl_calls.specs.Words.{Runs};
+ghost use Rattle.mdl_context.specs.Contexts.{Attends, LeavesOthers, place_known};
+ghost use Rattle.mdl_context.specs.Requests.{trying, trying_at, trying_found, LearnsAtMost, UnlessAcquired};
+ghost use Rattle.mdl_context.specs.Wishes.{wish_of};
+
+use crate::asking::try_gain;
+use crate::{Context, ContextError, Request, Tried};
+use mdl_space::{LockSpace, Place, SpaceError};
+
+impl<S: LockSpace> Context<S> {
+    /// Comes by a lock if that needs no wait, for as long as the request says.
+    ///
+    /// All goes as by [`Context::acquire`], but where the lock can't be had now, the session doesn't begin to wait, no deadlock is
+    /// searched for, and the session has what it had before. It takes memory as that does, but for searches.
+    ///
+    /// After MySQL 5.7, `MDL_context::try_acquire_lock` of `sql/mdl.cc`.
+    pub fn try_acquire(
+        &mut self,
+        space: &mut S,
+        request: Request<'_>,
+    ) -> Result<Tried, ContextError>
+        requires { Attends S.LockSpace space.old self.old }
+        ensures run { Runs S.joins space.old (trying (wish_of request.entry) self.old) (result, self.new) space.new }
+        ensures attends { Attends S.LockSpace space.new self.new }
+        ensures others { LeavesOthers S.LockSpace self.old.who space.old space.new }
+        ensures who { self.new.who ≡ self.old.who }
+        ensures unchanged { UnlessAcquired result (LearnsAtMost request.entry.key.now self.old self.new) }
+        ensures own { UnlessAcquired result (S.own space.new self.old.who ≡ S.own space.old self.old.who) }
+        ensures wait { self.new.wait ≡ self.old.wait }
+    {
+        if self.holdings.is_waiting() {
+            return Err(ContextError::Waiting);
+        }
+        match self.holdings.place_known(request.key) {
+            Some(place) => self.try_at(space, place, request),
+            None => self.look_up_and_try(space, request),
+        }
+    }
+
+    // Comes by a lock of a key whose place isn't known yet.
+    fn look_up_and_try(
+        &mut self,
+        space: &mut S,
+        request: Request<'_>,
+    ) -> Result<Tried, ContextError>
+        requires attends { Attends S.LockSpace space.old self.old }
+        requires idle { self.old.wait ≡ None }
+        requires new { place_known request.key.now self.old.known ≡ None }
+        ensures run { Runs S.joins space.old (trying_found None (wish_of request.entry) self.old) (result, self.new) space.new }
+        ensures attends { Attends S.LockSpace space.new self.new }
+        ensures who { self.new.who ≡ self.old.who }
+        ensures unchanged { UnlessAcquired result (LearnsAtMost request.entry.key.now self.old self.new) }
+        ensures own { UnlessAcquired result (S.own space.new self.old.who ≡ S.own space.old self.old.who) }
+        ensures wait { self.new.wait ≡ None }
+    {
+        let place = match space.resolve(self.who, request.key) {
+            Ok(place) => place,
+            Err(refusal) => return Err(ContextError::Space(refusal)),
+        };
+        if self.holdings.remember(request.key, place).is_err() {
+            return Err(ContextError::Space(SpaceError::OutOfMemory));
+        }
+        self.try_at(space, place, request)
+    }
+
+    // Comes by a lock of a key whose place is known.
+    fn try_at(
+        &mut self,
+        space: &mut S,
+        place: Place,
+        request: Request<'_>,
+    ) -> Result<Tried, ContextError>
+        requires attends { Attends S.LockSpace space.old self.old }
+        requires idle { self.old.wait ≡ None }
+        requires known { place_known request.key.now self.old.known ≡ Some place }
+        ensures run { Runs S.joins space.old (trying_at place (wish_of request.entry) self.old) (result, self.new) space.new }
+        ensures attends { Attends S.LockSpace space.new self.new }
+        ensures who { self.new.who ≡ self.old.who }
+        ensures unchanged { UnlessAcquired result (self.new ≡ self.old) }
+        ensures own { UnlessAcquired result (S.own space.new self.old.who ≡ S.own space.old self.old.who) }
+        ensures wait { self.new.wait ≡ None }
+    {
+        if let Some(ticket) = self.holdings.reusable(place, &request) {
+            return Ok(Tried::Acquired(ticket.id));
+        }
+        if self.holdings.reserve(place).is_err() {
+            return Err(ContextError::Space(SpaceError::OutOfMemory));
+        }
+        let ticket = self.holdings.sufficient(place, &request);
+        match try_gain(space, self.who, ticket, place, request.mode) {
+            Ok(Tried::Acquired(id)) => {
+                self.holdings.keep(request.kept(id, place));
+                Ok(Tried::Acquired(id))
+            }
+            Ok(Tried::WouldWait) => Ok(Tried::WouldWait),
+            Err(refusal) => Err(ContextError::Space(refusal)),
+        }
+    }
+}

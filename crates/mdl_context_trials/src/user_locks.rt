@@ -1,0 +1,186 @@
+//! User-level locks, and locks that aren't waited for.
+use crate::acts::{Act, Lock, Reply};
+use crate::rows::{BAD_MODE, NO_PLACE, NO_WAIT, NOT_HELD, Row, WAITS, first_wrong};
+use mdl_context::Resume;
+use mdl_key::{Duration, Mode};
+use mdl_space::Settled;
+
+const TRY: Act = Act::TryAcquire(Lock::User, Mode::X, Duration::Explicit);
+
+const GET: Act = Act::Acquire(Lock::User, Mode::X, Duration::Explicit);
+
+const LAST: Act = Act::Last(Lock::User);
+
+const WRITE_A: Act = Act::Acquire(Lock::A, Mode::X, Duration::Transaction);
+
+const READ_A: Act = Act::Acquire(Lock::A, Mode::SR, Duration::Transaction);
+
+const STILL_WAITING: Reply = Reply::Resumed(Resume::Waiting);
+
+const VICTIM: Reply = Reply::Resumed(Resume::Lost(Settled::Victim));
+
+const TRIED: &[Row] = &[
+    (1, TRY, Reply::Acquired(1)),
+    // Another session hasn't got it, doesn't wait and keeps nothing.
+    (2, TRY, Reply::WouldWait),
+    (2, Act::Resume, NO_WAIT),
+    (2, Act::Release(1), NOT_HELD),
+    // The session itself gets a clone.
+    (1, TRY, Reply::Acquired(2)),
+    (1, Act::Release(1), Reply::Done),
+    (2, TRY, Reply::WouldWait),
+    (1, Act::Release(2), Reply::Done),
+    (2, TRY, Reply::Acquired(1)),
+    // A ticket that can be used again is.
+    (2, READ_A, Reply::Acquired(2)),
+    (
+        2,
+        Act::TryAcquire(Lock::A, Mode::SR, Duration::Transaction),
+        Reply::Acquired(2),
+    ),
+    (
+        2,
+        Act::TryAcquire(Lock::A, Mode::SR, Duration::Statement),
+        Reply::Acquired(3),
+    ),
+    // Nobody was held up by those who didn't wait.
+    (2, Act::Release(1), Reply::Done),
+    (3, GET, Reply::Acquired(1)),
+];
+
+#[test]
+fn what_would_be_waited_for_is_not_had(rt: HostRuntime) {
+    assert_eq!(rt; first_wrong(rt.alloc(), TRIED), None);
+}
+
+const REFUSED: &[Row] = &[
+    (
+        1,
+        Act::TryAcquire(Lock::User, Mode::IX, Duration::Explicit),
+        BAD_MODE,
+    ),
+    (1, TRY, Reply::Acquired(1)),
+    (2, GET, Reply::MustWait(1)),
+    (
+        2,
+        Act::TryAcquire(Lock::A, Mode::SR, Duration::Transaction),
+        WAITS,
+    ),
+    (2, TRY, WAITS),
+    (2, Act::Resume, STILL_WAITING),
+    // There are four places.
+    (
+        1,
+        Act::TryAcquire(Lock::A, Mode::SR, Duration::Transaction),
+        Reply::Acquired(2),
+    ),
+    (
+        1,
+        Act::TryAcquire(Lock::Schema, Mode::IX, Duration::Transaction),
+        Reply::Acquired(3),
+    ),
+    (
+        1,
+        Act::TryAcquire(Lock::Global, Mode::IX, Duration::Transaction),
+        Reply::Acquired(4),
+    ),
+    (
+        1,
+        Act::TryAcquire(Lock::Commit, Mode::IX, Duration::Transaction),
+        NO_PLACE,
+    ),
+];
+
+#[test]
+fn a_try_is_refused_as_a_wish_is(rt: HostRuntime) {
+    assert_eq!(rt; first_wrong(rt.alloc(), REFUSED), None);
+}
+
+const GAINED_LAST: &[Row] = &[
+    (1, LAST, Reply::Last(None)),
+    (1, GET, Reply::Acquired(1)),
+    (1, LAST, Reply::Last(Some(1))),
+    (1, READ_A, Reply::Acquired(2)),
+    (1, GET, Reply::Acquired(3)),
+    (1, LAST, Reply::Last(Some(3))),
+    (1, Act::Last(Lock::A), Reply::Last(Some(2))),
+    // That another session holds one is nothing to it.
+    (2, LAST, Reply::Last(None)),
+    (2, TRY, Reply::WouldWait),
+    (2, LAST, Reply::Last(None)),
+    (1, Act::Release(3), Reply::Done),
+    (1, LAST, Reply::Last(Some(1))),
+    (1, Act::Release(1), Reply::Done),
+    (1, LAST, Reply::Last(None)),
+    (1, Act::Last(Lock::A), Reply::Last(Some(2))),
+];
+
+#[test]
+fn the_ticket_of_a_key_that_was_gained_last_is_found(rt: HostRuntime) {
+    assert_eq!(rt; first_wrong(rt.alloc(), GAINED_LAST), None);
+}
+
+const AWAITED: &[Row] = &[
+    (1, Act::AwaitsUserLock, Reply::AwaitsUserLock(false)),
+    (1, WRITE_A, Reply::Acquired(1)),
+    (1, GET, Reply::Acquired(2)),
+    (1, Act::AwaitsUserLock, Reply::AwaitsUserLock(false)),
+    (2, READ_A, Reply::MustWait(1)),
+    (3, GET, Reply::MustWait(1)),
+    (2, Act::AwaitsUserLock, Reply::AwaitsUserLock(false)),
+    (3, Act::AwaitsUserLock, Reply::AwaitsUserLock(true)),
+    (
+        3,
+        Act::GiveUp,
+        Reply::Resumed(Resume::Lost(Settled::Timeout)),
+    ),
+    (3, Act::AwaitsUserLock, Reply::AwaitsUserLock(false)),
+];
+
+#[test]
+fn a_wait_for_a_user_level_lock_is_told(rt: HostRuntime) {
+    assert_eq!(rt; first_wrong(rt.alloc(), AWAITED), None);
+}
+
+const LASTING: &[Row] = &[
+    (1, GET, Reply::Acquired(1)),
+    (
+        1,
+        Act::Acquire(Lock::A, Mode::SR, Duration::Explicit),
+        Reply::Acquired(2),
+    ),
+    (1, Act::MakeTransactional, Reply::Done),
+    (1, Act::Mark, Reply::Stands(0, 1)),
+    (1, Act::EndTransaction, Reply::Done),
+    (1, Act::Release(2), NOT_HELD),
+    (2, TRY, Reply::WouldWait),
+    (1, LAST, Reply::Last(Some(1))),
+    (1, Act::EndStatement, Reply::Done),
+    (1, Act::GoBack(0, 0), Reply::Done),
+    (1, Act::Release(1), Reply::Done),
+    (2, TRY, Reply::Acquired(1)),
+];
+
+#[test]
+fn user_level_locks_outlast_transactions(rt: HostRuntime) {
+    assert_eq!(rt; first_wrong(rt.alloc(), LASTING), None);
+}
+
+// The second session waits for a user-level lock, and the first closes the circle.
+#[test]
+fn a_wait_for_a_user_level_lock_weighs_between(rt: HostRuntime) {
+    for (act, first, second) in [
+        (READ_A, VICTIM, STILL_WAITING),
+        (WRITE_A, STILL_WAITING, VICTIM),
+    ] {
+        let rows = [
+            (1, GET, Reply::Acquired(1)),
+            (2, WRITE_A, Reply::Acquired(1)),
+            (2, GET, Reply::MustWait(1)),
+            (1, act, Reply::MustWait(1)),
+            (1, Act::Resume, first),
+            (2, Act::Resume, second),
+        ];
+        assert_eq!(rt; first_wrong(rt.alloc(), &rows), None);
+    }
+}

@@ -1,0 +1,165 @@
+//! Texts of JSON.
+ghost use Rattle.std.specs.Prelude.{◌≡◌, ◌++◌, codes, flat_map, OnOk};
+ghost use Rattle.std.specs.Str.{is_utf8};
+ghost use Rattle.mdl_key.specs.Modes.{mode_name};
+ghost use Rattle.mdl_view_text.specs.Json.{escape, json_byte, json_string, left_out_members, left_out_object, lock_member, number_member, text_member, ticket_members};
+ghost use Rattle.mdl_view_text.specs.Layouts.{listed};
+ghost use Rattle.mdl_view_text.specs.Names.{owner_of};
+
+use crate::layout::push_mark;
+use crate::names::{Names, hex_digit};
+use crate::text::{push, push_number};
+use mdl_book::Ticket;
+use mdl_key::Mode;
+use mdl_lock_rows::LeftOut;
+use std::alloc::AllocError;
+use std::str;
+
+/// Puts bytes last as a text of JSON.
+pub(crate) fn push_string(out: &mut Vec<u8>, bytes: &[u8]) -> Result<(), AllocError>
+    ensures { OnOk result (out.new.items ≡ out.old.items ++ json_string bytes.now) }
+{
+    push(out, b"\"")?;
+    push_bytes(out, is_text(bytes), bytes)?;
+    push(out, b"\"")
+}
+
+// Whether bytes are UTF-8.
+#[tactic(auto, using(crate::proofs::TextLemmas::is_text, crate::proofs::TextLemmas::is_no_text))]
+fn is_text(bytes: &[u8]) -> bool
+    ensures { result ≡ is_utf8 bytes.now }
+{
+    match str::from_utf8(bytes) {
+        Ok(text) => true,
+        Err(error) => false,
+    }
+}
+
+// What stands within the quotes.
+fn push_bytes(out: &mut Vec<u8>, is_text: bool, bytes: &[u8]) -> Result<(), AllocError>
+    ensures { OnOk result (out.new.items ≡ out.old.items ++ flat_map (json_byte is_text) bytes.now) }
+{
+    for byte in bytes {
+        push_byte(out, is_text, *byte)?;
+    }
+    Ok(())
+}
+
+// A byte within quotes.
+fn push_byte(out: &mut Vec<u8>, is_text: bool, byte: u8) -> Result<(), AllocError>
+    ensures { OnOk result (out.new.items ≡ out.old.items ++ json_byte is_text byte) }
+{
+    if byte == b'"' || byte == b'\\' {
+        push(out, b"\\")?;
+    } else if byte < 32 || byte == 127 || (!is_text && byte >= 128) {
+        return push_escaped(out, byte);
+    }
+    out.push(byte)?;
+    Ok(())
+}
+
+// A byte by its digits.
+fn push_escaped(out: &mut Vec<u8>, byte: u8) -> Result<(), AllocError>
+    ensures { OnOk result (out.new.items ≡ out.old.items ++ escape byte) }
+{
+    push(out, b"\\u00")?;
+    out.push(hex_digit(byte / 16))?;
+    out.push(hex_digit(byte % 16))?;
+    Ok(())
+}
+
+/// Puts a text last, behind what stands before it.
+pub(crate) fn push_text_member(
+    out: &mut Vec<u8>,
+    head: &[u8],
+    bytes: &[u8],
+) -> Result<(), AllocError>
+    ensures { OnOk result (out.new.items ≡ out.old.items ++ text_member head.now bytes.now) }
+{
+    push(out, head)?;
+    push_string(out, bytes)
+}
+
+/// Puts a number last, behind what stands before it.
+pub(crate) fn push_number_member(
+    out: &mut Vec<u8>,
+    head: &[u8],
+    number: u64,
+) -> Result<(), AllocError>
+    ensures { OnOk result (out.new.items ≡ out.old.items ++ number_member head.now number) }
+{
+    push(out, head)?;
+    push_number(out, number)
+}
+
+/// Puts a session last, behind what stands before it.
+pub(crate) fn push_session_member(
+    out: &mut Vec<u8>,
+    head: &[u8],
+    names: &Names,
+    session: u16,
+) -> Result<(), AllocError>
+    ensures { OnOk result (out.new.items ≡ out.old.items ++ number_member head.now (owner_of names.now session)) }
+{
+    push_number_member(out, head, names.session(session))
+}
+
+/// Puts a mode last, behind what stands before it.
+pub(crate) fn push_mode_member(out: &mut Vec<u8>, head: &[u8], mode: Mode) -> Result<(), AllocError>
+    ensures { OnOk result (out.new.items ≡ out.old.items ++ text_member head.now (mode_name mode)) }
+{
+    push_text_member(out, head, mode.as_str().as_bytes())
+}
+
+/// Puts the beginning of an object last: a ticket's session, and its mode.
+pub(crate) fn push_ticket_members(
+    out: &mut Vec<u8>,
+    names: &Names,
+    ticket: Ticket,
+) -> Result<(), AllocError>
+    ensures { OnOk result (out.new.items ≡ out.old.items ++ ticket_members names.now ticket) }
+{
+    push_session_member(out, b"{\"session\":", names, ticket.session)?;
+    push_mode_member(out, b",\"mode\":", ticket.mode)
+}
+
+/// Puts the name of a lock last, as a member.
+pub(crate) fn push_lock_member(
+    out: &mut Vec<u8>,
+    names: &Names,
+    place: usize,
+) -> Result<(), AllocError>
+    ensures { OnOk result (out.new.items ≡ out.old.items ++ lock_member names.now place) }
+{
+    push_text_member(out, b",\"lock\":", names.lock(place))
+}
+
+/// Puts the end of an answer last: the rows that are left out.
+pub(crate) fn push_left_out(out: &mut Vec<u8>, classes: &[LeftOut]) -> Result<(), AllocError>
+    ensures { OnOk result (out.new.items ≡ out.old.items ++ left_out_members classes.now) }
+{
+    push(out, b"],\"left_out\":[")?;
+    push_classes(out, classes)?;
+    push(out, b"]}\n")
+}
+
+// Each class of them.
+fn push_classes(out: &mut Vec<u8>, classes: &[LeftOut]) -> Result<(), AllocError>
+    ensures { OnOk result (out.new.items ≡ out.old.items ++ listed (codes ",") left_out_object 0 classes.now) }
+{
+    for (place, class) in classes.iter().enumerate() {
+        push_mark(out, b",", place)?;
+        push_class(out, class)?;
+    }
+    Ok(())
+}
+
+// A class of them.
+fn push_class(out: &mut Vec<u8>, left: &LeftOut) -> Result<(), AllocError>
+    ensures { OnOk result (out.new.items ≡ out.old.items ++ left_out_object 0 left.now) }
+{
+    push_text_member(out, b"{\"object_type\":", left.class.object_type())?;
+    push_text_member(out, b",\"lock_type\":", left.class.lock_type())?;
+    push_number_member(out, b",\"rows\":", left.count as u64)?;
+    push(out, b"}")
+}

@@ -1,0 +1,88 @@
+//! Marks between elements, and lines that end within a hundred columns.
+ghost use Rattle.std.specs.Prelude.{◌≡◌, ◌≤◌, ◌-◌, ◌++◌, length, get_or, OnOk};
+ghost use Rattle.mdl_view_text.specs.Layouts.{LinesFit, begin_of_character, cut, goes_on, line_of, line_with, mark_before, most_columns};
+
+use crate::text::push;
+use std::alloc::{AllocError, Global};
+
+// How many bytes a line has at most.
+const MOST_COLUMNS: usize = 100;
+
+/// Puts a mark last, unless the element of this place is the first one.
+pub(crate) fn push_mark(out: &mut Vec<u8>, mark: &[u8], place: usize) -> Result<(), AllocError>
+    ensures { OnOk result (out.new.items ≡ out.old.items ++ mark_before mark.now place) }
+{
+    if place == 0 {
+        return Ok(());
+    }
+    push(out, mark)
+}
+
+/// Puts a line last, of which so much is printed as there is room for.
+pub(crate) fn push_line(out: &mut Vec<u8>, text: &[u8]) -> Result<(), AllocError>
+    ensures { OnOk result (out.new.items ≡ out.old.items ++ line_of text.now) }
+{
+    push_cut(out, text, MOST_COLUMNS)?;
+    push(out, b"\n")
+}
+
+/// Puts a line last that has a name in it. Where there isn't room for all, the name is cut.
+pub(crate) fn push_line_with(
+    out: &mut Vec<u8>,
+    alloc: Global,
+    start: &[u8],
+    name: &[u8],
+    rest: &[u8],
+) -> Result<(), AllocError>
+    ensures { OnOk result (out.new.items ≡ out.old.items ++ line_with start.now name.now rest.now) }
+{
+    let room = MOST_COLUMNS
+        .saturating_sub(start.len())
+        .saturating_sub(rest.len());
+    let mut line = Vec::new(alloc);
+    push(&mut line, start)?;
+    push_cut(&mut line, name, room)?;
+    push(&mut line, rest)?;
+    push_line(out, &line)
+}
+
+// Puts a text last, as much of it as there is room for.
+fn push_cut(out: &mut Vec<u8>, text: &[u8], room: usize) -> Result<(), AllocError>
+    ensures { OnOk result (out.new.items ≡ out.old.items ++ cut room text.now) }
+{
+    if text.len() <= room {
+        return push(out, text);
+    }
+    let end = begin_of_character(text, room.saturating_sub(2));
+    push(out, &text[..end])?;
+    push(out, b"..")
+}
+
+// The last place up to this one where a character begins.
+fn begin_of_character(text: &[u8], most: usize) -> usize
+    ensures place { result ≡ begin_of_character text.now most }
+    ensures within { result ≤ most }
+{
+    for back in 0..most {
+        let place = most - back;
+        if !goes_on(text, place) {
+            return place;
+        }
+    }
+    0
+}
+
+// Whether the byte of this place goes on with a character that began before it.
+fn goes_on(text: &[u8], place: usize) -> bool
+    ensures { result ≡ goes_on (get_or text.now place 0) }
+{
+    match text.get(place) {
+        Some(byte) => *byte >= 128 && *byte < 192,
+        None => false,
+    }
+}
+
+/// No line is longer than a hundred columns.
+pub fn lines_fit()
+    ensures { LinesFit }
+{}

@@ -1,0 +1,129 @@
+//! What the program does: over the words of its command line, and the streams that it is given.
+ghost use Rattle.std.specs.Prelude.{◌≡◌, Result, IsOkUnless};
+ghost use Rattle.mdl_program.specs.Runs.{Writes, end_status};
+ghost use Rattle.mdlview.specs.CommandLine.{version_line};
+
+use crate::command_line::{Asked, Source, words_read};
+use mdl_lines::{Fault, LineError, read_all, report, write_all};
+use mdl_lock_rows::LockRowsError;
+use mdl_view_program::{Question, RowsFault, view_rows, view_script};
+use mdl_view_text::explanation;
+use std::alloc::{AllocError, Global};
+use std::convert::AsStr;
+use std::io::{Read, Write};
+
+// What `--version` prints.
+const VERSION_LINE: &[u8] = b"mdlview 0.5.0\n";
+
+// The status of a program that was given a refused line.
+const REFUSED: u8 = 1;
+
+// The status of a program whose command line was refused, or that was asked for help.
+const USAGE: u8 = 2;
+
+/// Does what the words of a command line ask for, and returns the status.
+pub fn run_words<S: AsStr, R: Read, W: Write, E: Write>(
+    alloc: Global,
+    words: &[S],
+    input: &mut R,
+    output: &mut W,
+    errors: &mut E,
+) -> u8 {
+    if asks_for_version(words) {
+        return print_version(output, errors);
+    }
+    match words_read(alloc, words) {
+        Ok(asked) => look(alloc, asked, input, output, errors),
+        Err(refusal) => {
+            let _ = write!(errors, "{refusal}");
+            USAGE
+        }
+    }
+}
+
+// Whether the words ask for the version: `--version` stands behind the program's name, and nothing else.
+fn asks_for_version<S: AsStr>(words: &[S]) -> bool {
+    match words {
+        [_, word] => word.as_str() == "--version",
+        _ => false,
+    }
+}
+
+// Prints the version, and returns the status.
+fn print_version<W: Write, E: Write>(output: &mut W, errors: &mut E) -> u8
+    ensures { (end : Result (Unit {0}) Fault) × IsOkUnless end Fault.Write
+        × Writes end (W.contents output.old) (W.contents output.new) version_line
+        × (result ≡ end_status end) }
+{
+    match write_all(output, VERSION_LINE) {
+        Ok(()) => 0,
+        Err(fault) => report(&fault, errors),
+    }
+}
+
+// Answers a question about the locks of rows or of a script, and returns the status.
+fn look<R: Read, W: Write, E: Write>(
+    alloc: Global,
+    asked: Asked,
+    input: &mut R,
+    output: &mut W,
+    errors: &mut E,
+) -> u8 {
+    match asked.source {
+        Source::Rows => match view_rows(alloc, asked.question, input, output) {
+            Ok(()) => 0,
+            Err(fault) => report_rows(&fault, errors),
+        },
+        Source::Script(last) => look_at_script(alloc, asked.question, last, input, output, errors),
+    }
+}
+
+// Reports why rows can't be looked at, and returns the status.
+fn report_rows<E: Write>(fault: &RowsFault, errors: &mut E) -> u8 {
+    match fault {
+        RowsFault::Fails(fault) => report(fault, errors),
+        RowsFault::Rows(LockRowsError::OutOfMemory) => report(&Fault::Memory, errors),
+        RowsFault::Rows(refusal) => {
+            let _ = writeln!(errors, "{refusal}");
+            REFUSED
+        }
+    }
+}
+
+// Answers a question about the locks that a script leaves, and returns the status.
+fn look_at_script<R: Read, W: Write, E: Write>(
+    alloc: Global,
+    question: Question,
+    last: u64,
+    input: &mut R,
+    output: &mut W,
+    errors: &mut E,
+) -> u8 {
+    let text = match read_all(alloc, input) {
+        Ok(text) => text,
+        Err(fault) => return report(&fault, errors),
+    };
+    let mut script = text.as_slice();
+    match view_script(alloc, question, last, &mut script, output) {
+        Ok(()) => 0,
+        Err(Fault::Refused(line, error)) => report_refused(alloc, &text, line, error, errors),
+        Err(fault) => report(&fault, errors),
+    }
+}
+
+// Reports which word of a script is refused, and why, and returns the status.
+fn report_refused<E: Write>(
+    alloc: Global,
+    text: &[u8],
+    line: u64,
+    error: LineError,
+    errors: &mut E,
+) -> u8 {
+    match explanation(alloc, text, line, error) {
+        Ok(told) => {
+            let _ = errors.write_all(&told);
+            REFUSED
+        }
+        Err(AllocError) => report(&Fault::Refused(line, error), errors),
+    }
+}
