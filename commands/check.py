@@ -57,7 +57,7 @@ MATRICES = ["matrix", "matrix --"]
 REFUSED = HERE / "refused"
 
 # For each shell the words that mdlsim can be given, to be completed.
-COMPLETIONS = sorted(HERE.glob("completions/*"))
+COMPLETIONS = sorted(HERE.glob("completions/*mdlsim*"))
 
 
 def run(program, words, script):

@@ -1,18 +1,21 @@
 """Gives mdlview words and scripts, and looks what it prints, and with which status it ends: the answers of examples/view, what each way to ask
-comes to, objects of JSON beside the tables, refused words and lines, rows of real servers, and streams that fail.
+comes to, objects of JSON beside the tables, timelines, refused words and lines, rows of real servers, completions, and streams that fail.
 
 Usage, at the top of the repository: python3 commands/check_view.py [PROGRAM]    the program that was built last, or another one
 """
 
 import json
 import pathlib
+import re
 import subprocess
 import sys
+from xml.etree import ElementTree
 
 PROGRAM = "crates/mdlview/out/mdlview"
 FOLDER = pathlib.Path(__file__).resolve().parent
 EXAMPLES = FOLDER.with_name("examples")
 SERVERS = FOLDER / "server_locks"
+COMPLETIONS = sorted(FOLDER.glob("completions/*mdlview*"))
 VERSION = FOLDER.with_name("VERSION").read_text().strip()
 
 WAITS = "1 CREATE TABLE t x\n1 BEGIN\n1 SELECT t\n2 DROP TABLE t\n"
@@ -218,6 +221,39 @@ def wrong_examples(program):
             yield wanted.name, found
 
 
+def wrong_pictures(program):
+    """Returns the pictures of examples that are drawn otherwise, NAME.svg beside the script NAME.replay, and scripts whose pictures lack something."""
+    for wanted in sorted(EXAMPLES.glob("*.svg")):
+        found = run(program, "timeline --script", wanted.with_suffix(".replay").read_text())
+        if found != (0, wanted.read_text(), ""):
+            yield wanted.name, found
+    for script in sorted(EXAMPLES.glob("*.replay")):
+        status, picture, reported = run(program, "timeline --script", script.read_text())
+        answers = script.with_suffix(".answers").read_text().splitlines()
+        if status or reported or drawn(picture) != (len(answers), sum(" WAIT " in it for it in answers)):
+            yield script.name, (status, picture, reported)
+
+
+def drawn(picture):
+    """Returns how many boxes and how many waits a picture has, beside those that explain the signs. It has to be XML."""
+    kinds = [it.get("class") for it in ElementTree.fromstring(picture).iter("{http://www.w3.org/2000/svg}rect")]
+    return sum(kinds.count(it) for it in ("done", "waiting", "failed", "refused")) - 1, kinds.count("bar") - 1
+
+
+def wrong_completions(program):
+    """Returns the files of completions that lack words, or have options that aren't listed, with these."""
+    helped = run(program, "help", "")[2]
+    commands = re.findall(r"^  ([a-z]+) ", helped.partition("Options:")[0], re.MULTILINE)
+    told = [helped, *(run(program, f"help {it}", "")[2] for it in commands if it != "help")]
+    options = {it for text in told for it in re.findall(r"^ .* --([a-z]+)", text, re.MULTILINE)} | {"version"}
+    for file in COMPLETIONS:
+        text = file.read_text()
+        completed = set(re.findall(r"(?:--|-l )([a-z]+)", text))
+        wrong = {it for it in commands if not re.search(rf"\b{it}\b", text)} | (options ^ completed)
+        if wrong:
+            yield f"completions, {file.name}", sorted(wrong)
+
+
 def wrong_devices(program):
     """Returns the streams that fail and for which the program ends otherwise."""
     with open("/dev/full", "w", encoding="ascii") as full:
@@ -239,6 +275,8 @@ def main(words):
         *wrong_lines(program),
         *wrong_servers(program),
         *wrong_examples(program),
+        *wrong_pictures(program),
+        *wrong_completions(program),
         *wrong_devices(program),
     ]
     for what, found in wrong:

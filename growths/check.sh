@@ -12,8 +12,8 @@ sh "$growths/../make/needs.sh" rt python3 awk || exit 1
 made=$(mktemp -d)
 trap 'rm -rf "$made"' EXIT
 
-# The number of the allocation that is refused. It has to be more than a run makes: some 3,170, those that read the word included.
-refused=3300
+# The number of the allocation that is refused. It has to be more than a run makes: some 3,340, those that read the word included.
+refused=3500
 
 # The same of mdlsim, where it plays the example alone.
 refused_on_threads=400

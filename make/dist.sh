@@ -102,7 +102,7 @@ d
 put_pages() {
     mkdir -p "$top/examples" "$top/docs" && cp docs/LANGUAGE.md docs/MYSQL.md docs/EMBEDDING.md "$top/docs" \
         && cp make/dist/check.sh CHANGELOG.md "$top" \
-        && cp examples/*.lock examples/*.replay examples/*.run examples/*.answers examples/README.md "$top/examples" \
+        && cp examples/*.lock examples/*.replay examples/*.run examples/*.answers examples/*.svg examples/README.md "$top/examples" \
         && cp -r examples/c examples/rust examples/python "$top/examples" && rm -rf "$top/examples/python/__pycache__" "$top/examples/rust/target"
 }
 

@@ -120,6 +120,61 @@ fn look<S: LockSpace>(alloc: Global, context: &Context<S>, act: Act) -> Option<R
     Some(reply)
 }
 
+// A wish for a lock.
+fn wish(key: &Key, mode: Mode, duration: Duration) -> Request<'_> {
+    Request {
+        key,
+        mode,
+        duration,
+    }
+}
+
+// Asks for a lock by its key, or gives it up by its key.
+fn ask<S: LockSpace>(space: &mut S, context: &mut Context<S>, key: &Key, act: Act) -> Option<Reply>
+    requires { Attends S.LockSpace space.old context.old }
+    ensures attends { Attends S.LockSpace space.new context.new }
+    ensures who { context.new.who ≡ context.old.who }
+    ensures others { LeavesOthers S.LockSpace context.old.who space.old space.new }
+{
+    match act {
+        Act::Acquire(_, mode, duration) => {
+            acquired(context.acquire(space, wish(key, mode, duration)))
+        }
+        Act::TryAcquire(_, mode, duration) => {
+            tried(context.try_acquire(space, wish(key, mode, duration)))
+        }
+        _ => Some(done(context.release_name(space, key))),
+    }
+}
+
+// Gives tickets up, or gives them a weaker mode or another duration.
+fn give_up<S: LockSpace>(
+    space: &mut S,
+    context: &mut Context<S>,
+    act: Act,
+) -> Result<(), ContextError>
+    requires { Attends S.LockSpace space.old context.old }
+    ensures attends { Attends S.LockSpace space.new context.new }
+    ensures who { context.new.who ≡ context.old.who }
+    ensures others { LeavesOthers S.LockSpace context.old.who space.old space.new }
+{
+    match act {
+        Act::Downgrade(id, mode) => context.downgrade(space, id, mode),
+        Act::Release(id) => context.release(space, id),
+        Act::GoBack(statement, transaction) => {
+            let mark = Mark {
+                statement,
+                transaction,
+            };
+            context.rollback_to(space, mark)
+        }
+        Act::EndStatement => context.end_statement(space),
+        Act::EndTransaction => context.end_transaction(space),
+        Act::MakeExplicit => context.make_explicit(),
+        _ => context.make_transactional(),
+    }
+}
+
 /// Does it, unless no memory is found.
 pub(crate) fn make<S: LockSpace>(
     alloc: Global,
@@ -132,47 +187,16 @@ pub(crate) fn make<S: LockSpace>(
     ensures who { context.new.who ≡ context.old.who }
     ensures others { LeavesOthers S.LockSpace context.old.who space.old space.new }
 {
-    let reply = match act {
-        Act::Acquire(lock, mode, duration) => {
+    match act {
+        Act::Last(_) | Act::AwaitsUserLock | Act::Mark => look(alloc, context, act),
+        Act::Acquire(lock, _, _) | Act::TryAcquire(lock, _, _) | Act::ReleaseName(lock) => {
             let key = lock.key(alloc).ok()?;
-            let request = Request {
-                key: &key,
-                mode,
-                duration,
-            };
-            return acquired(context.acquire(space, request));
+            ask(space, context, &key, act)
         }
-        Act::TryAcquire(lock, mode, duration) => {
-            let key = lock.key(alloc).ok()?;
-            let request = Request {
-                key: &key,
-                mode,
-                duration,
-            };
-            return tried(context.try_acquire(space, request));
-        }
-        Act::Last(_) | Act::AwaitsUserLock | Act::Mark => return look(alloc, context, act),
-        Act::ReleaseName(lock) => {
-            let key = lock.key(alloc).ok()?;
-            done(context.release_name(space, &key))
-        }
-        Act::Upgrade(id, mode) => return acquired(context.upgrade(space, id, mode)),
-        Act::Downgrade(id, mode) => done(context.downgrade(space, id, mode)),
-        Act::Release(id) => done(context.release(space, id)),
-        Act::GoBack(statement, transaction) => {
-            let mark = Mark {
-                statement,
-                transaction,
-            };
-            done(context.rollback_to(space, mark))
-        }
-        Act::EndStatement => done(context.end_statement(space)),
-        Act::EndTransaction => done(context.end_transaction(space)),
-        Act::MakeExplicit => done(context.make_explicit()),
-        Act::MakeTransactional => done(context.make_transactional()),
-        Act::Resume => return resumed(context.resume(space)),
-        Act::GiveUp => return resumed(context.give_up(space)),
-        Act::Kill(target, number) => Reply::Killed(space.kill(target, number)),
-    };
-    Some(reply)
+        Act::Upgrade(id, mode) => acquired(context.upgrade(space, id, mode)),
+        Act::Resume => resumed(context.resume(space)),
+        Act::GiveUp => resumed(context.give_up(space)),
+        Act::Kill(target, number) => Some(Reply::Killed(space.kill(target, number))),
+        _ => Some(done(give_up(space, context, act))),
+    }
 }

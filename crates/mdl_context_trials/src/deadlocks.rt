@@ -93,32 +93,34 @@ fn whoever_weighs_less_is_the_victim(rt: HostRuntime) {
     assert_eq!(rt; first_lost(rt.alloc(), LIGHTER), None);
 }
 
+// Where the first wrong row is, if one is, of two sessions whose wishes are weak: the first closes the circle, and the second
+// wishes for this lock.
+fn first_wrong_of_weak(alloc: Global, lock: Lock, first: Reply, second: Reply) -> Option<usize> {
+    let rows = [
+        (
+            1,
+            Act::Acquire(lock, Mode::S, Duration::Transaction),
+            Reply::Acquired(1),
+        ),
+        (2, LOCK_A, Reply::Acquired(1)),
+        (
+            2,
+            Act::Acquire(lock, Mode::IX, Duration::Transaction),
+            Reply::MustWait(1),
+        ),
+        (1, READ_A, Reply::MustWait(1)),
+        (1, Act::Resume, first),
+        (2, Act::Resume, second),
+    ];
+    first_wrong(alloc, &rows)
+}
+
+// The first is the victim only where the second wishes in GLOBAL.
 #[test]
 fn wishes_in_global_weigh_as_much_as_the_strong(rt: HostRuntime) {
-    // Two sessions whose wishes are weak: the first, which closes the circle, is the victim only where the second wishes in
-    // GLOBAL.
-    for (lock, first, second) in [
-        (Lock::Global, VICTIM, STILL_WAITING),
-        (Lock::Commit, STILL_WAITING, VICTIM),
-    ] {
-        let rows = [
-            (
-                1,
-                Act::Acquire(lock, Mode::S, Duration::Transaction),
-                Reply::Acquired(1),
-            ),
-            (2, LOCK_A, Reply::Acquired(1)),
-            (
-                2,
-                Act::Acquire(lock, Mode::IX, Duration::Transaction),
-                Reply::MustWait(1),
-            ),
-            (1, READ_A, Reply::MustWait(1)),
-            (1, Act::Resume, first),
-            (2, Act::Resume, second),
-        ];
-        assert_eq!(rt; first_wrong(rt.alloc(), &rows), None);
-    }
+    let of_global = first_wrong_of_weak(rt.alloc(), Lock::Global, VICTIM, STILL_WAITING);
+    let of_commit = first_wrong_of_weak(rt.alloc(), Lock::Commit, STILL_WAITING, VICTIM);
+    assert_eq!(rt; [of_global, of_commit], [None, None]);
 }
 
 const THREE: &[Row] = &[

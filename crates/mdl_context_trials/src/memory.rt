@@ -323,43 +323,90 @@ const TRIES: &[(Act, Reply)] = &[
     (Act::Mark, Reply::Stands(1, 1)),
 ];
 
+// Whether tries outlive it, with another session in the way.
+fn tries_outlive(
+    alloc: Global,
+    space: &mut CoreSpace,
+    context: &mut Context<CoreSpace>,
+    key: &Key,
+) -> bool
+    requires attends { Attends core_space space.old context.old }
+    requires who { context.old.who ≡ 2 }
+{
+    stand_in_the_way(space, context, key) && all_outlive(alloc, space, context, TRIES)
+}
+
 #[test]
 fn tries_outlive_want_of_memory(rt: HostRuntime) -> Result<(), Fail> {
-    let alloc = rt.alloc();
-    let (mut space, mut context) = start(alloc, 4)?;
-    let key = key_of(alloc, Lock::B)?;
-    assert!(rt; stand_in_the_way(&mut space, &context, &key));
-    assert!(rt; all_outlive(alloc, &mut space, &mut context, TRIES));
+    let key = key_of(rt.alloc(), Lock::B)?;
+    let (mut space, mut context) = start(rt.alloc(), 4)?;
+    assert!(rt; tries_outlive(rt.alloc(), &mut space, &mut context, &key));
     Ok(())
+}
+
+// Whether upgrades outlive it, first with another session in the way, and then without.
+fn upgrades_outlive(
+    alloc: Global,
+    space: &mut CoreSpace,
+    context: &mut Context<CoreSpace>,
+    key: &Key,
+) -> bool
+    requires attends { Attends core_space space.old context.old }
+    requires who { context.old.who ≡ 2 }
+{
+    let share = Act::Acquire(Lock::B, Mode::SU, Duration::Transaction);
+    outlives(alloc, space, context, share, Reply::Acquired(1))
+        && stand_in_the_way(space, context, key)
+        && all_outlive(alloc, space, context, UPGRADES)
+        && get_out_of_the_way(space, context)
+        && all_outlive(alloc, space, context, MERGED)
 }
 
 #[test]
 fn upgrades_outlive_want_of_memory(rt: HostRuntime) -> Result<(), Fail> {
-    let alloc = rt.alloc();
-    let (mut space, mut context) = start(alloc, 4)?;
-    let key = key_of(alloc, Lock::B)?;
-    let share = Act::Acquire(Lock::B, Mode::SU, Duration::Transaction);
-    assert!(rt; outlives(alloc, &mut space, &mut context, share, Reply::Acquired(1)));
-    assert!(rt; stand_in_the_way(&mut space, &context, &key));
-    assert!(rt; all_outlive(alloc, &mut space, &mut context, UPGRADES));
-    assert!(rt; get_out_of_the_way(&mut space, &context));
-    assert!(rt; all_outlive(alloc, &mut space, &mut context, MERGED));
+    let key = key_of(rt.alloc(), Lock::B)?;
+    let (mut space, mut context) = start(rt.alloc(), 4)?;
+    assert!(rt; upgrades_outlive(rt.alloc(), &mut space, &mut context, &key));
     Ok(())
+}
+
+// Whether waits outlive it that are given up, killed and granted.
+fn waits_outlive(
+    alloc: Global,
+    space: &mut CoreSpace,
+    context: &mut Context<CoreSpace>,
+    key: &Key,
+) -> bool
+    requires attends { Attends core_space space.old context.old }
+    requires who { context.old.who ≡ 2 }
+{
+    stand_in_the_way(space, context, key)
+        && all_outlive(alloc, space, context, WAITS)
+        && kill_the_wait(space, context, WHO)
+        && all_outlive(alloc, space, context, LAST_WAIT)
+        && get_out_of_the_way(space, context)
+        && all_outlive(alloc, space, context, ENDS)
+}
+
+// Whether tickets that are gained at once outlive it, and then waits do.
+fn gains_and_waits_outlive(
+    alloc: Global,
+    space: &mut CoreSpace,
+    context: &mut Context<CoreSpace>,
+    key: &Key,
+) -> bool
+    requires attends { Attends core_space space.old context.old }
+    requires who { context.old.who ≡ 2 }
+{
+    all_outlive(alloc, space, context, GAINS)
+        && clones(alloc, space, context, 40)
+        && waits_outlive(alloc, space, context, key)
 }
 
 #[test]
 fn outlives_want_of_memory(rt: HostRuntime) -> Result<(), Fail> {
-    let alloc = rt.alloc();
-    let (mut space, mut context) = start(alloc, 4)?;
-    let key = key_of(alloc, Lock::B)?;
-    assert!(rt; all_outlive(alloc, &mut space, &mut context, GAINS));
-    assert!(rt; clones(alloc, &mut space, &mut context, 40));
-    // Waits that are given up, killed and granted.
-    assert!(rt; stand_in_the_way(&mut space, &context, &key));
-    assert!(rt; all_outlive(alloc, &mut space, &mut context, WAITS));
-    assert!(rt; kill_the_wait(&mut space, &context, WHO));
-    assert!(rt; all_outlive(alloc, &mut space, &mut context, LAST_WAIT));
-    assert!(rt; get_out_of_the_way(&mut space, &context));
-    assert!(rt; all_outlive(alloc, &mut space, &mut context, ENDS));
+    let key = key_of(rt.alloc(), Lock::B)?;
+    let (mut space, mut context) = start(rt.alloc(), 4)?;
+    assert!(rt; gains_and_waits_outlive(rt.alloc(), &mut space, &mut context, &key));
     Ok(())
 }

@@ -104,16 +104,19 @@ fn the_statements_tickets_go_first(rt: HostRuntime) {
     }
 }
 
+// A duration, and how its tickets go.
+const ONE_DURATION: &[(Duration, Act)] = &[
+    (Duration::Statement, Act::EndStatement),
+    (Duration::Transaction, Act::EndTransaction),
+    (Duration::Transaction, Act::GoBack(0, 0)),
+    (Duration::Transaction, Act::ReleaseName(Lock::A)),
+    (Duration::Explicit, Act::ReleaseName(Lock::A)),
+];
+
 #[test]
 fn tickets_of_a_duration_go_as_they_came(rt: HostRuntime) {
-    for (duration, act) in [
-        (Duration::Statement, Act::EndStatement),
-        (Duration::Transaction, Act::EndTransaction),
-        (Duration::Transaction, Act::GoBack(0, 0)),
-        (Duration::Transaction, Act::ReleaseName(Lock::A)),
-        (Duration::Explicit, Act::ReleaseName(Lock::A)),
-    ] {
-        let turn = ((Mode::S, duration), (Mode::X, duration), act);
+    for (duration, act) in ONE_DURATION {
+        let turn = ((Mode::S, *duration), (Mode::X, *duration), *act);
         assert_eq!(rt; first_wrong_turn(rt.alloc(), turn, false), None);
     }
 }

@@ -4,6 +4,7 @@ use crate::rows::{BAD_MODE, NO_PLACE, NO_WAIT, NOT_HELD, Row, WAITS, first_wrong
 use mdl_context::Resume;
 use mdl_key::{Duration, Mode};
 use mdl_space::Settled;
+use std::alloc::Global;
 
 const TRY: Act = Act::TryAcquire(Lock::User, Mode::X, Duration::Explicit);
 
@@ -166,21 +167,22 @@ fn user_level_locks_outlast_transactions(rt: HostRuntime) {
     assert_eq!(rt; first_wrong(rt.alloc(), LASTING), None);
 }
 
-// The second session waits for a user-level lock, and the first closes the circle.
+// Where the first wrong row is, if one is, where the second session waits for a user-level lock, and the first closes the circle.
+fn first_wrong_beside(alloc: Global, act: Act, first: Reply, second: Reply) -> Option<usize> {
+    let rows = [
+        (1, GET, Reply::Acquired(1)),
+        (2, WRITE_A, Reply::Acquired(1)),
+        (2, GET, Reply::MustWait(1)),
+        (1, act, Reply::MustWait(1)),
+        (1, Act::Resume, first),
+        (2, Act::Resume, second),
+    ];
+    first_wrong(alloc, &rows)
+}
+
 #[test]
 fn a_wait_for_a_user_level_lock_weighs_between(rt: HostRuntime) {
-    for (act, first, second) in [
-        (READ_A, VICTIM, STILL_WAITING),
-        (WRITE_A, STILL_WAITING, VICTIM),
-    ] {
-        let rows = [
-            (1, GET, Reply::Acquired(1)),
-            (2, WRITE_A, Reply::Acquired(1)),
-            (2, GET, Reply::MustWait(1)),
-            (1, act, Reply::MustWait(1)),
-            (1, Act::Resume, first),
-            (2, Act::Resume, second),
-        ];
-        assert_eq!(rt; first_wrong(rt.alloc(), &rows), None);
-    }
+    let beside_a_read = first_wrong_beside(rt.alloc(), READ_A, VICTIM, STILL_WAITING);
+    let beside_a_write = first_wrong_beside(rt.alloc(), WRITE_A, STILL_WAITING, VICTIM);
+    assert_eq!(rt; [beside_a_read, beside_a_write], [None, None]);
 }

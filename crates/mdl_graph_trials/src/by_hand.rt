@@ -1,10 +1,9 @@
 //! Deadlocks of a few locks, and of many that are plain to see.
-use mdl_book::{Book, Sessions, Ticket};
+use mdl_book::{Book, BookError, Sessions, Ticket};
 use mdl_graph::{Cycle, Member, WaitGraph, victim};
 use mdl_key::{Key, Mode};
 use mdl_word::Word;
 use std::alloc::Global;
-use std::test::Fail;
 
 const NO_FAST: Word = Word(0);
 
@@ -87,7 +86,7 @@ const CASES: &[Case] = &[
 ];
 
 // Puts a ticket into a book.
-fn put(book: &mut Book, at: At) -> Result<(), Fail> {
+fn put(book: &mut Book, at: At) -> Result<(), BookError> {
     match at {
         At::Holds(session, mode) => {
             let ticket = Ticket {
@@ -95,7 +94,7 @@ fn put(book: &mut Book, at: At) -> Result<(), Fail> {
                 number: 1,
                 mode,
             };
-            book.grant(ticket, NO_FAST)?;
+            book.grant(ticket, NO_FAST)
         }
         At::Waits(session, mode) => {
             let ticket = Ticket {
@@ -103,33 +102,43 @@ fn put(book: &mut Book, at: At) -> Result<(), Fail> {
                 number: 2,
                 mode,
             };
-            book.enqueue(ticket)?;
+            book.enqueue(ticket)
         }
     }
-    Ok(())
 }
 
-// Adds a table at which these stand.
-fn add_table(graph: &mut WaitGraph, alloc: Global, rows: &[At]) -> Result<(), Fail> {
-    let mut book = Book::new(alloc, Key::table(alloc, "test", "t")?);
+fn put_all(book: &mut Book, rows: &[At]) -> Result<(), BookError> {
     for row in rows {
-        put(&mut book, *row)?;
+        put(book, *row)?;
     }
-    graph.add(&book)?;
     Ok(())
 }
 
-// The graph of some tables.
-fn graph_of(alloc: Global, tables: &[&[At]], settled: u16) -> Result<WaitGraph, Fail> {
+// Adds a table at which these stand: whether there was memory for it.
+fn add_table(graph: &mut WaitGraph, alloc: Global, rows: &[At]) -> bool {
+    let Ok(key) = Key::table(alloc, "test", "t") else {
+        return false;
+    };
+    let mut book = Book::new(alloc, key);
+    put_all(&mut book, rows).is_ok() && graph.add(&book).is_ok()
+}
+
+fn add_tables(graph: &mut WaitGraph, alloc: Global, tables: &[&[At]]) -> bool {
+    for rows in tables {
+        if !add_table(graph, alloc, rows) {
+            return false;
+        }
+    }
+    true
+}
+
+// A graph of nothing yet, in which this session is settled, if it is one.
+fn empty_graph(alloc: Global, settled: u16) -> WaitGraph {
     let mut sessions = Sessions::new();
     if 0 < settled && settled <= MOST {
         sessions.insert(settled);
     }
-    let mut graph = WaitGraph::new(alloc, sessions);
-    for rows in tables {
-        add_table(&mut graph, alloc, rows)?;
-    }
-    Ok(graph)
+    WaitGraph::new(alloc, sessions)
 }
 
 // Whether the cycle that is found has these sessions, and this victim.
@@ -149,27 +158,34 @@ fn are_of(members: &[Member], sessions: &[u16]) -> bool {
 }
 
 // Whether this is found.
-fn finds(graph: &WaitGraph, (from, sessions, falls): Found) -> Result<bool, Fail> {
-    Ok(is_cycle_of(&graph.find_cycle(from)?, sessions, falls))
+fn finds(graph: &WaitGraph, (from, sessions, falls): Found) -> bool {
+    match graph.find_cycle(from) {
+        Ok(found) => is_cycle_of(&found, sessions, falls),
+        Err(_) => false,
+    }
 }
 
 // Whether each of these is found.
-fn finds_all(graph: &WaitGraph, rows: &[Found]) -> Result<bool, Fail> {
+fn finds_all(graph: &WaitGraph, rows: &[Found]) -> bool {
     for row in rows {
-        if !finds(graph, *row)? {
-            return Ok(false);
+        if !finds(graph, *row) {
+            return false;
         }
     }
-    Ok(true)
+    true
+}
+
+// Whether all that a case names is found.
+fn goes_so(alloc: Global, (tables, settled, found): Case) -> bool {
+    let mut graph = empty_graph(alloc, settled);
+    add_tables(&mut graph, alloc, tables) && finds_all(&graph, found)
 }
 
 #[test]
-fn finds_deadlocks_of_a_few(rt: HostRuntime) -> Result<(), Fail> {
-    for (number, (tables, settled, found)) in CASES.iter().enumerate() {
-        let graph = graph_of(rt.alloc(), tables, *settled)?;
-        assert!(rt; finds_all(&graph, found)?, "case {number}");
+fn finds_deadlocks_of_a_few(rt: HostRuntime) {
+    for (number, case) in CASES.iter().enumerate() {
+        assert!(rt; goes_so(rt.alloc(), *case), "case {number}");
     }
-    Ok(())
 }
 
 // Who waits for whom in pairs, each at a table of its own, and what is found.
@@ -199,40 +215,39 @@ const TIED: &[Tied] = &[
     (&[(1, 2), (2, 3)], (1, &[], 0)),
 ];
 
-// The graph of these pairs.
-fn tied_graph(alloc: Global, ties: &[(u16, u16)]) -> Result<WaitGraph, Fail> {
-    let mut graph = WaitGraph::new(alloc, Sessions::new());
+fn add_ties(graph: &mut WaitGraph, alloc: Global, ties: &[(u16, u16)]) -> bool {
     for (waiter, other) in ties {
-        add_table(
-            &mut graph,
-            alloc,
-            &[At::Holds(*other, Mode::X), At::Waits(*waiter, Mode::X)],
-        )?;
+        let rows = [At::Holds(*other, Mode::X), At::Waits(*waiter, Mode::X)];
+        if !add_table(graph, alloc, &rows) {
+            return false;
+        }
     }
-    Ok(graph)
+    true
+}
+
+// Whether this is found in the graph of some pairs.
+fn finds_tied(alloc: Global, (ties, found): Tied) -> bool {
+    let mut graph = empty_graph(alloc, 0);
+    add_ties(&mut graph, alloc, ties) && finds(&graph, found)
 }
 
 #[test]
-fn finds_the_shortest_and_of_those_the_first(rt: HostRuntime) -> Result<(), Fail> {
-    for (number, (ties, found)) in TIED.iter().enumerate() {
-        let graph = tied_graph(rt.alloc(), ties)?;
-        assert!(rt; finds(&graph, *found)?, "case {number}");
+fn finds_the_shortest_and_of_those_the_first(rt: HostRuntime) {
+    for (number, tied) in TIED.iter().enumerate() {
+        assert!(rt; finds_tied(rt.alloc(), *tied), "case {number}");
     }
-    Ok(())
 }
 
 // Adds tables at each of which one session waits for the next, and the last for the first.
-fn ring(alloc: Global) -> Result<WaitGraph, Fail> {
-    let mut graph = WaitGraph::new(alloc, Sessions::new());
+fn add_ring(graph: &mut WaitGraph, alloc: Global) -> bool {
     for session in 1..=MOST {
         let next = session % MOST + 1;
-        add_table(
-            &mut graph,
-            alloc,
-            &[At::Holds(next, Mode::SR), At::Waits(session, Mode::X)],
-        )?;
+        let rows = [At::Holds(next, Mode::SR), At::Waits(session, Mode::X)];
+        if !add_table(graph, alloc, &rows) {
+            return false;
+        }
     }
-    Ok(graph)
+    true
 }
 
 // Whether members follow one another from this one on, and the first stands behind the last.
@@ -247,36 +262,52 @@ fn are_in_turn(members: &[Member], from: u16) -> bool {
     members.len() == usize::from(MOST)
 }
 
-#[test]
-fn goes_round_a_ring(rt: HostRuntime) -> Result<(), Fail> {
-    let graph = ring(rt.alloc())?;
-    for from in [1, 65, MOST] {
-        let found = graph.find_cycle(from)?;
-        assert!(rt;
-            found.is_some_and(|cycle| are_in_turn(cycle.members(), from) && victim(&cycle) == MOST),
-            "from {from}"
-        );
+// Whether the ring is found from a session on.
+fn finds_ring(graph: &WaitGraph, from: u16) -> bool {
+    match graph.find_cycle(from) {
+        Ok(Some(cycle)) => are_in_turn(cycle.members(), from) && victim(&cycle) == MOST,
+        _ => false,
     }
-    Ok(())
+}
+
+#[test]
+fn goes_round_a_ring(rt: HostRuntime) {
+    let mut graph = empty_graph(rt.alloc(), 0);
+    assert!(rt; add_ring(&mut graph, rt.alloc()));
+    assert!(rt; finds_ring(&graph, 1) && finds_ring(&graph, 65) && finds_ring(&graph, MOST));
 }
 
 // The sessions of a crowd.
 const CROWD: u16 = 1024;
 
-// Tables at each of which all sessions wait for all others.
-fn crowd(alloc: Global) -> Result<WaitGraph, Fail> {
-    let mut graph = WaitGraph::new(alloc, Sessions::new());
-    for table in ["t", "u", "v"] {
-        let mut book = Book::new(alloc, Key::table(alloc, "test", table)?);
-        for session in 1..=CROWD {
-            put(&mut book, At::Holds(session, Mode::SR))?;
-        }
-        for session in 1..=CROWD {
-            put(&mut book, At::Waits(session, Mode::X))?;
-        }
-        graph.add(&book)?;
+// Puts all sessions of a crowd into a book, each of which holds the lock.
+fn put_holders(book: &mut Book) -> Result<(), BookError> {
+    for session in 1..=CROWD {
+        put(book, At::Holds(session, Mode::SR))?;
     }
-    Ok(graph)
+    Ok(())
+}
+
+// And each of which waits for it.
+fn put_waiters(book: &mut Book) -> Result<(), BookError> {
+    for session in 1..=CROWD {
+        put(book, At::Waits(session, Mode::X))?;
+    }
+    Ok(())
+}
+
+// Adds a table at which all sessions wait for all others: whether there was memory for it.
+fn add_crowd(graph: &mut WaitGraph, alloc: Global, table: &str) -> bool {
+    let Ok(key) = Key::table(alloc, "test", table) else {
+        return false;
+    };
+    let mut book = Book::new(alloc, key);
+    put_holders(&mut book).is_ok() && put_waiters(&mut book).is_ok() && graph.add(&book).is_ok()
+}
+
+// Adds three such tables.
+fn add_crowds(graph: &mut WaitGraph, alloc: Global) -> bool {
+    add_crowd(graph, alloc, "t") && add_crowd(graph, alloc, "u") && add_crowd(graph, alloc, "v")
 }
 
 const IN_A_CROWD: &[Found] = &[
@@ -288,7 +319,8 @@ const IN_A_CROWD: &[Found] = &[
 ];
 
 #[test]
-fn finds_a_way_through_a_crowd(rt: HostRuntime) -> Result<(), Fail> {
-    assert!(rt; finds_all(&crowd(rt.alloc())?, IN_A_CROWD)?);
-    Ok(())
+fn finds_a_way_through_a_crowd(rt: HostRuntime) {
+    let mut graph = empty_graph(rt.alloc(), 0);
+    assert!(rt; add_crowds(&mut graph, rt.alloc()));
+    assert!(rt; finds_all(&graph, IN_A_CROWD));
 }

@@ -2,11 +2,10 @@
 ghost use Rattle.std.specs.Prelude.{◌<◌};
 
 use crate::plain::plain_cycle;
-use mdl_book::{Book, Sessions, Ticket};
+use mdl_book::{Book, BookError, Sessions, Ticket};
 use mdl_graph::{Cycle, Member, WaitGraph, victim};
-use mdl_key::{Key, Kind, Mode, conflicts_granted, conflicts_waiting, weight};
+use mdl_key::{Key, KeyError, Kind, Mode, conflicts_granted, conflicts_waiting, weight};
 use std::alloc::{AllocError, Global};
-use std::test::Fail;
 
 const SESSIONS: u16 = 6;
 
@@ -51,40 +50,77 @@ fn draw_mode(chance: &mut Chance, kind: Kind) -> Mode {
     }
 }
 
-// One session in so many holds the lock, and one waits. Whether granted tickets clash makes no difference here.
-fn draw_book(alloc: Global, chance: &mut Chance, key: Key, many: u16) -> Result<Book, Fail>
+// A session's ticket: one session in so many holds the lock, and one waits. Whether granted tickets clash makes no difference
+// here.
+fn draw_ticket(
+    book: &mut Book,
+    chance: &mut Chance,
+    session: u16,
+    many: u16,
+) -> Result<(), BookError>
     requires { 0 < many }
 {
-    let kind = key.kind();
-    let mut book = Book::new(alloc, key);
-    for session in 1..SESSIONS + 1 {
-        let mode = draw_mode(chance, kind);
-        let number = u64::from(chance.draw(many));
-        if number < 2 {
-            book.enqueue(Ticket {
-                session,
-                mode,
-                number,
-            })?;
-        }
-        if number == 0 {
-            book.admit(session, number)?;
-        }
+    let mode = draw_mode(chance, book.key().kind());
+    let number = u64::from(chance.draw(many));
+    if number < 2 {
+        book.enqueue(Ticket {
+            session,
+            mode,
+            number,
+        })?;
     }
-    Ok(book)
+    if number == 0 {
+        book.admit(session, number)?;
+    }
+    Ok(())
 }
 
-// Locks of several kinds.
-fn draw_books(alloc: Global, chance: &mut Chance, many: u16) -> Result<Vec<Book>, Fail>
+fn draw_tickets(book: &mut Book, chance: &mut Chance, many: u16) -> Result<(), BookError>
     requires { 0 < many }
 {
-    let mut books = Vec::new(alloc);
-    books.push(draw_book(alloc, chance, Key::global(alloc), many)?)?;
-    books.push(draw_book(alloc, chance, Key::schema(alloc, "test")?, many)?)?;
-    for table in ["s", "t", "u", "v", "w", "x", "y", "z"] {
-        books.push(draw_book(alloc, chance, Key::table(alloc, "test", table)?, many)?)?;
+    for session in 1..SESSIONS + 1 {
+        draw_ticket(book, chance, session, many)?;
     }
-    Ok(books)
+    Ok(())
+}
+
+// Adds the book of a lock: whether there was memory for it.
+fn add_book(
+    books: &mut Vec<Book>,
+    alloc: Global,
+    chance: &mut Chance,
+    key: Result<Key, KeyError>,
+    many: u16,
+) -> bool
+    requires { 0 < many }
+{
+    let Ok(key) = key else {
+        return false;
+    };
+    let mut book = Book::new(alloc, key);
+    draw_tickets(&mut book, chance, many).is_ok() && books.push(book).is_ok()
+}
+
+const TABLES: &[&str] = &["s", "t", "u", "v", "w", "x", "y", "z"];
+
+fn add_tables(books: &mut Vec<Book>, alloc: Global, chance: &mut Chance, many: u16) -> bool
+    requires { 0 < many }
+{
+    for table in TABLES {
+        if !add_book(books, alloc, chance, Key::table(alloc, "test", table), many) {
+            return false;
+        }
+    }
+    true
+}
+
+// Adds the books of locks of several kinds.
+fn add_books(books: &mut Vec<Book>, alloc: Global, chance: &mut Chance, many: u16) -> bool
+    requires { 0 < many }
+{
+    add_book(books, alloc, chance, Ok(Key::global(alloc)), many)
+        && add_book(books, alloc, chance, Key::schema(alloc, "test"), many)
+        && add_tables(books, alloc, chance, many)
 }
 
 // The sessions of some bits.
@@ -217,24 +253,45 @@ fn length_found(
     Ok(Some(found.map_or(0, |cycle| cycle.members().len())))
 }
 
+// Counts the lengths of what both find, from each session on: whether they find the same.
+fn count_lengths(alloc: Global, books: &[Book], settled: u16, lengths: &mut [u32; 7]) -> bool {
+    for from in 1..SESSIONS + 1 {
+        match length_found(alloc, books, settled, from) {
+            Ok(Some(length)) if length <= 6 => {
+                lengths[length] = lengths[length].saturating_add(1);
+            }
+            _ => return false,
+        }
+    }
+    true
+}
+
+// The same of books that are drawn by lot.
+fn count_drawn(alloc: Global, chance: &mut Chance, many: u16, lengths: &mut [u32; 7]) -> bool
+    requires { 0 < many }
+{
+    let mut books = Vec::new(alloc);
+    if !add_books(&mut books, alloc, chance, many) {
+        return false;
+    }
+    let settled = chance.draw(128) & chance.draw(128) & chance.draw(128);
+    count_lengths(alloc, &books, settled, lengths)
+}
+
 #[test]
-fn finds_what_every_path_finds(rt: HostRuntime) -> Result<(), Fail> {
+fn finds_what_every_path_finds(rt: HostRuntime) {
     let mut chance = Chance(20_261_122);
     let mut lengths = [0_u32; 7];
     for round in 0..300_u16 {
-        let books = draw_books(rt.alloc(), &mut chance, 3 + round % 6)?;
-        let settled = chance.draw(128) & chance.draw(128) & chance.draw(128);
-        for from in 1..SESSIONS + 1 {
-            match length_found(rt.alloc(), &books, settled, from)? {
-                Some(length) if length <= 6 => lengths[length] = lengths[length].saturating_add(1),
-                _ => assert!(rt; false, "round {round}, session {from}"),
-            }
-        }
+        let many = 3 + round % 6;
+        assert!(rt;
+            count_drawn(rt.alloc(), &mut chance, many, &mut lengths),
+            "round {round}"
+        );
     }
     let [none, _, two, three, four, _, _] = lengths;
     assert!(rt;
         none > 1_000 && two > 100 && three > 50 && four > 5,
         "{lengths:?}"
     );
-    Ok(())
 }

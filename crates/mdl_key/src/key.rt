@@ -205,7 +205,7 @@ impl Ord for Key {
     }
 }
 
-/// A key is hashed by the bytes of its names alone: only the two keys without a name are hashed alike.
+/// A key is hashed by the bytes of its names alone: the two keys without a name are hashed alike, and a schema and a user-level lock of one name.
 impl Hash for Key {
     ghost hash_input = { λ key. fed.str key.schema ++ fed.str key.table };
 

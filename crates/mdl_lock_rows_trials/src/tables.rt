@@ -1,6 +1,8 @@
 //! Texts, and what is read of them or refuses them.
 use crate::written::read;
 use std::alloc::{AllocError, Global};
+use std::fmt;
+use std::process::Abort;
 use std::test::Fail;
 
 // The header of short rows.
@@ -98,48 +100,67 @@ fn text_of(
     end: &(&[u8], bool),
 ) -> Result<Vec<u8>, AllocError> {
     let mut text = Vec::new(alloc);
-    let mut is_first = true;
     if !header.is_empty() {
-        add_line(&mut text, header)?;
-        is_first = false;
+        add_line(&mut text, header, end.0)?;
     }
     for row in rows.split(" / ") {
-        if !is_first {
-            text.extend_from_slice(end.0)?;
-        }
-        is_first = false;
-        add_line(&mut text, row)?;
+        add_line(&mut text, row, end.0)?;
     }
-    if end.1 {
-        text.extend_from_slice(end.0)?;
+    if !end.1 {
+        text.truncate(text.len().saturating_sub(end.0.len()));
     }
     Ok(text)
 }
 
-fn add_line(text: &mut Vec<u8>, line: &str) -> Result<(), AllocError> {
+// Adds a line, and its end.
+fn add_line(text: &mut Vec<u8>, line: &str, end: &[u8]) -> Result<(), AllocError> {
     for byte in line.as_bytes() {
-        text.push(match *byte {
-            b' ' => b'\t',
-            b'~' => b' ',
-            byte => byte,
-        })?;
+        text.push(byte_of(*byte))?;
+    }
+    text.extend_from_slice(end)?;
+    Ok(())
+}
+
+fn byte_of(byte: u8) -> u8 {
+    match byte {
+        b' ' => b'\t',
+        b'~' => b' ',
+        byte => byte,
+    }
+}
+
+// What is read of lines behind a header, with these ends.
+fn told(
+    alloc: Global,
+    header: &str,
+    lines: &str,
+    end: &(&[u8], bool),
+) -> Result<String, fmt::Error> {
+    let Ok(text) = text_of(alloc, header, lines, end) else {
+        return Err(fmt::Error);
+    };
+    let mut told = String::new(alloc);
+    read(alloc, &text, &mut told)?;
+    Ok(told)
+}
+
+// A row must be read as it says, however its lines end.
+fn must_hold(rt: &impl Abort, alloc: Global, header: &str, row: &str) -> Result<(), fmt::Error> {
+    let (lines, wanted) = row.split_once(" => ").unwrap_or(("", ""));
+    for end in &ENDS {
+        let told = told(alloc, header, lines, end)?;
+        assert_eq!(rt; told.as_str(), wanted, "{row}");
     }
     Ok(())
 }
 
 #[test]
 fn rows_are_read(rt: HostRuntime) -> Result<(), Fail> {
-    let alloc = rt.alloc();
-    for (header, rows) in [(HEADER, ROWS), ("", HEADERS)] {
-        for row in rows.lines() {
-            let (lines, wanted) = row.split_once(" => ").unwrap_or(("", ""));
-            for end in &ENDS {
-                let text = text_of(alloc, header, lines, end)?;
-                let mut told = String::new(alloc);
-                read(alloc, &text, &mut told)?;
-                assert_eq!(rt; told.as_str(), wanted, "{row}");
-            }
-        }
+    for row in ROWS.lines() {
+        must_hold(&rt, rt.alloc(), HEADER, row)?;
+    }
+    for row in HEADERS.lines() {
+        must_hold(&rt, rt.alloc(), "", row)?;
     }
     Ok(())
 }

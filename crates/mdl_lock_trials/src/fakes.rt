@@ -33,6 +33,18 @@ pub struct Habit {
     slip: Option<(usize, Slip)>,
 }
 
+/// It moves 7 bytes at a call, and never slips.
+pub const SOUND: Habit = Habit {
+    step: 7,
+    slip: None,
+};
+
+/// The same, but it breaks off after 9 bytes.
+pub const GONE: Habit = Habit {
+    step: 7,
+    slip: Some((9, Slip::Fails(ErrorKind::BrokenPipe))),
+};
+
 impl Habit {
     /// It moves at most so many bytes at a call.
     pub fn steps_of(step: usize) -> Habit {

@@ -43,41 +43,53 @@ fn print<W: Write>(alloc: Global, writer: &mut W) -> Result<(), Fault> {
     matrix_run(alloc, writer)
 }
 
+// Whether a writer of this habit is given the matrices.
+fn is_served(alloc: Global, habit: Habit) -> bool {
+    let mut target = Target::new(alloc, habit);
+    print(alloc, &mut target) == Ok(()) && target.taken.as_slice() == matrices()
+}
+
 #[test]
 fn slow_and_interrupted_writers_serve(rt: HostRuntime) {
     for step in [1, 7, usize::MAX] {
         let habit = Habit::steps_of(step).slips_after(40, Slip::Fails(ErrorKind::Interrupted));
-        let mut target = Target::new(rt.alloc(), habit);
-        assert_eq!(rt; print(rt.alloc(), &mut target), Ok(()));
-        assert_eq!(rt; target.taken.as_slice(), matrices());
+        assert!(rt; is_served(rt.alloc(), habit), "in steps of {step}");
     }
+}
+
+// Whether a writer that slips so after so many bytes is left with just these bytes.
+fn is_cut_off(alloc: Global, bytes: usize, slip: Slip) -> bool {
+    let mut target = Target::new(alloc, Habit::steps_of(100).slips_after(bytes, slip));
+    print(alloc, &mut target) == Err(Fault::Write)
+        && target.taken.len() == bytes
+        && matrices().starts_with(&target.taken)
 }
 
 #[test]
 fn a_write_that_fails_leaves_a_beginning(rt: HostRuntime) {
+    let broken = Slip::Fails(ErrorKind::BrokenPipe);
     for bytes in 0..matrices().len() {
-        for slip in [Slip::Fails(ErrorKind::BrokenPipe), Slip::MovesNothing] {
-            let habit = Habit::steps_of(100).slips_after(bytes, slip);
-            let mut target = Target::new(rt.alloc(), habit);
-            assert_eq!(rt; print(rt.alloc(), &mut target), Err(Fault::Write));
-            assert_eq!(rt; target.taken.len(), bytes);
-            assert!(rt; matrices().starts_with(&target.taken));
-        }
+        assert!(rt;
+            is_cut_off(rt.alloc(), bytes, broken)
+                && is_cut_off(rt.alloc(), bytes, Slip::MovesNothing),
+            "after {bytes}"
+        );
     }
+}
+
+// How printing into this room ends, in which all bytes are 0.
+fn print_into(alloc: Global, room: &mut [u8]) -> Result<(), Fault> {
+    let mut writer = room;
+    print(alloc, &mut writer)
 }
 
 // Where an allocation is refused, this sees to it that memory is what is told, and that nothing is written.
 #[test]
 fn lack_of_memory_is_told(rt: HostRuntime) {
     let mut room = [0u8; 800];
-    let mut writer = room.as_mut_slice();
-    let written = match print(rt.alloc(), &mut writer) {
-        Ok(()) => matrices().len(),
-        Err(fault) => {
-            assert_eq!(rt; fault, Fault::Memory);
-            0
-        }
-    };
+    let ended = print_into(rt.alloc(), &mut room);
+    assert!(rt; ended == Ok(()) || ended == Err(Fault::Memory));
+    let written = if ended.is_ok() { matrices().len() } else { 0 };
     assert_eq!(rt; room.get(..written), matrices().get(..written));
     assert_eq!(rt; room.get(written), Some(&0));
 }

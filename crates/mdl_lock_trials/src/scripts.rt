@@ -5,6 +5,7 @@ use mdl_lines::{Fault, LineError};
 use mdl_lock::lock_run;
 use std::alloc::{AllocError, Global};
 use std::io::{ErrorKind, Read, Write};
+use std::process::Abort;
 use std::test::Fail;
 
 mod plain;
@@ -36,16 +37,18 @@ fn drive<R: Read, W: Write>(
 }
 
 // How a script of a lock of this kind ends, and what is written.
-fn ran_as(alloc: Global, kind: Kind, script: &[u8]) -> (Result<(), Fault>, Vec<u8>) {
+fn ran(alloc: Global, kind: Kind, script: &[u8]) -> (Result<(), Fault>, Vec<u8>) {
     let mut reader = script;
     let mut written = Vec::new(alloc);
     let result = drive(alloc, kind, &mut reader, &mut written);
     (result, written)
 }
 
-// The same of an object lock.
-fn ran(alloc: Global, script: &[u8]) -> (Result<(), Fault>, Vec<u8>) {
-    ran_as(alloc, Kind::Object, script)
+// A script of an object lock must be answered so.
+fn must_answer(rt: &impl Abort, alloc: Global, script: &[u8], answers: &[u8]) {
+    let (result, written) = ran(alloc, Kind::Object, script);
+    assert_eq!(rt; result, Ok(()));
+    assert_eq!(rt; written.as_slice(), answers);
 }
 
 // Scripts and what is answered to them, or why one is refused. A row is of a scoped lock where it begins with `*`.
@@ -112,86 +115,133 @@ S 1 => line 1: BadSession
 * 1 SNW => line 1: BadWord
 * 1 SNRW => line 1: BadWord";
 
+// What is answered to a script of a lock of this kind, or why it is refused.
+fn told(alloc: Global, kind: Kind, script: &[u8]) -> Result<String, Fail> {
+    let (result, written) = ran(alloc, kind, script);
+    match result {
+        Ok(()) => Ok(String::from_utf8(written)?),
+        Err(fault) => Ok(format!(in alloc; "{fault}\n")?),
+    }
+}
+
+// The kind of a row's lock, and the row behind its sign.
+fn kind_of(row: &str) -> (Kind, &str) {
+    match row.strip_prefix("* ") {
+        Some(row) => (Kind::Scoped, row),
+        None => (Kind::Object, row),
+    }
+}
+
+// Whether the lines of a script are answered by these lines.
+fn is_answered(alloc: Global, kind: Kind, script: &str, answers: &str) -> Result<bool, Fail> {
+    let script = lines(alloc, script)?;
+    let answers = lines(alloc, answers)?;
+    Ok(told(alloc, kind, script.as_bytes())?.as_str() == answers.as_str())
+}
+
 #[test]
 fn rows_are_answered(rt: HostRuntime) -> Result<(), Fail> {
     for row in ROWS.split('\n') {
-        let (kind, row) = match row.strip_prefix("* ") {
-            Some(row) => (Kind::Scoped, row),
-            None => (Kind::Object, row),
-        };
-        let Some((script, answers)) = row.split_once(" => ") else {
+        let (kind, texts) = kind_of(row);
+        let Some((script, answers)) = texts.split_once(" => ") else {
             return Err(Fail::from("a row has no answers"));
         };
-        let (result, written) = ran_as(rt.alloc(), kind, lines(rt.alloc(), script)?.as_bytes());
-        let told = match result {
-            Ok(()) => String::from_utf8(written)?,
-            Err(fault) => format!(in rt.alloc(); "{fault}\n")?,
-        };
-        assert_eq!(rt;
-            told.as_str(),
-            lines(rt.alloc(), answers)?.as_str(),
-            "{row}"
-        );
+        assert!(rt; is_answered(rt.alloc(), kind, script, answers)?, "{row}");
     }
     Ok(())
 }
 
+const BOTH: &[u8] = b"1 GRANTED SR\n2 WAITS X\n";
+
 #[test]
 fn line_ends_make_no_difference(rt: HostRuntime) {
-    let written = b"1 GRANTED SR\n2 WAITS X\n".as_slice();
-    for (script, answers) in [
-        (b"".as_slice(), b"".as_slice()),
-        (b"1 SR\n2 X\n", written),
-        (b"1 SR\n2 X", written),
-        (b"1 SR\r\n2 X\r\n", written),
-        (b"\n1 SR\r\n\r\n2 X\r", written),
-    ] {
-        let (result, taken) = ran(rt.alloc(), script);
-        assert_eq!(rt; result, Ok(()), "{script:?}");
-        assert_eq!(rt; taken.as_slice(), answers, "{script:?}");
-    }
+    must_answer(&rt, rt.alloc(), b"", b"");
+    must_answer(&rt, rt.alloc(), b"1 SR\n2 X\n", BOTH);
+    must_answer(&rt, rt.alloc(), b"1 SR\n2 X", BOTH);
+    must_answer(&rt, rt.alloc(), b"1 SR\r\n2 X\r\n", BOTH);
+    must_answer(&rt, rt.alloc(), b"\n1 SR\r\n\r\n2 X\r", BOTH);
+}
+
+// A line, a second one of 4,096 bytes, and this end.
+fn measured(alloc: Global, end: &[u8]) -> Result<Vec<u8>, AllocError> {
+    let mut script = Vec::from_slice(alloc, b"1 SR\n#")?;
+    script.resize(4101, b'#')?;
+    script.extend_from_slice(end)?;
+    Ok(script)
+}
+
+// How a script of an object lock ends, and how many bytes are written.
+fn end_of(alloc: Global, script: &[u8]) -> (Result<(), Fault>, usize) {
+    let (result, written) = ran(alloc, Kind::Object, script);
+    (result, written.len())
 }
 
 // A line has at most 4,096 bytes, without its line feed and a carriage return before it, and a refused script writes nothing.
 #[test]
 fn lines_are_measured(rt: HostRuntime) -> Result<(), Fail> {
-    let mut script = Vec::from_slice(rt.alloc(), b"1 SR\n#")?;
-    script.resize(4101, b'#')?;
-    script.extend_from_slice(b"\r\n")?;
-    let (result, written) = ran(rt.alloc(), script.as_slice());
-    assert_eq!(rt; result, Ok(()));
-    assert_eq!(rt; written.as_slice(), b"1 GRANTED SR\n".as_slice());
-    script.truncate(4101);
-    script.push(0x80)?;
-    let (result, written) = ran(rt.alloc(), script.as_slice());
-    assert_eq!(rt; result, Err(Fault::Refused(2, LineError::LongLine)));
-    assert!(rt; written.is_empty());
+    let longest = measured(rt.alloc(), b"\r\n")?;
+    must_answer(&rt, rt.alloc(), &longest, b"1 GRANTED SR\n");
+    let longer = measured(rt.alloc(), b"\x80")?;
+    assert_eq!(rt;
+        end_of(rt.alloc(), &longer),
+        (Err(Fault::Refused(2, LineError::LongLine)), 0)
+    );
     Ok(())
+}
+
+// A script, and what is to be answered to it.
+#[derive(Drop)]
+struct Talk {
+    script: Vec<u8>,
+    answers: Vec<u8>,
+}
+
+impl Talk {
+    fn new(alloc: Global) -> Talk {
+        Talk {
+            script: Vec::new(alloc),
+            answers: Vec::new(alloc),
+        }
+    }
+
+    // Adds lines, so many times.
+    fn add(&mut self, script: &[u8], answers: &[u8], times: u32) -> Result<(), AllocError> {
+        for _ in 0..times {
+            self.script.extend_from_slice(script)?;
+            self.answers.extend_from_slice(answers)?;
+        }
+        Ok(())
+    }
+
+    // It must go so.
+    fn must_go(&self, rt: &impl Abort, alloc: Global) {
+        must_answer(rt, alloc, &self.script, &self.answers);
+    }
+
+    // It must go so, with one line more again and again.
+    fn must_go_on(mut self, rt: &impl Abort, alloc: Global) -> Result<(), AllocError> {
+        for _ in 0..120 {
+            self.must_go(rt, alloc);
+            self.add(b"1 TIMEOUT\n", b"1 REFUSED\n", 1)?;
+        }
+        Ok(())
+    }
 }
 
 // A writer that takes all is never said to have refused something, however long the output is: a line of 13 bytes or none,
 // and then lines of 10 and of 11 bytes.
 #[test]
 fn outputs_of_each_length_are_written(rt: HostRuntime) -> Result<(), Fail> {
-    for (first, answer) in [
-        (b"".as_slice(), b"".as_slice()),
-        (b"1 SR\n", b"1 GRANTED SR\n"),
-    ] {
-        for longer in 0..10 {
-            let mut script = Vec::from_slice(rt.alloc(), first)?;
-            let mut answers = Vec::from_slice(rt.alloc(), answer)?;
-            for _ in 0..longer {
-                script.extend_from_slice(b"10 TIMEOUT\n")?;
-                answers.extend_from_slice(b"10 REFUSED\n")?;
-            }
-            for _ in 0..120 {
-                let (result, written) = ran(rt.alloc(), script.as_slice());
-                assert_eq!(rt; result, Ok(()));
-                assert_eq!(rt; written.as_slice(), answers.as_slice());
-                script.extend_from_slice(b"1 TIMEOUT\n")?;
-                answers.extend_from_slice(b"1 REFUSED\n")?;
-            }
-        }
+    for longer in 0..10 {
+        let mut talk = Talk::new(rt.alloc());
+        talk.add(b"10 TIMEOUT\n", b"10 REFUSED\n", longer)?;
+        talk.must_go_on(&rt, rt.alloc())?;
+    }
+    for longer in 0..10 {
+        let mut talk = Talk::new(rt.alloc());
+        talk.add(b"1 SR\n", b"1 GRANTED SR\n", 1)?;
+        talk.add(b"10 TIMEOUT\n", b"10 REFUSED\n", longer)?;
+        talk.must_go_on(&rt, rt.alloc())?;
     }
     Ok(())
 }
@@ -199,16 +249,17 @@ fn outputs_of_each_length_are_written(rt: HostRuntime) -> Result<(), Fail> {
 // However many lines there are, all are answered.
 #[test]
 fn long_scripts_are_answered(rt: HostRuntime) -> Result<(), Fail> {
-    let mut script = String::new(rt.alloc());
-    let mut answers = String::new(rt.alloc());
-    for _ in 0..5_000 {
-        script.push_str("1 TIMEOUT\n")?;
-        answers.push_str("1 REFUSED\n")?;
-    }
-    let (result, written) = ran(rt.alloc(), script.as_bytes());
-    assert_eq!(rt; result, Ok(()));
-    assert!(rt; written.as_slice() == answers.as_bytes());
+    let mut talk = Talk::new(rt.alloc());
+    talk.add(b"1 TIMEOUT\n", b"1 REFUSED\n", 5_000)?;
+    talk.must_go(&rt, rt.alloc());
     Ok(())
+}
+
+// Lines of a script or of its answers: one, or one for each session but the first, with these words behind it.
+#[derive(Clone, Copy)]
+enum Said {
+    Once(&'static str),
+    ByOthers(&'static str),
 }
 
 // A line for each session but the first, with these words behind it.
@@ -219,97 +270,137 @@ fn add_others(text: &mut String, words: &str) -> Result<(), AllocError> {
     Ok(())
 }
 
+fn text_of(alloc: Global, all: &[Said]) -> Result<String, AllocError> {
+    let mut text = String::new(alloc);
+    for said in all {
+        match said {
+            Said::Once(line) => writeln!(text, "{line}")?,
+            Said::ByOthers(words) => add_others(&mut text, words)?,
+        }
+    }
+    Ok(text)
+}
+
+const ASKED_BY_ALL: &[Said] = &[
+    Said::Once("1 X"),
+    Said::ByOthers("SR"),
+    Said::Once("1 RELEASE"),
+    Said::Once("1 SR"),
+    Said::Once("1 RELEASE"),
+    Said::ByOthers("RELEASE"),
+    Said::Once("1 X"),
+    Said::ByOthers("X"),
+    Said::ByOthers("TIMEOUT"),
+];
+
+const ANSWERED_TO_ALL: &[Said] = &[
+    Said::Once("1 GRANTED X"),
+    Said::ByOthers("WAITS SR"),
+    Said::Once("1 RELEASED X"),
+    Said::ByOthers("GRANTED SR"),
+    Said::Once("1 GRANTED SR"),
+    Said::Once("1 RELEASED SR"),
+    Said::ByOthers("RELEASED SR"),
+    Said::Once("1 GRANTED X"),
+    Said::ByOthers("WAITS X"),
+    Said::ByOthers("TIMEDOUT X"),
+];
+
 // All sessions at once: 63 wait for the first, are granted, and so is the first beside them; 63 wait again, and give up.
 #[test]
 fn all_sessions_find_room(rt: HostRuntime) -> Result<(), Fail> {
-    let mut script = String::from_str(rt.alloc(), "1 X\n")?;
-    let mut answers = String::from_str(rt.alloc(), "1 GRANTED X\n")?;
-    add_others(&mut script, "SR")?;
-    add_others(&mut answers, "WAITS SR")?;
-    script.push_str("1 RELEASE\n")?;
-    answers.push_str("1 RELEASED X\n")?;
-    add_others(&mut answers, "GRANTED SR")?;
-    script.push_str("1 SR\n1 RELEASE\n")?;
-    answers.push_str("1 GRANTED SR\n1 RELEASED SR\n")?;
-    add_others(&mut script, "RELEASE")?;
-    add_others(&mut answers, "RELEASED SR")?;
-    script.push_str("1 X\n")?;
-    answers.push_str("1 GRANTED X\n")?;
-    add_others(&mut script, "X")?;
-    add_others(&mut answers, "WAITS X")?;
-    add_others(&mut script, "TIMEOUT")?;
-    add_others(&mut answers, "TIMEDOUT X")?;
-    let (result, written) = ran(rt.alloc(), script.as_bytes());
-    assert_eq!(rt; result, Ok(()));
-    assert_eq!(rt; written.as_slice(), answers.as_bytes());
+    let script = text_of(rt.alloc(), ASKED_BY_ALL)?;
+    let answers = text_of(rt.alloc(), ANSWERED_TO_ALL)?;
+    must_answer(&rt, rt.alloc(), script.as_bytes(), answers.as_bytes());
     Ok(())
+}
+
+// How a script ends whose reader fails so after so many bytes, and how many bytes are written.
+fn end_of_failed(
+    alloc: Global,
+    script: &str,
+    bytes: usize,
+    kind: ErrorKind,
+) -> (Result<(), Fault>, usize) {
+    let habit = Habit::steps_of(7).slips_after(bytes, Slip::Fails(kind));
+    let mut source = Source::new(script.as_bytes(), habit);
+    let mut written = Vec::new(alloc);
+    let result = drive(alloc, Kind::Object, &mut source, &mut written);
+    (result, written.len())
 }
 
 #[test]
 fn a_read_that_fails_is_told(rt: HostRuntime) -> Result<(), Fail> {
     let script = lines(rt.alloc(), SCRIPT)?;
-    for (kind, fault) in [
-        (ErrorKind::ConnectionReset, Fault::Read),
-        (ErrorKind::OutOfMemory, Fault::Memory),
-    ] {
-        for bytes in 0..=script.len() {
-            let habit = Habit::steps_of(7).slips_after(bytes, Slip::Fails(kind));
-            let mut written = Vec::new(rt.alloc());
-            let result = drive(
-                rt.alloc(),
-                Kind::Object,
-                &mut Source::new(script.as_bytes(), habit),
-                &mut written,
-            );
-            assert_eq!(rt; result, Err(fault), "after {bytes}");
-            assert!(rt; written.is_empty(), "after {bytes}");
-        }
+    for bytes in 0..=script.len() {
+        let end = end_of_failed(rt.alloc(), &script, bytes, ErrorKind::ConnectionReset);
+        assert!(rt; end == (Err(Fault::Read), 0), "after {bytes}");
+        let end = end_of_failed(rt.alloc(), &script, bytes, ErrorKind::OutOfMemory);
+        assert!(rt;
+            end == (Err(Fault::Memory), 0),
+            "out of memory after {bytes}"
+        );
     }
     Ok(())
+}
+
+// The script must be answered by devices of these habits.
+fn must_serve(rt: &impl Abort, alloc: Global, texts: (&str, &str), input: Habit, output: Habit) {
+    let (script, answers) = texts;
+    let mut source = Source::new(script.as_bytes(), input);
+    let mut target = Target::new(alloc, output);
+    let result = drive(alloc, Kind::Object, &mut source, &mut target);
+    assert_eq!(rt; result, Ok(()), "{input:?} {output:?}");
+    assert_eq!(rt; target.taken.as_slice(), answers.as_bytes());
+}
+
+// The same where one of them, the other or both are slow, and are interrupted after so many bytes.
+fn must_serve_slowly(
+    rt: &impl Abort,
+    alloc: Global,
+    texts: (&str, &str),
+    bytes: usize,
+    step: usize,
+) {
+    let whole = Habit::steps_of(usize::MAX);
+    let slow = Habit::steps_of(step).slips_after(bytes, Slip::Fails(ErrorKind::Interrupted));
+    must_serve(rt, alloc, texts, slow, whole);
+    must_serve(rt, alloc, texts, whole, slow);
+    must_serve(rt, alloc, texts, slow, slow);
 }
 
 #[test]
 fn slow_and_interrupted_devices_serve(rt: HostRuntime) -> Result<(), Fail> {
     let script = lines(rt.alloc(), SCRIPT)?;
     let answers = lines(rt.alloc(), ANSWERS)?;
-    let whole = Habit::steps_of(usize::MAX);
     for bytes in [0, 1, 30, script.len()] {
-        for step in [1, usize::MAX] {
-            let slip = Slip::Fails(ErrorKind::Interrupted);
-            let slow = Habit::steps_of(step).slips_after(bytes, slip);
-            for (input, output) in [(slow, whole), (whole, slow), (slow, slow)] {
-                let mut target = Target::new(rt.alloc(), output);
-                let result = drive(
-                    rt.alloc(),
-                    Kind::Object,
-                    &mut Source::new(script.as_bytes(), input),
-                    &mut target,
-                );
-                assert_eq!(rt; result, Ok(()), "{input:?} {output:?}");
-                assert_eq!(rt; target.taken.as_slice(), answers.as_bytes());
-            }
-        }
+        must_serve_slowly(&rt, rt.alloc(), (&script, &answers), bytes, 1);
+        must_serve_slowly(&rt, rt.alloc(), (&script, &answers), bytes, usize::MAX);
     }
     Ok(())
 }
 
+// Whether a writer that slips so after so many bytes of the answers is left with just these bytes.
+fn is_cut_off(alloc: Global, script: &str, answers: &str, bytes: usize, slip: Slip) -> bool {
+    let mut reader = script.as_bytes();
+    let mut target = Target::new(alloc, Habit::steps_of(7).slips_after(bytes, slip));
+    let result = drive(alloc, Kind::Object, &mut reader, &mut target);
+    result == Err(Fault::Write)
+        && target.taken.len() == bytes
+        && answers.as_bytes().starts_with(&target.taken)
+}
+
 #[test]
 fn a_write_that_fails_leaves_a_beginning(rt: HostRuntime) -> Result<(), Fail> {
+    let broken = Slip::Fails(ErrorKind::BrokenPipe);
     let script = lines(rt.alloc(), SCRIPT)?;
     let answers = lines(rt.alloc(), ANSWERS)?;
     for bytes in 0..answers.len() {
-        for slip in [Slip::Fails(ErrorKind::BrokenPipe), Slip::MovesNothing] {
-            let mut target = Target::new(rt.alloc(), Habit::steps_of(7).slips_after(bytes, slip));
-            let result = drive(
-                rt.alloc(),
-                Kind::Object,
-                &mut script.as_bytes(),
-                &mut target,
-            );
-            assert_eq!(rt; result, Err(Fault::Write), "after {bytes}");
-            assert_eq!(rt; target.taken.len(), bytes);
-            assert!(rt; answers.as_bytes().starts_with(&target.taken));
-        }
+        assert!(rt;
+            is_cut_off(rt.alloc(), &script, &answers, bytes, broken)
+                && is_cut_off(rt.alloc(), &script, &answers, bytes, Slip::MovesNothing),
+            "after {bytes}"
+        );
     }
     Ok(())
 }

@@ -2,7 +2,7 @@
 ghost use Rattle.std.specs.Prelude.{IfOk};
 ghost use Rattle.mdl_program.specs.Runs.{IsRun};
 
-use crate::fakes::{Habit, Slip, Source, Target};
+use crate::fakes::{GONE, Habit, SOUND, Slip, Source, Target};
 use crate::statuses::Words::{Lock, Matrix, OnThreads, Refused, Replay, Scoped};
 use mdl_key::Kind;
 use mdl_program::{Run, lack_words, run_asked};
@@ -74,99 +74,170 @@ fn refused_after(alloc: Global, lines: usize) -> Result<String, AllocError> {
     Ok(script)
 }
 
+const DEVICE: &str = "fault: device\n";
+
+const STATEMENTS: &str = "1 BEGIN\n2 COMMIT\n";
+
+// Words, a script, the habits of the devices that it is read from and answered to, and then the status, what is written, and
+// what is told.
+type Row = (
+    Words,
+    &'static str,
+    Habit,
+    Habit,
+    u8,
+    &'static str,
+    &'static str,
+);
+
+const OF_LOCKS: &[Row] = &[
+    (
+        Lock,
+        "1 SR\n2 X\n",
+        SOUND,
+        SOUND,
+        0,
+        "1 GRANTED SR\n2 WAITS X\n",
+        "",
+    ),
+    (
+        Scoped,
+        "1 IX\n2 S\n",
+        SOUND,
+        SOUND,
+        0,
+        "1 GRANTED IX\n2 WAITS S\n",
+        "",
+    ),
+    (
+        Lock,
+        "1 SR\n2 x\n",
+        SOUND,
+        SOUND,
+        1,
+        "",
+        "line 2: BadWord\n",
+    ),
+    (Lock, "x", SOUND, GONE, 1, "", "line 1: BadSession\n"),
+    (Scoped, "1 SR\n", SOUND, SOUND, 1, "", "line 1: BadWord\n"),
+    (Lock, "1 SR\n2 X\n", SOUND, GONE, 3, "1 GRANTED", DEVICE),
+    (Lock, "1 SR\n2 X\n", GONE, SOUND, 3, "", DEVICE),
+    (Matrix, "", SOUND, GONE, 3, "SCOPED GR", DEVICE),
+];
+
+const OF_REPLAYS: &[Row] = &[
+    (Replay, STATEMENTS, SOUND, SOUND, 0, "1 1 OK\n2 2 OK\n", ""),
+    (Replay, "", SOUND, SOUND, 0, "", ""),
+    (
+        Replay,
+        "1 BEGIN\n1 SR\n",
+        SOUND,
+        GONE,
+        1,
+        "",
+        "line 2: BadWord\n",
+    ),
+    (Replay, STATEMENTS, SOUND, GONE, 3, "1 1 OK\n2 ", DEVICE),
+    (Replay, STATEMENTS, GONE, SOUND, 3, "", DEVICE),
+];
+
+const ON_THREADS: &[Row] = &[
+    (
+        OnThreads,
+        STATEMENTS,
+        SOUND,
+        SOUND,
+        0,
+        "1 1 OK\n2 2 OK\nFINAL SCHEMA test@1\n",
+        "",
+    ),
+    (
+        OnThreads,
+        "1 BEGIN\n1 SR\n",
+        SOUND,
+        GONE,
+        1,
+        "",
+        "line 2: BadWord\n",
+    ),
+    (OnThreads, STATEMENTS, SOUND, GONE, 3, "1 1 OK\n2 ", DEVICE),
+    (OnThreads, STATEMENTS, GONE, SOUND, 3, "", DEVICE),
+];
+
+// Whether a run goes as its row says.
+fn goes_so<T: Threads + Wait + Sync>(rt: &T, alloc: Global, row: &Row) -> bool {
+    let (words, script, input, output, status, answers, line) = *row;
+    let mut source = Source::new(script.as_bytes(), input);
+    let seen = look_at(rt, alloc, words, &mut source, output);
+    seen.status == status
+        && seen.written.as_slice() == answers.as_bytes()
+        && seen.told.as_slice() == line.as_bytes()
+}
+
+// The place of the first row that a run doesn't go by.
+fn first_wrong<T: Threads + Wait + Sync>(rt: &T, alloc: Global, rows: &[Row]) -> Option<usize> {
+    for (place, row) in rows.iter().enumerate() {
+        if !goes_so(rt, alloc, row) {
+            return Some(place);
+        }
+    }
+    None
+}
+
 #[test]
 fn statuses_and_lines_of_a_run(rt: HostRuntime) {
-    let gone = Habit::steps_of(7).slips_after(9, Slip::Fails(ErrorKind::BrokenPipe));
-    let sound = Habit::steps_of(7);
-    let device = "fault: device\n";
-    let both = "1 GRANTED SR\n2 WAITS X\n";
-    let statements = "1 BEGIN\n2 COMMIT\n";
-    let told = "1 1 OK\n2 2 OK\n";
-    let ended = "1 1 OK\n2 2 OK\nFINAL SCHEMA test@1\n";
-    for (words, script, input, output, status, answers, line) in [
-        (Lock, "1 SR\n2 X\n", sound, sound, 0, both, ""),
-        (
-            Scoped,
-            "1 IX\n2 S\n",
-            sound,
-            sound,
-            0,
-            "1 GRANTED IX\n2 WAITS S\n",
-            "",
-        ),
-        (
-            Lock,
-            "1 SR\n2 x\n",
-            sound,
-            sound,
-            1,
-            "",
-            "line 2: BadWord\n",
-        ),
-        (Lock, "x", sound, gone, 1, "", "line 1: BadSession\n"),
-        (Scoped, "1 SR\n", sound, sound, 1, "", "line 1: BadWord\n"),
-        (Lock, "1 SR\n2 X\n", sound, gone, 3, "1 GRANTED", device),
-        (Lock, "1 SR\n2 X\n", gone, sound, 3, "", device),
-        (Matrix, "", sound, gone, 3, "SCOPED GR", device),
-        (Replay, statements, sound, sound, 0, told, ""),
-        (Replay, "", sound, sound, 0, "", ""),
-        (
-            Replay,
-            "1 BEGIN\n1 SR\n",
-            sound,
-            gone,
-            1,
-            "",
-            "line 2: BadWord\n",
-        ),
-        (Replay, statements, sound, gone, 3, "1 1 OK\n2 ", device),
-        (Replay, statements, gone, sound, 3, "", device),
-        (OnThreads, statements, sound, sound, 0, ended, ""),
-        (
-            OnThreads,
-            "1 BEGIN\n1 SR\n",
-            sound,
-            gone,
-            1,
-            "",
-            "line 2: BadWord\n",
-        ),
-        (OnThreads, statements, sound, gone, 3, "1 1 OK\n2 ", device),
-        (OnThreads, statements, gone, sound, 3, "", device),
-    ] {
-        let mut source = Source::new(script.as_bytes(), input);
-        let seen = look_at(&rt, rt.alloc(), words, &mut source, output);
-        assert_eq!(rt; seen.status, status, "{script}");
-        assert_eq!(rt; seen.written.as_slice(), answers.as_bytes(), "{script}");
-        assert_eq!(rt; seen.told.as_slice(), line.as_bytes(), "{script}");
-    }
+    assert_eq!(rt; first_wrong(&rt, rt.alloc(), OF_LOCKS), None);
+    assert_eq!(rt; first_wrong(&rt, rt.alloc(), OF_REPLAYS), None);
+    assert_eq!(rt; first_wrong(&rt, rt.alloc(), ON_THREADS), None);
 }
+
+// Whether the line behind so many is refused as such.
+fn is_refused_after<T: Threads + Wait + Sync>(
+    rt: &T,
+    alloc: Global,
+    lines: usize,
+) -> Result<bool, AllocError> {
+    let script = refused_after(alloc, lines)?;
+    let number = lines.saturating_add(1);
+    let line = format!(in alloc; "line {number}: BadWord\n")?;
+    let sound = Habit::steps_of(usize::MAX);
+    let mut source = Source::new(script.as_bytes(), sound);
+    let seen = look_at(rt, alloc, Lock, &mut source, sound);
+    Ok(seen.status == 1 && seen.written.is_empty() && seen.told.as_slice() == line.as_bytes())
+}
+
+// How many lines are granted before one is refused.
+const FAR_DOWN: &[usize] = &[0, 1, 9, 99, 100, 101, 999, 20_000];
 
 // However far down, a refused line is told as such, and never as a fault.
 #[test]
 fn refused_lines_far_down_are_told(rt: HostRuntime) -> Result<(), Fail> {
-    for lines in [0, 1, 9, 99, 100, 101, 999, 20_000] {
-        let script = refused_after(rt.alloc(), lines)?;
-        let sound = Habit::steps_of(usize::MAX);
-        let mut source = Source::new(script.as_bytes(), sound);
-        let seen = look_at(&rt, rt.alloc(), Lock, &mut source, sound);
-        let number = lines + 1;
-        let line = format!(in rt.alloc(); "line {number}: BadWord\n")?;
-        assert_eq!(rt; seen.status, 1, "{line}");
-        assert!(rt; seen.written.is_empty(), "{line}");
-        assert_eq!(rt; seen.told.as_slice(), line.as_bytes());
+    for lines in FAR_DOWN {
+        assert!(rt; is_refused_after(&rt, rt.alloc(), *lines)?, "after {lines}");
     }
     Ok(())
 }
 
+// What is seen of a run that reads and writes nothing before its devices break.
+fn look_without_input<T: Threads + Wait + Sync>(
+    rt: &T,
+    alloc: Global,
+    words: Words,
+    output: Habit,
+) -> Seen {
+    let gone = Habit::steps_of(7).slips_after(0, Slip::Fails(ErrorKind::BrokenPipe));
+    let mut source = Source::new(b"1 SR\n", gone);
+    look_at(rt, alloc, words, &mut source, output)
+}
+
 #[test]
 fn the_matrices_are_printed_without_input(rt: HostRuntime) {
-    let gone = Habit::steps_of(7).slips_after(0, Slip::Fails(ErrorKind::BrokenPipe));
-    let mut source = Source::new(b"1 SR", gone);
-    let seen = look_at(&rt, rt.alloc(), Matrix, &mut source, Habit::steps_of(7));
+    let seen = look_without_input(&rt, rt.alloc(), Matrix, SOUND);
     assert_eq!(rt; seen.status, 0);
-    assert!(rt; seen.written.starts_with(b"SCOPED GRANTED IX: S X\n"));
-    assert!(rt; seen.written.ends_with(b"OBJECT WAITING X: -\n"));
+    assert!(rt;
+        seen.written.starts_with(b"SCOPED GRANTED IX: S X\n")
+            && seen.written.ends_with(b"OBJECT WAITING X: -\n")
+    );
     assert!(rt; seen.told.is_empty());
 }
 
@@ -174,22 +245,27 @@ fn the_matrices_are_printed_without_input(rt: HostRuntime) {
 #[test]
 fn words_that_ask_for_no_run_are_refused(rt: HostRuntime) {
     let gone = Habit::steps_of(7).slips_after(0, Slip::Fails(ErrorKind::BrokenPipe));
-    let mut source = Source::new(b"1 SR\n", gone);
-    let seen = look_at(&rt, rt.alloc(), Refused, &mut source, gone);
+    let seen = look_without_input(&rt, rt.alloc(), Refused, gone);
     assert_eq!(rt; seen.status, 2);
     assert!(rt; seen.written.is_empty());
     assert_eq!(rt; seen.told.as_slice(), b"requires a subcommand\n".as_slice());
 }
 
+// Whether missing words of this kind end with this status, and this line is told.
+fn is_lack(alloc: Global, kind: ErrorKind, status: u8, line: &str) -> bool {
+    let mut told = Vec::new(alloc);
+    lack_words(&io::Error::from(kind), &mut told) == status && told.as_slice() == line.as_bytes()
+}
+
 #[test]
 fn missing_words_are_told(rt: HostRuntime) {
-    for (kind, status, line) in [
-        (ErrorKind::OutOfMemory, 3, "fault: memory\n"),
-        (ErrorKind::InvalidData, 2, "error: invalid data\n"),
-    ] {
-        let mut told = Vec::new(rt.alloc());
-        let error = io::Error::from(kind);
-        assert_eq!(rt; lack_words(&error, &mut told), status, "{line}");
-        assert_eq!(rt; told.as_slice(), line.as_bytes());
-    }
+    assert!(rt; is_lack(rt.alloc(), ErrorKind::OutOfMemory, 3, "fault: memory\n"));
+    assert!(rt;
+        is_lack(
+            rt.alloc(),
+            ErrorKind::InvalidData,
+            2,
+            "error: invalid data\n"
+        )
+    );
 }

@@ -10,11 +10,11 @@ use Rattle.mdl_core.specs.Words as core
 use Rattle.mdl_core.specs.Words.{Core, SpeaksFor, own_at}
 use Rattle.mdl_space.specs.CoreMembers.{core_space}
 use Rattle.mdl_context.specs.Contexts.{Attends}
-use Rattle.mdl_script.specs.declared.hall.Hall.{Hall}
-use Rattle.mdl_script.specs.declared.hall.Player as kept
-use Rattle.mdl_script.specs.Halls.{AreSeated, IsManned, new_player, player_of}
+use Rattle.mdl_script.specs.declared.play.Play.{Play}
+use Rattle.mdl_script.specs.declared.play.Player as kept
+use Rattle.mdl_script.specs.Plays.{AreSeated, IsManned, new_player, player_of}
 use Rattle.mdl_script.specs.Worlds.{World, first_core, first_world, newcomer, sessions, waiting_in}
-use Rattle.mdl_script.proofs.HallLemmas.{SpeakForAll}
+use Rattle.mdl_script.proofs.PlayLemmas.{SpeakForAll}
 
 -- ---- players
 
@@ -89,10 +89,10 @@ nobody-waits : (core : Core) → let world : World = record { core = core; playe
 unfolding sessions
 nobody-waits core = refl
 
-pub first-manned : (hall : Hall) → hall.space ≡ first_core → SpeakForAll hall.space → hall.players.items ≡ map new_player sessions → hall.waiting.items ≡ [] → IsManned hall
+pub first-manned : (play : Play) → play.space ≡ first_core → SpeakForAll play.space → play.players.items ≡ map new_player sessions → play.waiting.items ≡ [] → IsManned play
 unfolding sessions
-first-manned hall space speaks all none = record {
+first-manned play space speaks all none = record {
   all = ap length all ∙ length-map-range_with_len new_player 1 64;
-  seated = subst (AreSeated hall.space 1) (sym all) (seated-first hall.space 1 64 (λ who least most. speaks who least (omega arith)) (λ who. ap (λ core. own_at core who) space ∙ first-own who));
-  waiting = none ∙ sym (ap (λ ps. let world : World = record { core = hall.space; players = map player_of ps } in waiting_in world) all ∙ nobody-waits hall.space);
+  seated = subst (AreSeated play.space 1) (sym all) (seated-first play.space 1 64 (λ who least most. speaks who least (omega arith)) (λ who. ap (λ core. own_at core who) space ∙ first-own who));
+  waiting = none ∙ sym (ap (λ ps. let world : World = record { core = play.space; players = map player_of ps } in waiting_in world) all ∙ nobody-waits play.space);
 }

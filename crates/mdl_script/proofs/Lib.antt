@@ -1,5 +1,5 @@
 pub mod FirstLemmas
-pub mod HallLemmas
+pub mod PlayLemmas
 pub mod ListLemmas
 pub mod OrderedBooks
 pub mod PassLemmas

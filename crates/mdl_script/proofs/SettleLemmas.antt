@@ -21,13 +21,13 @@ use Rattle.mdl_syntax.specs.declared.script.Line.{Line}
 use Rattle.mdl_syntax.specs.Scripts.{parsed}
 use Rattle.mdl_syntax.specs.Laws.{IsWithinLimits}
 use Rattle.mdl_syntax.proofs.LawLemmas.{lines_say-limited}
-use Rattle.mdl_script.specs.declared.hall.Hall.{Hall}
-use Rattle.mdl_script.specs.declared.hall.Player as kept
+use Rattle.mdl_script.specs.declared.play.Play.{Play}
+use Rattle.mdl_script.specs.declared.play.Player as kept
 use Rattle.mdl_script.specs.declared.told.Told.{Told}
-use Rattle.mdl_script.specs.Halls.{AreSeated, IsManned, new_player, world_of}
+use Rattle.mdl_script.specs.Plays.{AreSeated, IsManned, new_player, world_of}
 use Rattle.mdl_script.specs.Texts.{told_line, told_text}
 use Rattle.mdl_script.specs.Worlds.{Scene, World, first_settled, going, is_waiting, line_played, lines_played, settling, silent, waiting_in, ◌and_then◌}
-use Rattle.mdl_script.proofs.HallLemmas.{seated-at, waiting-sessions}
+use Rattle.mdl_script.proofs.PlayLemmas.{seated-at, waiting-sessions}
 use Rattle.mdl_script.proofs.ListLemmas.{All-find}
 
 -- ---- text
@@ -56,57 +56,63 @@ settling-over world = refl
 -- ---- text and world, so far and in the end
 
 -- it is the whole where nothing is left to tell
-pub told-end : (rest : Scene) (world : World) (out whole : List ℕ) → rest ≡ silent world → out ++ told_text rest.told ≡ whole → out ≡ whole
-told-end rest world out whole silence so = subst (λ (scene : Scene). out ++ told_text scene.told ≡ whole → out ≡ whole) (sym silence) (λ e. sym (append-nil out) ∙ e) so
+pub told-end : (rest : Scene) (world : World) (out whole : List Told) → rest ≡ silent world → out ++ rest.told ≡ whole → out ≡ whole
+told-end rest world out whole silence so = subst (λ (scene : Scene). out ++ scene.told ≡ whole → out ≡ whole) (sym silence) (λ e. sym (append-nil out) ∙ e) so
 
 pub left-end : (rest : Scene) (world whole : World) → rest ≡ silent world → rest.world ≡ whole → world ≡ whole
 left-end rest world whole silence so = sym (ap (λ (scene : Scene). scene.world) silence) ∙ so
 
 -- one step is told, and then the rest
-pub told-more : (rest step more : Scene) (out next whole : List ℕ) → rest.told ≡ step.told ++ more.told → out ++ told_text rest.told ≡ whole
-    → next ≡ out ++ told_text step.told → next ++ told_text more.told ≡ whole
+pub told-more : (rest step more : Scene) (out next whole : List Told) → rest.told ≡ step.told ++ more.told → out ++ rest.told ≡ whole
+    → next ≡ out ++ step.told → next ++ more.told ≡ whole
 told-more rest step more out next whole parts so now =
+    ap (λ t. t ++ more.told) now ∙ append_assoc out step.told more.told ∙ ap (λ t. out ++ t) (sym parts) ∙ so
+
+-- and so it is printed
+text-more : (rest step more : Scene) (out next whole : List ℕ) → rest.told ≡ step.told ++ more.told → out ++ told_text rest.told ≡ whole
+    → next ≡ out ++ told_text step.told → next ++ told_text more.told ≡ whole
+text-more rest step more out next whole parts so now =
     ap (λ t. t ++ told_text more.told) now ∙ append_assoc out (told_text step.told) (told_text more.told)
     ∙ ap (λ t. out ++ t) (sym (told-append step.told more.told) ∙ ap told_text (sym parts)) ∙ so
 
 -- ---- who waits
 
 -- the space speaks for each session
-pub hall-speaks : (hall : Hall) → IsManned hall → (who : ℕ) → IsScriptSession who → SpeaksFor hall.space who
-hall-speaks hall manned who session =
-    let inside : who - 1 < length hall.players.items = subst (λ l. who - 1 < l) (sym manned.all) (omega (arith, session.0, session.1)) in
-    let at = seated-at hall.space 1 (who - 1) hall.players.items (new_player 0) manned.seated inside in
-    subst (λ w. SpeaksFor hall.space w) (at.0 ∙ omega (arith, session.0)) at.1.attends.speaks
+pub play-speaks : (play : Play) → IsManned play → (who : ℕ) → IsScriptSession who → SpeaksFor play.space who
+play-speaks play manned who session =
+    let inside : who - 1 < length play.players.items = subst (λ l. who - 1 < l) (sym manned.all) (omega (arith, session.0, session.1)) in
+    let at = seated-at play.space 1 (who - 1) play.players.items (new_player 0) manned.seated inside in
+    subst (λ w. SpeaksFor play.space w) (at.0 ∙ omega (arith, session.0)) at.1.attends.speaks
 
 -- and so for all that wait
-pub waiting-speak : (hall : Hall) → IsManned hall → All (SpeaksFor hall.space) hall.waiting.items
-waiting-speak hall manned =
-    rw manned.waiting (waiting-sessions (SpeaksFor hall.space) (world_of hall) (λ who session _. hall-speaks hall manned who session))
+pub waiting-speak : (play : Play) → IsManned play → All (SpeaksFor play.space) play.waiting.items
+waiting-speak play manned =
+    rw manned.waiting (waiting-sessions (SpeaksFor play.space) (world_of play) (λ who session _. play-speaks play manned who session))
 
 -- the session that is found is one that waits
-pub found-waits : (hall : Hall) (who : ℕ) → IsManned hall → first_settled (world_of hall) ≡ Some who → IsScriptSession who × (is_waiting (world_of hall) who ≡ true)
-found-waits hall who manned found =
-    let P : ℕ → Type 0 = λ w. IsScriptSession w × (is_waiting (world_of hall) w ≡ true) in
-    All-find P (has_settled hall.space) (waiting_in (world_of hall)) who (waiting-sessions P (world_of hall) (λ w session waits. (session, waits))) found
+pub found-waits : (play : Play) (who : ℕ) → IsManned play → first_settled (world_of play) ≡ Some who → IsScriptSession who × (is_waiting (world_of play) who ≡ true)
+found-waits play who manned found =
+    let P : ℕ → Type 0 = λ w. IsScriptSession w × (is_waiting (world_of play) w ≡ true) in
+    All-find P (has_settled play.space) (waiting_in (world_of play)) who (waiting-sessions P (world_of play) (λ w session waits. (session, waits))) found
 
 -- what is found among those that are noted
-pub found-among : (hall : Hall) (found : Option ℕ) → IsManned hall → found ≡ find (has_settled hall.space) hall.waiting.items → first_settled (world_of hall) ≡ found
-found-among hall found manned so = ap (λ ws. find (has_settled hall.space) ws) (sym manned.waiting) ∙ sym so
+pub found-among : (play : Play) (found : Option ℕ) → IsManned play → found ≡ find (has_settled play.space) play.waiting.items → first_settled (world_of play) ≡ found
+found-among play found manned so = ap (λ ws. find (has_settled play.space) ws) (sym manned.waiting) ∙ sym so
 
--- ---- turns of a hall
+-- ---- turns
 
 -- one session goes on, and then the rest follows
-pub one-turn : (n m : ℕ) (hall found after : Hall) (who : ℕ) (out next whole : List ℕ) (end : World) → n ≡ suc m → found ≡ hall → first_settled (world_of hall) ≡ Some who
-    → out ++ told_text (settling n (world_of hall)).told ≡ whole → (settling n (world_of hall)).world ≡ end
-    → next ≡ out ++ told_text (going who (world_of found)).told → world_of after ≡ (going who (world_of found)).world
-    → (next ++ told_text (settling m (world_of after)).told ≡ whole) × ((settling m (world_of after)).world ≡ end)
-one-turn n m hall found after who out next whole end fewer same some so left now there =
-    let step : Scene = going who (world_of hall) in
-    let parts = settling-some n m (world_of hall) who fewer some in
-    let told : next ≡ out ++ told_text step.told = subst (λ (h : Hall). next ≡ out ++ told_text (going who (world_of h)).told) same now in
-    let world : world_of after ≡ step.world = subst (λ (h : Hall). world_of after ≡ (going who (world_of h)).world) same there in
-    subst (λ (w : World). (next ++ told_text (settling m w).told ≡ whole) × ((settling m w).world ≡ end)) (sym world) (
-      told-more (settling n (world_of hall)) step (settling m step.world) out next whole (ap (λ (scene : Scene). scene.told) parts) so told,
+pub one-turn : (n m : ℕ) (play found after : Play) (who : ℕ) (out next whole : List Told) (end : World) → n ≡ suc m → found ≡ play → first_settled (world_of play) ≡ Some who
+    → out ++ (settling n (world_of play)).told ≡ whole → (settling n (world_of play)).world ≡ end
+    → next ≡ out ++ (going who (world_of found)).told → world_of after ≡ (going who (world_of found)).world
+    → (next ++ (settling m (world_of after)).told ≡ whole) × ((settling m (world_of after)).world ≡ end)
+one-turn n m play found after who out next whole end fewer same some so left now there =
+    let step : Scene = going who (world_of play) in
+    let parts = settling-some n m (world_of play) who fewer some in
+    let told : next ≡ out ++ step.told = subst (λ (h : Play). next ≡ out ++ (going who (world_of h)).told) same now in
+    let world : world_of after ≡ step.world = subst (λ (h : Play). world_of after ≡ (going who (world_of h)).world) same there in
+    subst (λ (w : World). (next ++ (settling m w).told ≡ whole) × ((settling m w).world ≡ end)) (sym world) (
+      told-more (settling n (world_of play)) step (settling m step.world) out next whole (ap (λ (scene : Scene). scene.told) parts) so told,
       sym (ap (λ (scene : Scene). scene.world) parts) ∙ left,
     )
 
@@ -132,23 +138,27 @@ seated-still a b who answer first (x ∷ xs) step seated = (
   seated-still a b who answer (first + 1) xs step seated.2,
 )
 
-pub timed-out : (hall : Hall) (who : ℕ) (answer : Answer) (after : Core) → IsManned hall → Joins hall.space (Settle_timeout who) answer after
-    → IsManned (record { space = after; players = hall.players; waiting = hall.waiting })
-timed-out hall who answer after manned step =
-    record { all = manned.all; seated = seated-still hall.space after who answer 1 hall.players.items step manned.seated; waiting = manned.waiting }
+pub timed-out : (play : Play) (who : ℕ) (answer : Answer) (after : Core) → IsManned play → Joins play.space (Settle_timeout who) answer after
+    → IsManned (record { space = after; players = play.players; waiting = play.waiting })
+timed-out play who answer after manned step =
+    record { all = manned.all; seated = seated-still play.space after who answer 1 play.players.items step manned.seated; waiting = manned.waiting }
+
+-- what is printed of one line, where the list was empty before it
+pub text-line : (before line after : List Told) (out next : List ℕ) → before ≡ [] → after ≡ before ++ line → next ≡ out ++ told_text after → next ≡ out ++ told_text line
+text-line before line after out next none told so = so ∙ ap (λ ts. out ++ told_text ts) (told ∙ ap (λ ts. ts ++ line) none)
 
 -- one line is played, and then the rest follows
-pub one-line : (lines : List Line) (i : ℕ) (line d : Line) (hall after : Hall) (out next whole : List ℕ) (end : World) → i < length lines → line ≡ get_or lines i d
-    → out ++ told_text (lines_played (drop i lines) (world_of hall)).told ≡ whole → (lines_played (drop i lines) (world_of hall)).world ≡ end
-    → next ≡ out ++ told_text (line_played line (world_of hall)).told → world_of after ≡ (line_played line (world_of hall)).world
+pub one-line : (lines : List Line) (i : ℕ) (line d : Line) (play after : Play) (out next whole : List ℕ) (end : World) → i < length lines → line ≡ get_or lines i d
+    → out ++ told_text (lines_played (drop i lines) (world_of play)).told ≡ whole → (lines_played (drop i lines) (world_of play)).world ≡ end
+    → next ≡ out ++ told_text (line_played line (world_of play)).told → world_of after ≡ (line_played line (world_of play)).world
     → (next ++ told_text (lines_played (drop (i + 1) lines) (world_of after)).told ≡ whole) × ((lines_played (drop (i + 1) lines) (world_of after)).world ≡ end)
-one-line lines i line d hall after out next whole end inside item so left now there =
-    let step : Scene = line_played line (world_of hall) in
+one-line lines i line d play after out next whole end inside item so left now there =
+    let step : Scene = line_played line (world_of play) in
     let rest = drop (i + 1) lines in
-    let parts : lines_played (drop i lines) (world_of hall) ≡ (step and_then lines_played rest) =
-    ap (λ ls. lines_played ls (world_of hall)) (drop_more lines i d inside ∙ ap (λ x. x ∷ rest) (sym item)) in
+    let parts : lines_played (drop i lines) (world_of play) ≡ (step and_then lines_played rest) =
+    ap (λ ls. lines_played ls (world_of play)) (drop_more lines i d inside ∙ ap (λ x. x ∷ rest) (sym item)) in
     subst (λ (w : World). (next ++ told_text (lines_played rest w).told ≡ whole) × ((lines_played rest w).world ≡ end)) (sym there) (
-      told-more (lines_played (drop i lines) (world_of hall)) step (lines_played rest step.world) out next whole (ap (λ (scene : Scene). scene.told) parts) so now,
+      text-more (lines_played (drop i lines) (world_of play)) step (lines_played rest step.world) out next whole (ap (λ (scene : Scene). scene.told) parts) so now,
       sym (ap (λ (scene : Scene). scene.world) parts) ∙ left,
     )
 

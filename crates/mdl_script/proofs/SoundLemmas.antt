@@ -36,7 +36,7 @@ use Rattle.mdl_rows.specs.Sessions.{Session}
 use Rattle.mdl_rows.proofs.RowCalls.{rows_keep_number}
 use Rattle.mdl_rows.proofs.RowOutcomes.{rows_keep_sound}
 use Rattle.mdl_script.specs.Worlds.{Player, Scene, World, asked, asked_waiting, create_at, create_under, creating, first_core, first_settled, first_world, going, going_first, is_waiting, line_played, lines_played, most_turns, newcomer, played, player_at, script_played, sessions, settling, started, timed_out, waiting_in}
-use Rattle.mdl_script.proofs.HallLemmas.{SpeakForAll, waiting-sessions}
+use Rattle.mdl_script.proofs.PlayLemmas.{SpeakForAll, waiting-sessions}
 use Rattle.mdl_script.proofs.ListLemmas.{All-find}
 
 -- all sessions are there, each with its own number, and the space speaks for them

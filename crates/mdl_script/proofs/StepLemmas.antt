@@ -20,11 +20,11 @@ use Rattle.mdl_rows.specs.Sessions.{Session}
 use Rattle.mdl_stmt.specs.Attendance.{AttendsWith}
 use Rattle.mdl_stmt.specs.Players.{RunnerView}
 use Rattle.mdl_stmt.specs.Stages.{session_of}
-use Rattle.mdl_script.specs.declared.hall.Hall.{Hall}
-use Rattle.mdl_script.specs.declared.hall.Player as kept
-use Rattle.mdl_script.specs.Halls.{AreSeated, IsManned, player_of, world_of}
+use Rattle.mdl_script.specs.declared.play.Play.{Play}
+use Rattle.mdl_script.specs.declared.play.Player as kept
+use Rattle.mdl_script.specs.Plays.{AreSeated, IsManned, player_of, world_of}
 use Rattle.mdl_script.specs.Worlds.{Player, Scene, World, came, going, is_waiting, played, player_at, told_of}
-use Rattle.mdl_script.proofs.HallLemmas.{player-at, seated-at, seated-then, waits-at}
+use Rattle.mdl_script.proofs.PlayLemmas.{player-at, seated-at, seated-then, waits-at}
 
 -- ---- progress
 
@@ -71,74 +71,74 @@ stepped core after players who line player d runner progress program session all
     let end = sure (session_of player.runner) core after (paused progress (session_of runner)) run (no-fault progress (session_of runner)) in
     ap (λ s. played line who (program s) world) here ∙ ap (λ o. came line who o world) end ∙ came-so core after players who line runner progress
 
--- ---- a player of a hall
+-- ---- a player
 
-module _ (hall : Hall) (who n : ℕ) (player d : kept.Player) (manned : IsManned hall) (session : IsScriptSession who) (from : n ≡ who)
-    (same : player ≡ get_or hall.players.items (n - 1) d) where
-  inside : who - 1 < length hall.players.items
+module _ (play : Play) (who n : ℕ) (player d : kept.Player) (manned : IsManned play) (session : IsScriptSession who) (from : n ≡ who)
+    (same : player ≡ get_or play.players.items (n - 1) d) where
+  inside : who - 1 < length play.players.items
   inside = subst (λ l. who - 1 < l) (sym manned.all) (omega (arith, session.0, session.1))
 
-  here : player ≡ get_or hall.players.items (who - 1) d
-  here = same ∙ ap (λ m. get_or hall.players.items (m - 1) d) from
+  here : player ≡ get_or play.players.items (who - 1) d
+  here = same ∙ ap (λ m. get_or play.players.items (m - 1) d) from
 
   -- it is of its session, and attended to
-  pub attends-at : (player.runner.context.who ≡ who) × AttendsWith core_space hall.space player.runner.context player.runner.cache
+  pub attends-at : (player.runner.context.who ≡ who) × AttendsWith core_space play.space player.runner.context player.runner.cache
   attends-at =
-      let at = seated-at hall.space 1 (who - 1) hall.players.items d manned.seated inside in
+      let at = seated-at play.space 1 (who - 1) play.players.items d manned.seated inside in
       rw here (at.0 ∙ omega (arith, session.0), at.1)
 
   -- it has something left to do where it waits
-  pub work-at : (waits : Bool) → is_waiting (world_of hall) who ≡ waits → is_some player.runner.work ≡ waits
-  work-at waits so = rw here (sym (waits-at hall.space hall.players.items who d session.0 (subst (λ l. who ≤ l) (sym manned.all) session.1)) ∙ so)
+  pub work-at : (waits : Bool) → is_waiting (world_of play) who ≡ waits → is_some player.runner.work ≡ waits
+  work-at waits so = rw here (sym (waits-at play.space play.players.items who d session.0 (subst (λ l. who ≤ l) (sym manned.all) session.1)) ∙ so)
 
   -- it takes another runner
   pub seated-after : (after : Core) (line : ℕ) (runner : RunnerView) → runner.context.who ≡ player.runner.context.who → AttendsWith core_space after runner.context runner.cache
-      → LeavesOthers core_space player.runner.context.who hall.space after
-      → AreSeated after 1 (set hall.players.items (n - 1) (record { runner = runner; line = line }))
+      → LeavesOthers core_space player.runner.context.who play.space after
+      → AreSeated after 1 (set play.players.items (n - 1) (record { runner = runner; line = line }))
   seated-after after line runner whose attends leaves =
       let counted : who ≡ 1 + (who - 1) = omega (arith, session.0) in
       let me = attends-at.0 ∙ counted in
-      rw from (seated-then hall.space after 1 (who - 1) hall.players.items (record { runner = runner; line = line }) manned.seated inside
-      (whose ∙ me) attends (subst (λ w. LeavesOthers core_space w hall.space after) me leaves))
+      rw from (seated-then play.space after 1 (who - 1) play.players.items (record { runner = runner; line = line }) manned.seated inside
+      (whose ∙ me) attends (subst (λ w. LeavesOthers core_space w play.space after) me leaves))
 
   -- and a program of its comes so far
   pub came-at : (after : Core) (line : ℕ) (runner : RunnerView) (progress : Progress) (program : Session → Program Pause)
       → ((s : Session) → IsSureUnless IsFault (program s))
-      → Runs Joins hall.space (program (session_of player.runner)) (paused progress (session_of runner)) after
-      → played line who (program (player_at who (world_of hall)).session) (world_of hall) ≡ after_step after hall.players.items who line runner progress
+      → Runs Joins play.space (program (session_of player.runner)) (paused progress (session_of runner)) after
+      → played line who (program (player_at who (world_of play)).session) (world_of play) ≡ after_step after play.players.items who line runner progress
   came-at after line runner progress program sure run =
-      stepped hall.space after hall.players.items who line player d runner progress program session manned.all here sure run
+      stepped play.space after play.players.items who line player d runner progress program session manned.all here sure run
 
   pub left-at : (after : Core) (line : ℕ) (runner : RunnerView) (progress : Progress) (program : Session → Program Pause)
       → ((s : Session) → IsSureUnless IsFault (program s))
-      → Runs Joins hall.space (program (session_of player.runner)) (paused progress (session_of runner)) after
-      → let world : World = record { core = after; players = map player_of (set hall.players.items (n - 1) (record { runner = runner; line = line })) } in
-      world ≡ (played line who (program (player_at who (world_of hall)).session) (world_of hall)).world
+      → Runs Joins play.space (program (session_of player.runner)) (paused progress (session_of runner)) after
+      → let world : World = record { core = after; players = map player_of (set play.players.items (n - 1) (record { runner = runner; line = line })) } in
+      world ≡ (played line who (program (player_at who (world_of play)).session) (world_of play)).world
   left-at after line runner progress program sure run =
       rw from (sym (ap (λ (scene : Scene). scene.world) (came-at after line runner progress program sure run)))
 
   pub told-at : (after : Core) (line : ℕ) (runner : RunnerView) (progress : Progress) (program : Session → Program Pause)
       → ((s : Session) → IsSureUnless IsFault (program s))
-      → Runs Joins hall.space (program (session_of player.runner)) (paused progress (session_of runner)) after
-      → told_of line who (paused progress (session_of runner)) ≡ (played line who (program (player_at who (world_of hall)).session) (world_of hall)).told
+      → Runs Joins play.space (program (session_of player.runner)) (paused progress (session_of runner)) after
+      → told_of line who (paused progress (session_of runner)) ≡ (played line who (program (player_at who (world_of play)).session) (world_of play)).told
   told-at after line runner progress program sure run = sym (ap (λ (scene : Scene). scene.told) (came-at after line runner progress program sure run))
 
-  line-at : player.line ≡ (player_at who (world_of hall)).line
-  line-at = rw here (sym (ap (λ (p : Player). p.line) (player-at hall.space hall.players.items who d session.0 (subst (λ l. who ≤ l) (sym manned.all) session.1))))
+  line-at : player.line ≡ (player_at who (world_of play)).line
+  line-at = rw here (sym (ap (λ (p : Player). p.line) (player-at play.space play.players.items who d session.0 (subst (λ l. who ≤ l) (sym manned.all) session.1))))
 
   -- where it goes on with its statement
-  pub left-going : (after : Core) (runner : RunnerView) (progress : Progress) → Runs Joins hall.space (going_on (session_of player.runner)) (paused progress (session_of runner)) after
-      → let world : World = record { core = after; players = map player_of (set hall.players.items (n - 1) (record { runner = runner; line = player.line })) } in
-      world ≡ (going who (world_of hall)).world
+  pub left-going : (after : Core) (runner : RunnerView) (progress : Progress) → Runs Joins play.space (going_on (session_of player.runner)) (paused progress (session_of runner)) after
+      → let world : World = record { core = after; players = map player_of (set play.players.items (n - 1) (record { runner = runner; line = player.line })) } in
+      world ≡ (going who (world_of play)).world
   left-going after runner progress run =
       left-at after player.line runner progress (λ s. going_on s) (λ s. (sure_rows s).2) run
-      ∙ ap (λ line. (played line who (going_on (player_at who (world_of hall)).session) (world_of hall)).world) line-at
+      ∙ ap (λ line. (played line who (going_on (player_at who (world_of play)).session) (world_of play)).world) line-at
 
-  pub told-going : (after : Core) (runner : RunnerView) (progress : Progress) → Runs Joins hall.space (going_on (session_of player.runner)) (paused progress (session_of runner)) after
-      → told_of player.line who (paused progress (session_of runner)) ≡ (going who (world_of hall)).told
+  pub told-going : (after : Core) (runner : RunnerView) (progress : Progress) → Runs Joins play.space (going_on (session_of player.runner)) (paused progress (session_of runner)) after
+      → told_of player.line who (paused progress (session_of runner)) ≡ (going who (world_of play)).told
   told-going after runner progress run =
       told-at after player.line runner progress (λ s. going_on s) (λ s. (sure_rows s).2) run
-      ∙ ap (λ line. (played line who (going_on (player_at who (world_of hall)).session) (world_of hall)).told) line-at
+      ∙ ap (λ line. (played line who (going_on (player_at who (world_of play)).session) (world_of play)).told) line-at
 
 -- nothing is left
 pub none-left : {A : Type 0} (left : Option A) → is_some left ≡ false → left ≡ None

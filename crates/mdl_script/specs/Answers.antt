@@ -14,6 +14,12 @@ use Rattle.mdl_work.specs.Works.{lines_of, newcomer, working_off}
 abbrev pub nothing : Own
 nothing = record { held = []; wait = None }
 
+-- a session of this table and of this number that has nothing
+pub record IsIdleAt (table : TableId) (who : ℕ) (session : SessionView) : Type 0 where
+  pub there : session.table ≡ table
+  pub speaks : SpeaksFor (space_of session) who
+  pub has_nothing : (space_of session).own ≡ nothing
+
 -- a call joins what a session has before it to what it has after it, and its steps show what they met and did
 abbrev pub JoinsSteps : SessionView → Call → Answer → SessionView → Type 0
 JoinsSteps s call answer t = Joins (space_of s) call answer (space_of t) × Shows call answer s t

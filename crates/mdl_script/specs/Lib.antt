@@ -1,6 +1,6 @@
 pub mod Answers
 pub mod Finals
-pub mod Halls
+pub mod Plays
 pub mod Output
 pub mod RunLaws
 pub mod Runs

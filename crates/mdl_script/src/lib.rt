@@ -1,5 +1,7 @@
 //! Scripts of statements, played in one thread, or with a thread for each session.
 //!
+//! [`replay`] plays a whole script, and a [`Play`] plays one line by line and shows its locks between them.
+//!
 //! # Example
 //!
 //! ```
@@ -19,20 +21,20 @@
 mod asking;
 mod finals;
 mod first_space;
-mod hall;
 mod laws;
 mod on_thread;
+mod play;
 mod replaying;
 mod run;
 mod running;
 mod told;
 mod turns;
 
-pub use hall::DEFAULT_CACHE;
 pub use laws::runs_have_one_text;
 pub use mdl_lines::{Fault, LineError};
 pub use mdl_syntax::{Line, Script, Statement, parse};
 pub use mdl_work::{Gate, OpenGate, work};
-pub use replaying::{replay, space_after};
+pub use play::{DEFAULT_CACHE, Play};
+pub use replaying::{lines_until, replay, space_after};
 pub use running::{run_on, run_threads};
-pub use told::{News, Told};
+pub use told::{News, Told, push_end, push_news, push_told};

@@ -7,12 +7,13 @@ ghost use Rattle.mdl_lines.specs.Devices.{LeavesWritten};
 ghost use Rattle.mdl_lines.specs.Faults.{IsFaultOf, MayEnd};
 ghost use Rattle.mdl_lines.specs.Sessions.{IsScriptSession};
 ghost use Rattle.mdl_syntax.specs.Scripts.{parsed};
-ghost use Rattle.mdl_script.specs.Halls.{IsManned, world_of};
+ghost use Rattle.mdl_script.specs.Plays.{IsManned, world_of};
 ghost use Rattle.mdl_script.specs.Output.{NeverForgets, StaysLawful, is_after, lines_until, output_of, scene_text};
 ghost use Rattle.mdl_script.specs.Texts.{told_text};
 ghost use Rattle.mdl_script.specs.Worlds.{script_played};
 
-use crate::hall::Hall;
+use crate::play::Play;
+use crate::told::{push_all_told, push_ends};
 use mdl_lines::{Fault, read_all, write_all};
 use mdl_space::CoreSpace;
 use mdl_syntax::{Line, parse};
@@ -57,39 +58,42 @@ fn output(alloc: Global, text: Vec<u8>) -> Result<String, Fault>
 {
     let script = parse(alloc, &text)?;
     drop(text);
-    match play(alloc, script.lines()) {
+    match play_all(alloc, script.lines()) {
         Ok(output) => Ok(output),
         Err(AllocError) => Err(Fault::Memory),
     }
 }
 
-// Plays lines over a new space.
-fn play(alloc: Global, lines: &[Line]) -> Result<String, AllocError>
+// The text of lines that are played over a new space.
+fn play_all(alloc: Global, lines: &[Line]) -> Result<String, AllocError>
     requires { All (λ line. IsScriptSession line.session) lines.now }
     ensures { IfOk result (λ output. string_bytes output ≡ scene_text (script_played lines.now)) }
 {
     let mut out = String::new(alloc);
-    let hall = play_lines(alloc, lines, &mut out)?;
-    hall.tell_waiting(&mut out)?;
+    let play = play_lines(alloc, lines, &mut out)?;
+    push_ends(&mut out, play.waiting())?;
     Ok(out)
 }
 
-// Plays lines over a new space. What is told of them is put last in a text.
+// Plays lines over a new space, and puts what becomes of them last in a text, after each line.
 fn play_lines<'s>(
     alloc: Global,
     lines: &'s [Line],
     out: &mut String,
-) -> Result<Hall<'s>, AllocError>
+) -> Result<Play<'s>, AllocError>
     requires { All (λ line. IsScriptSession line.session) lines.now }
     ensures told { OnOk result (string_bytes out.new ≡ string_bytes out.old ++ told_text (script_played lines.now).told) }
-    ensures left { IfOk result (λ hall. world_of hall ≡ (script_played lines.now).world) }
+    ensures left { IfOk result (λ play. world_of play ≡ (script_played lines.now).world) }
     ensures manned { IfOk result IsManned }
 {
-    let mut hall = Hall::new(alloc)?;
+    let mut play = Play::new(alloc)?;
+    let mut told = Vec::new(alloc);
     for line in lines {
-        hall.play_line(line, out)?;
+        play.play_line(line, &mut told)?;
+        push_all_told(out, &told)?;
+        told.clear();
     }
-    Ok(hall)
+    Ok(play)
 }
 
 /// Plays the lines of a script up to the one of this number, and what follows from it, as [`replay`] does, and returns the lock space
@@ -115,12 +119,12 @@ fn play_until(alloc: Global, lines: &[Line], last: u64) -> Result<CoreSpace, All
     ensures { IfOk result (λ space. space ≡ (script_played (lines_until last lines.now)).world.core) }
 {
     let mut out = String::new(alloc);
-    let hall = play_lines(alloc, lines_until(lines, last), &mut out)?;
-    Ok(hall.into_space())
+    let play = play_lines(alloc, lines_until(lines, last), &mut out)?;
+    Ok(play.into_space())
 }
 
-// The lines up to the one of this number.
-fn lines_until(lines: &[Line], last: u64) -> &[Line]
+/// The lines up to the one of this number.
+pub fn lines_until(lines: &[Line], last: u64) -> &[Line]
     ensures { result.now ≡ lines_until last lines.now }
 {
     &lines[..count_until(lines, last)]

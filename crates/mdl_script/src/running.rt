@@ -1,12 +1,11 @@
 //! Plays a script of statements with a thread for each of its sessions.
 ghost use Rattle.std.specs.Prelude.{◌≡◌, ◌≢◌, ◌≤◌, Some, true, All, IfOk, slice_get, length};
 ghost use Rattle.std.specs.String.{string_bytes};
-ghost use Rattle.mdl_session_laws.specs.SessionSpaces.{SpeaksFor};
 ghost use Rattle.mdl_shared.specs.declared.pass.Pass.{Pass};
 ghost use Rattle.mdl_shared.specs.Passes.{pass_number, pass_table, pass_view, table_of};
 ghost use Rattle.mdl_shared.specs.SessionViews.{space_of};
 ghost use Rattle.mdl_stmt.specs.Attendance.{IsCapacity};
-ghost use Rattle.mdl_script.specs.Answers.{nothing};
+ghost use Rattle.mdl_script.specs.Answers.{IsIdleAt, nothing};
 ghost use Rattle.mdl_script.specs.RunTexts.{named_sessions};
 ghost use Rattle.mdl_script.specs.Runs.{IsRunBetween, IsRunFrom, IsRunOf};
 ghost use Rattle.mdl_script.specs.Turns.{has_pass};
@@ -105,9 +104,7 @@ fn text_by<'s, E, R: Threads + Wait + Sync, G: Gate + Sync>(
     requires capacity { IsCapacity run.now.cache }
     requires theirs { All (λ pass. pass_table pass ≡ table_of run.now.manager.now) others.items }
     requires there { All (λ other. other ≢ who → has_pass others.items other ≡ true) (named_sessions run.now.script.now) }
-    requires table { asker.old.table ≡ table_of run.now.manager.now }
-    requires speaks { SpeaksFor (space_of asker.old) who }
-    requires nothing { (space_of asker.old).own ≡ nothing }
+    requires idle { IsIdleAt (table_of run.now.manager.now) who asker.old }
     ensures text { IfOk result (λ text. IsRunBetween run.now.patience run.now.script.now asker.old asker.new (string_bytes text)) }
     ensures nothing { (space_of asker.new).own ≡ nothing }
 {

@@ -4,7 +4,7 @@ ghost use Rattle.std.specs.Fmt.{decimal};
 ghost use Rattle.std.specs.List.{join_by};
 ghost use Rattle.std.specs.String.{string_bytes};
 ghost use Rattle.mdl_script.specs.RunTexts.{answer_line, answers_text};
-ghost use Rattle.mdl_script.specs.Texts.{columns_text, end_line, error_text, heading, news_text, number_text, reply_text, table_text, tables_text, told_line, wait_text};
+ghost use Rattle.mdl_script.specs.Texts.{columns_text, end_line, error_text, heading, news_text, number_text, reply_text, table_text, tables_text, told_line, told_text, wait_text};
 
 use itoa::Buffer;
 use mdl_defs::Column;
@@ -34,13 +34,44 @@ pub struct Told {
     pub news: News,
 }
 
-/// Puts the line of what is told last in a text.
+/// Puts a line for each of these last in a text.
+pub(crate) fn push_all_told(out: &mut String, all: &[Told]) -> Result<(), AllocError>
+    ensures { OnOk result (string_bytes out.new ≡ string_bytes out.old ++ told_text all.now) }
+{
+    for told in all {
+        push_told(out, told)?;
+    }
+    Ok(())
+}
+
+/// Puts a line last in a text: the numbers of the line that asked and of its session, and what becomes of it.
 pub fn push_told(out: &mut String, told: &Told) -> Result<(), AllocError>
     ensures { OnOk result (string_bytes out.new ≡ string_bytes out.old ++ told_line told.now) }
 {
     push_heading(out, told.line, told.who)?;
     push_news(out, &told.news)?;
     out.push('\n')
+}
+
+/// Puts what becomes of a line last in a text, without the numbers of the line and of its session.
+pub fn push_news(out: &mut String, news: &News) -> Result<(), AllocError>
+    ensures { OnOk result (string_bytes out.new ≡ string_bytes out.old ++ news_text news.now) }
+{
+    match news {
+        News::Ends(reply) => push_reply(out, reply),
+        News::Waits(key, mode) => push_wait(out, key, *mode),
+        News::Busy => out.push_str("BUSY"),
+    }
+}
+
+/// Puts a line for each session that still waits at the end last in a text.
+pub(crate) fn push_ends(out: &mut String, waiting: &[u16]) -> Result<(), AllocError>
+    ensures { OnOk result (string_bytes out.new ≡ string_bytes out.old ++ flat_map end_line waiting.now) }
+{
+    for who in waiting {
+        push_end(out, *who)?;
+    }
+    Ok(())
 }
 
 /// Puts the line of a session that still waits at the end last in a text.
@@ -92,17 +123,6 @@ fn push_number(out: &mut String, number: u64) -> Result<(), AllocError>
 {
     let mut digits = Buffer::new();
     out.push_str(digits.format(number))
-}
-
-// What became of a line.
-fn push_news(out: &mut String, news: &News) -> Result<(), AllocError>
-    ensures { OnOk result (string_bytes out.new ≡ string_bytes out.old ++ news_text news.now) }
-{
-    match news {
-        News::Ends(reply) => push_reply(out, reply),
-        News::Waits(key, mode) => push_wait(out, key, *mode),
-        News::Busy => out.push_str("BUSY"),
-    }
 }
 
 // A wait that has begun.

@@ -18,12 +18,14 @@ pub mod ScriptLemmas
 pub mod ShownAsking
 pub mod ShownCalls
 pub mod ShownContexts
+pub mod ShownEndings
 pub mod ShownLaws
 pub mod ShownPlays
 pub mod ShownPoints
 pub mod ShownRaising
 pub mod ShownReleases
 pub mod ShownRows
+pub mod ShownStages
 pub mod ShownWaits
 pub mod ShownWorlds
 pub mod StillContexts

@@ -15,7 +15,7 @@ use Rattle.mdl_rows.specs.Endings.{Pause}
 use Rattle.mdl_rows.specs.Playing.{going_on, starting}
 use Rattle.mdl_rows.specs.Sessions.{Session}
 use Rattle.mdl_script.specs.Worlds.{World, create_at, create_under, creating, first_world, played, player_at}
-use Rattle.mdl_script.proofs.HallLemmas.{SpeakForAll}
+use Rattle.mdl_script.proofs.PlayLemmas.{SpeakForAll}
 use Rattle.mdl_script.proofs.SettleLemmas.{read-sessions}
 use Rattle.mdl_script.proofs.SoundLemmas.{IsStaffed, first-session, made-creating, speak-empty, staffed-first}
 use Rattle.mdl_script_laws.specs.NoDeadlocks.{NoDeadlockStands}

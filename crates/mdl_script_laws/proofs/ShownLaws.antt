@@ -1,9 +1,7 @@
 -- What a session was shown of a table is what it is shown again, and what stands, while its transaction is open.
-use Rattle.std.proofs.Common.{◌≡◌, ◌≢◌, inl, inr, ℕ, zero, suc, true, List, [], ◌∷◌, ◌++◌, Option, Some, None, refl, sym, ap, ◌∙◌, subst}
+use Rattle.std.proofs.Common.{◌≡◌, inl, inr, ℕ, zero, suc, true, List, [], ◌∷◌, ◌++◌, Option, Some, None, is_some, refl, sym, ap, ◌∙◌}
 use Rattle.std.specs.List.{All}
 use Rattle.std.proofs.lemmas.List.Elements.{All-append, All-cons, All-contains, All-head, All-nil, All-tail}
-use Rattle.mdl_key.specs.declared.namespace.Namespace.TheVariants.{UserLevelLock}
-use Rattle.mdl_key.specs.Keys.{KeyName}
 use Rattle.mdl_defs.specs.declared.definition.Definition.{Definition}
 use Rattle.mdl_system.specs.Words.{Versioned}
 use Rattle.mdl_core.specs.CoreSystems.{defined_in, system_of}
@@ -26,7 +24,7 @@ use Rattle.mdl_script_laws.proofs.ScriptLemmas.{asked-by}
 use Rattle.mdl_script_laws.proofs.ShownCalls.{key-held}
 use Rattle.mdl_script_laws.proofs.ShownContexts.{Fits}
 use Rattle.mdl_script_laws.proofs.ShownPoints.{IsStanding, shown_at}
-use Rattle.mdl_script_laws.proofs.ShownPlays.{Keeps}
+use Rattle.mdl_script_laws.proofs.ShownStages.{Keeps}
 use Rattle.mdl_script_laws.proofs.ShownWorlds.{IsGood, IsGoodScene, Nothing, good-first, good-lines, scene-line, scene-lines, with_table}
 
 -- ---- whom something is told
@@ -100,12 +98,14 @@ keeps-fits old a session (inr (inr raising)) = raising.point.fits
 
 -- what stands under a ticket is what the system has under its key
 standing-defined : (a : Core) (context : ContextView) (table : TableShown) → Fits a context → IsStanding a context table
-    → let defined = (system_of a).definitions table.key in (defined.version ≡ table.version) × (columns_of defined.definition ≡ table.columns)
+    → let defined = (system_of a).definitions table.key in
+    (is_some defined.definition ≡ true) × (defined.version ≡ table.version) × (columns_of defined.definition ≡ table.columns)
 standing-defined a context table fits stands =
     let place = stands.ticket.place in
     let key : key_at place a ≡ table.key = ap (λ (x : TableShown). x.key) stands.shown in
     let there = book_of-at a place fits.speaks.1.tied (key-held a context.who stands.ticket fits.speaks stands.there) in
     let defined : (system_of a).definitions table.key ≡ defined_in (book_at place a) = ap (system_of a).definitions (sym key) ∙ ap defined_in there in (
+      ap (λ (d : Versioned Definition). is_some d.definition) defined ∙ stands.defined,
       ap (λ (d : Versioned Definition). d.version) defined ∙ ap (λ (x : TableShown). x.version) stands.shown,
       ap (λ (d : Versioned Definition). columns_of d.definition) defined ∙ ap (λ (x : TableShown). x.columns) stands.shown,
     )
@@ -124,7 +124,7 @@ good-shown before line who table are is shown =
     )
 
 module _ (before : List Line) (line : Line) (later : List Line) (who : ℕ) (one : TableShown) (are : AreOfSessions (before ++ line ∷ later))
-    (plain : one.key.namespace ≢ UserLevelLock) (shown : IsShownTo who (line_played line (script_played before).world).told one)
+    (shown : IsShownTo who (line_played line (script_played before).world).told one)
     (leave : LeavesTransaction who later) where
   abbrev early : World
   early = (line_played line (script_played before).world).world
@@ -148,21 +148,21 @@ module _ (before : List Line) (line : Line) (later : List Line) (who : ℕ) (one
       let session = (player_at who late).session in
       let facts = with_table (with_table Nothing one) other in
       one-standing late.core session.context one other (keeps-fits facts late.core session keeps)
-      (stands-open facts late.core session one keeps (inl (inr (refl, plain))) opens)
-      (stands-open facts late.core session other keeps (inr (refl, subst (λ (key : KeyName). key.namespace ≢ UserLevelLock) same plain)) opens) same
+      (stands-open facts late.core session one keeps (inl (inr refl)) opens)
+      (stands-open facts late.core session other keeps (inr refl) opens) same
 
   pub shown-stands : has_transaction who late ≡ true → StandsAsShown late one
   shown-stands opens =
       let keeps = later-scene.good.own in
       let session = (player_at who late).session in
       let facts = with_table Nothing one in
-      standing-defined late.core session.context one (keeps-fits facts late.core session keeps) (stands-open facts late.core session one keeps (inr (refl, plain)) opens)
+      standing-defined late.core session.context one (keeps-fits facts late.core session keeps) (stands-open facts late.core session one keeps (inr refl) opens)
 
 -- ---- the laws
 
 pub transactions-see_one : TransactionsSeeOneDefinition
-transactions-see_one before line later who one other are plain shown leave opens again same =
-    shown-again before line later who one are plain shown leave other opens again same
+transactions-see_one before line later who one other are shown leave opens again same =
+    shown-again before line later who one are shown leave other opens again same
 
 pub transactions-keep : TransactionsKeepWhatTheySaw
-transactions-keep before line later who table are plain shown leave opens = shown-stands before line later who table are plain shown leave opens
+transactions-keep before line later who table are shown leave opens = shown-stands before line later who table are shown leave opens

@@ -1,31 +1,19 @@
--- Whatever a statement asks for, what was shown in its transaction before stands on, and what it shows in the end stands too.
-use Rattle.std.proofs.Common.{◌≡◌, ◌⊎◌, inl, inr, ℕ, Bool, true, false, List, [], ◌∷◌, ◌++◌, Option, Some, None, Ok, Err, Contains, filter, map, refl, sym, ap, ◌∙◌, subst}
-use Rattle.std.specs.Prelude.{◌==◌, if◌then◌else◌}
-use Rattle.std.proofs.lemmas.Bool.{false≢true}
-use Rattle.std.proofs.lemmas.List.Elements.{Contains-append_cases}
-use Rattle.mdl_key.specs.declared.mode.Duration.{Duration}
-use Rattle.mdl_key.specs.declared.mode.Duration.TheVariants.{Statement, Transaction, Explicit}
+-- Whatever a statement asks for and is answered, what was shown in its transaction before stands on.
+use Rattle.std.proofs.Common.{◌≡◌, inl, inr, ℕ, Bool, true, List, [], ◌++◌, Option, Some, None, Ok, Err, Contains, filter, refl, sym, ap, ◌∙◌, subst}
+use Rattle.std.specs.Prelude.{◌==◌}
+use Rattle.mdl_key.specs.declared.mode.Duration.TheVariants.{Transaction}
 use Rattle.mdl_key.specs.Keys.{KeyName}
 use Rattle.mdl_defs.specs.declared.change.Change.{Change}
 use Rattle.mdl_defs.specs.declared.definition.Definition.{Definition}
 use Rattle.mdl_defs.specs.declared.standing.Standing.{Standing}
-use Rattle.mdl_system.proofs.MemberLemmas.{Contains-none, Contains-map_from}
-use Rattle.mdl_system.proofs.OrderLemmas.{Contains-cons_cases}
+use Rattle.mdl_system.proofs.MemberLemmas.{Contains-map_from}
 use Rattle.mdl_calls.specs.declared.answers.Held.{Held}
-use Rattle.mdl_calls.specs.declared.answers.Settled.{Settled}
-use Rattle.mdl_calls.specs.declared.answers.Settled.TheVariants as settled
-use Rattle.mdl_calls.specs.declared.space_error.SpaceError.{SpaceError}
-use Rattle.mdl_calls.specs.declared.space_error.SpaceError.TheVariants as space
-use Rattle.mdl_calls.specs.Words.{Answer, Has_wait, Reads, Changed, Change_definition, Kill, Read_kept, Wait_of, Own, Program, Give, ◌>>=◌, Tables, Key_is, Tables_of, Key_of}
+use Rattle.mdl_calls.specs.Words.{Answer, Has_wait, Reads, Changed, Change_definition, Kill, Read_kept, Wait_of, Own, Program, ◌>>=◌, Tables, Key_is, Tables_of, Key_of}
 use Rattle.mdl_core.specs.CoreJoins.{Joins, Knows, SpeaksFor, own_at}
 use Rattle.mdl_core.specs.Cores.{Core, standing_at}
 use Rattle.mdl_core.proofs.CallLaws.{core-changes, core-keeps, core-remembers, core-rising}
 use Rattle.mdl_core.proofs.CoreSound.{calls_keep-sound}
 use Rattle.mdl_core.proofs.ReadLaws.{core-reads}
-use Rattle.mdl_context.specs.declared.context_error.ContextError.{ContextError}
-use Rattle.mdl_context.specs.declared.context_error.ContextError.TheVariants.{Space}
-use Rattle.mdl_context.specs.declared.kept.Kept.{Kept}
-use Rattle.mdl_context.specs.declared.kept.Wanted.{Wanted}
 use Rattle.mdl_context.specs.declared.request.Acquire.{Acquire}
 use Rattle.mdl_context.specs.declared.request.Acquire.TheVariants as acquire
 use Rattle.mdl_context.specs.declared.request.Mark.{Mark}
@@ -33,11 +21,10 @@ use Rattle.mdl_context.specs.declared.request.Resume.{Resume}
 use Rattle.mdl_context.specs.declared.request.Resume.TheVariants as resume
 use Rattle.mdl_context.specs.declared.request.Tried.{Tried}
 use Rattle.mdl_context.specs.declared.request.Tried.TheVariants as try_as
-use Rattle.mdl_context.specs.Contexts.{ContextView, beyond, duration_rank, held_for, last_ticket, lasts, mark_of, waits_for_user_lock}
+use Rattle.mdl_context.specs.Contexts.{ContextView, duration_rank, last_ticket, lasts, mark_of, waits_for_user_lock}
 use Rattle.mdl_context.specs.Gains.{refusal_of}
 use Rattle.mdl_context.specs.Holdings.{upgrade_of, wanted_of}
 use Rattle.mdl_context.specs.Releases.{giving_up, releasing}
-use Rattle.mdl_context.specs.Holdings.{wanted_of}
 use Rattle.mdl_context.specs.Requests.{Outcome, acquiring, trying}
 use Rattle.mdl_context.specs.Upgrades.{upgrading, downgrading}
 use Rattle.mdl_context.specs.Waits.{resuming}
@@ -45,388 +32,27 @@ use Rattle.mdl_context.specs.WishLaws.{IsMet}
 use Rattle.mdl_context.specs.Wishes.{Wish}
 use Rattle.mdl_context.proofs.PlaceLemmas.{equal}
 use Rattle.mdl_context.proofs.WishLemmas.{met_acquiring}
-use Rattle.mdl_rows.specs.declared.ending.Ending.{Ending}
-use Rattle.mdl_rows.specs.declared.ending.Ending.TheVariants.{Answers, Misses, Falls, Starves}
+use Rattle.mdl_rows.specs.declared.ending.Ending.TheVariants.{Answers}
 use Rattle.mdl_rows.specs.declared.reply.Reply.{Reply}
 use Rattle.mdl_rows.specs.declared.reply.Reply.TheVariants as reply
 use Rattle.mdl_rows.specs.declared.reply.TableShown.{TableShown}
-use Rattle.mdl_rows.specs.Endings.{Pause, Ends, Begins_to_wait, Waits_on, Faults, closing, ended, ending_of_error, ending_of_loss, ending_of_refusal, gone_at, letting_go, state_after, without_half}
+use Rattle.mdl_rows.specs.Endings.{Pause, ending_of_error, ending_of_loss, ending_of_refusal}
 use Rattle.mdl_rows.specs.Playing as playing
 use Rattle.mdl_rows.specs.Playing.{play, with_context}
 use Rattle.mdl_rows.specs.Rows.{Row}
 use Rattle.mdl_rows.specs.Rows as row
 use Rattle.mdl_rows.specs.Sessions.{Left, Session}
-use Rattle.mdl_rows.specs.States.{State, half_lock, lone_ticket, without_read_lock}
+use Rattle.mdl_rows.specs.States.{State}
+use Rattle.mdl_rows.specs.Statements.{is_defined}
 use Rattle.mdl_script_laws.proofs.ListLemmas.{among-filter}
-use Rattle.mdl_script_laws.proofs.ShownCalls.{Leads, Stays, leads-bind, leads-each, none, stays-call, stays-other}
-use Rattle.mdl_script_laws.proofs.RowRules.{IsUnlocked}
-use Rattle.mdl_script_laws.proofs.ShownContexts.{Fits, Followed, fits-kept, followed-same}
+use Rattle.mdl_script_laws.proofs.ShownCalls.{Leads, leads-bind, leads-each, none, stays-call, stays-other}
+use Rattle.mdl_script_laws.proofs.ShownContexts.{Fits, Followed, fits-kept}
 use Rattle.mdl_script_laws.proofs.ShownAsking.{held-number, leads-acquiring, leads-trying}
-use Rattle.mdl_script_laws.proofs.ShownRaising.{IsUpgrading, Raised, Won, leads-downgrading, leads-upgrading, leads-winning}
-use Rattle.mdl_script_laws.proofs.ShownWaits.{GaveUp, IsAmong, Resumed, leads-giving_up, leads-releasing, leads-resuming}
-use Rattle.mdl_script_laws.proofs.ShownPoints.{IsFirm, IsLocked, IsOld, IsStanding, drop-within, lasts-longer, locked-followed, old-followed, old-now, shown_as, standing-followed, standing-left}
-
--- ---- what a row may ask for
-
--- the locks that are had, with one more that lasts for the transaction
-abbrev pub with_lock : Duration → ℕ → KeyName → List (ℕ × KeyName) → List (ℕ × KeyName)
-with_lock Transaction id key locks = (id, key) ∷ locks
-with_lock _ id key locks = locks
-
--- what was seen by reading this under a lock
-abbrev pub seen_under : ℕ → Standing → List (ℕ × KeyName) → List TableShown
-seen_under id standing locks = map (λ lock. shown_as lock.1 standing) (filter (λ lock. lock.0 == id) locks)
-
--- the tables that a reply shows
-abbrev pub Tells : Reply → TableShown → Type 0
-Tells (reply.Columns shown) x = Contains shown x
-Tells _ x = ⊥
-
--- where the transaction was open as the statement began, a row shows what it has seen, and nothing else; and where something is to stay that was shown before, in a transaction that was
--- open as the statement began, it gives up nothing, changes nothing, and neither ends the transaction nor opens one
-abbrev pub IsFair : (TableShown → Type 0) → Bool → List (ℕ × KeyName) → List TableShown → Row Reply → Type 0
-IsFair old live locks seen (row.Give reply) = live ≡ true → (x : TableShown) → Tells reply x → Contains seen x
-IsFair old live locks seen (row.Fail number) = Unit {0}
-IsFair old live locks seen (row.Room rest) = IsFair old live locks seen rest
-IsFair old live locks seen (row.Look rest) =
-    (state : State) → IsUnlocked state → ((x : TableShown) → old x → live ≡ true → state.is_open ≡ true) → IsFair old live locks seen (rest state)
-IsFair old live locks seen (row.Set change rest) =
-    ((state : State) → IsUnlocked state → IsUnlocked (change state))
-    × ((state : State) → (state.is_open ≡ true → live ≡ true) → (change state).is_open ≡ true → live ≡ true)
-    × ((x : TableShown) → old x → live ≡ true → (state : State) → state.is_open ≡ true → (change state).is_open ≡ true)
-    × IsFair old live locks seen rest
-IsFair old live locks seen (row.Here rest) = (mark : Mark) → IsFair old live locks seen (rest mark)
-IsFair old live locks seen (row.Acquire wish rest) = (id : ℕ) → IsFair old live (with_lock wish.duration id wish.key locks) seen (rest id)
-IsFair old live locks seen (row.Try_acquire wish rest) = (got : Option ℕ) → IsFair old live locks seen (rest got)
-IsFair old live locks seen (row.Last key rest) = (held : Option ℕ) → IsFair old live locks seen (rest held)
-IsFair old live locks seen (row.Upgrade id key mode rest) = ((x : TableShown) → old x → live ≡ true → ⊥) × ((id : ℕ) → IsFair old live [] [] (rest id))
-IsFair old live locks seen (row.Downgrade id mode rest) = ((x : TableShown) → old x → live ≡ true → ⊥) × IsFair old live [] [] rest
-IsFair old live locks seen (row.Give_up which rest) = ((x : TableShown) → old x → live ≡ true → ⊥) × IsFair old live [] [] rest
-IsFair old live locks seen (row.Release id rest) = ((x : TableShown) → old x → live ≡ true → ⊥) × IsFair old live [] [] rest
-IsFair old live locks seen (row.Keep rest) = ((x : TableShown) → old x → live ≡ true → ⊥) × IsFair old live [] [] rest
-IsFair old live locks seen (row.Read id rest) = (standing : Standing) → IsFair old live locks (seen_under id standing locks ++ seen) (rest standing)
-IsFair old live locks seen (row.Redefine id change rest) = ((x : TableShown) → old x → live ≡ true → ⊥) × IsFair old live [] [] rest
-IsFair old live locks seen (row.Tables_of schema rest) = (tables : List ℕ) → IsFair old live locks seen (rest tables)
-IsFair old live locks seen (row.Key_of place rest) = (key : KeyName) → IsFair old live locks seen (rest key)
-IsFair old live locks seen (row.Kill target rest) = IsFair old live locks seen rest
-
--- ---- where a statement is
-
--- while it is played that began at this mark
-pub record Point (old : TableShown → Type 0) (live : Bool) (locks : List (ℕ × KeyName)) (seen : List TableShown) (mark : Mark) (a : Core)
-    (context : ContextView) (state : State) : Type 0 where
-  pub fits : Fits a context
-  pub unlocked : IsUnlocked state
-  pub was : state.is_open ≡ true → live ≡ true
-  pub opens : (x : TableShown) → old x → live ≡ true → state.is_open ≡ true
-  pub kept : (x : TableShown) → old x → live ≡ true → (stands : IsStanding a context x) × IsOld mark context.kept stands.ticket.id
-  pub locked : (id : ℕ) (key : KeyName) → Contains locks (id, key) → IsLocked a context id key
-  pub stands : (x : TableShown) → Contains seen x → IsStanding a context x
-
--- between statements: what was shown before stands, where the transaction is open
-pub record Rests (old : TableShown → Type 0) (a : Core) (session : Session) : Type 0 where
-  pub left : session.left ≡ None
-  pub fits : Fits a session.context
-  pub unlocked : IsUnlocked session.state
-  pub kept : (x : TableShown) → old x → session.state.is_open ≡ true → IsStanding a session.context x
-
--- while it waits for a lock
-pub record IsWaiting (old : TableShown → Type 0) (a : Core) (session : Session) : Type 0 where
-  pub rest : Left
-  pub left : session.left ≡ Some rest
-  pub live : Bool
-  pub locks : List (ℕ × KeyName)
-  pub seen : List TableShown
-  pub key : KeyName
-  pub wanted : Wanted
-  pub wait : session.context.wait ≡ Some wanted
-  pub gains : upgrade_of (Some wanted) ≡ None
-  pub at : Knows a session.context.who wanted.place key
-  pub point : Point old live locks seen rest.mark a session.context session.state
-  pub fair : (id : ℕ) → IsFair old live (with_lock wanted.duration id key locks) seen (rest.rest id)
-
--- while it waits to make a lock stronger, which it does only where nothing has to stay
-pub record IsRaising (old : TableShown → Type 0) (a : Core) (session : Session) : Type 0 where
-  pub rest : Left
-  pub left : session.left ≡ Some rest
-  pub live : Bool
-  pub nothing : (x : TableShown) → old x → live ≡ true → ⊥
-  pub upgrading : IsUpgrading session.context
-  pub point : Point old live [] [] rest.mark a session.context session.state
-  pub fair : (id : ℕ) → IsFair old live [] [] (rest.rest id)
-
--- in one way or the other
-abbrev pub IsUnderway : (TableShown → Type 0) → Core → Session → Type 0
-IsUnderway old a session = IsWaiting old a session ⊎ IsRaising old a session
-
--- a session of which this is so
-abbrev pub Keeps : (TableShown → Type 0) → Core → Session → Type 0
-Keeps old a session = Rests old a session ⊎ IsUnderway old a session
-
--- however far a statement comes, it is so of its session; and what it shows in an open transaction stands
-abbrev pub Comes : (TableShown → Type 0) → Pause → Core → Type 0
-Comes old (Ends reply session) b =
-    Rests old b session × ((x : TableShown) → Tells reply x → session.state.is_open ≡ true → IsStanding b session.context x)
-Comes old (Begins_to_wait key mode session) b = IsUnderway old b session
-Comes old (Waits_on session) b = IsUnderway old b session
-Comes old (Faults session) b = Rests old b session
-
--- ---- from one point to the next
-
-module _ (old : TableShown → Type 0) (live : Bool) (locks : List (ℕ × KeyName)) (seen : List TableShown) (mark : Mark) (a : Core)
-    (context : ContextView) (state : State)
-    (point : Point old live locks seen mark a context state) where
-  pub point-followed : (b : Core) (after : ContextView) → Followed a context b after → Point old live locks seen mark b after state
-  point-followed b after followed = record {
-    fits = followed.fits;
-    unlocked = point.unlocked;
-    was = point.was;
-    opens = point.opens;
-    kept = λ x is lives. (let h = point.kept x is lives in old-followed a b context after point.fits followed mark x h.0 h.1);
-    locked = λ id key among. locked-followed a b context after point.fits followed id key (point.locked id key among);
-    stands = λ x among. standing-followed a b context after point.fits followed x (point.stands x among);
-  }
-
-  pub point-same : (b : Core) → Stays context.who none a b → Point old live locks seen mark b context state
-  point-same b stays = point-followed b context (followed-same a b context point.fits stays)
-
-  -- tickets went, and nothing had to stay
-  point-cleared : (b : Core) (after : ContextView) → Fits b after → ((x : TableShown) → old x → live ≡ true → ⊥) → Point old live [] [] mark b after state
-  point-cleared b after fits nothing = record {
-    fits = fits;
-    unlocked = point.unlocked;
-    was = point.was;
-    opens = point.opens;
-    kept = λ x is lives. absurd (nothing x is lives);
-    locked = λ id key among. absurd (Contains-none (id, key) among);
-    stands = λ x among. absurd (Contains-none x among);
-  }
-
-  -- one more lock is had
-  point-locked : (duration : Duration) (id : ℕ) (key : KeyName) → (duration ≡ Transaction → IsLocked a context id key)
-      → Point old live (with_lock duration id key locks) seen mark a context state
-  point-locked duration id key had = record {
-    fits = point.fits;
-    unlocked = point.unlocked;
-    was = point.was;
-    opens = point.opens;
-    kept = point.kept;
-    locked = by duration had;
-    stands = point.stands;
-  }
-    where
-      by : (d : Duration) → (d ≡ Transaction → IsLocked a context id key) → (n : ℕ) (k : KeyName) → Contains (with_lock d id key locks) (n, k)
-          → IsLocked a context n k
-      by Statement had n k among = point.locked n k among
-      by Explicit had n k among = point.locked n k among
-      by Transaction had n k among = elim (Contains-cons_cases (id, key) locks (n, k) among) [
-        | inl before ↦ point.locked n k before
-        | inr same ↦ subst (λ (l : ℕ × KeyName). IsLocked a context l.0 l.1) (sym same) (had refl)
-      ]
-
-  -- more is seen
-  point-seen : (more : List TableShown) → ((x : TableShown) → Contains more x → IsStanding a context x)
-      → Point old live locks (more ++ seen) mark a context state
-  point-seen more each = record {
-    fits = point.fits;
-    unlocked = point.unlocked;
-    was = point.was;
-    opens = point.opens;
-    kept = point.kept;
-    locked = point.locked;
-    stands = λ x among. elim (Contains-append_cases more seen x among) [ inl new ↦ each x new | inr before ↦ point.stands x before ];
-  }
-
-  point-set : (change : State → State) → (IsUnlocked state → IsUnlocked (change state))
-      → ((state.is_open ≡ true → live ≡ true) → (change state).is_open ≡ true → live ≡ true)
-      → ((x : TableShown) → old x → live ≡ true → state.is_open ≡ true → (change state).is_open ≡ true)
-      → Point old live locks seen mark a context (change state)
-  point-set change unlocked was opens = record {
-    fits = point.fits;
-    unlocked = unlocked point.unlocked;
-    was = was point.was;
-    opens = λ x is lives. opens x is lives (point.opens x is lives);
-    kept = point.kept;
-    locked = point.locked;
-    stands = point.stands;
-  }
-
--- where a statement begins
-pub point-resting : (old : TableShown → Type 0) (a : Core) (session : Session) → Rests old a session
-    → Point old session.state.is_open [] [] (mark_of session.context.kept) a session.context session.state
-point-resting old a session rests = record {
-  fits = rests.fits;
-  unlocked = rests.unlocked;
-  was = λ e. e;
-  opens = λ x is lives. lives;
-  kept = λ x is lives. (let stands = rests.kept x is lives in (stands, old-now session.context.kept stands.ticket.id));
-  locked = λ id key among. absurd (Contains-none (id, key) among);
-  stands = λ x among. absurd (Contains-none x among);
-}
-
--- ---- ends
-
--- what an ending shows
-abbrev TellsAt : Ending → TableShown → Type 0
-TellsAt (Answers reply) x = Tells reply x
-TellsAt _ x = ⊥
-
-not_firm : (kept : List Kept) (k : Kept) (id : ℕ) → IsFirm kept id → Contains (held_for Statement kept) k → k.id ≡ id → ⊥
-not_firm kept k id firm among e = let h = among-filter (lasts Statement) kept k among in let f = firm k h.0 e in let g = sym h.1 ∙ f in cc
-
-module _ (old : TableShown → Type 0) (live : Bool) (locks : List (ℕ × KeyName)) (seen : List TableShown) (mark : Mark) (a : Core) (session : Session)
-    (point : Point old live locks seen mark a session.context session.state) where
-  abbrev kept_before : List Kept
-  kept_before = session.context.kept
-
-  -- what goes leaves what was shown before
-  old-stays : (ending : Ending) (x : TableShown) (stands : IsStanding a session.context x) → IsOld mark kept_before stands.ticket.id
-      → (state_after ending session.state).is_open ≡ true
-      → IsAmong (gone_at ending true mark kept_before) stands.ticket.id → ⊥
-  old-stays (Answers reply) x stands is opens (k, among, e) = not_firm kept_before k stands.ticket.id stands.firm among e
-  old-stays (Misses number) x stands is opens (k, among, e) = elim (Contains-append_cases (beyond Statement mark.statement kept_before)
-      (beyond Transaction mark.transaction kept_before) k among) [
-        | inl one ↦ not_firm kept_before k stands.ticket.id stands.firm (drop-within mark.statement (held_for Statement kept_before) k one) e
-        | inr other ↦ is k other e
-      ]
-  old-stays Starves x stands is opens (k, among, e) = elim (Contains-append_cases (beyond Statement mark.statement kept_before)
-      (beyond Transaction mark.transaction kept_before) k among) [
-        | inl one ↦ not_firm kept_before k stands.ticket.id stands.firm (drop-within mark.statement (held_for Statement kept_before) k one) e
-        | inr other ↦ is k other e
-      ]
-  old-stays Falls x stands is opens among = cc
-
-  still_open : (ending : Ending) → (state_after ending session.state).is_open ≡ true → session.state.is_open ≡ true
-  still_open (Answers reply) e = e
-  still_open (Misses number) e = e
-  still_open Starves e = e
-  still_open Falls e = cc
-
-  unlocked_still : (ending : Ending) → IsUnlocked session.state → IsUnlocked (state_after ending session.state)
-  unlocked_still (Answers reply) e = e
-  unlocked_still (Misses number) e = e
-  unlocked_still Starves e = e
-  unlocked_still Falls e = λ opens. cc
-
-  -- how it ended
-  came-to : (ending : Ending) (b : Core) (after : ContextView) → (live ≡ true → (x : TableShown) → TellsAt ending x → Contains seen x)
-      → GaveUp a (gone_at ending session.state.is_open mark kept_before) session.context b after
-      → Comes old (ended ending (record { context = after; state = state_after ending session.state; left = None })) b
-  came-to ending b after told gave = by ending rests tells
-    where
-      there : session.state.is_open ≡ true → GaveUp a (gone_at ending true mark kept_before) session.context b after
-      there opens = subst (λ o. GaveUp a (gone_at ending o mark kept_before) session.context b after) opens gave
-
-      rests : Rests old b (record { context = after; state = state_after ending session.state; left = None })
-      rests = record {
-        left = refl;
-        fits = gave.fits;
-        unlocked = unlocked_still ending point.unlocked;
-        kept = λ x is opens. (
-            let h = point.kept x is (point.was (still_open ending opens)) in
-            standing-left a b (gone_at ending true mark kept_before) session.context after x h.0 point.fits (there (still_open ending opens))
-            (old-stays ending x h.0 h.1 opens));
-      }
-
-      tells : (x : TableShown) → TellsAt ending x → (state_after ending session.state).is_open ≡ true → IsStanding b after x
-      tells x tell opens = at ending (told (point.was (still_open ending opens))) (there (still_open ending opens)) tell
-        where
-          at : (e : Ending) → ((y : TableShown) → TellsAt e y → Contains seen y) → GaveUp a (gone_at e true mark kept_before) session.context b after
-              → TellsAt e x → IsStanding b after x
-          at (Answers reply) told gave tell =
-              let stands = point.stands x (told x tell) in
-              standing-left a b (held_for Statement kept_before) session.context after x stands point.fits gave
-              (λ (k, among, e). not_firm kept_before k stands.ticket.id stands.firm among e)
-          at (Misses number) told gave tell = absurd tell
-          at Starves told gave tell = absurd tell
-          at Falls told gave tell = absurd tell
-
-      by : (e : Ending)
-          → Rests old b (record { context = after; state = state_after e session.state; left = None })
-          → ((x : TableShown) → TellsAt e x → (state_after e session.state).is_open ≡ true → IsStanding b after x)
-          → Comes old (ended e (record { context = after; state = state_after e session.state; left = None })) b
-      by (Answers reply) rests tells = (rests, tells)
-      by (Misses number) rests tells = (rests, tells)
-      by Falls rests tells = (rests, tells)
-      by Starves rests tells = rests
-
-  leads-letting_go : (ending : Ending) → (live ≡ true → (x : TableShown) → TellsAt ending x → Contains seen x) → Leads (Comes old) (letting_go ending mark session) a
-  leads-letting_go ending told =
-      let gone = gone_at ending session.state.is_open mark kept_before in
-      leads-bind (λ (outcome : Outcome (Unit {0})) b. GaveUp a gone session.context b outcome.1) (Comes old) (giving_up gone session.context)
-      (λ outcome. Give (ended ending (record { context = outcome.1; state = state_after ending session.state; left = None }))) a
-      (leads-giving_up a gone session.context point.fits) (λ outcome b gave. came-to ending b outcome.1 told gave)
-
--- a statement ended, and no transaction is open
-came-shut : (old : TableShown → Type 0) (ending : Ending) (b : Core) (after : ContextView) (state : State) → Fits b after → IsUnlocked (state_after ending state)
-    → (state_after ending state).is_open ≡ false → Comes old (ended ending (record { context = after; state = state_after ending state; left = None })) b
-came-shut old ending b after state fits unlocked shut = by ending
-  where
-    rests : Rests old b (record { context = after; state = state_after ending state; left = None })
-    rests = record { left = refl; fits = fits; unlocked = unlocked; kept = λ x is opens. absurd (false≢true (sym shut ∙ opens)) }
-
-    by : (e : Ending) → Comes old (ended e (record { context = after; state = state_after ending state; left = None })) b
-    by (Answers reply) = (rests, λ x tell opens. absurd (false≢true (sym shut ∙ opens)))
-    by (Misses number) = (rests, λ x tell opens. absurd (false≢true (sym shut ∙ opens)))
-    by Falls = (rests, λ x tell opens. absurd (false≢true (sym shut ∙ opens)))
-    by Starves = rests
-
--- half of the global read lock is had only where no transaction is open
-half-shut : (state : State) (global : ℕ) → half_lock state ≡ Some global → state.is_open ≡ false
-half-shut state global is = by state.is_open is where
-  by : (opened : Bool) → (if opened then None else lone_ticket state.read_lock) ≡ Some global → opened ≡ false
-  by true e = absurd (cc)
-  by false e = refl
-
--- to give the global read lock up opens no transaction, and locks no table
-opens-same : (ending : Ending) (state : State) → (state_after ending (without_read_lock state)).is_open ≡ (state_after ending state).is_open
-opens-same (Answers reply) state = refl
-opens-same (Misses number) state = refl
-opens-same Falls state = refl
-opens-same Starves state = refl
-
-unlocked-same : (ending : Ending) (state : State) → IsUnlocked state → IsUnlocked (state_after ending (without_read_lock state))
-unlocked-same (Answers reply) state e = e
-unlocked-same (Misses number) state e = e
-unlocked-same Falls state e = λ opens. cc
-unlocked-same Starves state e = e
-
-pub leads-closing : (old : TableShown → Type 0) (live : Bool) (locks : List (ℕ × KeyName)) (seen : List TableShown) (mark : Mark) (a : Core) (session : Session)
-    → Point old live locks seen mark a session.context session.state
-    → (ending : Ending) → (live ≡ true → (x : TableShown) → TellsAt ending x → Contains seen x) → Leads (Comes old) (closing ending mark session) a
-leads-closing old live locks seen mark a session point ending told = by (half_lock (state_after ending session.state)) refl
-  where
-    by : (half : Option ℕ) → half_lock (state_after ending session.state) ≡ half
-        → Leads (Comes old) (without_half half ending mark (record session { left = None })) a
-    by None is = leads-letting_go old live locks seen mark a (record session { left = None }) point ending told
-    by (Some global) is =
-        let state = without_read_lock session.state in
-        let after : ContextView → Session = λ context. record { context = context; state = state; left = None } in
-        let shut = opens-same ending session.state ∙ half-shut (state_after ending session.state) global is in
-        leads-bind (λ (outcome : Outcome (Unit {0})) b. Fits b outcome.1 × (outcome.1.who ≡ session.context.who)) (Comes old)
-        (releasing global session.context) (λ outcome. letting_go ending mark (after outcome.1)) a (leads-releasing a global session.context point.fits)
-        (λ outcome b left. (
-        let gone = gone_at ending state.is_open mark outcome.1.kept in
-        leads-bind (λ (next : Outcome (Unit {0})) c. GaveUp b gone outcome.1 c next.1) (Comes old) (giving_up gone outcome.1)
-        (λ next. Give (ended ending (record { context = next.1; state = state_after ending state; left = None }))) b
-        (leads-giving_up b gone outcome.1 left.0)
-        (λ next c gave. came-shut old ending c next.1 state gave.fits (unlocked-same ending session.state point.unlocked) shut)))
-
-tells_no_loss : (user : Bool) (how : Settled) (x : TableShown) → TellsAt (ending_of_loss user how) x → ⊥
-tells_no_loss true settled.Timeout x tell = tell
-tells_no_loss false settled.Timeout x tell = tell
-tells_no_loss user settled.Killed x tell = tell
-tells_no_loss true _ x tell = tell
-tells_no_loss false _ x tell = tell
-
-tells_no_refusal : (refusal : SpaceError) (x : TableShown) → TellsAt (ending_of_refusal refusal) x → ⊥
-tells_no_refusal space.OutOfMemory x tell = tell
-tells_no_refusal space.NoPlace x tell = tell
-tells_no_refusal _ x tell = tell
-
-pub tells_no_error : (error : ContextError) (x : TableShown) → TellsAt (ending_of_error error) x → ⊥
-tells_no_error (Space refusal) x tell = tells_no_refusal refusal x tell
-tells_no_error _ x tell = tell
+use Rattle.mdl_script_laws.proofs.ShownRaising.{Raised, Won, leads-downgrading, leads-upgrading, leads-winning}
+use Rattle.mdl_script_laws.proofs.ShownWaits.{GaveUp, Resumed, leads-giving_up, leads-releasing, leads-resuming}
+use Rattle.mdl_script_laws.proofs.ShownPoints.{IsLocked, IsStanding, lasts-longer, shown_as}
+use Rattle.mdl_script_laws.proofs.ShownStages.{Comes, IsFair, IsRaising, IsWaiting, Keeps, Point, point-cleared, point-followed, point-locked, point-same, point-seen, point-set, seen-defined, seen_under, with_lock}
+use Rattle.mdl_script_laws.proofs.ShownEndings.{leads-closing, tells_no_error, tells_no_loss, tells_no_refusal}
 
 -- ---- changes
 
@@ -539,8 +165,9 @@ module _ (old : TableShown → Type 0) (live : Bool) (locks : List (ℕ × KeyNa
       → Joins a (Read_kept context.who id) (Reads version definition) b → At b context state
       → (x : TableShown) → Contains (seen_under id (record { version = version; definition = definition }) locks) x → IsStanding b context x
   seen-read a b context state id version definition point joins now x among =
+      let is = seen-defined id (record { version = version; definition = definition }) locks x among in
       let from = Contains-map_from (λ (lock : ℕ × KeyName). shown_as lock.1 (record { version = version; definition = definition }))
-      (filter (λ (lock : ℕ × KeyName). lock.0 == id) locks) x among in
+      (filter (λ (lock : ℕ × KeyName). lock.0 == id) locks) x is.1 in
       let lock = among-filter (λ (lock : ℕ × KeyName). lock.0 == id) locks from.0 from.1 in
       let before = point.locked from.0.0 from.0.1 lock.0 in
       let number : before.ticket.id ≡ id = before.number ∙ equal from.0.0 id lock.1 in
@@ -552,6 +179,7 @@ module _ (old : TableShown → Type 0) (live : Bool) (locks : List (ℕ × KeyNa
         ticket = before.ticket;
         there = read-there a b context.who id version definition before.ticket point.fits.speaks joins before.there;
         shown = ap (λ k. shown_as k (standing_at before.ticket.place b)) key.1 ∙ ap (shown_as from.0.1) read.2 ∙ sym from.2;
+        defined = ap is_defined read.2 ∙ is.0;
         firm = before.firm;
       }
     where

@@ -15,7 +15,7 @@ use Rattle.mdl_context.specs.declared.kept.Kept.{Kept}
 use Rattle.mdl_context.specs.declared.request.Mark.{Mark}
 use Rattle.mdl_context.specs.Contexts.{ContextView, beyond, duration_rank, has_number, held_for, lasts, mark_of, without}
 use Rattle.mdl_rows.specs.declared.reply.TableShown.{TableShown}
-use Rattle.mdl_rows.specs.Statements.{columns_of}
+use Rattle.mdl_rows.specs.Statements.{columns_of, is_defined}
 use Rattle.mdl_script_laws.proofs.ListLemmas.{among-filter, only-one}
 use Rattle.mdl_script_laws.proofs.ShownCalls.{Spares, key-held, none}
 use Rattle.mdl_script_laws.proofs.ShownContexts.{Fits, Followed, Grown}
@@ -106,11 +106,12 @@ pub record IsLocked (a : Core) (context : ContextView) (id : ℕ) (key : KeyName
   pub at : Knows a context.who ticket.place key
   pub firm : IsFirm context.kept ticket.id
 
--- a table stands as it is shown, under a ticket that is held for longer than the statement
+-- a table is defined as it is shown, under a ticket that is held for longer than the statement
 pub record IsStanding (a : Core) (context : ContextView) (x : TableShown) : Type 0 where
   pub ticket : Held
   pub there : Contains (own_at a context.who).held ticket
   pub shown : shown_at ticket.place a ≡ x
+  pub defined : is_defined (standing_at ticket.place a) ≡ true
   pub firm : IsFirm context.kept ticket.id
 
 shown-spared : (who : ℕ) (gone : ℕ → Type 0) (a b : Core) (context : ContextView) (t : Held) → Fits a context → Spares context.who gone a b
@@ -138,6 +139,7 @@ module _ (a b : Core) (before after : ContextView) (fits : Fits a before) (follo
     ticket = stands.ticket;
     there = still-there stands.ticket stands.there;
     shown = shown-spared before.who none a b before stands.ticket fits followed.spares stands.there (λ g. g) ∙ stands.shown;
+    defined = ap is_defined (followed.spares.stands stands.ticket stands.there (λ g. g)) ∙ stands.defined;
     firm = firm-grown a before.who before.kept after.kept stands.ticket followed.grown stands.there stands.firm;
   }
 
@@ -155,6 +157,7 @@ standing-left a b gone before after x stands fits gave stays =
       ticket = stands.ticket;
       there = gave.spares.held stands.ticket stands.there stays;
       shown = shown-spared before.who (IsAmong gone) a b before stands.ticket fits gave.spares stands.there stays ∙ stands.shown;
+      defined = ap is_defined (gave.spares.stands stands.ticket stands.there stays) ∙ stands.defined;
       firm = firm-left gone before.kept stands.ticket.id stands.firm;
     })
 
@@ -167,6 +170,7 @@ old-released a b id before after mark x stands old fits released apart = (
     ticket = stands.ticket;
     there = subst (λ w. Contains (own_at b w).held stands.ticket) (sym released.who) (released.spares.held stands.ticket stands.there apart);
     shown = shown-spared before.who (λ n. n ≡ id) a b before stands.ticket fits released.spares stands.there apart ∙ stands.shown;
+    defined = ap is_defined (released.spares.stands stands.ticket stands.there apart) ∙ stands.defined;
     firm = λ k among e. stands.firm k (released.fewer k among) e;
   },
   λ k among e. old k (released.late mark.transaction k among) e,

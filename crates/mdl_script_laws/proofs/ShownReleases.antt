@@ -1,13 +1,17 @@
 -- A user-level lock that is released leaves what was shown in the session's transaction: that stands under other tickets.
-use Rattle.std.proofs.Common.{◌≡◌, ◌≢◌, ℕ, Bool, true, false, List, [], ◌∷◌, Option, Some, None, Result, Ok, Err, Contains, filter, find, is_some, map, not, option_map, refl, sym, ap, ◌∙◌}
+use Rattle.std.proofs.Common.{◌≡◌, ◌≢◌, ℕ, Bool, true, false, List, [], ◌∷◌, Option, Some, None, Result, Ok, Err, Contains, filter, find, is_some, map, not, option_map, refl, sym, ap, ◌∙◌, subst}
 use Rattle.std.specs.Prelude.{◌==◌, ◌&&◌}
-use Rattle.std.specs.Option.{option_and_then}
-use Rattle.std.proofs.lemmas.Bool.{and_parts}
+use Rattle.std.specs.Option.{IfSome, option_and_then}
+use Rattle.std.proofs.lemmas.Bool.{and_parts, false≢true}
 use Rattle.std.proofs.lemmas.List.Elements.{Contains-append_right}
 use Rattle.mdl_key.specs.declared.mode.Duration.TheVariants.{Explicit}
 use Rattle.mdl_key.specs.declared.mode.Mode.TheVariants.{X}
 use Rattle.mdl_key.specs.declared.namespace.Namespace.TheVariants.{UserLevelLock}
 use Rattle.mdl_key.specs.Keys.{KeyName, user_lock_key}
+use Rattle.mdl_defs.specs.declared.definition.Definition.{Definition}
+use Rattle.mdl_defs.specs.declared.standing.Standing.{Standing}
+use Rattle.mdl_defs.specs.Standings.{MayStand}
+use Rattle.mdl_defs.specs.Standings as standings
 use Rattle.mdl_system.proofs.MemberLemmas.{Contains-map_from, Contains-none}
 use Rattle.mdl_system.proofs.OrderLemmas.{Contains-here}
 use Rattle.mdl_book.proofs.TicketLemmas.{find-contains, find-passes}
@@ -16,7 +20,7 @@ use Rattle.mdl_calls.specs.declared.space_error.SpaceError.{SpaceError}
 use Rattle.mdl_calls.specs.Words.{Answer, At_place, Give, Each}
 use Rattle.mdl_calls.proofs.FaithfulLemmas.{each_then, either}
 use Rattle.mdl_core.specs.CoreJoins.{own_at}
-use Rattle.mdl_core.specs.Cores.{Core, key_at}
+use Rattle.mdl_core.specs.Cores.{Core, standing_at}
 use Rattle.mdl_core.proofs.CallLaws.{core-rising}
 use Rattle.mdl_core.proofs.PairLemmas.{pairs-from_rising, same-number}
 use Rattle.mdl_context.specs.declared.context_error.ContextError.TheVariants.{Waiting}
@@ -44,13 +48,15 @@ use Rattle.mdl_rows.specs.Playing.{play, starting, with_context}
 use Rattle.mdl_rows.specs.Rows as row
 use Rattle.mdl_rows.specs.Sessions.{Session}
 use Rattle.mdl_rows.specs.States.{State}
+use Rattle.mdl_rows.specs.Statements.{is_defined}
 use Rattle.mdl_rows.specs.Statements as does
 use Rattle.mdl_script_laws.proofs.ListLemmas.{among-filter, last-among}
 use Rattle.mdl_script_laws.proofs.ShownAsking.{leads-trying}
 use Rattle.mdl_script_laws.proofs.ShownCalls.{Leads, leads-bind, leads-each}
 use Rattle.mdl_script_laws.proofs.ShownContexts.{Fits, Followed}
-use Rattle.mdl_script_laws.proofs.ShownPlays.{Comes, Point, Rests, Tells, leads-closing, point-followed, point-resting, tells_no_error}
+use Rattle.mdl_script_laws.proofs.ShownEndings.{leads-closing, tells_no_error}
 use Rattle.mdl_script_laws.proofs.ShownPoints.{IsStanding, old-released}
+use Rattle.mdl_script_laws.proofs.ShownStages.{Comes, Point, Rests, Tells, point-followed, point-resting}
 use Rattle.mdl_script_laws.proofs.ShownWaits.{IsReleased, leads-released}
 
 -- ---- tickets of a key
@@ -78,18 +84,28 @@ last-of_key key context id e = by (place_known key context.known) refl e
         let kept = among-filter there context.kept from.0 from.1 in
         record { place = place; known = same; ticket = from.0; kept = kept.0; at = equal (from.0).place place kept.1; number = sym from.2 }
 
--- what stands under another key than a user-level lock's stands under another ticket than that of such a lock
+-- nothing is ever defined under the key of a user-level lock
+never-defined : (standing : Standing) → MayStand UserLevelLock standing → is_defined standing ≡ true → ⊥
+never-defined standing may there = by standing.definition may.fits there
+  where
+    by : (definition : Option Definition) → IfSome definition (λ d. standings.fits UserLevelLock d ≡ true) → is_some definition ≡ true → ⊥
+    by None suits is = false≢true is
+    by (Some definition) suits is = false≢true suits
+
+-- so what is defined is under another ticket than that of such a lock
 apart-from : (a : Core) (context : ContextView) (name : List ℕ) (id : ℕ) (x : TableShown) → Fits a context → IsOfKey context (user_lock_key name) id
-    → x.key.namespace ≢ UserLevelLock → (stands : IsStanding a context x) → stands.ticket.id ≢ id
-apart-from a context name id x fits its plain stands same =
+    → (stands : IsStanding a context x) → stands.ticket.id ≢ id
+apart-from a context name id x fits its stands same =
     let held = (own_at a context.who).held in
     let there = fits.backed its.ticket its.kept in
     let one : stands.ticket ≡ there.0 =
     same-number held (pairs-from_rising held (core-rising a context.who fits.speaks)) stands.ticket there.0 stands.there there.1
     (same ∙ sym (there.2 ∙ its.number)) in
     let place : stands.ticket.place ≡ its.place = ap (λ (t : Held). t.place) one ∙ there.3 ∙ its.at in
-    let key : key_at its.place a ≡ user_lock_key name = (fits.known (user_lock_key name) its.place its.known).1 in
-    plain (ap (λ (k : KeyName). k.namespace) (sym (ap (λ (y : TableShown). y.key) stands.shown) ∙ ap (λ p. key_at p a) place ∙ key))
+    let key = fits.known (user_lock_key name) its.place its.known in
+    never-defined (standing_at its.place a)
+    (subst (λ (k : KeyName). MayStand k.namespace (standing_at its.place a)) key.1 (fits.speaks.1.standing its.place key.0))
+    (subst (λ p. is_defined (standing_at p a) ≡ true) place stands.defined)
 
 -- ---- a lock that is tried
 
@@ -159,7 +175,7 @@ tried-key request context =
 
 -- ---- a release
 
-module _ (old : TableShown → Type 0) (live : Bool) (mark : Mark) (name : List ℕ) (plain : (x : TableShown) → old x → x.key.namespace ≢ UserLevelLock) where
+module _ (old : TableShown → Type 0) (live : Bool) (mark : Mark) (name : List ℕ) where
   point-released : (locks : List (ℕ × KeyName)) (seen : List TableShown) (a b : Core) (context after : ContextView) (state : State) (id : ℕ)
       → Point old live locks seen mark a context state → IsOfKey context (user_lock_key name) id → IsReleased a id context b after
       → Point old live [] [] mark b after state
@@ -170,7 +186,7 @@ module _ (old : TableShown → Type 0) (live : Bool) (mark : Mark) (name : List 
     opens = point.opens;
     kept = λ x is lives. (
         let h = point.kept x is lives in
-        old-released a b id context after mark x h.0 h.1 point.fits released (apart-from a context name id x point.fits its (plain x is) h.0));
+        old-released a b id context after mark x h.0 h.1 point.fits released (apart-from a context name id x point.fits its h.0));
     locked = λ n key among. absurd (Contains-none (n, key) among);
     stands = λ x among. absurd (Contains-none x among);
   }
@@ -215,10 +231,9 @@ module _ (old : TableShown → Type 0) (live : Bool) (mark : Mark) (name : List 
       (tried-key wish session.context) (leads-trying a wish session.context point.fits))
       (λ outcome b h. leads-attempted a b session outcome point h.0 h.1)
 
--- RELEASE_LOCK leaves what was shown before, unless that is under a user-level lock's key
-pub leads-release_lock : (old : TableShown → Type 0) (name : List ℕ) (a : Core) (session : Session)
-    → ((x : TableShown) → old x → x.key.namespace ≢ UserLevelLock) → Rests old a session
+-- RELEASE_LOCK leaves what was shown before
+pub leads-release_lock : (old : TableShown → Type 0) (name : List ℕ) (a : Core) (session : Session) → Rests old a session
     → Leads (Comes old) (starting (statement.ReleaseLock name) session) a
-leads-release_lock old name a session plain rests =
-    leads-give_back old session.state.is_open (mark_of session.context.kept) name plain a session (last_ticket (user_lock_key name) session.context) refl
+leads-release_lock old name a session rests =
+    leads-give_back old session.state.is_open (mark_of session.context.kept) name a session (last_ticket (user_lock_key name) session.context) refl
     (point-resting old a session rests)

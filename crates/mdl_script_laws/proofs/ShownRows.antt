@@ -25,8 +25,9 @@ use Rattle.mdl_rows.specs.Statements as does
 use Rattle.mdl_script_laws.specs.Shown.{leaves_transaction}
 use Rattle.mdl_script_laws.proofs.ListLemmas.{filter-among, only-one}
 use Rattle.mdl_script_laws.proofs.RowRules.{Any, KeepsTo, keeps-begin, keeps-check, keeps-commit, keeps-create, keeps-create_schema, keeps-drop, keeps-rename, keeps-flush, keeps-rollback, keeps-then, keeps-unlock_all, keeps-alter, keeps-either, IsUnlocked, keeps-lock_tables, keeps-drop_schema}
-use Rattle.mdl_script_laws.proofs.ShownPlays.{IsFair, Tells, seen_under, begun}
+use Rattle.mdl_script_laws.proofs.ShownPlays.{begun}
 use Rattle.mdl_script_laws.proofs.ShownPoints.{shown_as}
+use Rattle.mdl_script_laws.proofs.ShownStages.{IsFair, Tells, seen_under, shown_under}
 
 -- RELEASE_LOCK
 abbrev pub IsReleaseLock : Statement → Type 0
@@ -37,35 +38,36 @@ IsReleaseLock _ = ⊥
 
 module _ (old : TableShown → Type 0) (live : Bool) where
   seen-first : (id : ℕ) (table : KeyName) (standing : Standing) (locks : List (ℕ × KeyName))
-      → Contains (seen_under id standing ((id, table) ∷ locks)) (shown_as table standing)
-  seen-first id table standing locks =
-      Contains-map (λ (lock : ℕ × KeyName). shown_as lock.1 standing) _ (id, table)
-      (filter-among (λ (lock : ℕ × KeyName). lock.0 == id) ((id, table) ∷ locks) (id, table) (eq-eqb id id refl) (Contains-here (id, table) locks))
+      → does.is_defined standing ≡ true → Contains (seen_under id standing ((id, table) ∷ locks)) (shown_as table standing)
+  seen-first id table standing locks is =
+      subst (λ there. Contains (if there then shown_under id standing ((id, table) ∷ locks) else []) (shown_as table standing)) (sym is)
+      (Contains-map (λ (lock : ℕ × KeyName). shown_as lock.1 standing) _ (id, table)
+      (filter-among (λ (lock : ℕ × KeyName). lock.0 == id) ((id, table) ∷ locks) (id, table) (eq-eqb id id refl) (Contains-here (id, table) locks)))
 
   fair-show : (locks : List (ℕ × KeyName)) (seen shown : List TableShown) (tables : List KeyName) → ((x : TableShown) → Contains shown x → Contains seen x)
       → IsFair old live locks seen (does.show_all does.lock_to_read shown tables)
   fair-show locks seen shown [] all = λ lives. all
   fair-show locks seen shown (table ∷ tables) all = λ id standing.
-      by id standing (does.is_defined standing)
-      (fair-show ((id, table) ∷ locks) (seen_under id standing ((id, table) ∷ locks) ++ seen) (shown ++ shown_as table standing ∷ []) tables (more id standing))
+      by id standing (does.is_defined standing) refl (λ is.
+      fair-show ((id, table) ∷ locks) (seen_under id standing ((id, table) ∷ locks) ++ seen) (shown ++ shown_as table standing ∷ []) tables (more id standing is))
     where
-      more : (id : ℕ) (standing : Standing) (x : TableShown) → Contains (shown ++ shown_as table standing ∷ []) x
+      more : (id : ℕ) (standing : Standing) → does.is_defined standing ≡ true → (x : TableShown) → Contains (shown ++ shown_as table standing ∷ []) x
           → Contains (seen_under id standing ((id, table) ∷ locks) ++ seen) x
-      more id standing x among = elim (Contains-append_cases shown (shown_as table standing ∷ []) x among) [
+      more id standing is x among = elim (Contains-append_cases shown (shown_as table standing ∷ []) x among) [
         | inl before ↦ Contains-append_right (seen_under id standing ((id, table) ∷ locks)) seen x (all x before)
         | inr late ↦ Contains-append_left (seen_under id standing ((id, table) ∷ locks)) seen x
             (subst (λ y. Contains (seen_under id standing ((id, table) ∷ locks)) y) (sym (only-one (shown_as table standing) x late))
-            (seen-first id table standing locks))
+            (seen-first id table standing locks is))
       ]
 
-      by : (id : ℕ) (standing : Standing) (there : Bool)
-          → IsFair old live ((id, table) ∷ locks) (seen_under id standing ((id, table) ∷ locks) ++ seen)
-          (does.show_all does.lock_to_read (shown ++ shown_as table standing ∷ []) tables)
+      by : (id : ℕ) (standing : Standing) (there : Bool) → does.is_defined standing ≡ there
+          → (does.is_defined standing ≡ true → IsFair old live ((id, table) ∷ locks) (seen_under id standing ((id, table) ∷ locks) ++ seen)
+          (does.show_all does.lock_to_read (shown ++ shown_as table standing ∷ []) tables))
           → IsFair old live ((id, table) ∷ locks) (seen_under id standing ((id, table) ∷ locks) ++ seen)
           (((check there NoSuchTable >> row.Give standing) >>= (λ now. row.room >> row.Give (shown ++ shown_as table now ∷ [])))
           >>= (λ more. does.show_all does.lock_to_read more tables))
-      by id standing true rest = rest
-      by id standing false rest = tt
+      by id standing true is rest = rest is
+      by id standing false is rest = tt
 
   -- without a transaction it may show any table, such as one that is locked already
   fair-held : (live ≡ true → ⊥) → (locks : List (ℕ × KeyName)) (seen shown : List TableShown) (tables : List KeyName)

@@ -4,7 +4,6 @@ use Rattle.std.proofs.lemmas.Bool.{false≢true}
 use Rattle.std.proofs.lemmas.Bool.Decides.{eqb_tells}
 use Rattle.std.proofs.lemmas.List.Elements.{All-head, All-tail, Contains-append_cases}
 use Rattle.mdl_key.specs.declared.mode.Mode.{Mode}
-use Rattle.mdl_key.specs.declared.namespace.Namespace.TheVariants.{UserLevelLock}
 use Rattle.mdl_key.specs.Keys.{KeyName}
 use Rattle.mdl_system.proofs.MemberLemmas.{Contains-none}
 use Rattle.mdl_calls.specs.Words.{Settle_timeout, Program, EachCall, outcome_of}
@@ -38,9 +37,10 @@ use Rattle.mdl_script_laws.proofs.ScriptLemmas.{asked-by, lines-by, new-session,
 use Rattle.mdl_script_laws.proofs.ShownCalls.{Leads, Stays, leads-outcome, none, stays-call, stays-other, stays-outcome}
 use Rattle.mdl_script_laws.proofs.ShownContexts.{followed-same, fits-same}
 use Rattle.mdl_script_laws.proofs.ShownPoints.{IsStanding, standing-followed}
-use Rattle.mdl_script_laws.proofs.ShownPlays.{Comes, Keeps, Rests, Tells, begun, leads-begun, leads-going, leads-play, point-resting, point-same}
+use Rattle.mdl_script_laws.proofs.ShownPlays.{begun, leads-begun, leads-going, leads-play}
 use Rattle.mdl_script_laws.proofs.ShownReleases.{leads-release_lock}
 use Rattle.mdl_script_laws.proofs.ShownRows.{fair-any, fair-leaving}
+use Rattle.mdl_script_laws.proofs.ShownStages.{Comes, Keeps, Rests, Tells, point-resting, point-same}
 
 -- ---- a statement that starts
 
@@ -48,26 +48,22 @@ use Rattle.mdl_script_laws.proofs.ShownRows.{fair-any, fair-leaving}
 abbrev pub MayStart : (TableShown → Type 0) → Statement → Type 0
 MayStart old statement = (leaves_transaction statement ≡ true) ⊎ ((x : TableShown) → old x → ⊥)
 
--- none of these is under the key of a user-level lock
-abbrev pub IsPlain : (TableShown → Type 0) → Type 0
-IsPlain old = (x : TableShown) → old x → x.key.namespace ≢ UserLevelLock
-
 -- one that leaves it
-leads-leaving : (old : TableShown → Type 0) (asked : Statement) (a : Core) (session : Session) → leaves_transaction asked ≡ true → IsPlain old
+leads-leaving : (old : TableShown → Type 0) (asked : Statement) (a : Core) (session : Session) → leaves_transaction asked ≡ true
     → Rests old a session → Leads (Comes old) (starting asked session) a
-leads-leaving old (statement.ReleaseLock name) a session leaves plain rests = leads-release_lock old name a session plain rests
-leads-leaving old asked a session leaves plain rests =
+leads-leaving old (statement.ReleaseLock name) a session leaves rests = leads-release_lock old name a session rests
+leads-leaving old asked a session leaves rests =
     let live = session.state.is_open in
     leads-begun old (row_of asked) (mark_of session.context.kept) a session
     (leads-play old live [] [] (begun (row_of asked) session.state) (mark_of session.context.kept) a session
     (fair-leaving old live asked session.state leaves (λ none. none) rests.unlocked (λ lives. lives)) (point-resting old a session rests))
 
-leads-starting : (old : TableShown → Type 0) (statement : Statement) (a : Core) (session : Session) → MayStart old statement → IsPlain old
+leads-starting : (old : TableShown → Type 0) (statement : Statement) (a : Core) (session : Session) → MayStart old statement
     → Rests old a session → Leads (Comes old) (starting statement session) a
-leads-starting old statement a session may plain rests = by (leaves_transaction statement) refl
+leads-starting old statement a session may rests = by (leaves_transaction statement) refl
   where
     by : (leaves : Bool) → leaves_transaction statement ≡ leaves → Leads (Comes old) (starting statement session) a
-    by true leaves = leads-leaving old statement a session leaves plain rests
+    by true leaves = leads-leaving old statement a session leaves rests
     by false other =
         leads-play old true [] [] (row_of statement) (mark_of session.context.kept) a session (fair-any old statement other nothing_old) (record {
           fits = rests.fits;
@@ -130,19 +126,12 @@ Nothing x = ⊥
 -- all sessions are there, what was shown to one of them stands as long as its transaction is open, and each can go on
 pub record IsGood (who : ℕ) (old : TableShown → Type 0) (world : World) : Type 0 where
   pub staffed : IsStaffed world
-  pub plain : IsPlain old
   pub own : Keeps old world.core (player_at who world).session
   pub others : (w : ℕ) → IsScriptSession w → w ≢ who → Keeps Nothing world.core (player_at w world).session
 
 -- one table more
 abbrev pub with_table : (TableShown → Type 0) → TableShown → TableShown → Type 0
-with_table old x y = old y ⊎ ((y ≡ x) × (x.key.namespace ≢ UserLevelLock))
-
-plain-with : (old : TableShown → Type 0) (x : TableShown) → IsPlain old → IsPlain (with_table old x)
-plain-with old x plain y is = elim is [
-  | inl before ↦ plain y before
-  | inr same ↦ subst (λ (z : TableShown). z.key.namespace ≢ UserLevelLock) (sym same.0) same.1
-]
+with_table old x y = old y ⊎ (y ≡ x)
 
 -- so it is after a scene, also of each table that was shown in it
 pub record IsGoodScene (who : ℕ) (old : TableShown → Type 0) (scene : Scene) : Type 0 where
@@ -193,7 +182,7 @@ rests-with old b session x rests stands = record {
   left = rests.left;
   fits = rests.fits;
   unlocked = rests.unlocked;
-  kept = λ y is opens. elim is [ inl before ↦ rests.kept y before opens | inr same ↦ subst (IsStanding b session.context) (sym same.0) (stands opens) ];
+  kept = λ y is opens. elim is [ inl before ↦ rests.kept y before opens | inr same ↦ subst (IsStanding b session.context) (sym same) (stands opens) ];
 }
 
 -- ---- a statement is played
@@ -243,13 +232,11 @@ module _ (who : ℕ) (old : TableShown → Type 0) (line s : ℕ) (program : Ses
   good-own same leads = record {
     good = record {
       staffed = staffed;
-      plain = good.plain;
       own = subst (λ w. Keeps old after.core (player_at w after).session) same (own-keeps old leads);
       others = others;
     };
     shown = λ x told. record {
       staffed = staffed;
-      plain = plain-with old x good.plain;
       own = subst (λ w. Keeps (with_table old x) after.core (player_at w after).session) same
           (subst (λ session. Keeps (with_table old x) end.1 session) (sym mine)
           (let h = (told-by who line s end.0 x told).1 old end.1 (came old leads) in inl (rests-with old end.1 (session_at end.0) x h.0 h.1)));
@@ -265,7 +252,6 @@ module _ (who : ℕ) (old : TableShown → Type 0) (line s : ℕ) (program : Ses
   good-other there apart leads = record {
     good = record {
       staffed = staffed;
-      plain = good.plain;
       own = other-keeps old who there (λ e. apart (sym e)) good.own;
       others = others;
     };
@@ -305,11 +291,11 @@ module _ (who : ℕ) (there : IsScriptSession who) where
       → is_waiting world line.session ≡ false → IsGood who old world → IsGoodScene who old (started line world)
   scene-started old line world is may idle good = elim (eqb_tells line.session who) [
     | inl same ↦ good-own who old line.number line.session (λ session. starting line.statement session) world is good made staffed same.1
-        (leads-starting old line.statement world.core (player_at line.session world).session (may same.1) good.plain
+        (leads-starting old line.statement world.core (player_at line.session world).session (may same.1)
         (rests-idle old world.core (player_at line.session world).session
         (subst (λ w. Keeps old world.core (player_at w world).session) (sym same.1) good.own) idle))
     | inr apart ↦ good-other who old line.number line.session (λ session. starting line.statement session) world is good made staffed there apart.1
-        (leads-starting Nothing line.statement world.core (player_at line.session world).session (inr (λ x none. none)) (λ x none. absurd none)
+        (leads-starting Nothing line.statement world.core (player_at line.session world).session (inr (λ x none. none))
         (rests-idle Nothing world.core (player_at line.session world).session (good.others line.session is apart.1) idle))
   ]
     where
@@ -323,7 +309,6 @@ module _ (who : ℕ) (there : IsScriptSession who) where
   good-timed_out : (old : TableShown → Type 0) (s : ℕ) (world : World) → IsScriptSession s → IsGood who old world → IsGood who old (timed_out s world)
   good-timed_out old s world is good = record {
     staffed = staffed-timed_out s world is good.staffed;
-    plain = good.plain;
     own = still old who there good.own;
     others = λ w session apart. still Nothing w session (good.others w session apart);
   }
@@ -431,7 +416,6 @@ keeps-first w is = subst (λ (p : Player). Keeps Nothing first_core p.session) (
 pub good-first : (who : ℕ) → IsScriptSession who → IsGood who Nothing first_world
 good-first who is = record {
   staffed = staffed-first;
-  plain = λ x none. absurd none;
   own = keeps-first who is;
   others = λ w session apart. keeps-first w session;
 }

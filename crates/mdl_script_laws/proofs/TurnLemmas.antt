@@ -24,7 +24,7 @@ use Rattle.mdl_rows.specs.Playing.{going_on, starting}
 use Rattle.mdl_rows.specs.Sessions.{Left}
 use Rattle.mdl_rows.specs.Statements.{row_of}
 use Rattle.mdl_script.specs.Worlds.{Player, Scene, World, asked, creating, first_settled, first_world, going, is_waiting, line_played, most_turns, most_waits, played, player_at, script_played, settling, started, timed_out, waiting_in}
-use Rattle.mdl_script.proofs.HallLemmas.{waiting-sessions}
+use Rattle.mdl_script.proofs.PlayLemmas.{waiting-sessions}
 use Rattle.mdl_script.proofs.ListLemmas.{All-find}
 use Rattle.mdl_script.proofs.SettleLemmas.{settling-none, settling-over, settling-some}
 use Rattle.mdl_script.proofs.SoundLemmas.{IsStaffed, first-session, staffed-first, staffed-going, staffed-started, staffed-timed_out}

@@ -1,8 +1,7 @@
 -- What a session is shown of a table twice within one transaction, after MySQL 5.7: the Reference Manual, "Metadata Locking". It is said
 -- of what is told of the lines of a script.
-use Rattle.std.specs.Prelude.{◌≡◌, ◌≢◌, ℕ, Bool, true, false, List, ◌∷◌, ◌++◌, Contains}
+use Rattle.std.specs.Prelude.{◌≡◌, ℕ, Bool, true, false, List, ◌∷◌, ◌++◌, Contains, is_some}
 use Rattle.std.specs.List.{All}
-use Rattle.mdl_key.specs.declared.namespace.Namespace.TheVariants.{UserLevelLock}
 use Rattle.mdl_core.specs.CoreSystems.{system_of}
 use Rattle.mdl_lines.specs.Sessions.{IsScriptSession}
 use Rattle.mdl_syntax.specs.declared.script.Line.{Line}
@@ -45,28 +44,26 @@ has_transaction who world = (player_at who world).session.state.is_open
 
 -- A table is shown to a session in the turn of a line. Later lines follow, by which the session neither begins nor ends a transaction,
 -- goes back to no savepoint and changes no definition, and after which its transaction is open: so it was open all the time. Whatever
--- the other sessions did, each time that the table was shown to it meanwhile, it was the same version, with the same columns. Under the
--- key of a user-level lock, which the session may release meanwhile, nothing is ever defined
+-- the other sessions did, each time that the table was shown to it meanwhile, it was the same version, with the same columns
 abbrev pub TransactionsSeeOneDefinition : Type 0
 TransactionsSeeOneDefinition =
     (before : List Line) (line : Line) (later : List Line) (who : ℕ) (one other : TableShown) → AreOfSessions (before ++ line ∷ later) →
     let first = line_played line (script_played before).world in
     let rest = lines_played later first.world in
-    one.key.namespace ≢ UserLevelLock → IsShownTo who first.told one → LeavesTransaction who later → has_transaction who rest.world ≡ true →
-    IsShownTo who rest.told other → one.key ≡ other.key → one ≡ other
+    IsShownTo who first.told one → LeavesTransaction who later → has_transaction who rest.world ≡ true → IsShownTo who rest.told other →
+    one.key ≡ other.key → one ≡ other
 
--- a table stands in a world as it was shown
+-- under a table's key something is defined in a world, in the version and with the columns that were shown
 abbrev pub StandsAsShown : World → TableShown → Type 0
 StandsAsShown world table =
     let defined = (system_of world.core).definitions table.key in
-    (defined.version ≡ table.version) × (columns_of defined.definition ≡ table.columns)
+    (is_some defined.definition ≡ true) × (defined.version ≡ table.version) × (columns_of defined.definition ≡ table.columns)
 
 -- So too, a table that was shown to a session stands as it was shown, as long as the session's transaction is open and it is asked for
--- such statements alone: no other session has changed it
+-- such statements alone: no other session has changed or dropped it
 abbrev pub TransactionsKeepWhatTheySaw : Type 0
 TransactionsKeepWhatTheySaw =
     (before : List Line) (line : Line) (later : List Line) (who : ℕ) (table : TableShown) → AreOfSessions (before ++ line ∷ later) →
     let first = line_played line (script_played before).world in
     let rest = lines_played later first.world in
-    table.key.namespace ≢ UserLevelLock → IsShownTo who first.told table → LeavesTransaction who later → has_transaction who rest.world ≡ true →
-    StandsAsShown rest.world table
+    IsShownTo who first.told table → LeavesTransaction who later → has_transaction who rest.world ≡ true → StandsAsShown rest.world table

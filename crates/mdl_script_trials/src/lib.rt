@@ -4,7 +4,7 @@
 //! tickets and one of places, read from end to end, and deadlocks found by listing paths. It shares the reading of
 //! lines and the matrices of modes with the product, and nothing that runs a statement. `scripts` has scripts beside
 //! their answers, and `limits` those of many sessions, tables, columns, savepoints and lines; `chance` makes as many
-//! others as are asked for, the same in each run. `faults` replays a script over `devices` that move a few bytes at a
+//! others as are asked for, the same in each run. `plays` plays scripts line by line. `faults` replays a script over `devices` that move a few bytes at a
 //! call and fail once.
 #![tactic(auto)]
 
@@ -18,5 +18,7 @@ mod faults;
 mod limits;
 #[cfg(test)]
 mod plain;
+#[cfg(test)]
+mod plays;
 #[cfg(test)]
 mod scripts;

@@ -1,11 +1,12 @@
 //! Calls of a session and what comes of them, as the rows of tests have them.
 
 use crate::audits::{Shown, are_shown};
+use crate::columns::table;
 use mdl_calls::{
     Attempt, Begun, Ended, Held, Place, Poll, Search, Settled, SpaceError, TicketId, TimedOut,
     Upgrade,
 };
-use mdl_defs::{Change, Column, Columns, Definition, Standing};
+use mdl_defs::{Change, Definition, Standing};
 use mdl_key::{Key, KeyError, Mode};
 use mdl_shared::{Fast, Released, Session};
 use mdl_word::Word;
@@ -53,18 +54,10 @@ impl Edit {
         match self {
             Edit::CreateSchema => Some(Change::Create(Definition::Schema)),
             Edit::PutSchema => Some(Change::Put(Definition::Schema)),
-            Edit::CreateTable => Some(Change::Create(table(alloc)?)),
+            Edit::CreateTable => Some(Change::Create(table(alloc, "id").ok()?)),
             Edit::Drop => Some(Change::Drop),
         }
     }
-}
-
-// A table of one column.
-fn table(alloc: Global) -> Option<Definition> {
-    let column = Column::new(alloc, "id").ok()?;
-    let mut columns = Columns::new(alloc);
-    columns.push(column).ok()?;
-    Some(Definition::Table(columns))
 }
 
 /// What a session may do.

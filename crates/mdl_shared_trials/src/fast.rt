@@ -65,11 +65,15 @@ fn given_up<R: Wait>(alloc: Global, session: &mut Session<R>) -> u64 {
 fn a_session_gains_1023_fast_tickets_at_a_place(rt: HostRuntime) -> Result<(), Fail> {
     let alloc = rt.alloc();
     let mut sessions = open_three(&rt, 2)?;
-    assert_eq!(rt; sessions.first_wrong(alloc, ROOM, Memory::Ample), None);
-    assert_eq!(rt; gained(alloc, sessions.session(1)), MOST_FAST);
-    assert_eq!(rt; sessions.first_wrong(alloc, ONE_MORE, Memory::Ample), None);
-    assert_eq!(rt; given_up(alloc, sessions.session(1)), MOST_FAST);
+    let room = sessions.first_wrong(alloc, ROOM, Memory::Ample);
+    let gained = gained(alloc, sessions.session(1));
+    let more = sessions.first_wrong(alloc, ONE_MORE, Memory::Ample);
+    let gone = given_up(alloc, sessions.session(1));
     sessions.close(&rt);
+    assert_eq!(rt;
+        (room, gained, more, gone),
+        (None, MOST_FAST, None, MOST_FAST)
+    );
     Ok(())
 }
 

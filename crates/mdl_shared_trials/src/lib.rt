@@ -19,6 +19,8 @@ mod changes;
 #[cfg(test)]
 mod clashes;
 #[cfg(test)]
+mod columns;
+#[cfg(test)]
 mod counting;
 #[cfg(test)]
 mod ending;

@@ -1,10 +1,10 @@
 //! Sessions try for locks, and give them up, on one thread.
 use crate::acts::{Act, Lock, Reply};
-use crate::rows::{Memory, NumberedRow, Row, are_right, are_right_of_three, first_wrong};
+use crate::rows::{Memory, NumberedRow, Row, are_right, are_right_of_three, first_wrong, open_one};
 use crate::sessions::closed;
 use mdl_calls::SpaceError;
 use mdl_key::Mode;
-use mdl_shared::{HoldsTickets, Manager, Session};
+use mdl_shared::{HoldsTickets, Session};
 use std::process::Abort;
 use std::sync::Wait;
 use std::test::Fail;
@@ -90,8 +90,7 @@ pub(crate) fn kept_open<R: Drop>(rt: &impl Abort, session: Session<R>) -> Sessio
 // The session that isn't closed comes back as it was, and goes on.
 #[test]
 fn a_session_with_a_ticket_stays_open(rt: HostRuntime) -> Result<(), Fail> {
-    let (manager, mut passes) = Manager::new(rt.alloc(), 1, 1)?;
-    let session = Session::open(&rt, &manager, passes.remove(0));
+    let session = open_one(&rt, 1)?;
     let session = kept_open(&rt, led(&rt, session, FIRST));
     let session = kept_open(&rt, led(&rt, session, SECOND));
     let pass = closed(&rt, led(&rt, session, THIRD));

@@ -1,8 +1,9 @@
 //! A session finds each of many keys, by its name and by its place, and each of many tickets by its number.
+use crate::rows::open_one;
 use crate::sessions::closed;
 use mdl_calls::{Attempt, Place, SpaceError, TicketId};
 use mdl_key::{Key, Mode};
-use mdl_shared::{Manager, Session};
+use mdl_shared::Session;
 use std::alloc::Global;
 use std::sync::Wait;
 use std::test::Fail;
@@ -51,17 +52,25 @@ fn keys_found<R: Wait>(alloc: Global, session: &mut Session<R>) -> Result<(u16, 
     Ok((found(alloc, session)?, told(alloc, session)?))
 }
 
+// What comes of the places before the first one and behind the last one.
+fn outside<R>(session: &mut Session<R>) -> [Option<SpaceError>; 2] {
+    [session.key_of(0).err(), session.key_of(TABLES + 1).err()]
+}
+
 #[test]
 fn each_of_many_keys_is_found(rt: HostRuntime) -> Result<(), Fail> {
-    let (manager, mut passes) = Manager::new(rt.alloc(), TABLES, 1)?;
-    let mut session = Session::open(&rt, &manager, passes.remove(0));
+    let mut session = open_one(&rt, TABLES)?;
     let found = keys_found(rt.alloc(), &mut session);
-    let before = session.key_of(0).err();
-    let behind = session.key_of(TABLES + 1).err();
+    let outside = outside(&mut session);
     closed(&rt, session);
-    assert_eq!(rt; found?, (TABLES, TABLES));
-    assert_eq!(rt; before, Some(SpaceError::NoPlace));
-    assert_eq!(rt; behind, Some(SpaceError::NoPlace));
+    let found = found?;
+    assert_eq!(rt;
+        (found, outside),
+        (
+            (TABLES, TABLES),
+            [Some(SpaceError::NoPlace), Some(SpaceError::NoPlace)]
+        )
+    );
     Ok(())
 }
 
@@ -90,20 +99,35 @@ fn held<R>(session: &Session<R>) -> Option<usize> {
     Some(session.held().ok()?.len())
 }
 
+// Takes the locks of all places, and releases first each other ticket and then the rest: how many were taken, released, left, and released at last.
+fn tickets_found<R: Wait>(session: &mut Session<R>) -> [Option<usize>; 4] {
+    let taken = taken(session);
+    let odd = released(session, 1);
+    let left = held(session);
+    let even = released(session, 2);
+    [
+        Some(usize::from(taken)),
+        Some(usize::from(odd)),
+        left,
+        Some(usize::from(even)),
+    ]
+}
+
 #[test]
 fn each_of_many_tickets_is_found(rt: HostRuntime) -> Result<(), Fail> {
-    let (manager, mut passes) = Manager::new(rt.alloc(), TABLES, 1)?;
-    let mut session = Session::open(&rt, &manager, passes.remove(0));
+    let mut session = open_one(&rt, TABLES)?;
     let known = all_known(rt.alloc(), &mut session);
-    let taken = taken(&mut session);
-    let odd = released(&mut session, 1);
+    let found = tickets_found(&mut session);
     let gone = session.release(1);
-    let left = held(&session);
-    let even = released(&mut session, 2);
     closed(&rt, session);
     known?;
-    assert_eq!(rt; (taken, odd, even), (TABLES, TABLES / 2, TABLES / 2));
-    assert_eq!(rt; gone, Err(SpaceError::NotHeld));
-    assert_eq!(rt; left, Some(usize::from(TABLES / 2)));
+    let half = Some(usize::from(TABLES / 2));
+    assert_eq!(rt;
+        (found, gone),
+        (
+            [Some(usize::from(TABLES)), half, half, half],
+            Err(SpaceError::NotHeld)
+        )
+    );
     Ok(())
 }

@@ -8,6 +8,7 @@ use crate::acts::{Act, Edit, Lock, NO_MEMORY, Reply, make};
 use crate::audits::Shown;
 use crate::rows::{
     Memory, NumberedRow, Row, are_right_at_last, are_right_of_three_at_last, first_wrong,
+    open_at_last,
 };
 use crate::sessions::closed;
 use mdl_calls::{Ended, Held, Place, Settled, SpaceError};
@@ -159,18 +160,12 @@ const KEPT: &[Row] = &[
 // sees.
 #[test]
 fn fast_tickets_outlive_want_of_memory(rt: HostRuntime) -> Result<(), Fail> {
-    let (manager, mut passes) = space(rt.alloc(), 2)?;
-    let mut session = Session::open(&rt, &manager, passes.remove(0));
-    assert_eq!(rt;
-        first_wrong(rt.alloc(), &mut session, AHEAD, Memory::Scarce),
-        None
-    );
+    let mut session = open_at_last(&rt, 2)?;
+    let ahead = first_wrong(rt.alloc(), &mut session, AHEAD, Memory::Scarce);
     let made = make(rt.alloc(), &mut session, Act::Materialise);
+    let kept = first_wrong(rt.alloc(), &mut session, KEPT, Memory::Scarce);
+    assert_eq!(rt; (ahead, kept), (None, None));
     assert!(rt; made == Reply::Done || made == NO_MEMORY);
-    assert_eq!(rt;
-        first_wrong(rt.alloc(), &mut session, KEPT, Memory::Scarce),
-        None
-    );
     closed(&rt, session);
     Ok(())
 }
@@ -233,14 +228,11 @@ const LOOKED_UP: &[Row] = &[(Act::Resolve(Lock::Sales), Reply::Place(1))];
 // Where room was made for some fast tickets, none of them takes memory, nor does it to give them up.
 #[test]
 fn reserved_tickets_take_no_memory(rt: HostRuntime) -> Result<(), Fail> {
-    let (manager, mut passes) = space(rt.alloc(), 1)?;
-    let mut session = Session::open(&rt, &manager, passes.remove(0));
-    assert_eq!(rt;
-        first_wrong(rt.alloc(), &mut session, LOOKED_UP, Memory::Scarce),
-        None
-    );
-    assert_eq!(rt; granted_at_last(&mut session, 1, 100), Ok(100));
-    assert_eq!(rt; given_up(&mut session, 100), 100);
+    let mut session = open_at_last(&rt, 1)?;
+    let wrong = first_wrong(rt.alloc(), &mut session, LOOKED_UP, Memory::Scarce);
+    let granted = granted_at_last(&mut session, 1, 100);
+    let gone = given_up(&mut session, 100);
     closed(&rt, session);
+    assert_eq!(rt; (wrong, granted, gone), (None, Ok(100), 100));
     Ok(())
 }

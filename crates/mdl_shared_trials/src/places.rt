@@ -1,8 +1,6 @@
 //! Keys get places, one after the other, and keep them.
 use crate::acts::{Act, Lock, Reply};
-use crate::memory::space;
-use crate::rows::{NumberedRow, are_right_of_three};
-use crate::sessions::closed;
+use crate::rows::{NumberedRow, are_right_of_three, open_three};
 use mdl_calls::{Place, SpaceError};
 use mdl_key::Key;
 use mdl_shared::Session;
@@ -63,17 +61,15 @@ const MANY: u16 = 250;
 #[test]
 fn many_keys_get_places_in_turn(rt: HostRuntime) -> Result<(), Fail> {
     let alloc = rt.alloc();
-    let (manager, mut passes) = space(alloc, MANY)?;
-    let mut two = Session::open(&rt, &manager, passes.remove(1));
-    let mut one = Session::open(&rt, &manager, passes.remove(0));
-    assert_eq!(rt; first_elsewhere(alloc, &mut one, MANY), None);
-    assert_eq!(rt; first_elsewhere(alloc, &mut two, MANY), None);
-    assert_eq!(rt; first_elsewhere(alloc, &mut one, MANY + 1), Some(MANY + 1));
+    let mut sessions = open_three(&rt, MANY)?;
+    let one = first_elsewhere(alloc, sessions.session(1), MANY);
+    let two = first_elsewhere(alloc, sessions.session(2), MANY);
+    let one_more = first_elsewhere(alloc, sessions.session(1), MANY + 1);
+    let there = place_of(alloc, sessions.session(2), MANY + 1);
+    sessions.close(&rt);
     assert_eq!(rt;
-        place_of(alloc, &mut two, MANY + 1),
-        Err(SpaceError::NoPlace)
+        (one, two, one_more, there),
+        (None, None, Some(MANY + 1), Err(SpaceError::NoPlace))
     );
-    closed(&rt, one);
-    closed(&rt, two);
     Ok(())
 }

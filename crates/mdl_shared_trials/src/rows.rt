@@ -84,6 +84,41 @@ pub(crate) fn open_three<R: AllocGlobal>(rt: &R, places: u16) -> Result<Three<&R
     Ok(Three { one, two, three })
 }
 
+/// Two sessions of one space, with the numbers 1 and 2.
+pub(crate) struct Pair<R> {
+    pub(crate) one: Session<R>,
+    pub(crate) two: Session<R>,
+}
+
+impl<R: Drop> Pair<R> {
+    /// None of them has a ticket: they are closed.
+    pub(crate) fn close(self, rt: &impl Abort) {
+        let Pair { one, two } = self;
+        closed(rt, one);
+        closed(rt, two);
+    }
+}
+
+/// The sessions of a space of so many places, which has no others.
+pub(crate) fn open_two<R: AllocGlobal>(rt: &R, places: u16) -> Result<Pair<&R>, NewError> {
+    let (manager, mut passes) = Manager::new(rt.alloc(), places, 2)?;
+    let two = Session::open(rt, &manager, passes.remove(1));
+    let one = Session::open(rt, &manager, passes.remove(0));
+    Ok(Pair { one, two })
+}
+
+/// The session of a space of so many places, which has no other.
+pub(crate) fn open_one<R: AllocGlobal>(rt: &R, places: u16) -> Result<Session<&R>, NewError> {
+    let (manager, mut passes) = Manager::new(rt.alloc(), places, 1)?;
+    Ok(Session::open(rt, &manager, passes.remove(0)))
+}
+
+/// The first session of a space of so many places, where memory may be refused once.
+pub(crate) fn open_at_last<R: AllocGlobal>(rt: &R, places: u16) -> Result<Session<&R>, NewError> {
+    let (manager, mut passes) = space(rt.alloc(), places)?;
+    Ok(Session::open(rt, &manager, passes.remove(0)))
+}
+
 /// Which row of one session comes to something else, if there is one.
 pub(crate) fn first_wrong<R: Wait>(
     alloc: Global,
@@ -105,8 +140,7 @@ pub(crate) fn are_right<R: Wait + Abort + AllocGlobal>(
     places: u16,
     rows: &[Row],
 ) -> Result<(), Fail> {
-    let (manager, mut passes) = Manager::new(rt.alloc(), places, 1)?;
-    let mut session = Session::open(rt, &manager, passes.remove(0));
+    let mut session = open_one(rt, places)?;
     assert_eq!(rt;
         first_wrong(rt.alloc(), &mut session, rows, Memory::Ample),
         None
@@ -120,8 +154,7 @@ pub(crate) fn are_right_at_last<R: Wait + Abort + AllocGlobal>(
     rt: &R,
     rows: &[Row],
 ) -> Result<(), Fail> {
-    let (manager, mut passes) = space(rt.alloc(), 2)?;
-    let mut session = Session::open(rt, &manager, passes.remove(0));
+    let mut session = open_at_last(rt, 2)?;
     assert_eq!(rt;
         first_wrong(rt.alloc(), &mut session, rows, Memory::Scarce),
         None

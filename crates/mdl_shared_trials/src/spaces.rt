@@ -1,9 +1,10 @@
 //! Sessions as lock spaces, to code that stands on the trait alone.
 use crate::acts::Lock;
+use crate::rows::{Pair, open_two};
 use crate::sessions::closed;
 use mdl_calls::{Attempt, LockSpace, SpaceError};
 use mdl_key::{Key, Mode};
-use mdl_shared::{Manager, Session};
+use mdl_shared::Session;
 use std::alloc::Global;
 use std::sync::Wait;
 use std::test::Fail;
@@ -37,27 +38,52 @@ fn visited<R: Wait>(
     }
 }
 
+// What comes of visits of both, while nobody has a ticket.
+fn visits<R: Wait>(
+    alloc: Global,
+    one: &mut Session<R>,
+    two: &mut Session<R>,
+) -> [Result<bool, SpaceError>; 4] {
+    [
+        visited(alloc, one, Lock::Sales, Mode::X),
+        visited(alloc, two, Lock::Sales, Mode::SR),
+        visited(alloc, two, Lock::Sales, Mode::IX),
+        visited(alloc, one, Lock::Orders, Mode::SR),
+    ]
+}
+
+// What comes of a visit of the second, while the first one has a ticket.
+fn visit_beside<R: Wait>(
+    alloc: Global,
+    one: &mut Session<R>,
+    two: &mut Session<R>,
+) -> (
+    Result<Attempt, SpaceError>,
+    Result<bool, SpaceError>,
+    Result<(), SpaceError>,
+) {
+    let gained = one.try_now(1, Mode::SNW);
+    let visited = visited(alloc, two, Lock::Sales, Mode::X);
+    (gained, visited, one.release(2))
+}
+
 // One session visits a lock that the other has looked up, and another one for which there is no place.
 #[test]
 fn sessions_are_lock_spaces(rt: HostRuntime) -> Result<(), Fail> {
-    let alloc = rt.alloc();
-    let (manager, mut passes) = Manager::new(alloc, 1, 2)?;
-    let mut two = Session::open(&rt, &manager, passes.remove(1));
-    let mut one = Session::open(&rt, &manager, passes.remove(0));
-    assert_eq!(rt; visited(alloc, &mut one, Lock::Sales, Mode::X), Ok(true));
-    assert_eq!(rt; visited(alloc, &mut two, Lock::Sales, Mode::SR), Ok(true));
-    assert_eq!(rt;
-        visited(alloc, &mut two, Lock::Sales, Mode::IX),
-        Err(SpaceError::BadMode)
-    );
-    assert_eq!(rt;
-        visited(alloc, &mut one, Lock::Orders, Mode::SR),
-        Err(SpaceError::NoPlace)
-    );
-    assert_eq!(rt; one.try_now(1, Mode::SNW), Ok(Attempt::Granted(2)));
-    assert_eq!(rt; visited(alloc, &mut two, Lock::Sales, Mode::X), Ok(false));
-    assert_eq!(rt; one.release(2), Ok(()));
+    let Pair { mut one, mut two } = open_two(&rt, 1)?;
+    let visits = visits(rt.alloc(), &mut one, &mut two);
+    let beside = visit_beside(rt.alloc(), &mut one, &mut two);
     closed(&rt, one);
     closed(&rt, two);
+    assert_eq!(rt;
+        visits,
+        [
+            Ok(true),
+            Ok(true),
+            Err(SpaceError::BadMode),
+            Err(SpaceError::NoPlace)
+        ]
+    );
+    assert_eq!(rt; beside, (Ok(Attempt::Granted(2)), Ok(false), Ok(())));
     Ok(())
 }

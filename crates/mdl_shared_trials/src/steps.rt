@@ -5,6 +5,7 @@ mod holders;
 mod latches;
 mod lists;
 mod materialising;
+mod rows;
 mod seated;
 mod threads;
 mod version_visits;

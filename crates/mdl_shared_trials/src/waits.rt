@@ -1,11 +1,10 @@
 //! Sessions wait for locks, are granted them, and lose their waits, on one thread.
 use crate::acts::{Act, Lock, Reply};
 use crate::locks::{kept_open, led};
-use crate::rows::{NumberedRow, Row, are_right, are_right_of_three};
+use crate::rows::{NumberedRow, Pair, Row, are_right, are_right_of_three, open_two};
 use crate::sessions::closed;
 use mdl_calls::{Ended, Settled, SpaceError};
 use mdl_key::Mode;
-use mdl_shared::{Manager, Session};
 use std::test::Fail;
 
 const NO_WAIT: Reply = Reply::Refused(SpaceError::NoWait);
@@ -192,9 +191,7 @@ const RELEASES: &[Row] = &[(Act::Release(1), Reply::Done)];
 // A session that waits isn't closed.
 #[test]
 fn a_session_that_waits_stays_open(rt: HostRuntime) -> Result<(), Fail> {
-    let (manager, mut passes) = Manager::new(rt.alloc(), 1, 2)?;
-    let two = Session::open(&rt, &manager, passes.remove(1));
-    let one = Session::open(&rt, &manager, passes.remove(0));
+    let Pair { one, two } = open_two(&rt, 1)?;
     let one = led(&rt, one, HOLDS);
     let two = kept_open(&rt, led(&rt, two, WAITS));
     closed(&rt, led(&rt, two, GIVES_UP));

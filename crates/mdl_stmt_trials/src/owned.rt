@@ -91,15 +91,15 @@ impl OwnedRoom {
     }
 
     // The ticket of the other session that a statement waits for.
-    fn waits(&mut self, wait: &Wait) -> Option<TicketId> {
-        let place = self.place(wait.lock)?;
-        let ticket = self.take(place, wait.mode)?;
-        let waits = self.say(wait.statement) == Some(Outcome::Waits);
+    fn waits(&mut self, (_, statement, lock, mode): Wait) -> Option<TicketId> {
+        let place = self.place(lock)?;
+        let ticket = self.take(place, mode)?;
+        let waits = self.say(statement) == Some(Outcome::Waits);
         waits.then_some(ticket)
     }
 
     // What comes of a statement that waits, once the other session has given its lock up.
-    fn outcome_of(&mut self, wait: &Wait) -> Option<Outcome> {
+    fn outcome_of(&mut self, wait: Wait) -> Option<Outcome> {
         let ticket = self.waits(wait)?;
         if self.go_on() != Some(Outcome::Waits) || !self.leave(ticket) {
             return None;
@@ -163,42 +163,28 @@ const PLACES: u16 = 8;
 // The statements before each wait.
 const BEFORE: &[&str] = &["CREATE SCHEMA test", "CREATE TABLE a x", "CREATE TABLE b x"];
 
-// Statements that are done, and one that waits then for a lock that the other session has in this mode.
-#[derive(Clone, Copy)]
-struct Wait {
-    before: &'static [&'static str],
-    statement: &'static str,
-    lock: Lock,
-    mode: Mode,
-}
+// Statements that are done, and one that waits then for a lock that the other session has in a mode.
+type Wait = (&'static [&'static str], &'static str, Lock, Mode);
 
-const fn wait_for(statement: &'static str, lock: Lock, mode: Mode) -> Wait {
-    Wait {
-        before: &[],
-        statement,
-        lock,
-        mode,
-    }
-}
-
-// A room where nothing waits yet.
-fn room_before(alloc: Global, wait: &Wait) -> Option<OwnedRoom> {
+// A room where nothing waits yet, and these statements are done.
+fn room_before(alloc: Global, before: &[&str]) -> Option<OwnedRoom> {
     let mut room = OwnedRoom::new(alloc).ok()?;
-    if !room.does(BEFORE) || !room.does(wait.before) {
-        return None;
+    if room.does(BEFORE) && room.does(before) {
+        Some(room)
+    } else {
+        None
     }
-    Some(room)
 }
 
 // What comes of a statement after its wait.
-fn outcome_after(alloc: Global, wait: &Wait) -> Option<Outcome> {
-    room_before(alloc, wait)?.outcome_of(wait)
+fn outcome_after(alloc: Global, wait: Wait) -> Option<Outcome> {
+    room_before(alloc, wait.0)?.outcome_of(wait)
 }
 
 // The first of these statements that isn't done after its wait.
 fn first_wrong(alloc: Global, waits: &[Wait]) -> Option<usize> {
     for (index, wait) in waits.iter().enumerate() {
-        if outcome_after(alloc, wait) != Some(Outcome::Done) {
+        if outcome_after(alloc, *wait) != Some(Outcome::Done) {
             return Some(index);
         }
     }
@@ -206,122 +192,153 @@ fn first_wrong(alloc: Global, waits: &[Wait]) -> Option<usize> {
 }
 
 // How many tickets a session has that ended while its statement waited.
-fn held_after_the_end(alloc: Global, wait: &Wait) -> Option<usize> {
-    let mut room = room_before(alloc, wait)?;
+fn held_after_the_end(alloc: Global, wait: Wait) -> Option<usize> {
+    let mut room = room_before(alloc, wait.0)?;
     room.waits(wait)?;
     room.held_after_the_end()
 }
 
+const A_SELECT: Wait = (&[], "SELECT b a", Lock::Table("a"), Mode::X);
+
 #[test]
 fn a_select_goes_on(rt: HostRuntime) {
-    let wait = wait_for("SELECT b a", Lock::Table("a"), Mode::X);
-    assert!(rt; outcome_after(rt.alloc(), &wait) == Some(Outcome::Reads(1)));
+    assert!(rt; outcome_after(rt.alloc(), A_SELECT) == Some(Outcome::Reads(1)));
 }
+
+const WRITES: &[Wait] = &[
+    (&[], "INSERT a", Lock::Global, Mode::S),
+    (&[], "DELETE LOW_PRIORITY a", Lock::Table("a"), Mode::X),
+    (&[], "INSERT a", Lock::Commit, Mode::S),
+];
 
 #[test]
 fn a_write_goes_on(rt: HostRuntime) {
-    let waits = [
-        wait_for("INSERT a", Lock::Global, Mode::S),
-        wait_for("DELETE LOW_PRIORITY a", Lock::Table("a"), Mode::X),
-        wait_for("INSERT a", Lock::Commit, Mode::S),
-    ];
-    assert_eq!(rt; first_wrong(rt.alloc(), &waits), None);
+    assert_eq!(rt; first_wrong(rt.alloc(), WRITES), None);
 }
+
+const COMMITS: &[Wait] = &[
+    (&["BEGIN", "INSERT a"], "COMMIT", Lock::Commit, Mode::S),
+    (
+        &["BEGIN", "INSERT a"],
+        "CREATE TABLE c x y",
+        Lock::Commit,
+        Mode::S,
+    ),
+];
 
 #[test]
 fn a_commit_goes_on(rt: HostRuntime) {
-    let before = &["BEGIN", "INSERT a"];
-    let waits = [
-        Wait {
-            before,
-            ..wait_for("COMMIT", Lock::Commit, Mode::S)
-        },
-        Wait {
-            before,
-            ..wait_for("CREATE TABLE c x y", Lock::Commit, Mode::S)
-        },
-    ];
-    assert_eq!(rt; first_wrong(rt.alloc(), &waits), None);
+    assert_eq!(rt; first_wrong(rt.alloc(), COMMITS), None);
 }
+
+const CREATES: &[Wait] = &[
+    (&[], "CREATE TABLE c x y", Lock::Global, Mode::S),
+    (&[], "CREATE TABLE c x y", Lock::Schema("test"), Mode::X),
+    (&[], "CREATE TABLE c x y", Lock::Table("c"), Mode::X),
+    (&[], "CREATE SCHEMA s", Lock::Global, Mode::S),
+    (&[], "CREATE SCHEMA s", Lock::Schema("s"), Mode::X),
+];
 
 #[test]
 fn create_goes_on(rt: HostRuntime) {
-    let waits = [
-        wait_for("CREATE TABLE c x y", Lock::Global, Mode::S),
-        wait_for("CREATE TABLE c x y", Lock::Schema("test"), Mode::X),
-        wait_for("CREATE TABLE c x y", Lock::Table("c"), Mode::X),
-        wait_for("CREATE SCHEMA s", Lock::Global, Mode::S),
-        wait_for("CREATE SCHEMA s", Lock::Schema("s"), Mode::X),
-    ];
-    assert_eq!(rt; first_wrong(rt.alloc(), &waits), None);
+    assert_eq!(rt; first_wrong(rt.alloc(), CREATES), None);
 }
+
+const DROPS: &[Wait] = &[
+    (&[], "DROP TABLE b a", Lock::Global, Mode::S),
+    (&[], "DROP TABLE b a", Lock::Table("b"), Mode::SR),
+    (&[], "DROP SCHEMA test", Lock::Global, Mode::S),
+    (&[], "DROP SCHEMA test", Lock::Schema("test"), Mode::IX),
+    (&[], "DROP SCHEMA test", Lock::Table("a"), Mode::SR),
+];
 
 #[test]
 fn drop_goes_on(rt: HostRuntime) {
-    let waits = [
-        wait_for("DROP TABLE b a", Lock::Global, Mode::S),
-        wait_for("DROP TABLE b a", Lock::Table("b"), Mode::SR),
-        wait_for("DROP SCHEMA test", Lock::Global, Mode::S),
-        wait_for("DROP SCHEMA test", Lock::Schema("test"), Mode::IX),
-        wait_for("DROP SCHEMA test", Lock::Table("a"), Mode::SR),
-    ];
-    assert_eq!(rt; first_wrong(rt.alloc(), &waits), None);
+    assert_eq!(rt; first_wrong(rt.alloc(), DROPS), None);
 }
+
+const RENAMES_AND_FLUSHES: &[Wait] = &[
+    (&[], "RENAME TABLE a TO c", Lock::Schema("test"), Mode::X),
+    (&[], "RENAME TABLE a TO c", Lock::Table("a"), Mode::SR),
+    (&[], "FLUSH TABLES WITH READ LOCK", Lock::Global, Mode::IX),
+    (&[], "FLUSH TABLES WITH READ LOCK", Lock::Commit, Mode::IX),
+];
 
 #[test]
 fn rename_and_flush_go_on(rt: HostRuntime) {
-    let waits = [
-        wait_for("RENAME TABLE a TO c", Lock::Schema("test"), Mode::X),
-        wait_for("RENAME TABLE a TO c", Lock::Table("a"), Mode::SR),
-        wait_for("FLUSH TABLES WITH READ LOCK", Lock::Global, Mode::IX),
-        wait_for("FLUSH TABLES WITH READ LOCK", Lock::Commit, Mode::IX),
-    ];
-    assert_eq!(rt; first_wrong(rt.alloc(), &waits), None);
+    assert_eq!(rt; first_wrong(rt.alloc(), RENAMES_AND_FLUSHES), None);
 }
+
+const ALTERS: &[Wait] = &[
+    (&[], "ALTER TABLE a ADD y COPY", Lock::Global, Mode::S),
+    (
+        &[],
+        "ALTER TABLE a ADD y COPY",
+        Lock::Schema("test"),
+        Mode::X,
+    ),
+    (&[], "ALTER TABLE a ADD y COPY", Lock::Table("a"), Mode::X),
+    (&[], "ALTER TABLE a ADD y COPY", Lock::Table("a"), Mode::SW),
+    (&[], "ALTER TABLE a ADD y COPY", Lock::Table("a"), Mode::SR),
+    (
+        &[],
+        "ALTER TABLE a ADD y INPLACE",
+        Lock::Table("a"),
+        Mode::SR,
+    ),
+    (
+        &["LOCK TABLES a WRITE"],
+        "ALTER TABLE a ADD y COPY",
+        Lock::Table("a"),
+        Mode::SH,
+    ),
+];
 
 #[test]
 fn alter_goes_on(rt: HostRuntime) {
-    let waits = [
-        wait_for("ALTER TABLE a ADD y COPY", Lock::Global, Mode::S),
-        wait_for("ALTER TABLE a ADD y COPY", Lock::Schema("test"), Mode::X),
-        wait_for("ALTER TABLE a ADD y COPY", Lock::Table("a"), Mode::X),
-        wait_for("ALTER TABLE a ADD y COPY", Lock::Table("a"), Mode::SW),
-        wait_for("ALTER TABLE a ADD y COPY", Lock::Table("a"), Mode::SR),
-        wait_for("ALTER TABLE a ADD y INPLACE", Lock::Table("a"), Mode::SR),
-        Wait {
-            before: &["LOCK TABLES a WRITE"],
-            ..wait_for("ALTER TABLE a ADD y COPY", Lock::Table("a"), Mode::SH)
-        },
-    ];
-    assert_eq!(rt; first_wrong(rt.alloc(), &waits), None);
+    assert_eq!(rt; first_wrong(rt.alloc(), ALTERS), None);
 }
+
+const LOCKS_OF_TABLES: &[Wait] = &[
+    (&[], "LOCK TABLES a WRITE b READ", Lock::Global, Mode::S),
+    (
+        &[],
+        "LOCK TABLES a WRITE b READ",
+        Lock::Table("a"),
+        Mode::SR,
+    ),
+];
 
 #[test]
 fn lock_tables_goes_on(rt: HostRuntime) {
-    let waits = [
-        wait_for("LOCK TABLES a WRITE b READ", Lock::Global, Mode::S),
-        wait_for("LOCK TABLES a WRITE b READ", Lock::Table("a"), Mode::SR),
-    ];
-    assert_eq!(rt; first_wrong(rt.alloc(), &waits), None);
+    assert_eq!(rt; first_wrong(rt.alloc(), LOCKS_OF_TABLES), None);
 }
+
+const A_USER_LOCK: Wait = (&[], "GET_LOCK a", Lock::User("a"), Mode::X);
 
 #[test]
 fn get_lock_goes_on(rt: HostRuntime) {
-    let wait = wait_for("GET_LOCK a", Lock::User("a"), Mode::X);
-    assert!(rt; outcome_after(rt.alloc(), &wait) == Some(Outcome::Says(true)));
+    assert!(rt; outcome_after(rt.alloc(), A_USER_LOCK) == Some(Outcome::Says(true)));
 }
+
+const A_USER_LOCK_AFTER_OTHERS: Wait = (
+    &["GET_LOCK b", "GET_LOCK b", "BEGIN"],
+    "GET_LOCK a",
+    Lock::User("a"),
+    Mode::X,
+);
 
 #[test]
 fn a_session_leaves_its_user_locks(rt: HostRuntime) {
-    let wait = Wait {
-        before: &["GET_LOCK b", "GET_LOCK b", "BEGIN"],
-        ..wait_for("GET_LOCK a", Lock::User("a"), Mode::X)
-    };
-    assert_eq!(rt; held_after_the_end(rt.alloc(), &wait), Some(0));
+    assert_eq!(rt;
+        held_after_the_end(rt.alloc(), A_USER_LOCK_AFTER_OTHERS),
+        Some(0)
+    );
 }
+
+const A_DROP: Wait = (&[], "DROP TABLE b a", Lock::Table("b"), Mode::SR);
 
 #[test]
 fn a_session_that_waits_leaves(rt: HostRuntime) {
-    let wait = wait_for("DROP TABLE b a", Lock::Table("b"), Mode::SR);
-    assert_eq!(rt; held_after_the_end(rt.alloc(), &wait), Some(0));
+    assert_eq!(rt; held_after_the_end(rt.alloc(), A_DROP), Some(0));
 }

@@ -4,6 +4,7 @@ use mdl_key::Key;
 use mdl_syntax::{LockType, Name, TableLock, TableLocks, Tables};
 use std::alloc::{AllocError, Global};
 use std::fmt::Write;
+use std::process::Abort;
 use std::test::Fail;
 
 // A script of lines that are parted by ` / `, and what is read of it: lines with their number and session, or the refusal.
@@ -208,6 +209,20 @@ BEGIN => line 1: BadSession
 1 SELECT t\u{e9} => line 1: NotAscii
 #\u{e9} => line 1: NotAscii";
 
+// What is read of a script must be this.
+fn must_read(rt: &impl Abort, alloc: Global, script: &str, want: &str) -> Result<(), AllocError> {
+    let text = read(alloc, script.as_bytes())?;
+    assert_eq!(rt; text.as_str(), want, "{script:?}");
+    Ok(())
+}
+
+// What is read of a script must end in this.
+fn must_end(rt: &impl Abort, alloc: Global, script: &str, end: &str) -> Result<(), AllocError> {
+    let text = read(alloc, script.as_bytes())?;
+    assert!(rt; text.as_str().ends_with(end), "{end}");
+    Ok(())
+}
+
 // The lines of a row, which are parted by ` / `, each with this at its end.
 fn lines(alloc: Global, row: &str, end: &str) -> Result<String, AllocError> {
     let mut text = String::new(alloc);
@@ -218,42 +233,43 @@ fn lines(alloc: Global, row: &str, end: &str) -> Result<String, AllocError> {
     Ok(text)
 }
 
+// A row must be read as it says, with these at the ends of its lines.
+fn must_hold(rt: &impl Abort, alloc: Global, row: &str, end: &str) -> Result<(), AllocError> {
+    let Some((script, want)) = row.split_once(" => ") else {
+        panic!(rt; "{row} says nothing");
+    };
+    let script = lines(alloc, script, end)?;
+    must_read(rt, alloc, script.as_str(), want)
+}
+
 #[test]
 fn rows_are_read(rt: HostRuntime) -> Result<(), Fail> {
-    let alloc = rt.alloc();
     for row in ROWS.split('\n') {
-        let Some((script, want)) = row.split_once(" => ") else {
-            return Err(Fail::from("a row says nothing"));
-        };
-        for end in ["\n", "\r\n"] {
-            let script = lines(alloc, script, end)?;
-            assert_eq!(rt; read(alloc, script.as_bytes())?.as_str(), want, "{row}");
-        }
+        must_hold(&rt, rt.alloc(), row, "\n")?;
+        must_hold(&rt, rt.alloc(), row, "\r\n")?;
     }
     Ok(())
 }
 
+// Ends of lines, and what is read of them.
+const LINE_ENDS: &[(&str, &str)] = &[
+    ("", ""),
+    ("\n", ""),
+    ("\r", ""),
+    ("\n\r\n1 BEGIN", "3 1 begin"),
+    ("1 BEGIN\r", "1 1 begin"),
+    ("1 BEGIN\r\r\n", "line 1: BadWord"),
+    ("1 BEGIN\r\r", "line 1: BadWord"),
+    (
+        "1 SELECT t\r\n\r\n2 SELECT t",
+        "1 1 read TABLE test.t / 3 2 read TABLE test.t",
+    ),
+];
+
 #[test]
 fn line_ends_make_no_difference(rt: HostRuntime) -> Result<(), Fail> {
-    let alloc = rt.alloc();
-    for (script, want) in [
-        ("", ""),
-        ("\n", ""),
-        ("\r", ""),
-        ("\n\r\n1 BEGIN", "3 1 begin"),
-        ("1 BEGIN\r", "1 1 begin"),
-        ("1 BEGIN\r\r\n", "line 1: BadWord"),
-        ("1 BEGIN\r\r", "line 1: BadWord"),
-        (
-            "1 SELECT t\r\n\r\n2 SELECT t",
-            "1 1 read TABLE test.t / 3 2 read TABLE test.t",
-        ),
-    ] {
-        assert_eq!(rt;
-            read(alloc, script.as_bytes())?.as_str(),
-            want,
-            "{script:?}"
-        );
+    for (script, want) in LINE_ENDS {
+        must_read(&rt, rt.alloc(), script, want)?;
     }
     Ok(())
 }
@@ -267,43 +283,60 @@ fn stretched(alloc: Global, start: &str, byte: char, count: usize) -> Result<Str
     Ok(text)
 }
 
+// A line: its beginning, the byte that follows again and again, how many bytes it has before its end, its end, and what is read
+// of it.
+type Long = (&'static str, char, usize, &'static str, &'static str);
+
+const LONGEST: &[Long] = &[
+    ("#", 'x', 4096, "\r\n", ""),
+    ("#", 'x', 4097, "\n", "line 1: LongLine"),
+    ("\u{80}", 'x', 4097, "\n", "line 1: LongLine"),
+    ("\u{80}", 'x', 4096, "\n", "line 1: NotAscii"),
+    ("1 COMMIT", ' ', 4096, "\n", "1 1 commit"),
+    ("1 COMMIT", ' ', 4097, "", "line 1: LongLine"),
+    ("1 SELECT s.", 'x', 76, "\n", "line 1: BadName"),
+    ("1 SAVEPOINT ", 'x', 77, "\n", "line 1: BadName"),
+    ("1 GET_LOCK ", 'x', 76, "\n", "line 1: BadName"),
+    ("1 CREATE TABLE t ", 'x', 82, "\n", "line 1: BadName"),
+];
+
+// A long line must be read as it says.
+fn long_must_be_read(rt: &impl Abort, alloc: Global, long: &Long) -> Result<(), AllocError> {
+    let (start, byte, count, end, want) = *long;
+    let mut script = stretched(alloc, start, byte, count)?;
+    script.push_str(end)?;
+    must_read(rt, alloc, script.as_str(), want)
+}
+
+// Beginnings of statements, each with the bytes that it has with the longest name.
+const LONGEST_NAMES: &[(&str, usize)] = &[
+    ("1 SELECT ", 73),
+    ("1 INSERT ", 73),
+    ("1 SELECT s.", 75),
+    ("1 SAVEPOINT ", 76),
+    ("1 GET_LOCK ", 75),
+    ("1 RELEASE_LOCK ", 79),
+    ("1 CREATE TABLE t ", 81),
+];
+
+// A statement that ends in a name must be read.
+fn name_must_be_read(
+    rt: &impl Abort,
+    alloc: Global,
+    start: &str,
+    count: usize,
+) -> Result<(), AllocError> {
+    let script = stretched(alloc, start, 'x', count)?;
+    must_end(rt, alloc, script.as_str(), "xxxx")
+}
+
 #[test]
 fn lines_and_names_have_a_longest(rt: HostRuntime) -> Result<(), Fail> {
-    let alloc = rt.alloc();
-    for (start, byte, count, end, want) in [
-        ("#", 'x', 4096, "\r\n", ""),
-        ("#", 'x', 4097, "\n", "line 1: LongLine"),
-        ("\u{80}", 'x', 4097, "\n", "line 1: LongLine"),
-        ("\u{80}", 'x', 4096, "\n", "line 1: NotAscii"),
-        ("1 COMMIT", ' ', 4096, "\n", "1 1 commit"),
-        ("1 COMMIT", ' ', 4097, "", "line 1: LongLine"),
-        ("1 SELECT s.", 'x', 76, "\n", "line 1: BadName"),
-        ("1 SAVEPOINT ", 'x', 77, "\n", "line 1: BadName"),
-        ("1 GET_LOCK ", 'x', 76, "\n", "line 1: BadName"),
-        ("1 CREATE TABLE t ", 'x', 82, "\n", "line 1: BadName"),
-    ] {
-        let mut script = stretched(alloc, start, byte, count)?;
-        script.push_str(end)?;
-        assert_eq!(rt;
-            read(alloc, script.as_bytes())?.as_str(),
-            want,
-            "{start}{byte}.. of {count}"
-        );
+    for long in LONGEST {
+        long_must_be_read(&rt, rt.alloc(), long)?;
     }
-    for (start, count) in [
-        ("1 SELECT ", 73),
-        ("1 INSERT ", 73),
-        ("1 SELECT s.", 75),
-        ("1 SAVEPOINT ", 76),
-        ("1 GET_LOCK ", 75),
-        ("1 RELEASE_LOCK ", 79),
-        ("1 CREATE TABLE t ", 81),
-    ] {
-        let script = stretched(alloc, start, 'x', count)?;
-        assert!(rt;
-            read(alloc, script.as_bytes())?.as_str().ends_with("xxxx"),
-            "{start}"
-        );
+    for (start, count) in LONGEST_NAMES {
+        name_must_be_read(&rt, rt.alloc(), start, *count)?;
     }
     Ok(())
 }
@@ -311,17 +344,26 @@ fn lines_and_names_have_a_longest(rt: HostRuntime) -> Result<(), Fail> {
 // However many lines there are, all are read.
 #[test]
 fn long_scripts_are_read(rt: HostRuntime) -> Result<(), Fail> {
-    let alloc = rt.alloc();
-    let mut script = String::new(alloc);
+    let mut script = String::new(rt.alloc());
     for _ in 0..3_000 {
         script.push_str("1 SELECT t\n")?;
     }
-    assert!(rt;
-        read(alloc, script.as_bytes())?
-            .as_str()
-            .ends_with(" / 3000 1 read TABLE test.t")
-    );
+    let end = " / 3000 1 read TABLE test.t";
+    must_end(&rt, rt.alloc(), script.as_str(), end)?;
     Ok(())
+}
+
+// Whether a copy of a name is the same.
+fn name_is_copied(alloc: Global, text: &str) -> Result<bool, Fail> {
+    let name = Name::new(alloc, text)?;
+    Ok(name.clone()?.as_str() == text)
+}
+
+// Whether a copy of tables is the same, with one more of this name.
+fn are_copied_with(alloc: Global, tables: &mut Tables, name: &str) -> Result<bool, Fail> {
+    let table = Key::table(alloc, "s", name)?;
+    tables.push(table)?;
+    Ok(tables.clone()?.as_slice() == tables.as_slice())
 }
 
 // However many tables there are, and however long a name is, a copy is the same.
@@ -331,37 +373,56 @@ fn copies_are_the_same(rt: HostRuntime) -> Result<(), Fail> {
     let mut tables = Tables::new(alloc);
     for length in 1..=64 {
         let text = stretched(alloc, "", 'x', length)?;
-        let name = Name::new(alloc, text.as_str())?;
-        assert_eq!(rt; name.clone()?.as_str(), text.as_str());
-        tables.push(Key::table(alloc, "s", name.as_str())?)?;
-        assert!(rt; tables.clone()?.as_slice() == tables.as_slice(), "{length}");
+        assert!(rt; name_is_copied(alloc, text.as_str())?, "{length}");
+        assert!(rt;
+            are_copied_with(alloc, &mut tables, text.as_str())?,
+            "{length}"
+        );
     }
     assert_eq!(rt; tables.as_slice().len(), 64);
     Ok(())
 }
 
+// Locks a table, too.
+fn lock(
+    alloc: Global,
+    locks: &mut TableLocks,
+    name: &str,
+    lock_type: LockType,
+) -> Result<(), Fail> {
+    let table = Key::table(alloc, "s", name)?;
+    locks.push(TableLock { table, lock_type })?;
+    Ok(())
+}
+
+// Whether this is the last table to be locked.
+fn is_last(locks: &TableLocks, name: &str, lock_type: LockType) -> bool {
+    match locks.as_slice().last() {
+        Some(last) => last.table.table_name() == name && last.lock_type == lock_type,
+        None => false,
+    }
+}
+
+const LOCKS: &[(&str, LockType)] = &[
+    ("b", LockType::Read),
+    ("a", LockType::Write),
+    ("c", LockType::Read),
+];
+
 // Tables that are to be locked stand in the order in which they came.
 #[test]
 fn locks_keep_their_order(rt: HostRuntime) -> Result<(), Fail> {
-    let alloc = rt.alloc();
-    let mut locks = TableLocks::new(alloc);
-    for (name, lock_type) in [
-        ("b", LockType::Read),
-        ("a", LockType::Write),
-        ("c", LockType::Read),
-    ] {
-        let table = Key::table(alloc, "s", name)?;
-        locks.push(TableLock { table, lock_type })?;
-        let last = &locks.as_slice()[locks.as_slice().len() - 1];
-        assert_eq!(rt; last.table.table_name(), name);
-        assert!(rt; last.lock_type == lock_type, "{name}");
+    let mut locks = TableLocks::new(rt.alloc());
+    for (name, lock_type) in LOCKS {
+        lock(rt.alloc(), &mut locks, name, *lock_type)?;
+        assert!(rt; is_last(&locks, name, *lock_type), "{name}");
     }
     assert_eq!(rt; locks.as_slice().len(), 3);
     Ok(())
 }
 
 // CREATE TABLE with this many columns, and a last word.
-fn created(alloc: Global, columns: u32, last: &str) -> Result<String, Fail> {
+fn created(alloc: Global, columns: u32, last: &str) -> Result<String, AllocError> {
     let mut script = String::from_str(alloc, "1 CREATE TABLE t")?;
     for number in 1..=columns {
         write!(script, " c{number}")?;
@@ -370,21 +431,20 @@ fn created(alloc: Global, columns: u32, last: &str) -> Result<String, Fail> {
     Ok(script)
 }
 
+// A number of columns, the word behind them, and the end of what is read.
+const COLUMNS: &[(u32, &str, &str)] = &[
+    (64, "", "c64"),
+    (63, " x", "x"),
+    (65, "", "line 1: BadWord"),
+    (64, " C", "line 1: BadWord"),
+    (63, " C", "line 1: BadName"),
+];
+
 #[test]
 fn a_65th_column_is_a_word_too_many(rt: HostRuntime) -> Result<(), Fail> {
-    let alloc = rt.alloc();
-    for (columns, last, want) in [
-        (64, "", "c64"),
-        (63, " x", "x"),
-        (65, "", "line 1: BadWord"),
-        (64, " C", "line 1: BadWord"),
-        (63, " C", "line 1: BadName"),
-    ] {
-        let script = created(alloc, columns, last)?;
-        assert!(rt;
-            read(alloc, script.as_bytes())?.as_str().ends_with(want),
-            "{columns}{last}"
-        );
+    for (columns, last, want) in COLUMNS {
+        let script = created(rt.alloc(), *columns, last)?;
+        must_end(&rt, rt.alloc(), script.as_str(), want)?;
     }
     Ok(())
 }

@@ -4,7 +4,7 @@ ghost use Rattle.mdl_context.specs.Contexts.{Attends, LeavesOthers};
 
 use crate::chance::{Chance, FALLING, RISING, SESSIONS};
 use crate::hall::{Hall, PLACES};
-use crate::plain::Plain;
+use crate::plain::{Plain, Seen};
 use mdl_context::{Context, Mark, Request};
 use mdl_space::LockSpace;
 use std::alloc::Global;
@@ -190,37 +190,41 @@ fn first_apart(hall: &mut Hall, trial: &mut Trial) -> Option<u32> {
     None
 }
 
+// The same of new contexts, with what is drawn for them from this seed, and what was seen of them.
+fn tried(alloc: Global, seed: u64) -> Result<(Option<u32>, Seen), Fail> {
+    let mut hall = Hall::new(alloc)?;
+    let mut trial = Trial {
+        alloc,
+        plain: Plain::new(alloc, usize::from(PLACES), SESSIONS)?,
+        chance: Chance(seed),
+    };
+    let apart = first_apart(&mut hall, &mut trial);
+    Ok((apart, trial.plain.seen))
+}
+
+// Whether waits were met in earnest that were granted, given up, killed and lost by victims.
+fn are_waits_met(seen: Seen) -> bool {
+    seen.granted >= 100 && seen.timed_out >= 100 && seen.killed >= 20 && seen.victims >= 20
+}
+
+// Whether marks that are stale were, and tickets that were used again, not had and cloned.
+fn are_tickets_met(seen: Seen) -> bool {
+    seen.stale >= 20 && seen.reused >= 100 && seen.not_had >= 10 && seen.cloned >= 100
+}
+
+// Whether upgrades were, at once and after a wait, and downgrades.
+fn are_changes_met(seen: Seen) -> bool {
+    seen.upgraded >= 20 && seen.merged >= 5 && seen.fallen >= 5
+}
+
 #[test]
 fn contexts_stand_where_the_plain_ones_do(rt: HostRuntime) -> Result<(), Fail> {
-    for seed in [1, 2, 3] {
-        let mut hall = Hall::new(rt.alloc())?;
-        let mut trial = Trial {
-            alloc: rt.alloc(),
-            plain: Plain::new(rt.alloc(), usize::from(PLACES), SESSIONS)?,
-            chance: Chance(seed),
-        };
-        assert_eq!(rt;
-            first_apart(&mut hall, &mut trial),
-            None,
-            "with seed {seed}"
-        );
-        // Each was met in earnest.
-        let seen = trial.plain.seen;
-        assert!(rt; seen.granted >= 100, "{} waits granted", seen.granted);
-        assert!(rt; seen.timed_out >= 100, "{} waits given up", seen.timed_out);
-        assert!(rt; seen.killed >= 20, "{} waits killed", seen.killed);
-        assert!(rt; seen.victims >= 20, "{} waits of victims", seen.victims);
-        assert!(rt; seen.stale >= 20, "{} marks stale", seen.stale);
-        assert!(rt; seen.reused >= 100, "{} tickets used again", seen.reused);
-        assert!(rt; seen.not_had >= 10, "{} locks tried in vain", seen.not_had);
-        assert!(rt; seen.cloned >= 100, "{} tickets cloned", seen.cloned);
-        assert!(rt;
-            seen.upgraded >= 20,
-            "{} tickets upgraded at once",
-            seen.upgraded
-        );
-        assert!(rt; seen.merged >= 5, "{} upgrades that waited", seen.merged);
-        assert!(rt; seen.fallen >= 5, "{} tickets downgraded", seen.fallen);
+    for seed in 1..=3 {
+        let (apart, seen) = tried(rt.alloc(), seed)?;
+        assert_eq!(rt; apart, None, "with seed {seed}");
+        assert!(rt; are_waits_met(seen), "waits with seed {seed}");
+        assert!(rt; are_tickets_met(seen), "tickets with seed {seed}");
+        assert!(rt; are_changes_met(seen), "changes with seed {seed}");
     }
     Ok(())
 }

@@ -3,10 +3,10 @@ ghost use Rattle.std.specs.Prelude.{◌≤◌};
 ghost use Rattle.mdl_trials.specs.Serving.{SpeaksForAll};
 
 use crate::chance::{Chance, FALLING, RISING, SESSIONS};
-use crate::plain::Plain;
+use crate::plain::{Plain, Seen};
 use mdl_key::Kind;
 use mdl_space::{CoreSpace, LockSpace, Place};
-use std::alloc::Global;
+use std::alloc::{AllocError, Global};
 use std::test::Fail;
 
 // Fewer than there are keys.
@@ -133,18 +133,27 @@ fn first_apart_of_core(alloc: Global, plain: &mut Plain) -> Option<u32> {
     }
 }
 
+// The same of a new plain space, and what was seen of it.
+fn tried(alloc: Global) -> Result<(Option<u32>, Seen), AllocError> {
+    let mut plain = Plain::new(alloc, usize::from(PLACES), SESSIONS)?;
+    let apart = first_apart_of_core(alloc, &mut plain);
+    Ok((apart, plain.seen))
+}
+
+// Whether locks were waited for in earnest: waits that were granted and lost, clones and victims.
+fn are_waits_met(seen: Seen) -> bool {
+    seen.granted >= 100 && seen.lost >= 100 && seen.cloned >= 100 && seen.victims >= 15
+}
+
+// Whether modes were changed in earnest: upgrades, merges and downgrades.
+fn are_changes_met(seen: Seen) -> bool {
+    seen.upgraded >= 20 && seen.merged >= 5 && seen.fallen >= 5
+}
+
 #[test]
 fn a_space_answers_as_the_plain_one(rt: HostRuntime) -> Result<(), Fail> {
-    let mut plain = Plain::new(rt.alloc(), usize::from(PLACES), SESSIONS)?;
-    assert_eq!(rt; first_apart_of_core(rt.alloc(), &mut plain), None);
-    // Locks were waited for in earnest.
-    let seen = plain.seen;
-    assert!(rt; seen.granted >= 100, "{} waits granted", seen.granted);
-    assert!(rt; seen.lost >= 100, "{} waits lost", seen.lost);
-    assert!(rt; seen.cloned >= 100, "{} clones", seen.cloned);
-    assert!(rt; seen.victims >= 15, "{} victims", seen.victims);
-    assert!(rt; seen.upgraded >= 20, "{} upgrades", seen.upgraded);
-    assert!(rt; seen.merged >= 5, "{} merges", seen.merged);
-    assert!(rt; seen.fallen >= 5, "{} downgrades", seen.fallen);
+    let (apart, seen) = tried(rt.alloc())?;
+    assert_eq!(rt; apart, None);
+    assert!(rt; are_waits_met(seen) && are_changes_met(seen));
     Ok(())
 }

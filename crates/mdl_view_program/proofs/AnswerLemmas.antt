@@ -10,13 +10,15 @@ use Rattle.mdl_lines.specs.declared.fault.Fault.TheVariants.{Write}
 use Rattle.mdl_lines.specs.declared.fault.LineError.{LineError}
 use Rattle.mdl_lines.specs.Words.{AppendsPart}
 use Rattle.mdl_syntax.specs.declared.script.Line.{Line}
+use Rattle.mdl_picture.specs.Pictures.{picture_text}
 use Rattle.mdl_script.specs.Output.{lines_until}
 use Rattle.mdl_script.specs.Worlds.{script_played}
+use Rattle.mdl_timeline.specs.Moments.{moments_of}
 use Rattle.mdl_view.specs.BookLocks.{lock_of_book}
 use Rattle.mdl_view_text.specs.Names.{NamesView, book_text}
 use Rattle.mdl_view_program.specs.declared.question.Question.{Question}
 use Rattle.mdl_view_program.specs.Answers.{AnswersBooks, IsAnswer}
-use Rattle.mdl_view_program.specs.Programs.{AnswersScript, LeavesAnswer}
+use Rattle.mdl_view_program.specs.Programs.{AnswersScript, DrawsScript, LeavesAnswer}
 
 -- the locks and the names of books are answered about
 pub books_answered : (question : Question) (books : List BookView) (names : NamesView) (settled everyone : set.FinSet nat_cmp) (locks : List BookView) (text : List ℕ)
@@ -37,6 +39,12 @@ pub script_answered : (question : Question) (last : ℕ) (said : Result (List Li
 script_answered question last (Ok lines) space books text ok left are answered =
     subst (λ (bs : List BookView). AnswersBooks question bs text) (are ∙ ap (λ (core : Core). core.books) left) answered
 script_answered question last (Err refusal) space books text ok left are answered = absurd (cc)
+
+-- a picture of the lines of a script is one of the script
+pub script_drawn : (last : ℕ) (bytes : List ℕ) (said : Result (List Line) (ℕ × LineError)) (text : List ℕ) → IsOk said
+    → IfOk said (λ lines. text ≡ picture_text (moments_of bytes (lines_until last lines))) → DrawsScript last bytes said text
+script_drawn last bytes (Ok lines) text ok drawn = drawn
+script_drawn last bytes (Err refusal) text ok drawn = absurd (cc)
 
 -- all of an answer was written
 pub leaves_answer : (Answers : List ℕ → Type 0) (text : List ℕ) (old new : Option (List ℕ)) → Answers text → Appends old new text

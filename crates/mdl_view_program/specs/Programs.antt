@@ -1,13 +1,15 @@
 -- What the program writes.
-use Rattle.std.specs.Prelude.{ℕ, List, Option, Result, Ok, Err}
+use Rattle.std.specs.Prelude.{◌≡◌, ℕ, List, Option, Result, Ok, Err}
 use Rattle.std.specs.Io.KnownBytes.{Appends, Keeps}
 use Rattle.mdl_lines.specs.declared.fault.Fault.{Fault}
 use Rattle.mdl_lines.specs.declared.fault.Fault.TheVariants.{Write}
 use Rattle.mdl_lines.specs.declared.fault.LineError.{LineError}
 use Rattle.mdl_lines.specs.Words.{AppendsPart}
 use Rattle.mdl_syntax.specs.declared.script.Line.{Line}
+use Rattle.mdl_picture.specs.Pictures.{picture_text}
 use Rattle.mdl_script.specs.Output.{lines_until}
 use Rattle.mdl_script.specs.Worlds.{script_played}
+use Rattle.mdl_timeline.specs.Moments.{moments_of}
 use Rattle.mdl_view_program.specs.declared.question.Question.{Question}
 use Rattle.mdl_view_program.specs.Answers.{AnswersBooks}
 
@@ -15,6 +17,11 @@ use Rattle.mdl_view_program.specs.Answers.{AnswersBooks}
 abbrev pub AnswersScript : Question → ℕ → Result (List Line) (ℕ × LineError) → List ℕ → Type 0
 AnswersScript question last (Ok lines) text = AnswersBooks question (script_played (lines_until last lines)).world.core.books text
 AnswersScript question last (Err refusal) text = ⊥
+
+-- a text is the picture of what happens at the lines of a script up to the one of this number. Of a refused script there is none
+abbrev pub DrawsScript : ℕ → List ℕ → Result (List Line) (ℕ × LineError) → List ℕ → Type 0
+DrawsScript last bytes (Ok lines) text = text ≡ picture_text (moments_of bytes (lines_until last lines))
+DrawsScript last bytes (Err refusal) text = ⊥
 
 -- what is left written by a run that ends so: an answer, where writing failed a beginning of one that is not all of it, and else nothing
 abbrev pub LeavesAnswer : (List ℕ → Type 0) → Result (Unit {0}) Fault → Option (List ℕ) → Option (List ℕ) → Type 0

@@ -1,6 +1,7 @@
 //! What `mdlview` does once the words of its command line are read: it looks at a table of locks, and writes the answer to a question.
 //!
 //! [`view_script`] plays a script, and looks at the locks that it leaves; [`view_rows`] looks at those of a server's rows. [`answer`] answers a question about any locks.
+//! [`draw_script`] draws what happens at the lines of a script.
 //!
 //! # Example
 //!
@@ -31,6 +32,6 @@ mod question;
 mod rows;
 
 pub use answers::{answer, answer_of_books};
-pub use program::view_script;
+pub use program::{draw_script, view_script};
 pub use question::{Form, Question};
 pub use rows::{RowsFault, view_rows};

@@ -2,12 +2,13 @@
 ghost use Rattle.std.specs.Prelude.{IfErr, IfOk, IfSome, IsOk, OnOk};
 ghost use Rattle.mdl_lines.specs.Words.{IsFaultOf, MayEnd};
 ghost use Rattle.mdl_syntax.specs.Scripts.{parsed};
-ghost use Rattle.mdl_view_program.specs.Programs.{AnswersScript, LeavesAnswer};
+ghost use Rattle.mdl_view_program.specs.Programs.{AnswersScript, DrawsScript, LeavesAnswer};
 
 use crate::answers::answer_of_books;
 use crate::question::Question;
 use mdl_lines::{Fault, read_all, write_all};
 use mdl_script::space_after;
+use mdl_timeline::draw;
 use std::alloc::{AllocError, Global};
 use std::io::{Read, Write};
 
@@ -28,6 +29,34 @@ pub fn view_script<R: Read, W: Write>(
     let text = read_all(alloc, input)?;
     let answer = answer_of_script(alloc, question, last, &text)?;
     write_all(output, &answer)
+}
+
+/// Plays a script of statements in one thread to the end of the line of this number, and writes a picture of what happens at its lines, as
+/// SVG. It reads all, looks at all lines, and only then writes.
+#[tactic(auto, using(crate::proofs::AnswerLemmas::leaves_answer, crate::proofs::AnswerLemmas::leaves_part))]
+pub fn draw_script<R: Read, W: Write>(
+    alloc: Global,
+    last: u64,
+    input: &mut R,
+    output: &mut W,
+) -> Result<(), Fault>
+    ensures ends { IfSome (R.remaining input.old) (λ bytes. MayEnd (parsed bytes) result) }
+    ensures written { IfSome (R.remaining input.old) (λ bytes.
+        LeavesAnswer (DrawsScript last bytes (parsed bytes)) result (W.contents output.old) (W.contents output.new)) }
+{
+    let text = read_all(alloc, input)?;
+    let picture = picture_of_script(alloc, last, &text)?;
+    write_all(output, &picture)
+}
+
+// The picture of what happens up to the line of this number.
+#[tactic(auto, using(crate::proofs::AnswerLemmas::script_drawn))]
+fn picture_of_script(alloc: Global, last: u64, text: &[u8]) -> Result<Vec<u8>, Fault>
+    ensures picture { IfOk result (λ picture. DrawsScript last text.now (parsed text.now) picture.items) }
+    ensures accepted { OnOk result (IsOk (parsed text.now)) }
+    ensures fault { IfErr result (IsFaultOf (parsed text.now)) }
+{
+    draw(alloc, text, last)
 }
 
 // The answer to a question about the locks after the line of this number.

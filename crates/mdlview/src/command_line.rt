@@ -26,22 +26,27 @@ const GRAPH_EXAMPLES: &str = "Examples:
 
 Rows don't show in which order sessions began to wait: waits are taken in the order of the rows.";
 
-/// What is asked, and of which locks.
+const TIMELINE_EXAMPLES: &str = "Example:
+  mdlview timeline --script < examples/alter_stops_a_table.replay > timeline.svg
+
+Lines go from left to right, and each session has a row. A server's rows show one moment only, so there is no timeline of them.";
+
+/// What is asked.
 #[derive(Clone, Copy)]
-pub struct Asked {
-    /// The question.
-    pub question: Question,
-    /// The locks.
-    pub source: Source,
+pub enum Asked {
+    /// A question about the locks of a server's rows.
+    OfRows(Question),
+    /// Something about a script, up to the line of this number.
+    OfScript(Look, u64),
 }
 
-/// Which locks are looked at.
+/// What is asked of a script.
 #[derive(Clone, Copy)]
-pub enum Source {
-    /// Those of a server's rows.
-    Rows,
-    /// Those that a script leaves after the line of this number.
-    Script(u64),
+pub enum Look {
+    /// A question about the locks that it leaves.
+    Locks(Question),
+    /// A picture of it.
+    Timeline,
 }
 
 /// Reads the words of a command line; the first is the program's name.
@@ -51,6 +56,7 @@ pub fn words_read<S: AsStr>(alloc: Global, words: &[S]) -> Result<Asked, Error> 
         Some(("locks", options)) => asks(Question::Locks(form_found(options)), options),
         Some(("waits", options)) => asks(Question::Waits(form_found(options)), options),
         Some(("graph", options)) => asks(Question::Graph, options),
+        Some(("timeline", options)) => { Asked::OfScript(Look::Timeline, last_found(options)) }
         Some((_, options)) => asks(Question::Why(form_found(options)), options),
         None => asks(Question::Why(form_found(&matches)), &matches),
     })
@@ -58,9 +64,10 @@ pub fn words_read<S: AsStr>(alloc: Global, words: &[S]) -> Result<Asked, Error> 
 
 // A question, with the locks that the options name.
 fn asks(question: Question, options: &ArgMatches) -> Asked {
-    Asked {
-        question,
-        source: source_found(options),
+    if options.get_flag("script") {
+        Asked::OfScript(Look::Locks(question), last_found(options))
+    } else {
+        Asked::OfRows(question)
     }
 }
 
@@ -73,14 +80,11 @@ fn form_found(options: &ArgMatches) -> Form {
     }
 }
 
-// The source that was found: where there is no line, the whole script is played.
-fn source_found(options: &ArgMatches) -> Source {
-    if !options.get_flag("script") {
-        return Source::Rows;
-    }
+// The number of the last line that is played: where none was found, the whole script is.
+fn last_found(options: &ArgMatches) -> u64 {
     match options.get_one::<u64>("at") {
-        Some(line) => Source::Script(line),
-        None => Source::Script(u64::MAX),
+        Some(line) => line,
+        None => u64::MAX,
     }
 }
 
@@ -96,7 +100,8 @@ fn program<'a>(alloc: Global) -> Result<Command<'a>, AllocError> {
         .subcommand(why(alloc)?)?
         .subcommand(locks(alloc)?)?
         .subcommand(waits(alloc)?)?
-        .subcommand(graph(alloc)?)
+        .subcommand(graph(alloc)?)?
+        .subcommand(timeline(alloc)?)
 }
 
 // The subcommand `why`.
@@ -131,6 +136,28 @@ fn graph<'a>(alloc: Global) -> Result<Command<'a>, AllocError> {
         .about("Prints the waits as a graph, in the DOT language of Graphviz")
         .after_help(GRAPH_EXAMPLES);
     with_source(alloc, command)
+}
+
+// The subcommand `timeline`.
+fn timeline<'a>(alloc: Global) -> Result<Command<'a>, AllocError> {
+    let script = Arg::new(alloc, "script")
+        .long("script")
+        .action(ArgAction::SetTrue)
+        .required(true)
+        .help("Reads a script of statements: a server's rows have no timeline");
+    let at = Arg::new(alloc, "at")
+        .long("at")
+        .value_name("LINE")
+        .action(ArgAction::Set)
+        .value_parser(value_parser!(u64).range(1..))
+        .help("Ends with this line of the script, and all that follows from it");
+    Command::new(alloc, "timeline")
+        .about(
+            "Prints a picture of a script, as SVG: who waits for whom, and from which line to which",
+        )
+        .after_help(TIMELINE_EXAMPLES)
+        .arg(script)?
+        .arg(at)
 }
 
 // A command with the options that name the form and the locks.

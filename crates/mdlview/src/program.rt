@@ -3,10 +3,10 @@ ghost use Rattle.std.specs.Prelude.{◌≡◌, Result, IsOkUnless};
 ghost use Rattle.mdl_program.specs.Runs.{Writes, end_status};
 ghost use Rattle.mdlview.specs.CommandLine.{version_line};
 
-use crate::command_line::{Asked, Source, words_read};
+use crate::command_line::{Asked, Look, words_read};
 use mdl_lines::{Fault, LineError, read_all, report, write_all};
 use mdl_lock_rows::LockRowsError;
-use mdl_view_program::{Question, RowsFault, view_rows, view_script};
+use mdl_view_program::{Question, RowsFault, draw_script, view_rows, view_script};
 use mdl_view_text::explanation;
 use std::alloc::{AllocError, Global};
 use std::convert::AsStr;
@@ -61,7 +61,7 @@ fn print_version<W: Write, E: Write>(output: &mut W, errors: &mut E) -> u8
     }
 }
 
-// Answers a question about the locks of rows or of a script, and returns the status.
+// Answers what is asked of rows or of a script, and returns the status.
 fn look<R: Read, W: Write, E: Write>(
     alloc: Global,
     asked: Asked,
@@ -69,12 +69,23 @@ fn look<R: Read, W: Write, E: Write>(
     output: &mut W,
     errors: &mut E,
 ) -> u8 {
-    match asked.source {
-        Source::Rows => match view_rows(alloc, asked.question, input, output) {
-            Ok(()) => 0,
-            Err(fault) => report_rows(&fault, errors),
-        },
-        Source::Script(last) => look_at_script(alloc, asked.question, last, input, output, errors),
+    match asked {
+        Asked::OfRows(question) => look_at_rows(alloc, question, input, output, errors),
+        Asked::OfScript(what, last) => look_at_script(alloc, what, last, input, output, errors),
+    }
+}
+
+// Answers a question about the locks of rows, and returns the status.
+fn look_at_rows<R: Read, W: Write, E: Write>(
+    alloc: Global,
+    question: Question,
+    input: &mut R,
+    output: &mut W,
+    errors: &mut E,
+) -> u8 {
+    match view_rows(alloc, question, input, output) {
+        Ok(()) => 0,
+        Err(fault) => report_rows(&fault, errors),
     }
 }
 
@@ -90,10 +101,10 @@ fn report_rows<E: Write>(fault: &RowsFault, errors: &mut E) -> u8 {
     }
 }
 
-// Answers a question about the locks that a script leaves, and returns the status.
+// Answers what is asked of a script, and returns the status.
 fn look_at_script<R: Read, W: Write, E: Write>(
     alloc: Global,
-    question: Question,
+    what: Look,
     last: u64,
     input: &mut R,
     output: &mut W,
@@ -103,11 +114,25 @@ fn look_at_script<R: Read, W: Write, E: Write>(
         Ok(text) => text,
         Err(fault) => return report(&fault, errors),
     };
-    let mut script = text.as_slice();
-    match view_script(alloc, question, last, &mut script, output) {
+    match answer_script(alloc, what, last, &text, output) {
         Ok(()) => 0,
         Err(Fault::Refused(line, error)) => report_refused(alloc, &text, line, error, errors),
         Err(fault) => report(&fault, errors),
+    }
+}
+
+// Answers what is asked of the text of a script.
+fn answer_script<W: Write>(
+    alloc: Global,
+    what: Look,
+    last: u64,
+    text: &[u8],
+    output: &mut W,
+) -> Result<(), Fault> {
+    let mut script = text;
+    match what {
+        Look::Locks(question) => view_script(alloc, question, last, &mut script, output),
+        Look::Timeline => draw_script(alloc, last, &mut script, output),
     }
 }
 

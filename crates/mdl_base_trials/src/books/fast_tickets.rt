@@ -27,19 +27,25 @@ fn minds(alloc: Global, word: Word, mode: Mode, want: bool) -> bool {
     first_wrong(alloc, Kind::Object, &steps).is_none()
 }
 
+// A word of one fast ticket or none, a mode, and whether the book takes the word into account for the mode.
+const MINDED: &[(Word, Mode, bool)] = &[
+    (NO_FAST, Mode::X, true),
+    (FAST_S, Mode::X, false),
+    (FAST_S, Mode::SNRW, true),
+    (FAST_SR, Mode::SNRW, false),
+    (FAST_SR, Mode::SNW, true),
+    (FAST_SW, Mode::SRO, false),
+    (FAST_SW, Mode::SNW, false),
+    (FAST_SW, Mode::SU, true),
+];
+
 #[test]
 fn minds_fast_tickets(rt: HostRuntime) {
-    for (word, mode, want) in [
-        (NO_FAST, Mode::X, true),
-        (FAST_S, Mode::X, false),
-        (FAST_S, Mode::SNRW, true),
-        (FAST_SR, Mode::SNRW, false),
-        (FAST_SR, Mode::SNW, true),
-        (FAST_SW, Mode::SRO, false),
-        (FAST_SW, Mode::SNW, false),
-        (FAST_SW, Mode::SU, true),
-    ] {
-        assert!(rt; minds(rt.alloc(), word, mode, want), "{mode} at {word:?}");
+    for (word, mode, want) in MINDED {
+        assert!(rt;
+            minds(rt.alloc(), *word, *mode, *want),
+            "{mode} at {word:?}"
+        );
     }
 }
 

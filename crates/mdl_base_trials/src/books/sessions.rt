@@ -1,35 +1,44 @@
 //! Sets of sessions.
 use mdl_book::Sessions;
 
+// Sessions that are put in.
+const PUT_IN: &[u16] = &[1, 64, 65, 1024];
+
+// Sessions, and whether each is in the set when session 64 has been taken out.
+const AFTERWARDS: &[(u16, bool)] = &[
+    (1, true),
+    (64, false),
+    (65, true),
+    (1024, true),
+    (0, false),
+    (2, false),
+    (63, false),
+    (66, false),
+    (1023, false),
+    (1025, false),
+];
+
 #[test]
 fn puts_in_and_takes_out(rt: HostRuntime) {
     let mut sessions = Sessions::new();
     assert!(rt; !sessions.contains(1));
-    for session in [1, 64, 65, 1024] {
-        sessions.insert(session);
-        assert!(rt; sessions.contains(session), "put in {session}");
+    for session in PUT_IN {
+        sessions.insert(*session);
+        assert!(rt; sessions.contains(*session), "put in {session}");
     }
     sessions.remove(64);
-    for (session, want) in [
-        (1, true),
-        (64, false),
-        (65, true),
-        (1024, true),
-        (0, false),
-        (2, false),
-        (63, false),
-        (66, false),
-        (1023, false),
-        (1025, false),
-    ] {
-        assert!(rt; sessions.contains(session) == want, "at {session}");
+    for (session, want) in AFTERWARDS {
+        assert!(rt; sessions.contains(*session) == *want, "at {session}");
     }
 }
+
+// Sessions, and whether each is in the set of all.
+const OF_ALL: &[(u16, bool)] = &[(0, false), (1, true), (1024, true), (1025, false)];
 
 #[test]
 fn holds_every_session(rt: HostRuntime) {
     let sessions = Sessions::all();
-    for (session, want) in [(0, false), (1, true), (1024, true), (1025, false)] {
-        assert!(rt; sessions.contains(session) == want, "at {session}");
+    for (session, want) in OF_ALL {
+        assert!(rt; sessions.contains(*session) == *want, "at {session}");
     }
 }

@@ -137,14 +137,20 @@ fn refusal(alloc: Global, capacity: u16) -> Option<CacheError> {
     }
 }
 
+// How many definitions a cache may keep.
+const GOOD: &[u16] = &[1, 2, 4_095, 4_096];
+
+// And how many not.
+const BAD: &[u16] = &[0, 4_097, u16::MAX];
+
 #[test]
 fn caches_keep_1_to_4096(rt: HostRuntime) {
-    for capacity in [1, 2, 4_095, 4_096] {
-        assert!(rt; refusal(rt.alloc(), capacity).is_none(), "{capacity}");
+    for capacity in GOOD {
+        assert!(rt; refusal(rt.alloc(), *capacity).is_none(), "{capacity}");
     }
-    for capacity in [0, 4_097, u16::MAX] {
+    for capacity in BAD {
         assert!(rt;
-            refusal(rt.alloc(), capacity) == Some(CacheError::BadCapacity),
+            refusal(rt.alloc(), *capacity) == Some(CacheError::BadCapacity),
             "{capacity}"
         );
     }

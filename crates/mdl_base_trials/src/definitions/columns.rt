@@ -65,14 +65,17 @@ fn is_named(alloc: Global, name: &str, refusal: Option<KeyError>) -> bool {
     }
 }
 
+// Names of columns, and why each is refused.
+const NAMES: &[(&str, Option<KeyError>)] = &[
+    ("a_1", None),
+    ("", Some(KeyError::EmptyName)),
+    ("aB", Some(KeyError::BadByte(1))),
+];
+
 #[test]
 fn names_columns(rt: HostRuntime) {
-    for (name, refusal) in [
-        ("a_1", None),
-        ("", Some(KeyError::EmptyName)),
-        ("aB", Some(KeyError::BadByte(1))),
-    ] {
-        assert!(rt; is_named(rt.alloc(), name, refusal), "name {name}");
+    for (name, refusal) in NAMES {
+        assert!(rt; is_named(rt.alloc(), name, *refusal), "name {name}");
     }
 }
 
@@ -98,11 +101,14 @@ fn are_y_x_y(columns: &[Column]) -> bool {
     }
 }
 
+// The names of three columns.
+const Y_X_Y: &[&str] = &["y", "x", "y"];
+
 #[test]
 fn keeps_columns_in_order(rt: HostRuntime) {
     let mut columns = Columns::new(rt.alloc());
     assert!(rt; columns.as_slice().is_empty());
-    for name in ["y", "x", "y"] {
+    for name in Y_X_Y {
         assert!(rt;
             grow(rt.alloc(), &mut columns, name) && is_copied(&columns),
             "{name}"

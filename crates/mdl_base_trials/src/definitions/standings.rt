@@ -123,17 +123,20 @@ fn answer_after(alloc: Global, version: u64, act: Act) -> Result<u64, ChangeErro
     }
 }
 
+// Changes that come too late.
+const LATE: &[Act] = &[
+    Act::Drop,
+    Act::Put(X),
+    Act::Create(What::Schema),
+    Act::Lose("x"),
+];
+
 #[test]
 fn versions_have_an_end(rt: HostRuntime) {
     let alloc = rt.alloc();
     assert!(rt; answer_after(alloc, 999_999, Act::Drop) == Ok(1_000_000));
-    for act in [
-        Act::Drop,
-        Act::Put(X),
-        Act::Create(What::Schema),
-        Act::Lose("x"),
-    ] {
-        assert!(rt; answer_after(alloc, 1_000_000, act) == Err(ChangeError::VersionFull));
+    for act in LATE {
+        assert!(rt; answer_after(alloc, 1_000_000, *act) == Err(ChangeError::VersionFull));
     }
 }
 

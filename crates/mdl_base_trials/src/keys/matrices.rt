@@ -115,18 +115,30 @@ fn each_entry_is_as_in_the_table(rt: HostRuntime) {
     }
 }
 
+// Some rows of the matrices as bit maps.
+fn bit_maps() -> [u16; 6] {
+    [
+        granted_row(Kind::Scoped, Mode::IX),
+        waiting_row(Kind::Scoped, Mode::S),
+        granted_row(Kind::Object, Mode::SR),
+        waiting_row(Kind::Object, Mode::SRO),
+        obtrusive_row(Kind::Scoped),
+        obtrusive_row(Kind::Object),
+    ]
+}
+
+const BIT_MAPS: [u16; 6] = [
+    0b100_0000_0010,
+    0b100_0000_0000,
+    0b110_0000_0000,
+    0b110_0001_0000,
+    0b111_1111_1110,
+    0b111_1100_0001,
+];
+
 #[test]
 fn rows_are_bit_maps(rt: HostRuntime) {
-    for (found, wanted) in [
-        (granted_row(Kind::Scoped, Mode::IX), 0b100_0000_0010),
-        (waiting_row(Kind::Scoped, Mode::S), 0b100_0000_0000),
-        (granted_row(Kind::Object, Mode::SR), 0b110_0000_0000),
-        (waiting_row(Kind::Object, Mode::SRO), 0b110_0001_0000),
-        (obtrusive_row(Kind::Scoped), 0b111_1111_1110),
-        (obtrusive_row(Kind::Object), 0b111_1100_0001),
-    ] {
-        assert_eq!(rt; found, wanted);
-    }
+    assert_eq!(rt; bit_maps(), BIT_MAPS);
 }
 
 // Two modes of a kind, and whether each is at least as strong as the other.

@@ -59,9 +59,12 @@ fn all_are_in_order(rt: HostRuntime) {
     assert!(rt; Mode::ALL[0] == Mode::IX && Mode::ALL[10] == Mode::X);
 }
 
+// Texts that name no mode.
+const NO_MODES: &[&str] = &["sr", "IXX", "", "I", " X", "X ", "SWL", "XI"];
+
 #[test]
 fn other_texts_name_no_mode(rt: HostRuntime) {
-    for name in ["sr", "IXX", "", "I", " X", "X ", "SWL", "XI"] {
+    for name in NO_MODES {
         assert!(rt; name.parse::<Mode>() == Err(ModeError), "reading {name}");
     }
 }

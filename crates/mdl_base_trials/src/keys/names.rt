@@ -38,24 +38,27 @@ fn is_named(alloc: Global, name: Name, kind: Kind, text: &str) -> bool {
     }
 }
 
+// What a lock is named, the kind of its key, and how that is printed.
+const NAMED: &[(Name, Kind, &str)] = &[
+    ((Namespace::Global, "", ""), Kind::Scoped, "GLOBAL"),
+    ((Namespace::Schema, "test", ""), Kind::Scoped, "SCHEMA test"),
+    (
+        (Namespace::Table, "test", "t_1"),
+        Kind::Object,
+        "TABLE test.t_1",
+    ),
+    ((Namespace::Commit, "", ""), Kind::Scoped, "COMMIT"),
+    (
+        (Namespace::UserLevelLock, "job_1", ""),
+        Kind::Object,
+        "USER job_1",
+    ),
+];
+
 #[test]
 fn names_locks(rt: HostRuntime) {
-    for (name, kind, text) in [
-        ((Namespace::Global, "", ""), Kind::Scoped, "GLOBAL"),
-        ((Namespace::Schema, "test", ""), Kind::Scoped, "SCHEMA test"),
-        (
-            (Namespace::Table, "test", "t_1"),
-            Kind::Object,
-            "TABLE test.t_1",
-        ),
-        ((Namespace::Commit, "", ""), Kind::Scoped, "COMMIT"),
-        (
-            (Namespace::UserLevelLock, "job_1", ""),
-            Kind::Object,
-            "USER job_1",
-        ),
-    ] {
-        assert!(rt; is_named(rt.alloc(), name, kind, text), "{text}");
+    for (name, kind, text) in NAMED {
+        assert!(rt; is_named(rt.alloc(), *name, *kind, text), "{text}");
     }
 }
 
@@ -73,39 +76,45 @@ fn is_refused(alloc: Global, name: &'static str, want: Option<KeyError>) -> bool
         && refusal(alloc, (Namespace::UserLevelLock, name, "")) == want
 }
 
+// Names, and why each is refused.
+const REFUSED: &[(&str, Option<KeyError>)] = &[
+    ("", Some(KeyError::EmptyName)),
+    (LONGEST, None),
+    (TOO_LONG, Some(KeyError::LongName)),
+    (TOO_LONG_AND_BAD, Some(KeyError::LongName)),
+    ("az09_", None),
+    ("A", Some(KeyError::BadByte(0))),
+    ("ab-c d", Some(KeyError::BadByte(2))),
+    ("a`", Some(KeyError::BadByte(1))),
+    ("a{", Some(KeyError::BadByte(1))),
+    ("a/", Some(KeyError::BadByte(1))),
+    ("a:", Some(KeyError::BadByte(1))),
+    ("naïve", Some(KeyError::BadByte(2))),
+];
+
 #[test]
 fn refuses_what_is_no_name(rt: HostRuntime) {
     assert_eq!(rt; LONGEST.len(), 64);
-    for (name, want) in [
-        ("", Some(KeyError::EmptyName)),
-        (LONGEST, None),
-        (TOO_LONG, Some(KeyError::LongName)),
-        (TOO_LONG_AND_BAD, Some(KeyError::LongName)),
-        ("az09_", None),
-        ("A", Some(KeyError::BadByte(0))),
-        ("ab-c d", Some(KeyError::BadByte(2))),
-        ("a`", Some(KeyError::BadByte(1))),
-        ("a{", Some(KeyError::BadByte(1))),
-        ("a/", Some(KeyError::BadByte(1))),
-        ("a:", Some(KeyError::BadByte(1))),
-        ("naïve", Some(KeyError::BadByte(2))),
-    ] {
-        assert!(rt; is_refused(rt.alloc(), name, want), "{name}");
+    for (name, want) in REFUSED {
+        assert!(rt; is_refused(rt.alloc(), name, *want), "{name}");
     }
 }
 
+// Names of a schema and of a table, and why they are refused.
+const TWICE_BAD: &[(&str, &str, KeyError)] = &[
+    ("", "a.b", KeyError::EmptyName),
+    ("", TOO_LONG, KeyError::EmptyName),
+    (TOO_LONG, "", KeyError::LongName),
+    ("a.b", "", KeyError::BadByte(1)),
+    ("abc.", ".", KeyError::BadByte(3)),
+    ("abc", "", KeyError::EmptyName),
+];
+
 #[test]
 fn looks_at_the_schema_first(rt: HostRuntime) {
-    for (schema, table, want) in [
-        ("", "a.b", KeyError::EmptyName),
-        ("", TOO_LONG, KeyError::EmptyName),
-        (TOO_LONG, "", KeyError::LongName),
-        ("a.b", "", KeyError::BadByte(1)),
-        ("abc.", ".", KeyError::BadByte(3)),
-        ("abc", "", KeyError::EmptyName),
-    ] {
+    for (schema, table, want) in TWICE_BAD {
         let found = refusal(rt.alloc(), (Namespace::Table, schema, table));
-        assert!(rt; found == Some(want), "{schema} and {table}");
+        assert!(rt; found == Some(*want), "{schema} and {table}");
     }
 }
 

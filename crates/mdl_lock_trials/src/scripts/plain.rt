@@ -1,9 +1,10 @@
 //! The lock once more, in the plainest way, beside which scripts by chance are run.
 ghost use Rattle.std.specs.Prelude.{◌<◌, IfSome, length};
 
-use super::ran_as;
+use super::ran;
 use mdl_key::Kind;
 use std::alloc::{AllocError, Global};
+use std::process::Abort;
 use std::test::Fail;
 
 // Modes, each beside those that it may not meet in another session, parted by spaces.
@@ -77,14 +78,12 @@ impl PlainLock {
         }
     }
 
-    fn tell(&mut self, session: u32, what: &str, mode: &str) -> Result<(), Fail> {
-        writeln!(self.answers, "{session} {what} {mode}")?;
-        Ok(())
+    fn tell(&mut self, session: u32, what: &str, mode: &str) -> Result<(), AllocError> {
+        writeln!(self.answers, "{session} {what} {mode}")
     }
 
-    fn refuse(&mut self, session: u32) -> Result<(), Fail> {
-        writeln!(self.answers, "{session} REFUSED")?;
-        Ok(())
+    fn refuse(&mut self, session: u32) -> Result<(), AllocError> {
+        writeln!(self.answers, "{session} REFUSED")
     }
 
     fn can_go(&self, session: u32, mode: &'static str) -> bool {
@@ -92,19 +91,18 @@ impl PlainLock {
             && is_clear(self.waits_behind, session, mode, &self.waiting)
     }
 
-    fn ask(&mut self, session: u32, mode: &'static str) -> Result<(), Fail> {
+    fn ask(&mut self, session: u32, mode: &'static str) -> Result<(), AllocError> {
         if place(&self.granted, session).is_some() || place(&self.waiting, session).is_some() {
             return self.refuse(session);
         }
         if self.can_go(session, mode) {
-            self.granted.push((session, mode))?;
-            return self.tell(session, "GRANTED", mode);
+            return self.grant(session, mode);
         }
         self.waiting.push((session, mode))?;
         self.tell(session, "WAITS", mode)
     }
 
-    fn release(&mut self, session: u32) -> Result<(), Fail> {
+    fn release(&mut self, session: u32) -> Result<(), AllocError> {
         let Some(place) = place(&self.granted, session) else {
             return self.refuse(session);
         };
@@ -113,7 +111,7 @@ impl PlainLock {
         self.grant_waiters()
     }
 
-    fn time_out(&mut self, session: u32) -> Result<(), Fail> {
+    fn time_out(&mut self, session: u32) -> Result<(), AllocError> {
         let Some(place) = place(&self.waiting, session) else {
             return self.refuse(session);
         };
@@ -122,7 +120,7 @@ impl PlainLock {
         self.grant_waiters()
     }
 
-    fn grant_waiters(&mut self) -> Result<(), Fail> {
+    fn grant_waiters(&mut self) -> Result<(), AllocError> {
         for _ in 0..self.waiting.len() {
             let first = self
                 .waiting
@@ -132,13 +130,17 @@ impl PlainLock {
                 break;
             };
             let (session, mode) = self.waiting.remove(first);
-            self.granted.push((session, mode))?;
-            self.tell(session, "GRANTED", mode)?;
+            self.grant(session, mode)?;
         }
         Ok(())
     }
 
-    fn obey(&mut self, session: u32, word: &'static str) -> Result<(), Fail> {
+    fn grant(&mut self, session: u32, mode: &'static str) -> Result<(), AllocError> {
+        self.granted.push((session, mode))?;
+        self.tell(session, "GRANTED", mode)
+    }
+
+    fn obey(&mut self, session: u32, word: &'static str) -> Result<(), AllocError> {
         match word {
             "RELEASE" => self.release(session),
             "TIMEOUT" => self.time_out(session),
@@ -176,7 +178,23 @@ fn draw(seed: &mut u64, limit: u32) -> u32
     high % limit
 }
 
-// A script by chance, of which these are the words behind the sessions, and the plain lock's answers to it.
+// Adds a line by chance to a script, of which these are the words behind the sessions. The lock obeys it.
+fn add_line(
+    script: &mut String,
+    lock: &mut PlainLock,
+    words: &'static str,
+    chance: &mut u64,
+) -> Result<(), Fail> {
+    let session = 1 + draw(chance, 6);
+    let Some(word) = words.split(' ').nth(draw(chance, 16) as usize) else {
+        return Err(Fail::from("there are fewer than 16 words"));
+    };
+    writeln!(script, "{session} {word}")?;
+    lock.obey(session, word)?;
+    Ok(())
+}
+
+// A script by chance, and the plain lock's answers to it.
 fn drawn(
     alloc: Global,
     kind: Kind,
@@ -187,25 +205,31 @@ fn drawn(
     let mut script = String::new(alloc);
     let mut lock = PlainLock::new(alloc, kind);
     for _ in 0..60 {
-        let session = 1 + draw(&mut chance, 6);
-        let Some(word) = words.split(' ').nth(draw(&mut chance, 16) as usize) else {
-            return Err(Fail::from("there are fewer than 16 words"));
-        };
-        writeln!(script, "{session} {word}")?;
-        lock.obey(session, word)?;
+        add_line(&mut script, &mut lock, words, &mut chance)?;
     }
     Ok((script, lock.answers))
 }
 
+// A script by chance must be answered as the plain lock answers it.
+fn must_answer_alike(
+    rt: &impl Abort,
+    alloc: Global,
+    kind: Kind,
+    words: &'static str,
+    seed: u64,
+) -> Result<(), Fail> {
+    let (script, answers) = drawn(alloc, kind, words, seed)?;
+    let (result, written) = ran(alloc, kind, script.as_bytes());
+    assert_eq!(rt; result, Ok(()));
+    assert_eq!(rt; written.as_slice(), answers.as_bytes(), "{script}");
+    Ok(())
+}
+
 #[test]
 fn scripts_by_chance_are_answered_as_by_the_plain_lock(rt: HostRuntime) -> Result<(), Fail> {
-    for (kind, words) in [(Kind::Object, OBJECT_WORDS), (Kind::Scoped, SCOPED_WORDS)] {
-        for seed in 0..300 {
-            let (script, answers) = drawn(rt.alloc(), kind, words, seed)?;
-            let (result, written) = ran_as(rt.alloc(), kind, script.as_bytes());
-            assert_eq!(rt; result, Ok(()));
-            assert_eq!(rt; written.as_slice(), answers.as_bytes(), "{script}");
-        }
+    for seed in 0..300 {
+        must_answer_alike(&rt, rt.alloc(), Kind::Object, OBJECT_WORDS, seed)?;
+        must_answer_alike(&rt, rt.alloc(), Kind::Scoped, SCOPED_WORDS, seed)?;
     }
     Ok(())
 }

@@ -7,6 +7,7 @@ ghost use Rattle.mdl_steps.specs.WaitStates.{IsLost, granted_state};
 ghost use Rattle.mdl_visits.specs.Idle.{IsIdle, HasSlowAlone};
 ghost use Rattle.mdl_shared.specs.Members.{kind_known};
 
+use crate::steps::rows::Answer;
 use crate::steps::seated::Seated;
 use mdl_key::{Kind, Mode};
 use mdl_steps::{Ask, Loss, Own, TableSeat, WaitWord};
@@ -16,20 +17,6 @@ use std::sync::Wait;
 
 // The greatest number of a ticket and of a wait.
 const MOST_NUMBERS: u64 = (1 << 60) - 1;
-
-/// What comes of a visit.
-#[derive(Clone, Copy, Debug, PartialEq, Eq)]
-pub(crate) enum Answer {
-    Granted,
-    WouldWait,
-    /// It waits, and its wait has this number.
-    Waiting(u64),
-    Done,
-    /// Its wait was lost so.
-    Lost(u64),
-    /// Nothing was done.
-    Refused,
-}
 
 /// A session at the place of one key, which it knows. It has one ticket there at most.
 #[derive(Drop)]

@@ -1,74 +1,106 @@
 //! What the words of a lock and of a wait are, from one visit to the next.
-use crate::steps::seated::come_three;
-use crate::steps::visitors::{Answer, Visitor};
+use crate::steps::rows::{Answer, Deed, Row, are_right};
 use mdl_key::Mode;
 use mdl_steps::{Loss, WaitWord};
 use mdl_word::Word;
 use std::test::Fail;
 
+const FREE: Answer = Answer::Lock(Word(0));
+
+const LISTED: Answer = Answer::Lock(Word(0x1000_0000_0000_0000));
+
+const OBTRUSIVE: Answer = Answer::Lock(Word(0x3000_0000_0000_0000));
+
+const GRANTED: &[Row] = &[
+    (1, Deed::TryNow(Mode::SR), Answer::Granted),
+    (1, Deed::LockWord, LISTED),
+    (2, Deed::BeginWait(Mode::X), Answer::Waiting(1)),
+    (1, Deed::WaitWord(2), Answer::Wait(WaitWord(9))),
+    (1, Deed::LockWord, OBTRUSIVE),
+    (1, Deed::Release, Answer::Done),
+    (2, Deed::WaitWord(2), Answer::Wait(WaitWord(10))),
+    (2, Deed::EndWait, Answer::Granted),
+    (2, Deed::WaitWord(2), Answer::Wait(WaitWord(8))),
+    (2, Deed::Release, Answer::Done),
+    (2, Deed::LockWord, FREE),
+];
+
 // The wait's word has the wait's number and its state, the lock's word the flags that its lists need.
 #[test]
 fn the_words_tell_of_a_wait_that_is_granted(rt: HostRuntime) -> Result<(), Fail> {
-    let (one, two, _three) = come_three(&rt, rt.alloc())?;
-    let (mut one, mut two) = (Visitor::new(one), Visitor::new(two));
-    assert_eq!(rt; one.try_now(&rt, Mode::SR), Answer::Granted);
-    assert_eq!(rt; one.lock_word(), Word(0x1000_0000_0000_0000));
-    assert_eq!(rt; two.begin_wait(&rt, Mode::X), Answer::Waiting(1));
-    assert_eq!(rt; one.wait_word(2), Some(WaitWord(9)));
-    assert_eq!(rt; one.lock_word(), Word(0x3000_0000_0000_0000));
-    assert_eq!(rt; one.release(&rt), Answer::Done);
-    assert_eq!(rt; two.wait_word(2), Some(WaitWord(10)));
-    assert_eq!(rt; two.end_wait(&rt), Answer::Granted);
-    assert_eq!(rt; two.wait_word(2), Some(WaitWord(8)));
-    assert_eq!(rt; two.release(&rt), Answer::Done);
-    assert_eq!(rt; two.lock_word(), Word(0));
-    Ok(())
+    are_right(&rt, GRANTED)
 }
+
+const KILLED: &[Row] = &[
+    (1, Deed::TryNow(Mode::X), Answer::Granted),
+    (2, Deed::BeginWait(Mode::SR), Answer::Waiting(1)),
+    (1, Deed::WaitWord(2), Answer::Wait(WaitWord(9))),
+    (
+        1,
+        Deed::Settle(2, 1, Loss::Killed),
+        Answer::Wait(WaitWord(9)),
+    ),
+    (1, Deed::WaitWord(2), Answer::Wait(WaitWord(13))),
+    (
+        1,
+        Deed::Settle(2, 1, Loss::Killed),
+        Answer::Wait(WaitWord(13)),
+    ),
+    (
+        2,
+        Deed::Settle(2, 1, Loss::Timeout),
+        Answer::Wait(WaitWord(13)),
+    ),
+    (1, Deed::Release, Answer::Done),
+    (2, Deed::WaitWord(2), Answer::Wait(WaitWord(13))),
+    (2, Deed::EndWait, Answer::Lost(5)),
+    (2, Deed::WaitWord(2), Answer::Wait(WaitWord(8))),
+    (2, Deed::LockWord, FREE),
+    (1, Deed::TryNow(Mode::X), Answer::Granted),
+    (2, Deed::BeginWait(Mode::SR), Answer::Waiting(2)),
+    (2, Deed::WaitWord(2), Answer::Wait(WaitWord(17))),
+    (
+        1,
+        Deed::Settle(2, 1, Loss::Killed),
+        Answer::Wait(WaitWord(17)),
+    ),
+    (2, Deed::WaitWord(2), Answer::Wait(WaitWord(17))),
+    (1, Deed::Release, Answer::Done),
+    (2, Deed::WaitWord(2), Answer::Wait(WaitWord(18))),
+    (
+        1,
+        Deed::Settle(2, 2, Loss::Killed),
+        Answer::Wait(WaitWord(18)),
+    ),
+    (2, Deed::EndWait, Answer::Granted),
+    (2, Deed::WaitWord(2), Answer::Wait(WaitWord(16))),
+];
 
 // A kill is seen in the word of the wait that it hits, and a late one leaves the word of the next wait as it is.
 #[test]
 fn the_words_tell_of_a_wait_that_is_killed(rt: HostRuntime) -> Result<(), Fail> {
-    let (one, two, _three) = come_three(&rt, rt.alloc())?;
-    let (mut one, mut two) = (Visitor::new(one), Visitor::new(two));
-    assert_eq!(rt; one.try_now(&rt, Mode::X), Answer::Granted);
-    assert_eq!(rt; two.begin_wait(&rt, Mode::SR), Answer::Waiting(1));
-    assert_eq!(rt; one.wait_word(2), Some(WaitWord(9)));
-    assert_eq!(rt; one.settle(2, 1, Loss::Killed), Some(WaitWord(9)));
-    assert_eq!(rt; one.wait_word(2), Some(WaitWord(13)));
-    assert_eq!(rt; one.settle(2, 1, Loss::Killed), Some(WaitWord(13)));
-    assert_eq!(rt; two.settle(2, 1, Loss::Timeout), Some(WaitWord(13)));
-    assert_eq!(rt; one.release(&rt), Answer::Done);
-    assert_eq!(rt; two.wait_word(2), Some(WaitWord(13)));
-    assert_eq!(rt; two.end_wait(&rt), Answer::Lost(5));
-    assert_eq!(rt; two.wait_word(2), Some(WaitWord(8)));
-    assert_eq!(rt; two.lock_word(), Word(0));
-    assert_eq!(rt; one.try_now(&rt, Mode::X), Answer::Granted);
-    assert_eq!(rt; two.begin_wait(&rt, Mode::SR), Answer::Waiting(2));
-    assert_eq!(rt; two.wait_word(2), Some(WaitWord(17)));
-    assert_eq!(rt; one.settle(2, 1, Loss::Killed), Some(WaitWord(17)));
-    assert_eq!(rt; two.wait_word(2), Some(WaitWord(17)));
-    assert_eq!(rt; one.release(&rt), Answer::Done);
-    assert_eq!(rt; two.wait_word(2), Some(WaitWord(18)));
-    assert_eq!(rt; one.settle(2, 2, Loss::Killed), Some(WaitWord(18)));
-    assert_eq!(rt; two.end_wait(&rt), Answer::Granted);
-    assert_eq!(rt; two.wait_word(2), Some(WaitWord(16)));
-    Ok(())
+    are_right(&rt, KILLED)
 }
+
+const LOST: &[Row] = &[
+    (1, Deed::TryNow(Mode::SR), Answer::Granted),
+    (2, Deed::BeginWait(Mode::X), Answer::Waiting(1)),
+    (
+        1,
+        Deed::Settle(2, 1, Loss::Killed),
+        Answer::Wait(WaitWord(9)),
+    ),
+    (3, Deed::LockWord, OBTRUSIVE),
+    (3, Deed::TryNow(Mode::SR), Answer::WouldWait),
+    (3, Deed::WaitWord(2), Answer::Wait(WaitWord(13))),
+    (2, Deed::EndWait, Answer::Lost(5)),
+    (3, Deed::WaitWord(2), Answer::Wait(WaitWord(8))),
+    (3, Deed::LockWord, LISTED),
+    (3, Deed::TryNow(Mode::SR), Answer::Granted),
+];
 
 // The ticket of a lost wait still stands against others, with its flags, until the wait is ended.
 #[test]
 fn the_words_tell_of_a_lost_wait_until_it_is_ended(rt: HostRuntime) -> Result<(), Fail> {
-    let (one, two, three) = come_three(&rt, rt.alloc())?;
-    let (mut one, mut two, mut three) = (Visitor::new(one), Visitor::new(two), Visitor::new(three));
-    assert_eq!(rt; one.try_now(&rt, Mode::SR), Answer::Granted);
-    assert_eq!(rt; two.begin_wait(&rt, Mode::X), Answer::Waiting(1));
-    assert_eq!(rt; one.settle(2, 1, Loss::Killed), Some(WaitWord(9)));
-    assert_eq!(rt; three.lock_word(), Word(0x3000_0000_0000_0000));
-    assert_eq!(rt; three.try_now(&rt, Mode::SR), Answer::WouldWait);
-    assert_eq!(rt; three.wait_word(2), Some(WaitWord(13)));
-    assert_eq!(rt; two.end_wait(&rt), Answer::Lost(5));
-    assert_eq!(rt; three.wait_word(2), Some(WaitWord(8)));
-    assert_eq!(rt; three.lock_word(), Word(0x1000_0000_0000_0000));
-    assert_eq!(rt; three.try_now(&rt, Mode::SR), Answer::Granted);
-    Ok(())
+    are_right(&rt, LOST)
 }

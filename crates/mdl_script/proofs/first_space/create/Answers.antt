@@ -4,7 +4,7 @@ use Rattle.mdl_key.specs.declared.mode.Mode.TheVariants.{X}
 use Rattle.mdl_defs.specs.declared.change.Change.TheVariants.{Create}
 use Rattle.mdl_defs.specs.declared.definition.Definition.TheVariants.{Schema}
 use Rattle.mdl_calls.specs.Words.{Resolve, Try_now, Change_definition, Release, placed, attempted, redefined, done}
-use Rattle.mdl_script.proofs.HallLemmas.{SpeakForAll, still-speaks}
+use Rattle.mdl_script.proofs.PlayLemmas.{SpeakForAll, still-speaks}
 use Rattle.mdl_script.proofs.first_space.create.Goals as goal
 
 resolved : (c : goal.After-try_now-arg-1) → SpeakForAll c.resolve.new.self

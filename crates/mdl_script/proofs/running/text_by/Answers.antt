@@ -15,7 +15,7 @@ push_turns-requires-clause-own g c =
     let patience = c.args.run.now.patience in let lines = c.args.run.now.script.now in
     let own = c.in_ok-own.own in
     let first = c.in_ok-make_first_schema.ensures.first in
-    let there = works-there patience (first_line c.args.who ∷ []) c.args.who c.args.asker.now first.0 c.make_first_schema.new.asker first.1 ∙ c.requires.table in
+    let there = works-there patience (first_line c.args.who ∷ []) c.args.who c.args.asker.now first.0 c.make_first_schema.new.asker first.1 ∙ c.requires.idle.there in
     subst (λ table. AreAnswers table patience lines own.who own.answers.items) there
     (subst (λ who. AreAnswers c.make_first_schema.new.asker.table patience lines who own.answers.items) (sym c.in_ok-own.ensures.who) c.in_ok-own.ensures.answered)
 
@@ -31,5 +31,5 @@ returns-clause-text g c =
     let finals = c.in_ok-push_finals.ensures in
     run-between table c.args.who patience lines c.args.asker.now c.make_first_schema.new.asker c.take_turn.new.asker c.books.new.asker
     own.answers.items (map (λ (turn : Turn). turn.who) c.in_ok-turns.turns.items) start mid (string_bytes c.push_finals.new.out) c.in_ok-books.field-0.items finals.0
-    c.requires.table c.requires.speaks.0 c.in_ok-make_first_schema.ensures.first c.in_ok-own.ensures.worked c.new-text.ensures.bytes c.in_ok-turns.ensures.sessions
+    c.requires.idle.there c.requires.idle.speaks.0 c.in_ok-make_first_schema.ensures.first c.in_ok-own.ensures.worked c.new-text.ensures.bytes c.in_ok-turns.ensures.sessions
     gains c.in_ok-books.ensures.audited finals.1 finals.2

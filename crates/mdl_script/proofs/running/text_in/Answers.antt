@@ -1,13 +1,14 @@
 -- The session that asks is opened as its pass had it.
-use Rattle.std.proofs.Common.{◌∙◌, ap}
+use Rattle.std.proofs.Common.{◌∙◌, ap, rules}
 use Rattle.std.specs.String.{string_bytes}
 use Rattle.mdl_shared.specs.Passes.{pass_view}
 use Rattle.mdl_shared.specs.SessionViews.{SessionView}
 use Rattle.mdl_script.proofs.TextLemmas.{run-from}
 use Rattle.mdl_script.proofs.running.text_in.Goals as goal
 
-pub text_by-text-requires-clause-table : goal.text_by-text-requires-clause-table
-text_by-text-requires-clause-table g c κs within = ap (λ (s : SessionView). s.table) c.open-asker.ensures.opened ∙ c.requires.first
+pub text_by-text-requires-clause-idle : goal.text_by-text-requires-clause-idle
+text_by-text-requires-clause-idle g c κs within =
+    record { there = ap (λ (s : SessionView). s.table) c.open-asker.ensures.opened ∙ c.requires.first; speaks = search rules; has_nothing = search rules }
 
 pub returns : goal.returns
 returns g c =

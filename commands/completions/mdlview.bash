@@ -1,0 +1,15 @@
+# Completions of mdlview for bash.
+_mdlview() {
+    local words=
+    if [ "$COMP_CWORD" -eq 1 ]; then
+        words='why locks waits graph timeline help --script --at --json --help --version'
+    else
+        case ${COMP_WORDS[1]} in
+            graph | timeline) words='--script --at --help' ;;
+            help) words='why locks waits graph timeline' ;;
+            *) words='--script --at --json --help' ;;
+        esac
+    fi
+    COMPREPLY=($(compgen -W "$words" -- "${COMP_WORDS[COMP_CWORD]}"))
+}
+complete -F _mdlview mdlview

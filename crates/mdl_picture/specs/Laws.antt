@@ -1,0 +1,100 @@
+-- Laws of pictures.
+use Rattle.std.specs.Prelude.{◌≡◌, ◌≤◌, ◌<◌, ◌+◌, ◌==◌, ◌||◌, ℕ, Bool, List, All, AllPairs, IfSome, codes, filter, flat_map, map, ◌++◌, if◌then◌else◌}
+use Rattle.std.specs.List.{list_any}
+use Rattle.mdl_picture.specs.declared.bars.Bar.{Bar}
+use Rattle.mdl_picture.specs.declared.layout.Column.{Column}
+use Rattle.mdl_picture.specs.Bars.{bars_of, is_wait}
+use Rattle.mdl_picture.specs.Boxes.{Box}
+use Rattle.mdl_picture.specs.Layouts.{column_step, gap, layout_of}
+use Rattle.mdl_picture.specs.Moments.{EventView, MomentView}
+use Rattle.mdl_picture.specs.Pictures.{picture_text}
+use Rattle.mdl_picture.specs.Rows.{has_row, rows_of}
+use Rattle.mdl_picture.specs.Svg.{escaped, is_printed}
+use Rattle.mdl_picture.specs.Xml.{IsElement, IsText}
+
+-- what happens, in order
+abbrev pub events_of : List MomentView → List EventView
+events_of moments = flat_map (λ moment. moment.events) moments
+
+abbrev pub boxes_of : List MomentView → List Box
+boxes_of moments = (layout_of moments).boxes
+
+-- the boxes are the events, each once and in order
+abbrev pub BoxesAreTheEvents : Type 0
+BoxesAreTheEvents = (moments : List MomentView) → map (λ box. box.event) (boxes_of moments) ≡ events_of moments
+
+-- the waits are drawn each once and in order: by the line and the session of the statement that begins to wait
+abbrev pub statement_of_bar : Bar → ℕ × ℕ
+statement_of_bar bar = (bar.line, bar.session)
+
+abbrev pub statement_of : EventView → ℕ × ℕ
+statement_of event = (event.line, event.session)
+
+abbrev pub begins_to_wait : EventView → Bool
+begins_to_wait event = is_wait event.fate
+
+abbrev pub WaitsAreDrawnOnce : Type 0
+WaitsAreDrawnOnce = (moments : List MomentView)
+    → map statement_of_bar (bars_of (boxes_of moments)) ≡ map statement_of (filter begins_to_wait (events_of moments))
+
+-- two boxes of a row are apart, the later one to the right
+abbrev pub AreApart : Box → Box → Type 0
+AreApart one other = one.event.session ≡ other.event.session → one.right + gap ≤ other.x
+
+abbrev pub BoxesAreApart : Type 0
+BoxesAreApart = (moments : List MomentView) → AllPairs AreApart (boxes_of moments)
+
+-- no box begins left of an earlier one, and the columns are apart
+abbrev pub IsNoFurther : Box → Box → Type 0
+IsNoFurther one other = one.x ≤ other.x
+
+abbrev pub BoxesGoRight : Type 0
+BoxesGoRight = (moments : List MomentView) → AllPairs IsNoFurther (boxes_of moments)
+
+abbrev pub IsBefore : Column → Column → Type 0
+IsBefore one other = one.x + column_step ≤ other.x
+
+abbrev pub ColumnsAreApart : Type 0
+ColumnsAreApart = (moments : List MomentView) → AllPairs IsBefore (layout_of moments).columns
+
+-- where each line is of one session, a wait that is settled ends to the right of where it begins
+abbrev pub IsOfOneSession : EventView → EventView → Type 0
+IsOfOneSession one other = one.line ≡ other.line → one.session ≡ other.session
+
+abbrev pub EndsRight : Bar → Type 0
+EndsRight bar = IfSome bar.settled (λ column. bar.x + gap ≤ column.x)
+
+abbrev pub WaitsGoRight : Type 0
+WaitsGoRight = (moments : List MomentView) → AllPairs IsOfOneSession (events_of moments) → All EndsRight (bars_of (boxes_of moments))
+
+-- the rows are in rising order, one for each session that takes part
+abbrev pub IsLess : ℕ → ℕ → Type 0
+IsLess one other = one < other
+
+abbrev pub RowsRise : Type 0
+RowsRise = (moments : List MomentView) → AllPairs IsLess (rows_of moments)
+
+abbrev pub is_in_event : ℕ → EventView → Bool
+is_in_event session event = event.session == session || has_row event.in_the_way session
+
+abbrev pub is_in_moment : ℕ → MomentView → Bool
+is_in_moment session moment = moment.session == session || list_any (is_in_event session) moment.events
+
+abbrev pub RowsAreTheSessions : Type 0
+RowsAreTheSessions = (moments : List MomentView) (session : ℕ) → has_row (rows_of moments) session ≡ list_any (is_in_moment session) moments
+
+-- a picture is one well-formed element, and a line feed behind it
+pub record IsDocument (written : List ℕ) : Type 0 where
+  pub root : List ℕ
+  pub is_element : IsElement root
+  pub is : written ≡ root ++ codes "\n"
+
+abbrev pub PicturesAreWellFormed : Type 0
+PicturesAreWellFormed = (moments : List MomentView) → IsDocument (picture_text moments)
+
+-- a text says what it is made of, with a question mark for what isn't printed in ASCII
+abbrev pub shown : ℕ → ℕ
+shown byte = if is_printed byte then byte else 63
+
+abbrev pub TextsAreKept : Type 0
+TextsAreKept = (text : List ℕ) → IsText (escaped text) (map shown text)

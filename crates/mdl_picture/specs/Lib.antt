@@ -1,0 +1,13 @@
+pub mod Bars
+pub mod Boxes
+pub mod Kinds
+pub mod Laws
+pub mod Layouts
+pub mod Moments
+pub mod Parts
+pub mod Pictures
+pub mod Rows
+pub mod Shapes
+pub mod Svg
+pub mod Texts
+pub mod Xml

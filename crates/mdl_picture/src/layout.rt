@@ -1,0 +1,163 @@
+//! Where the moments of a script are drawn.
+ghost use Rattle.std.specs.Prelude.{◌≡◌, find, reverse, IfOk, OnOk};
+ghost use Rattle.std.specs.Option.{option_copied};
+ghost use Rattle.mdl_picture.specs.Layouts.{box_at, column_of, free_of, is_of, layout_of, with_boxes, with_moment};
+
+use crate::lines::box_width;
+use crate::moment::{Event, Moment};
+use crate::sums::sum;
+use std::alloc::{AllocError, Global};
+use std::marker::Model;
+
+/// Where the first column is.
+pub(crate) const LEFT: u64 = 88;
+
+// How far it is at least from a box to the next column.
+const COLUMN_STEP: u64 = 28;
+
+/// How far two boxes of a row are apart at least.
+pub(crate) const GAP: u64 = 14;
+
+/// Where a line is drawn.
+#[derive(Clone, Copy)]
+pub(crate) struct Column {
+    /// The line.
+    pub(crate) line: u64,
+    /// How far to the right.
+    pub(crate) x: u64,
+}
+
+/// The box of an event.
+#[derive(Drop)]
+pub(crate) struct EventBox<'a> {
+    /// The line at which it happens.
+    pub(crate) line: u64,
+    /// The event.
+    pub(crate) event: &'a Event,
+    /// Its left side.
+    pub(crate) x: u64,
+    /// Its right side.
+    pub(crate) right: u64,
+}
+
+impl<'a> Model for EventBox<'a> {
+    ghost use Rattle.mdl_picture.specs.Boxes.{Box};
+
+    ghost Value = { Box };
+
+    ghost view = { λ drawn. record { line = drawn.line; event = drawn.event.now; x = drawn.x; right = drawn.right } };
+}
+
+/// What is drawn of moments, and where the next column may be.
+#[derive(Drop)]
+pub(crate) struct Layout<'a> {
+    next: u64,
+    /// The columns of lines.
+    pub(crate) columns: Vec<Column>,
+    /// The boxes of events.
+    pub(crate) boxes: Vec<EventBox<'a>>,
+}
+
+impl<'a> Model for Layout<'a> {
+    ghost use Rattle.mdl_picture.specs.Layouts.{LayoutView};
+
+    ghost Value = { LayoutView };
+
+    ghost view = { λ layout. record {
+      next = layout.next;
+      columns = layout.columns.items;
+      boxes = layout.boxes.items;
+    } };
+}
+
+/// Where moments are drawn.
+pub(crate) fn layout_of<'a>(alloc: Global, moments: &'a [Moment]) -> Result<Layout<'a>, AllocError>
+    ensures { IfOk result (λ layout. layout ≡ layout_of moments.now) }
+{
+    let mut layout = Layout {
+        next: LEFT,
+        columns: Vec::new(alloc),
+        boxes: Vec::new(alloc),
+    };
+    for moment in moments {
+        add_moment(&mut layout, moment)?;
+    }
+    Ok(layout)
+}
+
+// Adds what is drawn of a moment.
+fn add_moment<'a>(layout: &mut Layout<'a>, moment: &'a Moment) -> Result<(), AllocError>
+    ensures { OnOk result (layout.new ≡ with_moment layout.old moment.now) }
+{
+    let x = column_of(layout, moment)?;
+    let line = moment.line;
+    layout.columns.push(Column { line, x })?;
+    let last = add_boxes(&mut layout.boxes, x, moment)?;
+    layout.next = sum(last, COLUMN_STEP)?;
+    Ok(())
+}
+
+// The column of a moment.
+fn column_of<'b, 'a>(layout: &'b Layout<'a>, moment: &Moment) -> Result<u64, AllocError>
+    ensures { IfOk result (λ x. x ≡ column_of layout.now moment.now) }
+{
+    let mut x = layout.next;
+    for event in &moment.events {
+        x = x.max(free_of(&layout.boxes, event.session)?);
+    }
+    Ok(x)
+}
+
+// Where the next box of a session may begin.
+fn free_of<'b, 'a>(boxes: &'b [EventBox<'a>], session: u16) -> Result<u64, AllocError>
+    ensures { IfOk result (λ x. x ≡ free_of session boxes.now) }
+{
+    match last_of(boxes, session) {
+        Some(last) => sum(last.right, GAP),
+        None => Ok(LEFT),
+    }
+}
+
+// The last box of a session.
+fn last_of<'b, 'a>(boxes: &'b [EventBox<'a>], session: u16) -> Option<&'b EventBox<'a>>
+    ensures { option_copied result ≡ find (is_of session) (reverse boxes.now) }
+{
+    boxes.iter().rev().find(|drawn| is_of(drawn, session))
+}
+
+// Whether a box belongs to a session.
+fn is_of(drawn: &EventBox<'_>, session: u16) -> bool
+    ensures { result ≡ is_of session drawn.now }
+{
+    let event = drawn.event;
+    event.session == session
+}
+
+// Adds the boxes of a moment, and says where the last one begins.
+fn add_boxes<'a>(
+    boxes: &mut Vec<EventBox<'a>>,
+    column: u64,
+    moment: &'a Moment,
+) -> Result<u64, AllocError>
+    ensures { IfOk result (λ x. record { x = x; boxes = boxes.new.items } ≡ with_boxes moment.now column boxes.old.items) }
+{
+    let mut x = column;
+    for event in &moment.events {
+        x = x.max(free_of(boxes, event.session)?);
+        boxes.push(box_at(moment.line, x, event)?)?;
+    }
+    Ok(x)
+}
+
+// The box of an event that happens at a line, at this place.
+fn box_at<'a>(line: u64, x: u64, event: &'a Event) -> Result<EventBox<'a>, AllocError>
+    ensures { IfOk result (λ drawn. drawn ≡ box_at line x event.now) }
+{
+    let right = sum(x, box_width(event))?;
+    Ok(EventBox {
+        line,
+        event,
+        x,
+        right,
+    })
+}

@@ -1,0 +1,60 @@
+//! Timelines of sessions that wait for each other. [`picture`] draws the [`Moment`]s of a script as SVG: a row for each session, a column
+//! for each line, a box for each [`Event`], a bar for each wait, arrows to who was in its way, and colours for light and dark grounds.
+//!
+//! # Example
+//!
+//! ```
+//! use mdl_picture::{Event, Fate, Moment, picture};
+//!
+//! let alloc = rt.alloc();
+//! // Session 2 waits for session 1 at line 2 of a script.
+//! let event = Event {
+//!     line: 2,
+//!     session: 2,
+//!     statement: Vec::from_slice(alloc, b"ALTER TABLE t")?,
+//!     answer: Vec::from_slice(alloc, b"WAIT TABLE test.t X")?,
+//!     fate: Fate::Waits,
+//!     in_the_way: Vec::from_slice(alloc, &[1])?,
+//! };
+//! let mut events = Vec::new(alloc);
+//! events.push(event)?;
+//! let mut moments = Vec::new(alloc);
+//! moments.push(Moment {
+//!     line: 2,
+//!     session: 2,
+//!     events,
+//! })?;
+//! let text = picture(alloc, &moments)?;
+//! let arrow = b"<g><title>session 1 was in the way of session 2 at line 2</title>\n";
+//! assert!(rt;
+//!     text.windows(arrow.len())
+//!         .any(|bytes| bytes == arrow.as_slice())
+//! );
+//! ```
+#![tactic(auto)]
+
+mod arrows;
+mod bars;
+mod boxes;
+mod drawing;
+mod frame;
+mod kind;
+mod laws;
+mod layout;
+mod lines;
+mod moment;
+mod rows;
+mod shapes;
+mod sums;
+mod svg;
+mod text;
+mod tracks;
+mod waits;
+
+pub use drawing::picture;
+pub use laws::{
+    boxes_are_apart, boxes_are_the_events, boxes_go_right, columns_are_apart,
+    pictures_are_well_formed, rows_are_the_sessions, rows_rise, texts_are_kept,
+    waits_are_drawn_once, waits_go_right,
+};
+pub use moment::{Event, Fate, Moment};

@@ -1,0 +1,70 @@
+//! What happens at the lines of a script.
+use std::marker::Model;
+
+/// How an event leaves its statement.
+#[derive(Clone, Copy, Debug, PartialEq, Eq)]
+pub enum Fate {
+    /// It begins to wait.
+    Waits,
+    /// It is done.
+    Ends,
+    /// It is ended by an error.
+    Fails,
+    /// It is refused, since its session waits for another one.
+    Busy,
+}
+
+/// What becomes of a statement at a moment.
+#[derive(Drop)]
+pub struct Event {
+    /// The line of the statement.
+    pub line: u64,
+    /// The session that it belongs to.
+    pub session: u16,
+    /// Its words if the moment is that of its own line, otherwise nothing.
+    pub statement: Vec<u8>,
+    /// What is printed of it.
+    pub answer: Vec<u8>,
+    /// How it goes on.
+    pub fate: Fate,
+    /// If it begins to wait, the sessions in its way, in rising order; otherwise nothing.
+    pub in_the_way: Vec<u16>,
+}
+
+impl Model for Event {
+    ghost use Rattle.mdl_picture.specs.Moments.{EventView};
+
+    ghost Value = { EventView };
+
+    ghost view = { λ event. record {
+      line = event.line;
+      session = event.session;
+      statement = event.statement.items;
+      answer = event.answer.items;
+      fate = event.fate;
+      in_the_way = event.in_the_way.items;
+    } };
+}
+
+/// What happens at a line of a script.
+#[derive(Drop)]
+pub struct Moment {
+    /// The line.
+    pub line: u64,
+    /// The session that it belongs to.
+    pub session: u16,
+    /// What becomes of statements, in order.
+    pub events: Vec<Event>,
+}
+
+impl Model for Moment {
+    ghost use Rattle.mdl_picture.specs.Moments.{MomentView};
+
+    ghost Value = { MomentView };
+
+    ghost view = { λ moment. record {
+      line = moment.line;
+      session = moment.session;
+      events = moment.events.items;
+    } };
+}

@@ -1,0 +1,21 @@
+//! Pieces of text, each put last in what there is.
+ghost use Rattle.std.specs.Prelude.{◌≡◌, ◌++◌, OnOk};
+ghost use Rattle.std.specs.Fmt.{decimal};
+
+use itoa::Buffer;
+use std::alloc::AllocError;
+
+/// Puts bytes last.
+pub(crate) fn push(out: &mut Vec<u8>, bytes: &[u8]) -> Result<(), AllocError>
+    ensures { OnOk result (out.new.items ≡ out.old.items ++ bytes.now) }
+{
+    out.extend_from_slice(bytes)
+}
+
+/// Puts a number last, in decimal digits.
+pub(crate) fn push_number(out: &mut Vec<u8>, number: u64) -> Result<(), AllocError>
+    ensures { OnOk result (out.new.items ≡ out.old.items ++ decimal number) }
+{
+    let mut digits = Buffer::new();
+    push(out, digits.format(number).as_bytes())
+}

@@ -1,0 +1,127 @@
+//! The rows of sessions and the columns of lines.
+ghost use Rattle.std.specs.Prelude.{◌≡◌, ◌++◌, ◌∷◌, flat_map, map, IfOk, OnOk};
+ghost use Rattle.std.specs.Fmt.{decimal};
+ghost use Rattle.mdl_picture.specs.Parts.{column_nodes, lane, line_word, session_name};
+ghost use Rattle.mdl_picture.specs.Svg.{node_text};
+
+use crate::kind::Kind;
+use crate::layout::Column;
+use crate::rows::row_top;
+use crate::shapes::{push_line, push_rect, push_titled, push_words};
+use crate::sums::sum;
+use crate::svg::{Tag, push_end};
+use crate::text::{push, push_number};
+use std::alloc::{AllocError, Global};
+
+/// How high rows and boxes are.
+pub(crate) const BOX_HEIGHT: u64 = 64;
+
+/// Where words stand in a row.
+pub(crate) const LABEL_BASE: u64 = 36;
+
+/// Puts the rows last.
+pub(crate) fn push_lanes(
+    out: &mut Vec<u8>,
+    alloc: Global,
+    width: u64,
+    rows: &[u16],
+) -> Result<(), AllocError>
+    ensures { OnOk result (out.new.items ≡ out.old.items ++ flat_map node_text (map (lane width rows.now) rows.now)) }
+{
+    for session in rows {
+        push_lane(out, alloc, width, rows, *session)?;
+    }
+    Ok(())
+}
+
+// The row of a session.
+fn push_lane(
+    out: &mut Vec<u8>,
+    alloc: Global,
+    width: u64,
+    rows: &[u16],
+    session: u16,
+) -> Result<(), AllocError>
+    ensures { OnOk result (out.new.items ≡ out.old.items ++ node_text (lane width rows.now session)) }
+{
+    let y = row_top(rows, session)?;
+    let name = session_name(alloc, session)?;
+    push_titled(out, &name)?;
+    push_rect(out, Kind::Lane, 0, y, width, BOX_HEIGHT)?;
+    push_words(out, Kind::Words, 8, sum(y, LABEL_BASE)?, &name)?;
+    push_end(out, Tag::G)
+}
+
+// What a session is called.
+fn session_name(alloc: Global, session: u16) -> Result<Vec<u8>, AllocError>
+    ensures { IfOk result (λ name. name.items ≡ session_name session) }
+{
+    let mut name = Vec::new(alloc);
+    push_session(&mut name, session)?;
+    Ok(name)
+}
+
+/// Puts last what a session is called.
+#[tactic(auto, unfolding(crate::specs::Parts::session_name))]
+pub(crate) fn push_session(out: &mut Vec<u8>, session: u16) -> Result<(), AllocError>
+    ensures { OnOk result (out.new.items ≡ out.old.items ++ session_name session) }
+{
+    push(out, b"session ")?;
+    push_number(out, u64::from(session))
+}
+
+/// Puts the columns last.
+pub(crate) fn push_columns(
+    out: &mut Vec<u8>,
+    alloc: Global,
+    bottom: u64,
+    columns: &[Column],
+) -> Result<(), AllocError>
+    ensures { OnOk result (out.new.items ≡ out.old.items ++ flat_map node_text (line_word ∷ flat_map (column_nodes bottom) columns.now)) }
+{
+    push_words(out, Kind::Number, 8, 16, b"line")?;
+    push_guides(out, alloc, bottom, columns)
+}
+
+// The columns of lines.
+fn push_guides(
+    out: &mut Vec<u8>,
+    alloc: Global,
+    bottom: u64,
+    columns: &[Column],
+) -> Result<(), AllocError>
+    ensures { OnOk result (out.new.items ≡ out.old.items ++ flat_map node_text (flat_map (column_nodes bottom) columns.now)) }
+{
+    for column in columns {
+        push_guide(out, alloc, bottom, *column)?;
+    }
+    Ok(())
+}
+
+// The column of a line.
+fn push_guide(
+    out: &mut Vec<u8>,
+    alloc: Global,
+    bottom: u64,
+    column: Column,
+) -> Result<(), AllocError>
+    ensures { OnOk result (out.new.items ≡ out.old.items ++ flat_map node_text (column_nodes bottom column)) }
+{
+    push_line(out, Kind::Guide, column.x, 20, column.x, bottom)?;
+    push_words(
+        out,
+        Kind::Number,
+        column.x,
+        16,
+        &digits_of(alloc, column.line)?,
+    )
+}
+
+// A number's digits.
+fn digits_of(alloc: Global, number: u64) -> Result<Vec<u8>, AllocError>
+    ensures { IfOk result (λ digits. digits.items ≡ decimal number) }
+{
+    let mut digits = Vec::new(alloc);
+    push_number(&mut digits, number)?;
+    Ok(digits)
+}

@@ -1,7 +1,0 @@
--- Those that differ are kept.
-use Rattle.std.proofs.lemmas.Fn.{filter_same}
-use Rattle.std.proofs.Common.{rules}
-use Rattle.mdl_script.proofs.hall.leave_others.Goals as goal
-
-pub returns : goal.returns
-returns c = filter_same _ _ _ (λ x b f' k. search rules) _ _ c.retain.ensures.filtered

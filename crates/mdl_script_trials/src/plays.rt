@@ -1,0 +1,101 @@
+//! Scripts that are played line by line.
+ghost use Rattle.std.specs.Prelude.{OnOk};
+ghost use Rattle.mdl_script.specs.Plays.{IsManned};
+
+use crate::chance::script_by_chance;
+use crate::scripts::{lines, replayed};
+use mdl_script::{Line, Play, Script, Told, parse, push_end, push_told, space_after};
+use std::alloc::{AllocError, Global};
+use std::test::Fail;
+
+// How many scripts by chance are played.
+const BY_CHANCE: u64 = 100;
+
+// A wait that is granted, a line of a session that waits, and a wait that is left.
+const SCRIPT: &str =
+    "1 CREATE TABLE t x / 1 BEGIN / 1 SELECT t / 2 DROP TABLE t / 2 BEGIN / 1 COMMIT / \
+    1 CREATE TABLE t x / 1 BEGIN / 1 SELECT t / 2 DROP TABLE t";
+
+// Plays a line in two steps.
+fn play_line<'s>(
+    play: &mut Play<'s>,
+    line: &'s Line,
+    told: &mut Vec<Told>,
+) -> Result<(), AllocError>
+    requires manned { IsManned play.old }
+    ensures manned { OnOk result (IsManned play.new) }
+{
+    if line.session == 0 || line.session > 64 {
+        return Ok(());
+    }
+    play.ask(line, told)?;
+    play.settle(told)
+}
+
+// What is printed of a script that is played so, and for each session that still waits.
+fn played(alloc: Global, script: &Script) -> Result<String, AllocError> {
+    let mut play = Play::new(alloc)?;
+    let mut told = Vec::new(alloc);
+    for line in script.lines() {
+        play_line(&mut play, line, &mut told)?;
+    }
+    text_of(alloc, &told, play.waiting())
+}
+
+// The text of these answers, and of these sessions that wait.
+fn text_of(alloc: Global, told: &[Told], waiting: &[u16]) -> Result<String, AllocError> {
+    let mut out = String::new(alloc);
+    for told in told {
+        push_told(&mut out, told)?;
+    }
+    for who in waiting {
+        push_end(&mut out, *who)?;
+    }
+    Ok(out)
+}
+
+// How many books a script leaves that is played line by line.
+fn books_left(alloc: Global, script: &Script) -> Result<usize, AllocError> {
+    let mut play = Play::new(alloc)?;
+    let mut told = Vec::new(alloc);
+    for line in script.lines() {
+        play_line(&mut play, line, &mut told)?;
+    }
+    Ok(play.books().len())
+}
+
+#[test]
+fn a_play_answers_as_replay_does(rt: HostRuntime) -> Result<(), Fail> {
+    let script = lines(rt.alloc(), SCRIPT)?;
+    let answers = lines(
+        rt.alloc(),
+        "1 1 OK / 2 1 OK / 3 1 OK test.t@1(x) / 4 2 WAIT TABLE test.t X / 5 2 BUSY / 6 1 OK / 4 2 OK / \
+        7 1 OK / 8 1 OK / 9 1 OK test.t@3(x) / 10 2 WAIT TABLE test.t X / END 2 WAIT",
+    )?;
+    let parsed = parse(rt.alloc(), script.as_bytes())?;
+    let text = played(rt.alloc(), &parsed)?;
+    assert_eq!(rt; text.as_str(), answers.as_str());
+    Ok(())
+}
+
+#[test]
+fn plays_by_chance_answer_as_replay_does(rt: HostRuntime) -> Result<(), Fail> {
+    for number in 0..BY_CHANCE {
+        let script = script_by_chance(rt.alloc(), number)?;
+        let parsed = parse(rt.alloc(), script.as_slice())?;
+        let text = played(rt.alloc(), &parsed)?;
+        let replayed = replayed(rt.alloc(), script.as_slice())?;
+        assert_eq!(rt; text.as_str(), replayed.as_str(), "script {number}");
+    }
+    Ok(())
+}
+
+// The schema, the table, and the global lock.
+#[test]
+fn a_play_shows_the_books_that_a_script_leaves(rt: HostRuntime) -> Result<(), Fail> {
+    let script = lines(rt.alloc(), SCRIPT)?;
+    let parsed = parse(rt.alloc(), script.as_bytes())?;
+    let space = space_after(rt.alloc(), script.as_bytes(), u64::MAX)?;
+    assert_eq!(rt; books_left(rt.alloc(), &parsed)?, space.books().len());
+    Ok(())
+}

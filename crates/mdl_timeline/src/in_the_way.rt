@@ -1,0 +1,57 @@
+//! Who is in the way of a session that begins to wait.
+ghost use Rattle.std.specs.Prelude.{◌≡◌, IfOk, filter};
+ghost use Rattle.mdl_view.specs.ViewLaws.{is_told};
+ghost use Rattle.mdl_script.specs.Worlds.{sessions};
+ghost use Rattle.mdl_timeline.specs.Moments.{in_the_way_of, is_wait, waited_for};
+
+use mdl_book::{Book, Sessions};
+use mdl_key::MOST_SESSIONS;
+use mdl_script::{News, Told};
+use mdl_view::{Blocking, blockings, locks_of};
+use std::alloc::{AllocError, Global};
+
+/// The sessions in the way of one that is answered so at these books, if it begins to wait, in rising order.
+pub(crate) fn in_the_way_of(
+    alloc: Global,
+    books: &[Book],
+    told: &Told,
+) -> Result<Vec<u16>, AllocError>
+    ensures { IfOk result (λ those. those.items ≡ in_the_way_of books.now told.now) }
+{
+    if is_wait(&told.news) {
+        return waited_for(alloc, told.who, books);
+    }
+    Ok(Vec::new(alloc))
+}
+
+// Whether that is a beginning wait.
+fn is_wait(news: &News) -> bool
+    ensures { result ≡ is_wait news.now }
+{
+    matches!(news, News::Waits(_, _))
+}
+
+// The sessions that a session waits for, in rising order.
+fn waited_for(alloc: Global, who: u16, books: &[Book]) -> Result<Vec<u16>, AllocError>
+    ensures { IfOk result (λ sessions. sessions.items ≡ waited_for who books.now) }
+{
+    let locks = locks_of(alloc, books)?;
+    let found = blockings(alloc, &Sessions::new(), &locks)?;
+    sessions_before(alloc, who, &found)
+}
+
+// The sessions that are in the way of a session by one of these.
+fn sessions_before(alloc: Global, who: u16, found: &[Blocking]) -> Result<Vec<u16>, AllocError>
+    ensures { IfOk result (λ those. those.items ≡ filter (is_told found.now who) sessions) }
+{
+    (1..MOST_SESSIONS + 1)
+        .filter(|session| is_in_the_way(found, who, *session))
+        .collect(alloc)
+}
+
+// Whether a session is in the way of another one.
+fn is_in_the_way(found: &[Blocking], who: u16, session: u16) -> bool
+    ensures { result ≡ is_told found.now who session }
+{
+    found.iter().any(|blocking| blocking.waiter.session == who && blocking.other.session == session)
+}

@@ -1,0 +1,85 @@
+//! What happens at each line of a script.
+ghost use Rattle.std.specs.Prelude.{◌≡◌, ◌++◌, [], All, IfOk, OnOk};
+ghost use Rattle.mdl_lines.specs.Words.{IsScriptSession};
+ghost use Rattle.mdl_script.specs.Plays.{IsManned, world_of};
+ghost use Rattle.mdl_script.specs.Worlds.{asked, line_played, most_turns, settling};
+ghost use Rattle.mdl_timeline.specs.Moments.{events_of, moment_of, moments_of};
+
+use crate::events::push_events;
+use crate::statements::{pieces_of, statement_at};
+use mdl_picture::{Event, Moment};
+use mdl_script::{Line, Play};
+use std::alloc::{AllocError, Global};
+
+/// Plays these lines of a text, and returns what happens at them.
+pub(crate) fn moments_of(
+    alloc: Global,
+    text: &[u8],
+    lines: &[Line],
+) -> Result<Vec<Moment>, AllocError>
+    requires { All (λ line. IsScriptSession line.session) lines.now }
+    ensures { IfOk result (λ moments. moments.items ≡ moments_of text.now lines.now) }
+{
+    let pieces = pieces_of(alloc, text)?;
+    let mut play = Play::new(alloc)?;
+    let mut moments = Vec::new(alloc);
+    for line in lines {
+        let statement = statement_at(alloc, &pieces, line.number)?;
+        moments.push(play_line(alloc, &mut play, line, &statement)?)?;
+    }
+    Ok(moments)
+}
+
+// Plays a line with this statement, and returns what happens at it.
+fn play_line<'s>(
+    alloc: Global,
+    play: &mut Play<'s>,
+    line: &'s Line,
+    statement: &[u8],
+) -> Result<Moment, AllocError>
+    requires manned { IsManned play.old }
+    requires session { IsScriptSession line.now.session }
+    ensures moment { IfOk result (λ moment. moment ≡ moment_of statement.now line.now (world_of play.old)) }
+    ensures left { OnOk result (world_of play.new ≡ (line_played line.now (world_of play.old)).world) }
+    ensures manned { OnOk result (IsManned play.new) }
+{
+    let mut events = Vec::new(alloc);
+    ask(alloc, play, line, statement, &mut events)?;
+    settle(alloc, play, &mut events)?;
+    Ok(Moment {
+        line: line.number,
+        session: line.session,
+        events,
+    })
+}
+
+// Asks the session of a line for its statement, and adds what becomes of it.
+fn ask<'s>(
+    alloc: Global,
+    play: &mut Play<'s>,
+    line: &'s Line,
+    statement: &[u8],
+    events: &mut Vec<Event>,
+) -> Result<(), AllocError>
+    requires manned { IsManned play.old }
+    requires session { IsScriptSession line.now.session }
+    ensures events { OnOk result (events.new.items ≡ events.old.items ++ events_of statement.now (asked line.now (world_of play.old))) }
+    ensures left { OnOk result (world_of play.new ≡ (asked line.now (world_of play.old)).world) }
+    ensures manned { OnOk result (IsManned play.new) }
+{
+    let mut told = Vec::new(alloc);
+    play.ask(line, &mut told)?;
+    push_events(events, alloc, statement, play.books(), &told)
+}
+
+// Lets all go on whose waits are settled, and adds what becomes of their statements.
+fn settle(alloc: Global, play: &mut Play<'_>, events: &mut Vec<Event>) -> Result<(), AllocError>
+    requires manned { IsManned play.old }
+    ensures events { OnOk result (events.new.items ≡ events.old.items ++ events_of [] (settling most_turns (world_of play.old))) }
+    ensures left { OnOk result (world_of play.new ≡ (settling most_turns (world_of play.old)).world) }
+    ensures manned { OnOk result (IsManned play.new) }
+{
+    let mut told = Vec::new(alloc);
+    play.settle(&mut told)?;
+    push_events(events, alloc, b"", play.books(), &told)
+}

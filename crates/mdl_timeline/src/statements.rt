@@ -1,0 +1,78 @@
+//! The words of statements, as the text of a script has them.
+ghost use Rattle.std.specs.Prelude.{◌≡◌, ◌++◌, ◌-◌, ◌==◌, [], IfOk, OnOk, codes, drop, flat_map, map, slice_get, unwrap_or};
+ghost use Rattle.std.specs.List.{slice_split};
+ghost use Rattle.std.specs.Str.Lines.{strip_carriage_return};
+ghost use Rattle.mdl_lines.specs.Words.{words_of};
+ghost use Rattle.mdl_timeline.specs.Statements.{joined, piece_at, statement_of};
+
+use mdl_lines::{is_blank, strip_carriage_return};
+use std::alloc::{AllocError, Global};
+
+/// The text of a script, cut at its line feeds.
+pub(crate) fn pieces_of(alloc: Global, text: &[u8]) -> Result<Vec<&[u8]>, AllocError>
+    ensures { IfOk result (λ pieces. map (λ piece. piece.now) pieces.items ≡ slice_split (λ byte. byte == 10) text.now) }
+{
+    text.split(|byte| *byte == b'\n').collect(alloc)
+}
+
+/// The statement of the line of this number.
+pub(crate) fn statement_at(
+    alloc: Global,
+    pieces: &[&[u8]],
+    number: u64,
+) -> Result<Vec<u8>, AllocError>
+    ensures { IfOk result (λ statement. statement.items ≡ statement_of (piece_at (map (λ piece. piece.now) pieces.now) number)) }
+{
+    statement_of(alloc, piece_at(pieces, number))
+}
+
+// The line of this number, counted from 1.
+fn piece_at<'t>(pieces: &[&'t [u8]], number: u64) -> &'t [u8]
+    ensures { result.now ≡ piece_at (map (λ piece. piece.now) pieces.now) number }
+{
+    let place = number.saturating_sub(1) as usize;
+    strip_carriage_return(pieces.get(place).copied().unwrap_or(&[]))
+}
+
+// The statement of a line: its words behind that of its session, parted by single blanks.
+fn statement_of(alloc: Global, line: &[u8]) -> Result<Vec<u8>, AllocError>
+    ensures { IfOk result (λ statement. statement.items ≡ statement_of line.now) }
+{
+    let mut statement = Vec::new(alloc);
+    let words = words_of(alloc, line)?;
+    if let [_session, words @ ..] = words.as_slice() {
+        push_words(&mut statement, words)?;
+    }
+    Ok(statement)
+}
+
+// The words of a line.
+fn words_of(alloc: Global, line: &[u8]) -> Result<Vec<&[u8]>, AllocError>
+    ensures { IfOk result (λ words. map (λ word. word.now) words.items ≡ words_of line.now) }
+{
+    line.split(|byte| is_blank(*byte))
+        .filter(|word| !word.is_empty())
+        .collect(alloc)
+}
+
+// Puts words last, parted by single blanks.
+fn push_words(out: &mut Vec<u8>, words: &[&[u8]]) -> Result<(), AllocError>
+    ensures { OnOk result (out.new.items ≡ out.old.items ++ joined (map (λ word. word.now) words.now)) }
+{
+    let [first, rest @ ..] = words else {
+        return Ok(());
+    };
+    out.extend_from_slice(first)?;
+    push_behind_blanks(out, rest)
+}
+
+// Puts words last, each behind a blank.
+fn push_behind_blanks(out: &mut Vec<u8>, words: &[&[u8]]) -> Result<(), AllocError>
+    ensures { OnOk result (out.new.items ≡ out.old.items ++ flat_map (λ word. codes " " ++ word) (map (λ word. word.now) words.now)) }
+{
+    for word in words {
+        out.push(b' ')?;
+        out.extend_from_slice(word)?;
+    }
+    Ok(())
+}
