@@ -3,6 +3,7 @@ ghost use Rattle.std.specs.Prelude.{◌≡◌, None, Some};
 ghost use Rattle.mdl_calls.specs.Words.{Runs};
 ghost use Rattle.mdl_stmt.specs.Attendance.{AttendsWith, GoesOn, IsReady};
 ghost use Rattle.mdl_rows.specs.Endings.{Begins_to_wait};
+ghost use Rattle.mdl_stmt.specs.declared.got.Played.TheVariants.{Ends};
 ghost use Rattle.mdl_stmt.specs.Gets.{at_rest, ran, IdleUnlessPlayed};
 ghost use Rattle.mdl_rows.specs.Keepings.{going_on_kept, keeping, play_kept, starting_kept};
 ghost use Rattle.mdl_stmt.specs.Gets.{IsSettled};
@@ -20,6 +21,7 @@ use mdl_key::{Key, Mode};
 use mdl_rows::Ending;
 use mdl_space::{LockSpace, TicketId};
 use mdl_syntax::Statement;
+use std::mem::drop;
 
 /// How far a statement has come, and what is left of it if it waits.
 #[derive(Drop)]
@@ -54,38 +56,61 @@ impl<S: LockSpace> Player<S> {
                 progress: Ok(Progress::Pending),
                 work: Some(work),
             },
-            Ok(Resume::Acquired(ticket)) => {
-                self.proceed_kept(space, work.stage, ticket, work.mark)
-            }
-            Ok(Resume::Lost(how)) => {
-                self.settle(space, Played::Ends(ending_of_loss(user, how)), work.mark)
-            }
-            Err(error) => self.settle(space, Played::Ends(ending_of_error(error)), work.mark),
+            Ok(Resume::Acquired(ticket)) => self.proceed_kept(space, work, ticket),
+            Ok(Resume::Lost(how)) => self.end_kept(space, ending_of_loss(user, how), work),
+            Err(error) => self.end_kept(space, ending_of_error(error), work),
+        }
+    }
+
+    // Ends a statement that waited. What was kept of it is dropped by a call, here and below: a drop in place has an arm for each variant, which the
+    // prover follows.
+    fn end_kept(&mut self, space: &mut S, ending: Ending, work: KeptWork) -> Turn
+        requires ready { IsReady S.LockSpace space.old self.old }
+        ensures run { IsSettled S.joins (Ends ending) work.mark space.old self.old result space.new self.new }
+        ensures goes_on { GoesOn S.LockSpace space.old self.old space.new self.new }
+        ensures idle { self.new.context.wait ≡ None }
+    {
+        let mark = work.mark;
+        drop(work);
+        self.end_turn(space, ending, mark)
+    }
+
+    // Ends a statement.
+    fn end_turn(&mut self, space: &mut S, ending: Ending, mark: Mark) -> Turn
+        requires ready { IsReady S.LockSpace space.old self.old }
+        ensures run { IsSettled S.joins (Ends ending) mark space.old self.old result space.new self.new }
+        ensures goes_on { GoesOn S.LockSpace space.old self.old space.new self.new }
+        ensures idle { self.new.context.wait ≡ None }
+    {
+        Turn {
+            progress: self.close(space, ending, mark),
+            work: None,
         }
     }
 
     // Goes on with a statement that has the lock that it waited for.
-    fn proceed_kept(
-        &mut self,
-        space: &mut S,
-        stage: KeptStage,
-        ticket: TicketId,
-        mark: Mark,
-    ) -> Turn
+    fn proceed_kept(&mut self, space: &mut S, work: KeptWork, ticket: TicketId) -> Turn
         requires ready { IsReady S.LockSpace space.old self.old }
-        ensures run { Runs S.joins space.old (play_kept (rest_of_kept stage ticket) mark (at_rest self.old)) (ran result.progress (session_with self.new result.work)) space.new }
+        ensures run { Runs S.joins space.old (play_kept (rest_of_kept work.stage ticket) work.mark (at_rest self.old)) (ran result.progress (session_with self.new result.work)) space.new }
         ensures goes_on { GoesOn S.LockSpace space.old self.old space.new self.new }
         ensures idle { result.work ≡ None → self.new.context.wait ≡ None }
     {
+        let KeptWork { stage, mark } = work;
         match stage {
             KeptStage::Commit(statement) => {
-                self.proceed_at(space, Stage::Commit(&statement), ticket, mark)
+                let turn = self.proceed_at(space, Stage::Commit(&statement), ticket, mark);
+                drop(statement);
+                turn
             }
             KeptStage::Select(tables, at, shown) => {
                 self.proceed_at(space, Stage::Select(&tables, at, shown), ticket, mark)
             }
             KeptStage::Write(at) => self.proceed_at(space, Stage::Write(at.lend()), ticket, mark),
-            KeptStage::Create(at) => self.proceed_at(space, Stage::Create(at.lend()), ticket, mark),
+            KeptStage::Create(at) => {
+                let turn = self.proceed_at(space, Stage::Create(at.lend()), ticket, mark);
+                drop(at);
+                turn
+            }
             KeptStage::CreateSchema(at) => {
                 self.proceed_at(space, Stage::CreateSchema(at.lend()), ticket, mark)
             }
@@ -97,10 +122,14 @@ impl<S: LockSpace> Player<S> {
             }
             KeptStage::Flush(at) => self.proceed_at(space, Stage::Flush(at), ticket, mark),
             KeptStage::Alter(alteration, at) => {
-                self.proceed_at(space, Stage::Alter(&alteration, at), ticket, mark)
+                let turn = self.proceed_at(space, Stage::Alter(&alteration, at), ticket, mark);
+                drop(alteration);
+                turn
             }
             KeptStage::Lock(tables, at) => {
-                self.proceed_at(space, Stage::Lock(&tables, at), ticket, mark)
+                let turn = self.proceed_at(space, Stage::Lock(&tables, at), ticket, mark);
+                drop(tables);
+                turn
             }
             KeptStage::GetLock => self.proceed_at(space, Stage::GetLock, ticket, mark),
         }
@@ -179,10 +208,7 @@ impl<S: LockSpace> Player<S> {
         ensures idle { result.work ≡ None → self.new.context.wait ≡ None }
     {
         match played {
-            Played::Ends(ending) => Turn {
-                progress: self.close(space, ending, mark),
-                work: None,
-            },
+            Played::Ends(ending) => self.end_turn(space, ending, mark),
             Played::Waits(key, mode, stage) => self.keep_wait(space, key, mode, stage, mark),
         }
     }

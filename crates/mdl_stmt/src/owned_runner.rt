@@ -17,6 +17,7 @@ use mdl_space::LockSpace;
 use mdl_syntax::Statement;
 use std::alloc::Global;
 use std::marker::Model;
+use std::mem::{drop, replace};
 
 /// A session's statements, one after the other. Each is borrowed only while it starts, so a server can drop it as soon as
 /// [`OwnedRunner::start`] returns: what a wait needs of its statement is copied as the wait begins.
@@ -71,7 +72,7 @@ impl<S: LockSpace> OwnedRunner<S> {
         ensures capacity { self.new.cache.capacity ≡ self.old.cache.capacity }
     {
         let turn = self.player.start_kept(space, statement);
-        self.work = turn.work;
+        drop(replace(&mut self.work, turn.work));
         turn.progress
     }
 
@@ -89,7 +90,7 @@ impl<S: LockSpace> OwnedRunner<S> {
     {
         let work = self.work.take().unwrap();
         let turn = self.player.go_on_kept(space, work);
-        self.work = turn.work;
+        drop(replace(&mut self.work, turn.work));
         turn.progress
     }
 
@@ -102,8 +103,9 @@ impl<S: LockSpace> OwnedRunner<S> {
         ensures speaks { S.speaks_for space.new self.context.who }
         ensures others { LeavesOthers S.LockSpace self.context.who space.old space.new }
     {
-        let OwnedRunner { player, work: _ } = self;
-        let mut context = player.context;
-        give_all_up(&mut context, space);
+        let OwnedRunner { mut player, work } = self;
+        drop(work);
+        give_all_up(&mut player.context, space);
+        drop(player);
     }
 }

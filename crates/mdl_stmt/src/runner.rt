@@ -22,6 +22,7 @@ use mdl_space::{LockSpace, TicketId};
 use mdl_syntax::Statement;
 use std::alloc::Global;
 use std::marker::Model;
+use std::mem::drop;
 
 /// What is left of a statement that waits.
 #[derive(Drop)]
@@ -120,9 +121,10 @@ impl<'s, S: LockSpace> Runner<'s, S> {
         ensures speaks { S.speaks_for space.new self.entry.context.who }
         ensures others { LeavesOthers S.LockSpace self.entry.context.who space.old space.new }
     {
-        let Runner { player, work: _ } = self;
-        let mut context = player.context;
-        give_all_up(&mut context, space);
+        let Runner { mut player, work } = self;
+        drop(work);
+        give_all_up(&mut player.context, space);
+        drop(player);
     }
 
     // Ends the statement that waited.

@@ -17,7 +17,7 @@ use mdl_defs::{Change, Column, Columns, MOST_COLUMNS};
 use mdl_key::Key;
 use mdl_lines::{LineError, session_of};
 use std::alloc::{AllocError, Global};
-use std::str;
+use std::{mem, str};
 
 /// The statement that words say. What refuses them is told also where memory ran out.
 pub(crate) fn statement_of(alloc: Global, words: &[u8]) -> Result<Statement, NoStatement>
@@ -71,7 +71,10 @@ fn no_more(statement: Statement, words: &[u8]) -> Result<Statement, NoStatement>
 {
     match split_word(words) {
         None => Ok(statement),
-        Some(_) => bad_word(),
+        Some(_) => {
+            mem::drop(statement);
+            bad_word()
+        }
     }
 }
 

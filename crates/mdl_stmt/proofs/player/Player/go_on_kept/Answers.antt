@@ -28,18 +28,18 @@ returns-in-Ok-Acquired-clause-run g c =
 pub returns-in-Ok-Lost-clause-run : goal.returns-in-Ok-Lost-clause-run
 returns-in-Ok-Lost-clause-run g c =
     let seat : ContextView → PlayerView = λ context. player_of c.self.inside.cache c.self.inside.explicit context c.self.inside.is_open c.self.inside.has_written c.self.inside.savepoints in
-    let turn = c.settle.result in
-    subst (λ (before : PlayerView). Runs g.S.LockSpace.joins c.args.space.now (going_on_kept (session_with before (Some c.args.work))) (ran turn.progress (session_with c.settle.new.self turn.work)) c.settle.new.space) c.self.view_is
+    let turn = c.end_kept.result in
+    subst (λ (before : PlayerView). Runs g.S.LockSpace.joins c.args.space.now (going_on_kept (session_with before (Some c.args.work))) (ran turn.progress (session_with c.end_kept.new.self turn.work)) c.end_kept.new.space) c.self.view_is
     (goes-on-kept g.S.LockSpace.joins (seat c.self.inside.context) c.args.work c.resume.new.self (Ok (resume.Lost c.in-Ok-Lost.how)) _ _ _ _ (rw (c.in-Ok-Lost.is, c.in-Ok-Lost.field-0-is) at c.resume.ensures.run)
-    (subst (λ (e : Ending). Runs g.S.LockSpace.joins c.resume.new.space (closing e c.args.work.mark (at_rest (seat c.resume.new.self)) >>= keeping) (ran turn.progress (session_with c.settle.new.self turn.work)) c.settle.new.space)
+    (subst (λ (e : Ending). Runs g.S.LockSpace.joins c.resume.new.space (closing e c.args.work.mark (at_rest (seat c.resume.new.self)) >>= keeping) (ran turn.progress (session_with c.end_kept.new.self turn.work)) c.end_kept.new.space)
     (c.ending_of_loss.ensures ∙ ap (λ (user : Bool). ending_of_loss user c.in-Ok-Lost.how) c.waits_for_user_lock-user.ensures)
-    (ends-kept g.S.LockSpace.joins c.ending_of_loss.result c.args.work.mark (seat c.resume.new.self) c.settle.new.self turn _ _ c.settle.ensures.run)))
+    (ends-kept g.S.LockSpace.joins c.ending_of_loss.result c.args.work.mark (seat c.resume.new.self) c.end_kept.new.self turn _ _ c.end_kept.ensures.run)))
 
 pub returns-in-Err-clause-run : goal.returns-in-Err-clause-run
 returns-in-Err-clause-run g c =
     let seat : ContextView → PlayerView = λ context. player_of c.self.inside.cache c.self.inside.explicit context c.self.inside.is_open c.self.inside.has_written c.self.inside.savepoints in
-    let turn = c.settle-in-Err.result in
-    subst (λ (before : PlayerView). Runs g.S.LockSpace.joins c.args.space.now (going_on_kept (session_with before (Some c.args.work))) (ran turn.progress (session_with c.settle-in-Err.new.self turn.work)) c.settle-in-Err.new.space) c.self.view_is
+    let turn = c.end_kept-in-Err.result in
+    subst (λ (before : PlayerView). Runs g.S.LockSpace.joins c.args.space.now (going_on_kept (session_with before (Some c.args.work))) (ran turn.progress (session_with c.end_kept-in-Err.new.self turn.work)) c.end_kept-in-Err.new.space) c.self.view_is
     (goes-on-kept g.S.LockSpace.joins (seat c.self.inside.context) c.args.work c.resume.new.self (Err c.in-Err.error) _ _ _ _ (rw c.in-Err.is at c.resume.ensures.run)
-    (subst (λ (e : Ending). Runs g.S.LockSpace.joins c.resume.new.space (closing e c.args.work.mark (at_rest (seat c.resume.new.self)) >>= keeping) (ran turn.progress (session_with c.settle-in-Err.new.self turn.work)) c.settle-in-Err.new.space) c.ending_of_error.ensures
-    (ends-kept g.S.LockSpace.joins c.ending_of_error.result c.args.work.mark (seat c.resume.new.self) c.settle-in-Err.new.self turn _ _ c.settle-in-Err.ensures.run)))
+    (subst (λ (e : Ending). Runs g.S.LockSpace.joins c.resume.new.space (closing e c.args.work.mark (at_rest (seat c.resume.new.self)) >>= keeping) (ran turn.progress (session_with c.end_kept-in-Err.new.self turn.work)) c.end_kept-in-Err.new.space) c.ending_of_error.ensures
+    (ends-kept g.S.LockSpace.joins c.ending_of_error.result c.args.work.mark (seat c.resume.new.self) c.end_kept-in-Err.new.self turn _ _ c.end_kept-in-Err.ensures.run)))
