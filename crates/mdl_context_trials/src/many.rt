@@ -7,19 +7,32 @@ use mdl_context::{Acquire, Context, Request};
 use mdl_key::{Duration, Key, Mode};
 use mdl_space::{CoreSpace, TicketId};
 use std::alloc::Global;
-use std::test::Fail;
 
 // How many tables are locked: as many as a space has places.
 const TABLES: u16 = 256;
 
-// The keys of some tables.
-fn tables(alloc: Global) -> Result<Vec<Key>, Fail> {
-    let mut keys = Vec::new(alloc);
-    for number in 0..TABLES {
-        let table = format!(in alloc; "t{number}")?;
-        keys.push(Key::table(alloc, "test", table.as_str())?)?;
+fn add(alloc: Global, keys: &mut Vec<Key>, table: &str) -> bool {
+    match Key::table(alloc, "test", table) {
+        Ok(key) => keys.push(key).is_ok(),
+        Err(_) => false,
     }
-    Ok(keys)
+}
+
+fn add_one_numbered(alloc: Global, keys: &mut Vec<Key>, number: u16) -> bool {
+    match format!(in alloc; "t{number}") {
+        Ok(table) => add(alloc, keys, table.as_str()),
+        Err(_) => false,
+    }
+}
+
+// Adds the keys of the tables, if there is memory for them.
+fn add_tables(alloc: Global, keys: &mut Vec<Key>) -> bool {
+    for number in 0..TABLES {
+        if !add_one_numbered(alloc, keys, number) {
+            return false;
+        }
+    }
+    true
 }
 
 // Whether a wish for each of some keys gains the next ticket, beginning with this one.
@@ -49,23 +62,32 @@ fn gains_all(
 }
 
 // New tickets, tickets used again, and clones. The end of the transaction leaves the explicit ones.
+fn are_locked(space: &mut CoreSpace, context: &mut Context<CoreSpace>, keys: &[Key]) -> bool
+    requires { Attends core_space space.old context.old }
+{
+    gains_all(space, context, keys, Duration::Statement, 1)
+        && gains_all(space, context, keys, Duration::Statement, 1)
+        && gains_all(space, context, keys, Duration::Transaction, 257)
+        && gains_all(space, context, keys, Duration::Transaction, 257)
+        && gains_all(space, context, keys, Duration::Explicit, 513)
+        && gains_all(space, context, keys, Duration::Explicit, 769)
+        && context.kept().len() == 1_024
+        && context.end_transaction(space) == Ok(())
+        && context.kept().len() == 512
+        && context.who() == 2
+}
+
+// The same of a new space and its context.
+fn are_locked_from_nothing(alloc: Global, keys: &[Key]) -> bool {
+    match start(alloc, TABLES) {
+        Ok((mut space, mut context)) => are_locked(&mut space, &mut context, keys),
+        Err(_) => false,
+    }
+}
+
 #[test]
-fn many_tables_are_locked(rt: HostRuntime) -> Result<(), Fail> {
-    let alloc = rt.alloc();
-    let (mut space, mut context) = start(alloc, TABLES)?;
-    let keys = tables(alloc)?;
-    let statement = Duration::Statement;
-    let transaction = Duration::Transaction;
-    let explicit = Duration::Explicit;
-    assert!(rt; gains_all(&mut space, &mut context, &keys, statement, 1));
-    assert!(rt; gains_all(&mut space, &mut context, &keys, statement, 1));
-    assert!(rt; gains_all(&mut space, &mut context, &keys, transaction, 257));
-    assert!(rt; gains_all(&mut space, &mut context, &keys, transaction, 257));
-    assert!(rt; gains_all(&mut space, &mut context, &keys, explicit, 513));
-    assert!(rt; gains_all(&mut space, &mut context, &keys, explicit, 769));
-    assert_eq!(rt; context.kept().len(), 1_024);
-    assert_eq!(rt; context.end_transaction(&mut space), Ok(()));
-    assert_eq!(rt; context.kept().len(), 512);
-    assert_eq!(rt; context.who(), 2);
-    Ok(())
+fn many_tables_are_locked(rt: HostRuntime) {
+    let mut keys = Vec::new(rt.alloc());
+    assert!(rt; add_tables(rt.alloc(), &mut keys));
+    assert!(rt; are_locked_from_nothing(rt.alloc(), &keys));
 }

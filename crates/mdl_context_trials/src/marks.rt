@@ -51,11 +51,6 @@ const WANTED: &[Row] = &[
     (1, Act::Release(4), NOT_HELD),
 ];
 
-#[test]
-fn tickets_last_as_long_as_they_are_wanted(rt: HostRuntime) {
-    assert_eq!(rt; first_wrong(rt.alloc(), WANTED), None);
-}
-
 const CHANGED: &[Row] = &[
     (
         1,
@@ -92,11 +87,6 @@ const CHANGED: &[Row] = &[
     (1, Act::MakeTransactional, Reply::Done),
     (1, Act::Mark, Reply::Stands(1, 0)),
 ];
-
-#[test]
-fn durations_change(rt: HostRuntime) {
-    assert_eq!(rt; first_wrong(rt.alloc(), CHANGED), None);
-}
 
 const TWO_NUMBERS: &[Row] = &[
     (
@@ -156,12 +146,6 @@ const TOO_GREAT: &[Row] = &[
     (1, Act::GoBack(0, 0), Reply::Done),
 ];
 
-#[test]
-fn marks_are_two_numbers(rt: HostRuntime) {
-    assert_eq!(rt; first_wrong(rt.alloc(), TWO_NUMBERS), None);
-    assert_eq!(rt; first_wrong(rt.alloc(), TOO_GREAT), None);
-}
-
 const IN_FRONT: &[Row] = &[
     (
         1,
@@ -181,11 +165,6 @@ const IN_FRONT: &[Row] = &[
     (1, Act::Release(2), NOT_HELD),
     (1, Act::Release(1), Reply::Done),
 ];
-
-#[test]
-fn explicit_tickets_slip_in_front_of_a_mark(rt: HostRuntime) {
-    assert_eq!(rt; first_wrong(rt.alloc(), IN_FRONT), None);
-}
 
 const FREE_AGAIN: &[Row] = &[
     (
@@ -214,7 +193,19 @@ const FREE_AGAIN: &[Row] = &[
     (2, Act::Resume, Reply::Resumed(Resume::Acquired(2))),
 ];
 
+const STORIES: &[(&str, &[Row])] = &[
+    ("tickets last as long as they are wanted", WANTED),
+    ("durations change", CHANGED),
+    ("marks are two numbers", TWO_NUMBERS),
+    ("marks are too great", TOO_GREAT),
+    ("explicit tickets slip in front of a mark", IN_FRONT),
+    ("what was locked since a mark is free", FREE_AGAIN),
+];
+
 #[test]
-fn what_was_locked_since_a_mark_is_free(rt: HostRuntime) {
-    assert_eq!(rt; first_wrong(rt.alloc(), FREE_AGAIN), None);
+fn tickets_last_as_long_as_they_are_wanted(rt: HostRuntime) {
+    for (what, rows) in STORIES {
+        let wrong = first_wrong(rt.alloc(), rows);
+        assert!(rt; wrong.is_none(), "{what}: {wrong:?}");
+    }
 }

@@ -13,7 +13,6 @@ use mdl_context::{Context, Kept, Mark, Resume, Wanted};
 use mdl_key::{Duration, Key, KeyError, Mode};
 use mdl_space::{Attempt, CoreSpace, Held, LockSpace, NewError, Settled, SpaceError, TicketId};
 use std::alloc::Global;
-use std::test::Fail;
 
 // The session of the context.
 const WHO: u16 = 2;
@@ -336,14 +335,6 @@ fn tries_outlive(
     stand_in_the_way(space, context, key) && all_outlive(alloc, space, context, TRIES)
 }
 
-#[test]
-fn tries_outlive_want_of_memory(rt: HostRuntime) -> Result<(), Fail> {
-    let key = key_of(rt.alloc(), Lock::B)?;
-    let (mut space, mut context) = start(rt.alloc(), 4)?;
-    assert!(rt; tries_outlive(rt.alloc(), &mut space, &mut context, &key));
-    Ok(())
-}
-
 // Whether upgrades outlive it, first with another session in the way, and then without.
 fn upgrades_outlive(
     alloc: Global,
@@ -360,14 +351,6 @@ fn upgrades_outlive(
         && all_outlive(alloc, space, context, UPGRADES)
         && get_out_of_the_way(space, context)
         && all_outlive(alloc, space, context, MERGED)
-}
-
-#[test]
-fn upgrades_outlive_want_of_memory(rt: HostRuntime) -> Result<(), Fail> {
-    let key = key_of(rt.alloc(), Lock::B)?;
-    let (mut space, mut context) = start(rt.alloc(), 4)?;
-    assert!(rt; upgrades_outlive(rt.alloc(), &mut space, &mut context, &key));
-    Ok(())
 }
 
 // Whether waits outlive it that are given up, killed and granted.
@@ -403,10 +386,46 @@ fn gains_and_waits_outlive(
         && waits_outlive(alloc, space, context, key)
 }
 
+// What is tried.
+#[derive(Clone, Copy)]
+enum Trial {
+    Tries,
+    Upgrades,
+    GainsAndWaits,
+}
+
+// Whether it outlives want of memory, with a new space and the key of a table.
+fn outlives_with(alloc: Global, key: &Key, trial: Trial) -> bool {
+    match start(alloc, 4) {
+        Ok((mut space, mut context)) => match trial {
+            Trial::Tries => tries_outlive(alloc, &mut space, &mut context, key),
+            Trial::Upgrades => upgrades_outlive(alloc, &mut space, &mut context, key),
+            Trial::GainsAndWaits => {
+                gains_and_waits_outlive(alloc, &mut space, &mut context, key)
+            }
+        },
+        Err(_) => false,
+    }
+}
+
+fn trial_outlives(alloc: Global, trial: Trial) -> bool {
+    match key_of(alloc, Lock::B) {
+        Ok(key) => outlives_with(alloc, &key, trial),
+        Err(_) => false,
+    }
+}
+
 #[test]
-fn outlives_want_of_memory(rt: HostRuntime) -> Result<(), Fail> {
-    let key = key_of(rt.alloc(), Lock::B)?;
-    let (mut space, mut context) = start(rt.alloc(), 4)?;
-    assert!(rt; gains_and_waits_outlive(rt.alloc(), &mut space, &mut context, &key));
-    Ok(())
+fn tries_outlive_want_of_memory(rt: HostRuntime) {
+    assert!(rt; trial_outlives(rt.alloc(), Trial::Tries));
+}
+
+#[test]
+fn upgrades_outlive_want_of_memory(rt: HostRuntime) {
+    assert!(rt; trial_outlives(rt.alloc(), Trial::Upgrades));
+}
+
+#[test]
+fn outlives_want_of_memory(rt: HostRuntime) {
+    assert!(rt; trial_outlives(rt.alloc(), Trial::GainsAndWaits));
 }

@@ -62,7 +62,7 @@ fn first_wrong_turn(alloc: Global, (first, second, act): Turn, is_x_first: bool)
     first_wrong(alloc, &rows)
 }
 
-const TWO_DURATIONS: [(Turn, bool); 4] = [
+const TWO_DURATIONS: &[(Turn, bool)] = &[
     (
         (
             (Mode::S, Duration::Transaction),
@@ -100,7 +100,7 @@ const TWO_DURATIONS: [(Turn, bool); 4] = [
 #[test]
 fn the_statements_tickets_go_first(rt: HostRuntime) {
     for (turn, is_x_first) in TWO_DURATIONS {
-        assert_eq!(rt; first_wrong_turn(rt.alloc(), turn, is_x_first), None);
+        assert!(rt; first_wrong_turn(rt.alloc(), *turn, *is_x_first).is_none());
     }
 }
 
@@ -117,7 +117,7 @@ const ONE_DURATION: &[(Duration, Act)] = &[
 fn tickets_of_a_duration_go_as_they_came(rt: HostRuntime) {
     for (duration, act) in ONE_DURATION {
         let turn = ((Mode::S, *duration), (Mode::X, *duration), *act);
-        assert_eq!(rt; first_wrong_turn(rt.alloc(), turn, false), None);
+        assert!(rt; first_wrong_turn(rt.alloc(), turn, false).is_none());
     }
 }
 
@@ -149,5 +149,5 @@ const OF_A_NAME: &[Row] = &[
 
 #[test]
 fn tickets_of_a_name_go_as_they_came(rt: HostRuntime) {
-    assert_eq!(rt; first_wrong(rt.alloc(), OF_A_NAME), None);
+    assert!(rt; first_wrong(rt.alloc(), OF_A_NAME).is_none());
 }

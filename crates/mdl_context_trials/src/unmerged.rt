@@ -188,11 +188,6 @@ const RESUMED: &[Row] = &[
     Row::Has(1, &[]),
 ];
 
-#[test]
-fn an_upgrade_that_is_not_merged_leaves_the_ticket(rt: HostRuntime) {
-    assert_eq!(rt; first_wrong(rt.alloc(), RESUMED), None);
-}
-
 // It is given up too late, for it was granted. Whoever waits behind the second ticket is granted as that one goes.
 const GIVEN_UP: &[Row] = &[
     Row::Does(
@@ -219,7 +214,15 @@ const GIVEN_UP: &[Row] = &[
     Row::Has(1, &[RAISED]),
 ];
 
+const STORIES: &[(&str, &[Row])] = &[
+    ("an upgrade that is not merged leaves the ticket", RESUMED),
+    ("a granted upgrade that is not merged is given up", GIVEN_UP),
+];
+
 #[test]
-fn a_granted_upgrade_that_is_not_merged_is_given_up(rt: HostRuntime) {
-    assert_eq!(rt; first_wrong(rt.alloc(), GIVEN_UP), None);
+fn an_upgrade_that_is_not_merged_leaves_the_ticket(rt: HostRuntime) {
+    for (what, rows) in STORIES {
+        let wrong = first_wrong(rt.alloc(), rows);
+        assert!(rt; wrong.is_none(), "{what}: {wrong:?}");
+    }
 }

@@ -47,11 +47,6 @@ const CROSSED: &[Row] = &[
     (1, Act::EndTransaction, Reply::Done),
 ];
 
-#[test]
-fn of_two_upgrades_one_is_the_victim(rt: HostRuntime) {
-    assert_eq!(rt; first_lost(rt.alloc(), CROSSED), None);
-}
-
 // A session's own ticket of the table doesn't stand against the upgrade. Whoever waits behind it is granted by the downgrade.
 const AT_ONCE: &[Row] = &[
     (1, READ_A, Reply::Acquired(1)),
@@ -73,11 +68,6 @@ const AT_ONCE: &[Row] = &[
     (1, Act::Resume, Reply::Resumed(Resume::Acquired(2))),
     (1, Act::EndTransaction, Reply::Done),
 ];
-
-#[test]
-fn own_tickets_do_not_block_an_upgrade(rt: HostRuntime) {
-    assert_eq!(rt; first_lost(rt.alloc(), AT_ONCE), None);
-}
 
 // The upgraded ticket keeps its number and its duration; the number of the second one is used up.
 const MERGED: &[Row] = &[
@@ -103,11 +93,6 @@ const MERGED: &[Row] = &[
     (1, Act::Mark, Reply::Stands(0, 1)),
     (2, Act::Resume, Reply::Resumed(Resume::Acquired(2))),
 ];
-
-#[test]
-fn an_upgrade_that_waited_is_merged(rt: HostRuntime) {
-    assert_eq!(rt; first_wrong(rt.alloc(), MERGED), None);
-}
 
 // However the wait is lost, the ticket stays in its mode and for its duration. Meanwhile all else is refused.
 const LOST: &[Row] = &[
@@ -137,11 +122,6 @@ const LOST: &[Row] = &[
     (1, Act::Downgrade(1, Mode::SU), NOT_HELD),
 ];
 
-#[test]
-fn a_lost_upgrade_leaves_the_ticket(rt: HostRuntime) {
-    assert_eq!(rt; first_wrong(rt.alloc(), LOST), None);
-}
-
 // An upgrade is given up too late: it was granted, and is merged.
 const LATE: &[Row] = &[
     (1, SHARE_A, Reply::Acquired(1)),
@@ -152,11 +132,6 @@ const LATE: &[Row] = &[
     (1, Act::Downgrade(1, Mode::SNRW), Reply::Done),
     (1, Act::Upgrade(1, Mode::X), Reply::Acquired(1)),
 ];
-
-#[test]
-fn a_granted_upgrade_can_not_be_given_up(rt: HostRuntime) {
-    assert_eq!(rt; first_wrong(rt.alloc(), LATE), None);
-}
 
 // Not each mode may become each other one.
 const REFUSED: &[Row] = &[
@@ -174,7 +149,30 @@ const REFUSED: &[Row] = &[
     (1, Act::Mark, Reply::Stands(0, 2)),
 ];
 
+const STORIES: &[(&str, &[Row])] = &[
+    ("an upgrade that waited is merged", MERGED),
+    ("a lost upgrade leaves the ticket", LOST),
+    ("a granted upgrade can not be given up", LATE),
+    ("not each mode becomes each other", REFUSED),
+];
+
 #[test]
-fn not_each_mode_becomes_each_other(rt: HostRuntime) {
-    assert_eq!(rt; first_wrong(rt.alloc(), REFUSED), None);
+fn upgrades_go_as_told(rt: HostRuntime) {
+    for (what, rows) in STORIES {
+        let wrong = first_wrong(rt.alloc(), rows);
+        assert!(rt; wrong.is_none(), "{what}: {wrong:?}");
+    }
+}
+
+const STORIES_OF_TWO: &[(&str, &[Row])] = &[
+    ("of two upgrades one is the victim", CROSSED),
+    ("own tickets do not block an upgrade", AT_ONCE),
+];
+
+#[test]
+fn upgrades_of_two_sessions_go_as_told(rt: HostRuntime) {
+    for (what, rows) in STORIES_OF_TWO {
+        let wrong = first_lost(rt.alloc(), rows);
+        assert!(rt; wrong.is_none(), "{what}: {wrong:?}");
+    }
 }

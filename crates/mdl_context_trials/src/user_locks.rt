@@ -49,11 +49,6 @@ const TRIED: &[Row] = &[
     (3, GET, Reply::Acquired(1)),
 ];
 
-#[test]
-fn what_would_be_waited_for_is_not_had(rt: HostRuntime) {
-    assert_eq!(rt; first_wrong(rt.alloc(), TRIED), None);
-}
-
 const REFUSED: &[Row] = &[
     (
         1,
@@ -92,11 +87,6 @@ const REFUSED: &[Row] = &[
     ),
 ];
 
-#[test]
-fn a_try_is_refused_as_a_wish_is(rt: HostRuntime) {
-    assert_eq!(rt; first_wrong(rt.alloc(), REFUSED), None);
-}
-
 const GAINED_LAST: &[Row] = &[
     (1, LAST, Reply::Last(None)),
     (1, GET, Reply::Acquired(1)),
@@ -116,11 +106,6 @@ const GAINED_LAST: &[Row] = &[
     (1, Act::Last(Lock::A), Reply::Last(Some(2))),
 ];
 
-#[test]
-fn the_ticket_of_a_key_that_was_gained_last_is_found(rt: HostRuntime) {
-    assert_eq!(rt; first_wrong(rt.alloc(), GAINED_LAST), None);
-}
-
 const AWAITED: &[Row] = &[
     (1, Act::AwaitsUserLock, Reply::AwaitsUserLock(false)),
     (1, WRITE_A, Reply::Acquired(1)),
@@ -137,11 +122,6 @@ const AWAITED: &[Row] = &[
     ),
     (3, Act::AwaitsUserLock, Reply::AwaitsUserLock(false)),
 ];
-
-#[test]
-fn a_wait_for_a_user_level_lock_is_told(rt: HostRuntime) {
-    assert_eq!(rt; first_wrong(rt.alloc(), AWAITED), None);
-}
 
 const LASTING: &[Row] = &[
     (1, GET, Reply::Acquired(1)),
@@ -162,11 +142,6 @@ const LASTING: &[Row] = &[
     (2, TRY, Reply::Acquired(1)),
 ];
 
-#[test]
-fn user_level_locks_outlast_transactions(rt: HostRuntime) {
-    assert_eq!(rt; first_wrong(rt.alloc(), LASTING), None);
-}
-
 // Where the first wrong row is, if one is, where the second session waits for a user-level lock, and the first closes the circle.
 fn first_wrong_beside(alloc: Global, act: Act, first: Reply, second: Reply) -> Option<usize> {
     let rows = [
@@ -184,5 +159,24 @@ fn first_wrong_beside(alloc: Global, act: Act, first: Reply, second: Reply) -> O
 fn a_wait_for_a_user_level_lock_weighs_between(rt: HostRuntime) {
     let beside_a_read = first_wrong_beside(rt.alloc(), READ_A, VICTIM, STILL_WAITING);
     let beside_a_write = first_wrong_beside(rt.alloc(), WRITE_A, STILL_WAITING, VICTIM);
-    assert_eq!(rt; [beside_a_read, beside_a_write], [None, None]);
+    assert!(rt; beside_a_read.is_none() && beside_a_write.is_none());
+}
+
+const STORIES: &[(&str, &[Row])] = &[
+    ("what would be waited for is not had", TRIED),
+    ("a try is refused as a wish is", REFUSED),
+    (
+        "the ticket of a key that was gained last is found",
+        GAINED_LAST,
+    ),
+    ("a wait for a user level lock is told", AWAITED),
+    ("user level locks outlast transactions", LASTING),
+];
+
+#[test]
+fn user_level_locks_go_as_told(rt: HostRuntime) {
+    for (what, rows) in STORIES {
+        let wrong = first_wrong(rt.alloc(), rows);
+        assert!(rt; wrong.is_none(), "{what}: {wrong:?}");
+    }
 }

@@ -4,7 +4,7 @@ use crate::rows::{BAD_MODE, NO_PLACE, NO_WAIT, NOT_HELD, Row, STALE, WAITS, firs
 use mdl_context::Resume;
 use mdl_key::{Duration, Mode};
 use mdl_space::Settled;
-use std::alloc::{AllocError, Global};
+use std::alloc::Global;
 
 const STILL_WAITING: Reply = Reply::Resumed(Resume::Waiting);
 
@@ -15,7 +15,7 @@ const VICTIM: Reply = Reply::Resumed(Resume::Lost(Settled::Victim));
 const KILLED: Reply = Reply::Resumed(Resume::Lost(Settled::Killed));
 
 // The first session holds a ticket of the statement, and waits behind the second. Whatever it asks for is refused.
-const MEANWHILE: [Row; 17] = [
+const MEANWHILE: &[Row] = &[
     (
         1,
         Act::Acquire(Lock::B, Mode::SR, Duration::Statement),
@@ -57,7 +57,7 @@ const MEANWHILE: [Row; 17] = [
 ];
 
 // The same once the wait is settled.
-const SETTLED: [Row; 10] = [
+const SETTLED: &[Row] = &[
     (
         1,
         Act::Acquire(Lock::B, Mode::SR, Duration::Statement),
@@ -74,22 +74,8 @@ const SETTLED: [Row; 10] = [
     (1, Act::Mark, Reply::Stands(1, 0)),
 ];
 
-// The rows of three lists.
-fn joined(
-    alloc: Global,
-    first: &[Row],
-    second: &[Row],
-    third: &[Row],
-) -> Result<Vec<Row>, AllocError> {
-    let mut rows = Vec::new(alloc);
-    rows.extend_from_slice(first)?;
-    rows.extend_from_slice(second)?;
-    rows.extend_from_slice(third)?;
-    Ok(rows)
-}
-
 // Nothing of it has changed a thing.
-const GIVEN_UP: [Row; 6] = [
+const GIVEN_UP: &[Row] = &[
     (1, Act::Resume, STILL_WAITING),
     (1, Act::GiveUp, TIMED_OUT),
     (1, Act::GiveUp, NO_WAIT),
@@ -104,23 +90,24 @@ const GIVEN_UP: [Row; 6] = [
 ];
 
 // A settled wait is one as well, until it is ended.
-const KILLED_MEANWHILE: [Row; 1] = [(3, Act::Kill(1, 1), Reply::Killed(true))];
+const KILLED_MEANWHILE: &[Row] = &[(3, Act::Kill(1, 1), Reply::Killed(true))];
 
-const GRANTED_MEANWHILE: [Row; 1] = [(2, Act::EndStatement, Reply::Done)];
+const GRANTED_MEANWHILE: &[Row] = &[(2, Act::EndStatement, Reply::Done)];
 
-// Whether the rows of three lists come to what is wanted, one after another.
-fn are_right(alloc: Global, first: &[Row], second: &[Row], third: &[Row]) -> bool {
-    match joined(alloc, first, second, third) {
-        Ok(rows) => first_wrong(alloc, &rows).is_none(),
-        Err(_) => false,
-    }
+// Whether these rows come to what is wanted, behind those of a wait.
+fn are_right(alloc: Global, second: &[Row], third: &[Row]) -> bool {
+    let mut rows = Vec::new(alloc);
+    rows.extend_from_slice(MEANWHILE).is_ok()
+        && rows.extend_from_slice(second).is_ok()
+        && rows.extend_from_slice(third).is_ok()
+        && first_wrong(alloc, &rows).is_none()
 }
 
 #[test]
 fn who_waits_does_nothing_else(rt: HostRuntime) {
-    assert!(rt; are_right(rt.alloc(), &MEANWHILE, &[], &GIVEN_UP));
-    assert!(rt; are_right(rt.alloc(), &MEANWHILE, &KILLED_MEANWHILE, &SETTLED));
-    assert!(rt; are_right(rt.alloc(), &MEANWHILE, &GRANTED_MEANWHILE, &SETTLED));
+    assert!(rt; are_right(rt.alloc(), &[], GIVEN_UP));
+    assert!(rt; are_right(rt.alloc(), KILLED_MEANWHILE, SETTLED));
+    assert!(rt; are_right(rt.alloc(), GRANTED_MEANWHILE, SETTLED));
 }
 
 const ENDS: &[Row] = &[
@@ -164,11 +151,6 @@ const ENDS: &[Row] = &[
     (2, Act::GiveUp, KILLED),
     (2, Act::Resume, NO_WAIT),
 ];
-
-#[test]
-fn waits_end_as_they_are_settled(rt: HostRuntime) {
-    assert_eq!(rt; first_wrong(rt.alloc(), ENDS), None);
-}
 
 // A lost one, until it is ended.
 const LOST_IN_THE_WAY: &[Row] = &[
@@ -223,12 +205,6 @@ const GRANTED_IN_THE_WAY: &[Row] = &[
     (2, Act::EndTransaction, Reply::Done),
     (1, Act::Resume, Reply::Resumed(Resume::Acquired(2))),
 ];
-
-#[test]
-fn a_settled_wait_stands_in_the_way(rt: HostRuntime) {
-    assert_eq!(rt; first_wrong(rt.alloc(), LOST_IN_THE_WAY), None);
-    assert_eq!(rt; first_wrong(rt.alloc(), GRANTED_IN_THE_WAY), None);
-}
 
 const STRONG: &[Row] = &[
     (
@@ -297,12 +273,6 @@ const WEAK: &[Row] = &[
     ),
 ];
 
-#[test]
-fn a_strong_ticket_serves_behind_a_waiter(rt: HostRuntime) {
-    assert_eq!(rt; first_wrong(rt.alloc(), STRONG), None);
-    assert_eq!(rt; first_wrong(rt.alloc(), WEAK), None);
-}
-
 const REFUSED_BY_THE_SPACE: &[Row] = &[
     (
         1,
@@ -360,7 +330,19 @@ const REFUSED_BY_THE_SPACE: &[Row] = &[
     (1, Act::EndTransaction, Reply::Done),
 ];
 
+const STORIES: &[(&str, &[Row])] = &[
+    ("waits end as they are settled", ENDS),
+    ("a lost wait stands in the way", LOST_IN_THE_WAY),
+    ("a granted wait stands in the way", GRANTED_IN_THE_WAY),
+    ("a strong ticket serves behind a waiter", STRONG),
+    ("a weak ticket doesn't serve", WEAK),
+    ("what the space refuses is refused", REFUSED_BY_THE_SPACE),
+];
+
 #[test]
-fn what_the_space_refuses_is_refused(rt: HostRuntime) {
-    assert_eq!(rt; first_wrong(rt.alloc(), REFUSED_BY_THE_SPACE), None);
+fn waits_go_as_told(rt: HostRuntime) {
+    for (what, rows) in STORIES {
+        let wrong = first_wrong(rt.alloc(), rows);
+        assert!(rt; wrong.is_none(), "{what}: {wrong:?}");
+    }
 }

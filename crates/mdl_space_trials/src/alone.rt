@@ -117,7 +117,7 @@ fn visit<S: LockSpace>(space: &mut S, who: u16, key: &Key, mode: Mode) -> Result
     }
 }
 
-const VISITS: [(&str, Mode, Result<bool, SpaceError>); 4] = [
+const VISITS: &[(&str, Mode, Result<bool, SpaceError>)] = &[
     ("t", Mode::SR, Ok(false)),
     ("t", Mode::SR, Ok(true)),
     ("u", Mode::SR, Err(SpaceError::NoPlace)),
@@ -144,7 +144,7 @@ fn first_wrong_of_visits(alloc: Global) -> Option<usize> {
 
 #[test]
 fn a_visit_is_a_run_in_any_space(rt: HostRuntime) {
-    assert_eq!(rt; first_wrong_of_visits(rt.alloc()), None);
+    assert!(rt; first_wrong_of_visits(rt.alloc()).is_none());
 }
 
 // Whether a place has this key.
@@ -393,15 +393,15 @@ fn first_wrong_of_schema(alloc: Global, rows: &[(Act, Reply)]) -> Option<usize> 
 
 #[test]
 fn others_change_what_stands_while_nothing_is_held(rt: HostRuntime) {
-    assert_eq!(rt; first_wrong_of_schema(rt.alloc(), A_SCHEMA_OF_OTHERS), None);
+    assert!(rt; first_wrong_of_schema(rt.alloc(), A_SCHEMA_OF_OTHERS).is_none());
 }
 
 #[test]
 fn tickets_get_other_modes(rt: HostRuntime) {
-    assert_eq!(rt; first_wrong_of_table(rt.alloc(), OTHER_MODES), None);
+    assert!(rt; first_wrong_of_table(rt.alloc(), OTHER_MODES).is_none());
 }
 
 #[test]
 fn a_ticket_is_cloned(rt: HostRuntime) {
-    assert_eq!(rt; first_wrong_of_schema(rt.alloc(), A_CLONE), None);
+    assert!(rt; first_wrong_of_schema(rt.alloc(), A_CLONE).is_none());
 }

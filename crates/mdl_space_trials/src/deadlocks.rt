@@ -124,7 +124,8 @@ const DEADLOCKS: &[(&str, &[(Act, Reply)])] = &[
 #[test]
 fn searches_name_their_victims(rt: HostRuntime) {
     for (what, rows) in DEADLOCKS {
-        assert_eq!(rt; first_wrong_of_four(rt.alloc(), rows), None, "{what}");
+        let wrong = first_wrong_of_four(rt.alloc(), rows);
+        assert!(rt; wrong.is_none(), "{what}: {wrong:?}");
     }
 }
 
@@ -156,7 +157,7 @@ const HEAVY_GLOBAL: Wish = (GLOBAL, Mode::IX, Mode::S);
 
 const HEAVY_TABLE: Wish = (B, Mode::SR, Mode::X);
 
-const VICTIMS: [(Wish, Wish, u16); 9] = [
+const VICTIMS: &[(Wish, Wish, u16)] = &[
     (LIGHT_COMMIT, HEAVY_TABLE, 1),
     (LIGHT_COMMIT, HEAVY_GLOBAL, 1),
     (LIGHT_TABLE, HEAVY_GLOBAL, 1),
@@ -172,6 +173,6 @@ const VICTIMS: [(Wish, Wish, u16); 9] = [
 #[test]
 fn the_lightest_wish_falls(rt: HostRuntime) {
     for (first, second, victim) in VICTIMS {
-        assert!(rt; search_between(rt.alloc(), first, second) == Reply::Victim(victim));
+        assert!(rt; search_between(rt.alloc(), *first, *second) == Reply::Victim(*victim));
     }
 }

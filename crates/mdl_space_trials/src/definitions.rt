@@ -125,17 +125,16 @@ const REFUSED: &[(Act, Reply)] = &[
     (Act::Read(1, 4), Reply::Reads(0, Shown::Nothing)),
 ];
 
+const DEFINITIONS: &[(&str, &[(Act, Reply)])] = &[
+    ("definitions are read and changed", CHANGES),
+    ("definitions are read with a cache", WITH_A_CACHE),
+    ("reads and changes are refused", REFUSED),
+];
+
 #[test]
 fn definitions_are_read_and_changed(rt: HostRuntime) {
-    assert_eq!(rt; first_wrong(rt.alloc(), CHANGES), None);
-}
-
-#[test]
-fn definitions_are_read_with_a_cache(rt: HostRuntime) {
-    assert_eq!(rt; first_wrong(rt.alloc(), WITH_A_CACHE), None);
-}
-
-#[test]
-fn reads_and_changes_are_refused(rt: HostRuntime) {
-    assert_eq!(rt; first_wrong(rt.alloc(), REFUSED), None);
+    for (what, rows) in DEFINITIONS {
+        let wrong = first_wrong(rt.alloc(), rows);
+        assert!(rt; wrong.is_none(), "{what}: {wrong:?}");
+    }
 }

@@ -151,6 +151,7 @@ const LIVES: &[(&str, &[(Act, Reply)])] = &[
 #[test]
 fn locks_live_as_told(rt: HostRuntime) {
     for (what, rows) in LIVES {
-        assert_eq!(rt; first_wrong(rt.alloc(), rows), None, "{what}");
+        let wrong = first_wrong(rt.alloc(), rows);
+        assert!(rt; wrong.is_none(), "{what}: {wrong:?}");
     }
 }

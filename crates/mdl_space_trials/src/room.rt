@@ -4,7 +4,7 @@ ghost use Rattle.mdl_space_trials.specs.Serving.{SpeaksForAll};
 
 use crate::acts::{Act, Reply, call, key_of, resolve, tables_of};
 use mdl_book::Book;
-use mdl_key::Key;
+use mdl_key::{Key, KeyError};
 use mdl_space::{CoreSpace, Held, LockSpace, NewError, Place, SpaceError};
 use std::alloc::Global;
 use std::marker::Model;
@@ -17,6 +17,33 @@ pub(crate) const SCHEMA: Place = 2;
 pub(crate) const GLOBAL: Place = 3;
 
 const SESSIONS: u16 = 5;
+
+/// What a key is of: a table of a schema, a schema, or what has no name.
+#[derive(Clone, Copy)]
+pub(crate) enum Of {
+    Table(&'static str, &'static str),
+    Schema(&'static str),
+    Commit,
+    Global,
+}
+
+const THREE: &[Of] = &[Of::Table("test", "t"), Of::Schema("test"), Of::Global];
+
+const FOUR: &[Of] = &[
+    Of::Table("test", "a"),
+    Of::Table("test", "b"),
+    Of::Commit,
+    Of::Global,
+];
+
+fn new_key(alloc: Global, of: Of) -> Result<Key, KeyError> {
+    match of {
+        Of::Table(schema, table) => Key::table(alloc, schema, table),
+        Of::Schema(schema) => Key::schema(alloc, schema),
+        Of::Commit => Ok(Key::commit(alloc)),
+        Of::Global => Ok(Key::global(alloc)),
+    }
+}
 
 /// The space speaks for each of so many sessions, numbered from 1.
 #[derive(Drop)]
@@ -52,25 +79,41 @@ impl Room {
 
     /// A table, a schema and the global lock have the places 1 to 3, and nobody has anything.
     pub(crate) fn of_three(alloc: Global) -> Option<Room> {
-        let table = Key::table(alloc, "test", "t").ok()?;
-        let schema = Key::schema(alloc, "test").ok()?;
-        Room::with_keys(alloc, 3, &[table, schema, Key::global(alloc)])
+        Room::with_keys(alloc, 3, THREE)
     }
 
     /// Two tables, the commit lock and the global lock have the places 1 to 4, and nobody has anything.
     pub(crate) fn of_four(alloc: Global) -> Option<Room> {
-        let a = Key::table(alloc, "test", "a").ok()?;
-        let b = Key::table(alloc, "test", "b").ok()?;
-        Room::with_keys(alloc, 4, &[a, b, Key::commit(alloc), Key::global(alloc)])
+        Room::with_keys(alloc, 4, FOUR)
     }
 
     /// Each of these keys has a place, in this order, of so many.
-    pub(crate) fn with_keys(alloc: Global, places: u16, keys: &[Key]) -> Option<Room> {
-        let mut room = Room::new(alloc, places, SESSIONS).ok()?;
-        for key in keys {
-            room.resolve(key).ok()?;
+    pub(crate) fn with_keys(alloc: Global, places: u16, keys: &[Of]) -> Option<Room> {
+        let Ok(mut room) = Room::new(alloc, places, SESSIONS) else {
+            return None;
+        };
+        if room.has_places(keys) {
+            Some(room)
+        } else {
+            None
         }
-        Some(room)
+    }
+
+    // Whether these keys come to have places.
+    fn has_places(&mut self, keys: &[Of]) -> bool {
+        for of in keys {
+            if !self.has_place(*of) {
+                return false;
+            }
+        }
+        true
+    }
+
+    fn has_place(&mut self, of: Of) -> bool {
+        match new_key(self.alloc, of) {
+            Ok(key) => self.resolve(&key).is_ok(),
+            Err(_) => false,
+        }
     }
 
     /// The place of a key, for the first session.

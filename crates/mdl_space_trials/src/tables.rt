@@ -1,10 +1,9 @@
 //! The tables of a schema, told in the order of their keys.
 use crate::acts::{Act, Reply};
-use crate::room::Room;
+use crate::room::{Of, Room};
 use crate::wishes::Wish;
-use mdl_key::{Key, Mode};
+use mdl_key::Mode;
 use mdl_space::Place;
-use std::alloc::Global;
 
 // The places of a room of tables.
 const B: Place = 1;
@@ -17,14 +16,13 @@ const OF_ANOTHER: Place = 4;
 
 const UNDEFINED: Place = 5;
 
-fn room_of_tables(alloc: Global) -> Option<Room> {
-    let b = Key::table(alloc, "test", "b").ok()?;
-    let schema = Key::schema(alloc, "test").ok()?;
-    let a = Key::table(alloc, "test", "a").ok()?;
-    let of_another = Key::table(alloc, "tes", "t").ok()?;
-    let undefined = Key::table(alloc, "test", "c").ok()?;
-    Room::with_keys(alloc, 5, &[b, schema, a, of_another, undefined])
-}
+const KEYS: &[Of] = &[
+    Of::Table("test", "b"),
+    Of::Schema("test"),
+    Of::Table("test", "a"),
+    Of::Table("tes", "t"),
+    Of::Table("test", "c"),
+];
 
 // Whether just these are the places of a schema's tables.
 fn tells(room: &mut Room, schema: &str, places: &[Place]) -> bool {
@@ -61,7 +59,7 @@ fn tells_what_is_defined(room: &mut Room) -> bool {
 
 #[test]
 fn the_tables_of_a_schema_are_told(rt: HostRuntime) {
-    let are_told = match room_of_tables(rt.alloc()) {
+    let are_told = match Room::with_keys(rt.alloc(), 5, KEYS) {
         Some(mut room) => tells_what_is_defined(&mut room),
         None => false,
     };

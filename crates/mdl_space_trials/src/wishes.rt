@@ -35,26 +35,50 @@ pub(crate) fn what_stands(standing: &Standing) -> Shown {
 
 /// The change that is asked for, if there is memory for it.
 pub(crate) fn change_of(alloc: Global, wish: Wish) -> Option<Change> {
-    Some(match wish {
-        Wish::CreateSchema => Change::Create(Definition::Schema),
-        Wish::CreateTable => Change::Create(table(alloc)?),
-        Wish::PutSchema => Change::Put(Definition::Schema),
-        Wish::PutTable => Change::Put(table(alloc)?),
-        Wish::Drop => Change::Drop,
-        Wish::AddX => Change::AddColumn(column(alloc, "x")?),
-        Wish::AddY => Change::AddColumn(column(alloc, "y")?),
-        Wish::DropX => Change::DropColumn(column(alloc, "x")?),
-        Wish::DropY => Change::DropColumn(column(alloc, "y")?),
-    })
+    match wish {
+        Wish::CreateSchema => Some(Change::Create(Definition::Schema)),
+        Wish::CreateTable => match table(alloc) {
+            Some(table) => Some(Change::Create(table)),
+            None => None,
+        },
+        Wish::PutSchema => Some(Change::Put(Definition::Schema)),
+        Wish::PutTable => match table(alloc) {
+            Some(table) => Some(Change::Put(table)),
+            None => None,
+        },
+        Wish::Drop => Some(Change::Drop),
+        Wish::AddX => with_column(alloc, "x", true),
+        Wish::AddY => with_column(alloc, "y", true),
+        Wish::DropX => with_column(alloc, "x", false),
+        Wish::DropY => with_column(alloc, "y", false),
+    }
 }
 
-fn column(alloc: Global, name: &str) -> Option<Column> {
-    Column::new(alloc, name).ok()
+// A column more, or one less.
+fn with_column(alloc: Global, name: &str, more: bool) -> Option<Change> {
+    match Column::new(alloc, name) {
+        Ok(column) => Some(if more {
+            Change::AddColumn(column)
+        } else {
+            Change::DropColumn(column)
+        }),
+        Err(_) => None,
+    }
+}
+
+fn push_x(alloc: Global, columns: &mut Columns) -> bool {
+    match Column::new(alloc, "x") {
+        Ok(column) => columns.push(column).is_ok(),
+        Err(_) => false,
+    }
 }
 
 // A table with the one column.
 fn table(alloc: Global) -> Option<Definition> {
     let mut columns = Columns::new(alloc);
-    columns.push(column(alloc, "x")?).ok()?;
-    Some(Definition::Table(columns))
+    if push_x(alloc, &mut columns) {
+        Some(Definition::Table(columns))
+    } else {
+        None
+    }
 }

@@ -18,14 +18,21 @@ const AFTERWARDS: &[(u16, bool)] = &[
     (1025, false),
 ];
 
+// Puts them in: whether each is in the set then.
+fn are_put_in(sessions: &mut Sessions) -> bool {
+    for session in PUT_IN {
+        sessions.insert(*session);
+        if !sessions.contains(*session) {
+            return false;
+        }
+    }
+    true
+}
+
 #[test]
 fn puts_in_and_takes_out(rt: HostRuntime) {
     let mut sessions = Sessions::new();
-    assert!(rt; !sessions.contains(1));
-    for session in PUT_IN {
-        sessions.insert(*session);
-        assert!(rt; sessions.contains(*session), "put in {session}");
-    }
+    assert!(rt; !sessions.contains(1) && are_put_in(&mut sessions));
     sessions.remove(64);
     for (session, want) in AFTERWARDS {
         assert!(rt; sessions.contains(*session) == *want, "at {session}");

@@ -74,10 +74,9 @@ fn finds(
     want: Option<What>,
 ) -> bool {
     let wanted = standing(alloc, want);
-    match (cache.look(place, version), &wanted) {
-        (Some(found), Some(wanted)) => found == wanted,
-        (None, None) => want.is_none(),
-        _ => false,
+    match cache.look(place, version) {
+        Some(found) => wanted.as_ref() == Some(found),
+        None => want.is_none(),
     }
 }
 
@@ -111,16 +110,20 @@ fn first_wrong(alloc: Global, capacity: u16, steps: &[Step]) -> Option<usize> {
     None
 }
 
+// What is kept, of how many definitions at most, and what is done.
+const CACHES: &[(&str, u16, &[Step])] = &[
+    ("of two", 2, OF_TWO),
+    ("of two places", 2, OF_TWO_PLACES),
+    ("of one", 1, OF_ONE),
+    ("of one place", 1, OF_ONE_PLACE),
+];
+
 #[test]
 fn caches_keep_what_was_used_last(rt: HostRuntime) {
-    let wrong = first_wrong(rt.alloc(), 2, OF_TWO);
-    assert!(rt; wrong.is_none(), "of two: {wrong:?}");
-    let wrong = first_wrong(rt.alloc(), 2, OF_TWO_PLACES);
-    assert!(rt; wrong.is_none(), "of two places: {wrong:?}");
-    let wrong = first_wrong(rt.alloc(), 1, OF_ONE);
-    assert!(rt; wrong.is_none(), "of one: {wrong:?}");
-    let wrong = first_wrong(rt.alloc(), 1, OF_ONE_PLACE);
-    assert!(rt; wrong.is_none(), "of one place: {wrong:?}");
+    for (what, capacity, steps) in CACHES {
+        let wrong = first_wrong(rt.alloc(), *capacity, steps);
+        assert!(rt; wrong.is_none(), "{what}: {wrong:?}");
+    }
 }
 
 // Why there is no cache of so many.
@@ -137,22 +140,21 @@ fn refusal(alloc: Global, capacity: u16) -> Option<CacheError> {
     }
 }
 
-// How many definitions a cache may keep.
-const GOOD: &[u16] = &[1, 2, 4_095, 4_096];
-
-// And how many not.
-const BAD: &[u16] = &[0, 4_097, u16::MAX];
+// How many definitions a cache is to keep, and why there is none that does.
+const CAPACITIES: &[(u16, Option<CacheError>)] = &[
+    (1, None),
+    (2, None),
+    (4_095, None),
+    (4_096, None),
+    (0, Some(CacheError::BadCapacity)),
+    (4_097, Some(CacheError::BadCapacity)),
+    (u16::MAX, Some(CacheError::BadCapacity)),
+];
 
 #[test]
 fn caches_keep_1_to_4096(rt: HostRuntime) {
-    for capacity in GOOD {
-        assert!(rt; refusal(rt.alloc(), *capacity).is_none(), "{capacity}");
-    }
-    for capacity in BAD {
-        assert!(rt;
-            refusal(rt.alloc(), *capacity) == Some(CacheError::BadCapacity),
-            "{capacity}"
-        );
+    for (capacity, want) in CAPACITIES {
+        assert!(rt; refusal(rt.alloc(), *capacity) == *want, "{capacity}");
     }
 }
 

@@ -104,16 +104,23 @@ fn are_y_x_y(columns: &[Column]) -> bool {
 // The names of three columns.
 const Y_X_Y: &[&str] = &["y", "x", "y"];
 
+// Whether each goes in, and two of them are of one name when all are in.
+fn all_grow(alloc: Global, columns: &mut Columns) -> bool {
+    for name in Y_X_Y {
+        if !grow(alloc, columns, name)
+            || !is_copied(columns)
+            || columns.names_twice() != (columns.as_slice().len() == 3)
+        {
+            return false;
+        }
+    }
+    true
+}
+
 #[test]
 fn keeps_columns_in_order(rt: HostRuntime) {
     let mut columns = Columns::new(rt.alloc());
     assert!(rt; columns.as_slice().is_empty());
-    for name in Y_X_Y {
-        assert!(rt;
-            grow(rt.alloc(), &mut columns, name) && is_copied(&columns),
-            "{name}"
-        );
-        assert!(rt; columns.names_twice() == (columns.as_slice().len() == 3));
-    }
+    assert!(rt; all_grow(rt.alloc(), &mut columns));
     assert!(rt; are_y_x_y(columns.as_slice()));
 }

@@ -59,19 +59,19 @@ const UNDER_OTHERS: &[Step] = &[
     (Act::Add("x"), Err(ChangeError::WrongKind), None),
 ];
 
+fn is_read(book: &Book, version: u64, wanted: &Option<Definition>) -> bool {
+    match book.read() {
+        Ok(standing) => standing.version == version && standing.definition == *wanted,
+        Err(_) => false,
+    }
+}
+
 // Whether what stands in a book is this, with this version, and is read so.
 fn stands(alloc: Global, book: &Book, version: u64, what: Option<What>) -> bool {
     let wanted = super::standing(alloc, what);
-    let read = match book.read() {
-        Ok(standing) => standing.version == version && standing.definition == wanted,
-        Err(_) => false,
-    };
-    let seen = match (book.definition(), &wanted) {
-        (Some(definition), Some(wanted)) => definition == wanted,
-        (None, None) => true,
-        _ => false,
-    };
-    read && seen && book.version() == version
+    is_read(book, version, &wanted)
+        && book.definition() == wanted.as_ref()
+        && book.version() == version
 }
 
 // Makes a change: whether it was answered as its row says, and left what that says.
@@ -84,31 +84,48 @@ fn goes_so(alloc: Global, book: &mut Book, (act, want, what): Step) -> bool {
     answer == want && stands(alloc, book, want.unwrap_or(before), what)
 }
 
+fn key_of(alloc: Global, namespace: Namespace) -> Result<Key, KeyError> {
+    match namespace {
+        Namespace::Global => Ok(Key::global(alloc)),
+        Namespace::Schema => Key::schema(alloc, "test"),
+        Namespace::Table => Key::table(alloc, "test", "t"),
+        Namespace::Commit => Ok(Key::commit(alloc)),
+        Namespace::UserLevelLock => Key::user_lock(alloc, "t"),
+    }
+}
+
 // The first step that goes wrong.
-fn first_wrong(alloc: Global, key: Result<Key, KeyError>, steps: &[Step]) -> Option<usize> {
-    let Ok(key) = key else {
-        return Some(0);
-    };
-    let mut book = Book::new(alloc, key);
+fn first_wrong_of(alloc: Global, book: &mut Book, steps: &[Step]) -> Option<usize> {
     for (place, step) in steps.iter().enumerate() {
-        if !goes_so(alloc, &mut book, *step) {
+        if !goes_so(alloc, book, *step) {
             return Some(place);
         }
     }
     None
 }
 
+// The same of the book of a key of this namespace.
+fn first_wrong(alloc: Global, namespace: Namespace, steps: &[Step]) -> Option<usize> {
+    match key_of(alloc, namespace) {
+        Ok(key) => first_wrong_of(alloc, &mut Book::new(alloc, key), steps),
+        Err(_) => Some(0),
+    }
+}
+
+// A namespace, and what a book of a key of it is asked.
+const BOOKS: &[(Namespace, &[Step])] = &[
+    (Namespace::Table, UNDER_A_TABLE),
+    (Namespace::Schema, UNDER_A_SCHEMA),
+    (Namespace::Commit, UNDER_OTHERS),
+    (Namespace::UserLevelLock, UNDER_OTHERS),
+];
+
 #[test]
 fn books_keep_what_stands(rt: HostRuntime) {
-    let alloc = rt.alloc();
-    let wrong = first_wrong(alloc, Key::table(alloc, "test", "t"), UNDER_A_TABLE);
-    assert!(rt; wrong.is_none(), "under a table: {wrong:?}");
-    let wrong = first_wrong(alloc, Key::schema(alloc, "test"), UNDER_A_SCHEMA);
-    assert!(rt; wrong.is_none(), "under a schema: {wrong:?}");
-    let wrong = first_wrong(alloc, Ok(Key::commit(alloc)), UNDER_OTHERS);
-    assert!(rt; wrong.is_none(), "under commit: {wrong:?}");
-    let wrong = first_wrong(alloc, Key::user_lock(alloc, "t"), UNDER_OTHERS);
-    assert!(rt; wrong.is_none(), "under a user-level lock: {wrong:?}");
+    for (namespace, steps) in BOOKS {
+        let wrong = first_wrong(rt.alloc(), *namespace, steps);
+        assert!(rt; wrong.is_none(), "under {namespace:?}: {wrong:?}");
+    }
 }
 
 // What a change answers where there were so many before it.
@@ -123,20 +140,23 @@ fn answer_after(alloc: Global, version: u64, act: Act) -> Result<u64, ChangeErro
     }
 }
 
-// Changes that come too late.
-const LATE: &[Act] = &[
-    Act::Drop,
-    Act::Put(X),
-    Act::Create(What::Schema),
-    Act::Lose("x"),
+// The last change there can be, and changes that come too late.
+const LATE: &[(u64, Act, Result<u64, ChangeError>)] = &[
+    (999_999, Act::Drop, Ok(1_000_000)),
+    (1_000_000, Act::Drop, Err(ChangeError::VersionFull)),
+    (1_000_000, Act::Put(X), Err(ChangeError::VersionFull)),
+    (
+        1_000_000,
+        Act::Create(What::Schema),
+        Err(ChangeError::VersionFull),
+    ),
+    (1_000_000, Act::Lose("x"), Err(ChangeError::VersionFull)),
 ];
 
 #[test]
 fn versions_have_an_end(rt: HostRuntime) {
-    let alloc = rt.alloc();
-    assert!(rt; answer_after(alloc, 999_999, Act::Drop) == Ok(1_000_000));
-    for act in LATE {
-        assert!(rt; answer_after(alloc, 1_000_000, *act) == Err(ChangeError::VersionFull));
+    for (version, act, want) in LATE {
+        assert!(rt; answer_after(rt.alloc(), *version, *act) == *want);
     }
 }
 
@@ -153,9 +173,7 @@ fn is_copied(version: u64) -> bool {
 
 #[test]
 fn copies_of_what_stands_are_equal(rt: HostRuntime) {
-    for version in [0, 1, 1_000_000] {
-        assert!(rt; is_copied(version));
-    }
+    assert!(rt; is_copied(0) && is_copied(1) && is_copied(1_000_000));
 }
 
 const CAUSES: [(ChangeError, &str); 4] = [

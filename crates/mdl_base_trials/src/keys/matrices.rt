@@ -8,7 +8,7 @@ use mdl_key::{
 // and those that it waits behind.
 type Row = (Kind, Mode, &'static [Mode], &'static [Mode]);
 
-const ROWS: [Row; 13] = [
+const ROWS: &[Row] = &[
     (
         Kind::Scoped,
         Mode::IX,
@@ -111,7 +111,7 @@ fn have_row((kind, ask, granted, waiting): Row) -> bool {
 #[test]
 fn each_entry_is_as_in_the_table(rt: HostRuntime) {
     for row in ROWS {
-        assert!(rt; have_row(row), "{} of {:?}", row.1, row.0);
+        assert!(rt; have_row(*row), "{} of {:?}", row.1, row.0);
     }
 }
 
@@ -138,11 +138,11 @@ const BIT_MAPS: [u16; 6] = [
 
 #[test]
 fn rows_are_bit_maps(rt: HostRuntime) {
-    assert_eq!(rt; bit_maps(), BIT_MAPS);
+    assert!(rt; bit_maps() == BIT_MAPS);
 }
 
 // Two modes of a kind, and whether each is at least as strong as the other.
-const STRENGTH: [(Kind, Mode, Mode, bool, bool); 10] = [
+const STRENGTH: &[(Kind, Mode, Mode, bool, bool)] = &[
     (Kind::Object, Mode::SU, Mode::SR, true, false),
     (Kind::Object, Mode::SNRW, Mode::SRO, true, false),
     (Kind::Object, Mode::SNW, Mode::SRO, true, false),
@@ -159,7 +159,7 @@ const STRENGTH: [(Kind, Mode, Mode, bool, bool); 10] = [
 fn compares_modes_by_strength(rt: HostRuntime) {
     for (kind, a, b, first, second) in STRENGTH {
         assert!(rt;
-            at_least(kind, a, b) == first && at_least(kind, b, a) == second,
+            at_least(*kind, *a, *b) == *first && at_least(*kind, *b, *a) == *second,
             "{a} and {b}"
         );
     }

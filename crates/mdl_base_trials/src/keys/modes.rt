@@ -7,7 +7,7 @@ use std::alloc::Global;
 // weighs elsewhere than at the global lock and at user-level locks.
 type Row = (Mode, &'static str, [bool; 2], [bool; 2], u8);
 
-const ROWS: [Row; 11] = [
+const ROWS: &[Row] = &[
     (Mode::IX, "IX", [true, false], [false, true], 0),
     (Mode::S, "S", [true, true], [true, false], 0),
     (Mode::SH, "SH", [false, true], [true, false], 0),
@@ -44,12 +44,14 @@ fn weighs(mode: Mode, elsewhere: u8) -> bool {
         && weight(Namespace::UserLevelLock, mode) == 50
 }
 
+fn is_told(alloc: Global, row: Row) -> bool {
+    is_named(alloc, row.0, row.1) && is_as_told(row) && weighs(row.0, row.4)
+}
+
 #[test]
 fn modes_are_as_told(rt: HostRuntime) {
     for row in ROWS {
-        let (mode, name, _, _, elsewhere) = row;
-        assert!(rt; is_named(rt.alloc(), mode, name), "{name}");
-        assert!(rt; is_as_told(row) && weighs(mode, elsewhere), "{name}");
+        assert!(rt; is_told(rt.alloc(), *row), "{}", row.1);
     }
 }
 

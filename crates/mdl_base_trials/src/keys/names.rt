@@ -25,15 +25,18 @@ fn key_of(alloc: Global, (namespace, schema, table): Name) -> Result<Key, KeyErr
     }
 }
 
-// Whether a key has its names, is of this kind, and is printed so.
+// Whether a key has its names, and the kind of its namespace.
+fn has_names(key: &Key, (namespace, schema, table): Name) -> bool {
+    key.namespace() == namespace
+        && key.kind() == namespace.kind()
+        && key.schema_name() == schema
+        && key.table_name() == table
+}
+
+// The same, and it is of this kind, and is printed so.
 fn is_named(alloc: Global, name: Name, kind: Kind, text: &str) -> bool {
     match key_of(alloc, name) {
-        Ok(key) => key.namespace() == name.0
-            && key.kind() == kind
-            && name.0.kind() == kind
-            && key.schema_name() == name.1
-            && key.table_name() == name.2
-            && is_printed(alloc, &key, text),
+        Ok(key) => has_names(&key, name) && key.kind() == kind && is_printed(alloc, &key, text),
         Err(_) => false,
     }
 }
@@ -94,7 +97,7 @@ const REFUSED: &[(&str, Option<KeyError>)] = &[
 
 #[test]
 fn refuses_what_is_no_name(rt: HostRuntime) {
-    assert_eq!(rt; LONGEST.len(), 64);
+    assert!(rt; LONGEST.len() == 64);
     for (name, want) in REFUSED {
         assert!(rt; is_refused(rt.alloc(), name, *want), "{name}");
     }
@@ -119,7 +122,7 @@ fn looks_at_the_schema_first(rt: HostRuntime) {
 }
 
 // Keys in their order.
-const RISING: [Name; 13] = [
+const RISING: &[Name] = &[
     (Namespace::Global, "", ""),
     (Namespace::Schema, "a", ""),
     (Namespace::Schema, "b", ""),
@@ -135,13 +138,22 @@ const RISING: [Name; 13] = [
     (Namespace::UserLevelLock, "b", ""),
 ];
 
-// Whether two keys stand in this order.
+fn is_ordered(a: &Key, b: &Key, want: Ordering) -> bool {
+    a.cmp(b) == want && a.partial_cmp(b) == Some(want) && (*a == *b) == (want == Ordering::Equal)
+}
+
+// Whether a key stands in this order to the one of these names.
+fn is_ordered_to(alloc: Global, a: &Key, b: Name, want: Ordering) -> bool {
+    match key_of(alloc, b) {
+        Ok(b) => is_ordered(a, &b, want),
+        Err(_) => false,
+    }
+}
+
 fn are_ordered(alloc: Global, a: Name, b: Name, want: Ordering) -> bool {
-    match (key_of(alloc, a), key_of(alloc, b)) {
-        (Ok(a), Ok(b)) => a.cmp(&b) == want
-            && a.partial_cmp(&b) == Some(want)
-            && (a == b) == (want == Ordering::Equal),
-        _ => false,
+    match key_of(alloc, a) {
+        Ok(a) => is_ordered_to(alloc, &a, b, want),
+        Err(_) => false,
     }
 }
 
