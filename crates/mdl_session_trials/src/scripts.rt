@@ -5,10 +5,9 @@ use crate::statements::Outcome::{Done, Fails, Null, Reads, Says};
 use crate::statements::{Outcome, say};
 use mdl_shared::Manager;
 use mdl_syntax::{Line, parse};
-use std::alloc::{AllocError, Global};
+use std::alloc::Global;
 use std::process::Abort;
 use std::sync::Wait;
-use std::test::Fail;
 
 // A statement, and what is to come of it.
 type Row = (&'static str, Outcome);
@@ -16,13 +15,14 @@ type Row = (&'static str, Outcome);
 // Places for the keys of the rows.
 const PLACES: u16 = 8;
 
-// The statements of rows, as the text of a script of session 1.
-fn text_of(alloc: Global, rows: &[Row]) -> Result<String, AllocError> {
-    let mut text = String::new(alloc);
+// Adds the statements of rows, as lines of a script of session 1: whether there was memory for them.
+fn add_lines(text: &mut String, rows: &[Row]) -> bool {
     for (statement, _) in rows {
-        writeln!(text, "1 {statement}")?;
+        if writeln!(text, "1 {statement}").is_err() {
+            return false;
+        }
     }
-    Ok(text)
+    true
 }
 
 // Over the space of one thread: the first statement that comes to something else, if there is one.
@@ -36,7 +36,7 @@ fn first_wrong_alone<'s>(alone: &mut Alone<'s>, lines: &'s [Line], rows: &[Row])
 }
 
 // The same over a session.
-fn first_wrong<'s, R: Wait>(
+fn first_wrong_at_desk<'s, R: Wait>(
     desk: &mut Desk<'s, R>,
     lines: &'s [Line],
     rows: &[Row],
@@ -49,40 +49,67 @@ fn first_wrong<'s, R: Wait>(
     None
 }
 
-// The rows are right of the session of a shared space.
-fn are_right_of_a_session<R: Wait + Abort + AllocGlobal>(
+// The same of the session of a new shared space.
+fn first_wrong_of_a_session<R: Wait + Abort + AllocGlobal>(
     rt: &R,
     lines: &[Line],
     rows: &[Row],
-) -> Result<(), Fail> {
+) -> Option<usize> {
     let alloc = rt.alloc();
-    let (manager, mut passes) = Manager::new(alloc, PLACES, 1)?;
+    let Ok((manager, mut passes)) = Manager::new(alloc, PLACES, 1) else {
+        return Some(rows.len());
+    };
     let mut desk = Desk::open(rt, alloc, rt, &manager, passes.remove(0));
-    assert_eq!(rt; first_wrong(&mut desk, lines, rows), None);
+    let wrong = first_wrong_at_desk(&mut desk, lines, rows);
     desk.close(rt);
-    Ok(())
+    wrong
 }
 
-// The rows are right of the space of one thread.
-fn are_right_alone<R: Abort + AllocGlobal>(
+// And of a new space of one thread.
+fn first_wrong_of_one_thread(alloc: Global, lines: &[Line], rows: &[Row]) -> Option<usize> {
+    match Alone::new(alloc, PLACES) {
+        Ok(mut alone) => first_wrong_alone(&mut alone, lines, rows),
+        Err(_) => Some(rows.len()),
+    }
+}
+
+// Which row comes to something else in one of both, if one does.
+fn first_wrong_of_lines<R: Wait + Abort + AllocGlobal>(
     rt: &R,
     lines: &[Line],
     rows: &[Row],
-) -> Result<(), Fail> {
-    let mut alone = Alone::new(rt.alloc(), PLACES)?;
-    assert_eq!(rt; first_wrong_alone(&mut alone, lines, rows), None);
-    Ok(())
+) -> Option<usize> {
+    if lines.len() != rows.len() {
+        return Some(lines.len());
+    }
+    match first_wrong_of_one_thread(rt.alloc(), lines, rows) {
+        Some(wrong) => Some(wrong),
+        None => first_wrong_of_a_session(rt, lines, rows),
+    }
 }
 
-// The rows are right of both.
-fn are_right<R: Wait + Abort + AllocGlobal>(rt: &R, rows: &[Row]) -> Result<(), Fail> {
-    let alloc = rt.alloc();
-    let script = parse(alloc, text_of(alloc, rows)?.as_bytes())?;
-    assert_eq!(rt; script.lines().len(), rows.len());
-    are_right_alone(rt, script.lines(), rows)?;
-    are_right_of_a_session(rt, script.lines(), rows)
+// The same, of a script.
+fn first_wrong_of_text<R: Wait + Abort + AllocGlobal>(
+    rt: &R,
+    text: &[u8],
+    rows: &[Row],
+) -> Option<usize> {
+    match parse(rt.alloc(), text) {
+        Ok(script) => first_wrong_of_lines(rt, script.lines(), rows),
+        Err(_) => Some(rows.len()),
+    }
 }
 
+fn first_wrong<R: Wait + Abort + AllocGlobal>(rt: &R, rows: &[Row]) -> Option<usize> {
+    let mut text = String::new(rt.alloc());
+    if add_lines(&mut text, rows) {
+        first_wrong_of_text(rt, text.as_bytes(), rows)
+    } else {
+        Some(rows.len())
+    }
+}
+
+// Tables come, change and go.
 const TABLES: &[Row] = &[
     ("SELECT a", Fails(1146)),
     ("CREATE TABLE a x", Fails(1049)),
@@ -109,12 +136,7 @@ const TABLES: &[Row] = &[
     ("SELECT a", Fails(1146)),
 ];
 
-// Tables come, change and go.
-#[test]
-fn tables_come_and_go(rt: HostRuntime) -> Result<(), Fail> {
-    are_right(&rt, TABLES)
-}
-
+// Tables are locked, and all writes are.
 const LOCKS: &[Row] = &[
     ("CREATE SCHEMA test", Done),
     ("CREATE TABLE a x", Done),
@@ -133,12 +155,7 @@ const LOCKS: &[Row] = &[
     ("INSERT a", Done),
 ];
 
-// Tables are locked, and all writes are.
-#[test]
-fn tables_are_locked(rt: HostRuntime) -> Result<(), Fail> {
-    are_right(&rt, LOCKS)
-}
-
+// Transactions begin, go back and end. The last one is open as the session ends.
 const TRANSACTIONS: &[Row] = &[
     ("CREATE SCHEMA test", Done),
     ("CREATE TABLE a x", Done),
@@ -162,12 +179,7 @@ const TRANSACTIONS: &[Row] = &[
     ("SELECT b", Fails(1146)),
 ];
 
-// Transactions begin, go back and end. The last one is open as the session ends.
-#[test]
-fn transactions_end(rt: HostRuntime) -> Result<(), Fail> {
-    are_right(&rt, TRANSACTIONS)
-}
-
+// User-level locks are got and released. One of them is held as the session ends.
 const USER_LOCKS: &[Row] = &[
     ("RELEASE_LOCK a", Null),
     ("GET_LOCK a", Says(true)),
@@ -186,8 +198,17 @@ const USER_LOCKS: &[Row] = &[
     ("GET_LOCK a", Says(true)),
 ];
 
-// User-level locks are got and released. One of them is held as the session ends.
+const STORIES: &[(&str, &[Row])] = &[
+    ("tables come and go", TABLES),
+    ("tables are locked", LOCKS),
+    ("transactions end", TRANSACTIONS),
+    ("user locks are got", USER_LOCKS),
+];
+
 #[test]
-fn user_locks_are_got(rt: HostRuntime) -> Result<(), Fail> {
-    are_right(&rt, USER_LOCKS)
+fn statements_come_to_the_same(rt: HostRuntime) {
+    for (what, rows) in STORIES {
+        let wrong = first_wrong(&rt, rows);
+        assert!(rt; wrong.is_none(), "{what}: {wrong:?}");
+    }
 }

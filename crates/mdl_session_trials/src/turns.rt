@@ -5,10 +5,8 @@ use crate::statements::Outcome::{Done, Fails, OutOfTurn, Pending, Reads, Waits};
 use crate::turns::Turn::{GoesOn, Says};
 use mdl_shared::{Manager, Session};
 use mdl_syntax::{Line, parse};
-use std::alloc::{AllocError, Global};
 use std::process::Abort;
 use std::sync::Wait;
-use std::test::Fail;
 
 // What session 1 or 2 does next, and what is to come of it.
 #[derive(Clone, Copy)]
@@ -76,40 +74,59 @@ impl Turn {
     }
 }
 
-// The statements of turns, as the text of a script.
-fn text_of(alloc: Global, turns: &[Turn]) -> Result<String, AllocError> {
-    let mut text = String::new(alloc);
+// Adds the statements of turns, as lines of a script: whether there was memory for them.
+fn add_lines(text: &mut String, turns: &[Turn]) -> bool {
     for turn in turns {
         if let Says(number, statement, _) = turn {
-            writeln!(text, "{number} {statement}")?;
+            if writeln!(text, "{number} {statement}").is_err() {
+                return false;
+            }
         }
     }
-    Ok(text)
+    true
 }
 
-// The turns are right of the two sessions of a space.
-fn are_right<R: Wait + Abort + AllocGlobal>(rt: &R, turns: &[Turn]) -> Result<(), Fail> {
-    let alloc = rt.alloc();
-    let script = parse(alloc, text_of(alloc, turns)?.as_bytes())?;
-    are_right_of_two(rt, script.lines(), turns)
+// Which turn of the two sessions of a space comes to something else, if one does.
+fn first_wrong<R: Wait + Abort + AllocGlobal>(rt: &R, turns: &[Turn]) -> Option<usize> {
+    let mut text = String::new(rt.alloc());
+    if add_lines(&mut text, turns) {
+        first_wrong_of_text(rt, text.as_bytes(), turns)
+    } else {
+        Some(turns.len())
+    }
+}
+
+// The same, of a script.
+fn first_wrong_of_text<R: Wait + Abort + AllocGlobal>(
+    rt: &R,
+    text: &[u8],
+    turns: &[Turn],
+) -> Option<usize> {
+    match parse(rt.alloc(), text) {
+        Ok(script) => first_wrong_of_lines(rt, script.lines(), turns),
+        Err(_) => Some(turns.len()),
+    }
 }
 
 // The same, of lines that are read.
-fn are_right_of_two<R: Wait + Abort + AllocGlobal>(
+fn first_wrong_of_lines<R: Wait + Abort + AllocGlobal>(
     rt: &R,
     lines: &[Line],
     turns: &[Turn],
-) -> Result<(), Fail> {
+) -> Option<usize> {
     let alloc = rt.alloc();
-    let (manager, mut passes) = Manager::new(alloc, PLACES, 2)?;
+    let Ok((manager, mut passes)) = Manager::new(alloc, PLACES, 2) else {
+        return Some(turns.len());
+    };
     let two = Desk::open(rt, alloc, rt, &manager, passes.remove(1));
     let one = Desk::open(rt, alloc, rt, &manager, passes.remove(0));
     let mut both = Two { one, two, lines };
-    assert_eq!(rt; both.first_wrong(turns), None);
+    let wrong = both.first_wrong(turns);
     both.close(rt);
-    Ok(())
+    wrong
 }
 
+// A change of a table waits for the transaction that reads it, and goes on once that ends.
 const ALTERED: &[Turn] = &[
     Says(1, "CREATE SCHEMA test", Done),
     Says(1, "CREATE TABLE t x", Done),
@@ -132,12 +149,7 @@ const ALTERED: &[Turn] = &[
     Says(1, "SELECT t", Reads(3, 1)),
 ];
 
-// A change of a table waits for the transaction that reads it, and goes on once that ends.
-#[test]
-fn a_change_waits_for_a_reader(rt: HostRuntime) -> Result<(), Fail> {
-    are_right(&rt, ALTERED)
-}
-
+// Each waits for the other, and reading weighs less than dropping. The victim's transaction is gone, and the drop goes on.
 const CROSSED: &[Turn] = &[
     Says(1, "CREATE SCHEMA test", Done),
     Says(1, "CREATE TABLE a x", Done),
@@ -151,12 +163,7 @@ const CROSSED: &[Turn] = &[
     Says(1, "SELECT a", Fails(1146)),
 ];
 
-// Each waits for the other, and reading weighs less than dropping. The victim's transaction is gone, and the drop goes on.
-#[test]
-fn a_deadlock_has_its_victim(rt: HostRuntime) -> Result<(), Fail> {
-    are_right(&rt, CROSSED)
-}
-
+// A statement is killed as it waits, and does nothing.
 const KILLED: &[Turn] = &[
     Says(1, "CREATE SCHEMA test", Done),
     Says(1, "CREATE TABLE t x", Done),
@@ -172,12 +179,7 @@ const KILLED: &[Turn] = &[
     Says(2, "DROP TABLE t", Done),
 ];
 
-// A statement is killed as it waits, and does nothing.
-#[test]
-fn a_statement_is_killed(rt: HostRuntime) -> Result<(), Fail> {
-    are_right(&rt, KILLED)
-}
-
+// Both sessions are ended, one in a transaction and one as it waits. All that they have is given up.
 const LEFT: &[Turn] = &[
     Says(1, "CREATE SCHEMA test", Done),
     Says(1, "CREATE TABLE t x", Done),
@@ -186,12 +188,8 @@ const LEFT: &[Turn] = &[
     Says(2, "DROP TABLE t", Waits),
 ];
 
-// Both sessions are ended, one in a transaction and one as it waits. All that they have is given up.
-#[test]
-fn sessions_end_wherever_they_stand(rt: HostRuntime) -> Result<(), Fail> {
-    are_right(&rt, LEFT)
-}
-
+// Each waits for a user-level lock of the other, and they weigh the same. The victim keeps its locks and its transaction, as does
+// a session whose wait is killed.
 const NAMES_CROSSED: &[Turn] = &[
     Says(1, "GET_LOCK a", Outcome::Says(true)),
     Says(2, "GET_LOCK b", Outcome::Says(true)),
@@ -211,9 +209,18 @@ const NAMES_CROSSED: &[Turn] = &[
     Says(2, "ROLLBACK TO p", Done),
 ];
 
-// Each waits for a user-level lock of the other, and they weigh the same. The victim keeps its locks and its transaction, as does
-// a session whose wait is killed.
+const STORIES: &[(&str, &[Turn])] = &[
+    ("a change waits for a reader", ALTERED),
+    ("a deadlock has its victim", CROSSED),
+    ("a statement is killed", KILLED),
+    ("sessions end wherever they stand", LEFT),
+    ("user locks are waited for", NAMES_CROSSED),
+];
+
 #[test]
-fn user_locks_are_waited_for(rt: HostRuntime) -> Result<(), Fail> {
-    are_right(&rt, NAMES_CROSSED)
+fn sessions_take_turns(rt: HostRuntime) {
+    for (what, rows) in STORIES {
+        let wrong = first_wrong(&rt, rows);
+        assert!(rt; wrong.is_none(), "{what}: {wrong:?}");
+    }
 }

@@ -8,7 +8,6 @@ use mdl_space::Settled;
 use std::alloc::Global;
 use std::process::Abort;
 use std::sync::Wait;
-use std::test::Fail;
 
 // What a session does, 1 or 2, and what is to come of it.
 type Row = (u16, Act, Reply);
@@ -54,18 +53,21 @@ impl<R: Wait + Drop> Two<R> {
     }
 }
 
-// The rows are right of two sessions of a space of two places.
-fn are_right<R: Wait + Abort + AllocGlobal>(rt: &R, rows: &[Row]) -> Result<(), Fail> {
+// Which row comes to something else of two sessions of a space of two places, if one does.
+fn first_wrong<R: Wait + Abort + AllocGlobal>(rt: &R, rows: &[Row]) -> Option<usize> {
     let alloc = rt.alloc();
-    let (manager, mut passes) = Manager::new(alloc, 2, 2)?;
+    let Ok((manager, mut passes)) = Manager::new(alloc, 2, 2) else {
+        return Some(rows.len());
+    };
     let two = Seat::open(alloc, rt, &manager, passes.remove(1));
     let one = Seat::open(alloc, rt, &manager, passes.remove(0));
     let mut both = Two { one, two };
-    assert_eq!(rt; both.first_wrong(alloc, rows), None);
+    let wrong = both.first_wrong(alloc, rows);
     both.close(rt);
-    Ok(())
+    wrong
 }
 
+// Two upgrades stand in each other's way. The victim keeps both its tickets, in their modes, until its transaction ends.
 const CROSSED: &[Row] = &[
     (1, Act::Acquire(Lock::A, Mode::SU), Reply::Acquired(1)),
     (1, Act::Acquire(Lock::B, Mode::SR), Reply::Acquired(2)),
@@ -88,12 +90,7 @@ const CROSSED: &[Row] = &[
     (1, Act::EndTransaction, Reply::Done),
 ];
 
-// Two upgrades stand in each other's way. The victim keeps both its tickets, in their modes, until its transaction ends.
-#[test]
-fn of_two_upgrades_one_is_the_victim(rt: HostRuntime) -> Result<(), Fail> {
-    are_right(&rt, CROSSED)
-}
-
+// A session's own ticket of the table doesn't stand against its upgrade.
 const AT_ONCE: &[Row] = &[
     (1, Act::Acquire(Lock::A, Mode::SR), Reply::Acquired(1)),
     (1, Act::Acquire(Lock::A, Mode::SU), Reply::Acquired(2)),
@@ -110,8 +107,15 @@ const AT_ONCE: &[Row] = &[
     (2, Act::EndTransaction, Reply::Done),
 ];
 
-// A session's own ticket of the table doesn't stand against its upgrade.
+const STORIES: &[(&str, &[Row])] = &[
+    ("of two upgrades one is the victim", CROSSED),
+    ("own tickets do not block an upgrade", AT_ONCE),
+];
+
 #[test]
-fn own_tickets_do_not_block_an_upgrade(rt: HostRuntime) -> Result<(), Fail> {
-    are_right(&rt, AT_ONCE)
+fn upgrades_go_as_told(rt: HostRuntime) {
+    for (what, rows) in STORIES {
+        let wrong = first_wrong(&rt, rows);
+        assert!(rt; wrong.is_none(), "{what}: {wrong:?}");
+    }
 }

@@ -153,6 +153,22 @@ impl<R: Drop> Three<R> {
     }
 }
 
+impl<R: Wait + Drop> Three<R> {
+    // Session 2 is closed while session 1 still has a ticket.
+    fn close_two_first(self, rt: &impl Abort) {
+        let Three {
+            mut one,
+            two,
+            three,
+        } = self;
+        closed(rt, two);
+        let released = one.release(1);
+        closed(rt, one);
+        closed(rt, three);
+        assert!(rt; released == Ok(()));
+    }
+}
+
 // Three sessions of a space of one place.
 fn open_three<R: Wait>(rt: &R, alloc: Global) -> Result<Three<&R>, Fail> {
     let (manager, mut passes) = Manager::new(alloc, 1, 3)?;
@@ -162,19 +178,19 @@ fn open_three<R: Wait>(rt: &R, alloc: Global) -> Result<Three<&R>, Fail> {
     Ok(Three { one, two, three })
 }
 
-// Session 2 can't be closed between these rows.
-fn are_right<R: Wait + Abort + AllocGlobal>(
+// The rows that come to something else, before and after session 2 can't be closed, if some do.
+fn first_wrong<R: Wait + Abort + AllocGlobal>(
     rt: &R,
     before: &[Row],
     after: &[Row],
-) -> Result<(), Fail> {
+) -> Result<(Option<usize>, Option<usize>), Fail> {
     let alloc = rt.alloc();
     let mut all = open_three(rt, alloc)?;
-    assert_eq!(rt; all.first_wrong(alloc, before), None);
+    let wrong_before = all.first_wrong(alloc, before);
     let mut all = all.keep_two_open(rt);
-    assert_eq!(rt; all.first_wrong(alloc, after), None);
+    let wrong_after = all.first_wrong(alloc, after);
     all.close(rt);
-    Ok(())
+    Ok((wrong_before, wrong_after))
 }
 
 const KILLED: &[Row] = &[
@@ -204,7 +220,8 @@ const KILLED_TOO_LATE: &[Row] = &[
 // A wait is killed once. The session's next one isn't hit by the old number, nor by its own once it is granted.
 #[test]
 fn a_kill_hits_its_wait_alone(rt: HostRuntime) -> Result<(), Fail> {
-    are_right(&rt, KILLED, KILLED_TOO_LATE)
+    assert!(rt; first_wrong(&rt, KILLED, KILLED_TOO_LATE)? == (None, None));
+    Ok(())
 }
 
 const LOST: &[Row] = &[
@@ -227,7 +244,8 @@ const ENDED: &[Row] = &[
 // A wait that is lost stands in the others' way until its session ends it, which isn't closed before.
 #[test]
 fn a_lost_wait_stands_until_it_is_ended(rt: HostRuntime) -> Result<(), Fail> {
-    are_right(&rt, LOST, ENDED)
+    assert!(rt; first_wrong(&rt, LOST, ENDED)? == (None, None));
+    Ok(())
 }
 
 const HELD: &[Row] = &[
@@ -243,17 +261,10 @@ const HELD: &[Row] = &[
 fn a_session_with_a_ticket_stays_open(rt: HostRuntime) -> Result<(), Fail> {
     let alloc = rt.alloc();
     let mut all = open_three(&rt, alloc)?;
-    assert_eq!(rt; all.first_wrong(alloc, HELD), None);
+    let wrong = all.first_wrong(alloc, HELD);
     let mut all = all.keep_two_open(&rt);
-    assert_eq!(rt; all.session(2).release(1), Ok(()));
-    let Three {
-        mut one,
-        two,
-        three,
-    } = all;
-    closed(&rt, two);
-    assert_eq!(rt; one.release(1), Ok(()));
-    closed(&rt, one);
-    closed(&rt, three);
+    let released = all.session(2).release(1);
+    all.close_two_first(&rt);
+    assert!(rt; wrong.is_none() && released == Ok(()));
     Ok(())
 }

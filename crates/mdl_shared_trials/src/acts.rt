@@ -1,7 +1,7 @@
 //! Calls of a session and what comes of them, as the rows of tests have them.
 
 use crate::audits::{Shown, are_shown};
-use crate::columns::table;
+use crate::columns::{adding, table};
 use mdl_calls::{
     Attempt, Begun, Ended, Held, Place, Poll, Search, Settled, SpaceError, TicketId, TimedOut,
     Upgrade,
@@ -43,8 +43,10 @@ impl Lock {
 pub(crate) enum Edit {
     CreateSchema,
     PutSchema,
-    // Of one column.
-    CreateTable,
+    // Of one column, which has this name.
+    CreateTable(&'static str),
+    PutTable(&'static str),
+    AddColumn(&'static str),
     Drop,
 }
 
@@ -54,7 +56,9 @@ impl Edit {
         match self {
             Edit::CreateSchema => Some(Change::Create(Definition::Schema)),
             Edit::PutSchema => Some(Change::Put(Definition::Schema)),
-            Edit::CreateTable => Some(Change::Create(table(alloc, "id").ok()?)),
+            Edit::CreateTable(column) => Some(Change::Create(table(alloc, column).ok()?)),
+            Edit::PutTable(column) => Some(Change::Put(table(alloc, column).ok()?)),
+            Edit::AddColumn(column) => adding(alloc, column).ok(),
             Edit::Drop => Some(Change::Drop),
         }
     }
@@ -100,6 +104,8 @@ pub(crate) enum Act {
     WaitOf(u16),
     // It makes way at a place that it knows.
     Reschedule(Place),
+    // It reads the version of a place that it knows.
+    Version(Place),
     // It looks for a deadlock.
     Search,
 }
@@ -154,7 +160,7 @@ pub(crate) fn make<R: Wait>(alloc: Global, session: &mut Session<R>, act: Act) -
         Act::Reserve(count) => done(session.reserve_tickets(count)),
         Act::Read(id) => read(session, id),
         Act::Change(id, edit) => change(alloc, session, id, edit),
-        Act::PutOften(id, times) => put_often(session, id, times),
+        Act::PutOften(id, times) => put_often(alloc, session, id, times),
         Act::Tables => count_tables(session),
         Act::Holds(tickets) => holds(session, tickets),
         Act::KeyOf(place) => key_of(session, place),
@@ -167,14 +173,28 @@ pub(crate) fn make<R: Wait>(alloc: Global, session: &mut Session<R>, act: Act) -
         Act::Kill(target, wait) => Reply::Is(session.kill(target, wait)),
         Act::WaitOf(target) => Reply::Wait(session.wait_of(target)),
         Act::Reschedule(place) => reschedule(session, place),
+        Act::Version(place) => version(session, place),
         Act::Search => searched(session.search_deadlock()),
     }
 }
 
-/// Does it, and does it again where memory was refused to what may take some.
-pub(crate) fn make_at_last<R: Wait>(alloc: Global, session: &mut Session<R>, act: Act) -> Reply {
+/// Whether memory may be refused to acts.
+#[derive(Clone, Copy, PartialEq, Eq)]
+pub(crate) enum Memory {
+    Ample,
+    /// Once: the act is made again then, if it may take some.
+    Scarce,
+}
+
+/// Does it, and does it again where memory was refused that may be.
+pub(crate) fn make_at_last<R: Wait>(
+    alloc: Global,
+    session: &mut Session<R>,
+    act: Act,
+    memory: Memory,
+) -> Reply {
     let reply = make(alloc, session, act);
-    if reply == NO_MEMORY && may_take_memory(act) {
+    if memory == Memory::Scarce && reply == NO_MEMORY && may_take_memory(act) {
         make(alloc, session, act)
     } else {
         reply
@@ -193,7 +213,7 @@ fn may_take_memory(act: Act) -> bool {
         | Act::Try(_, _)
         | Act::Clone(_, _)
         | Act::Read(_)
-        | Act::Change(_, Edit::CreateTable)
+        | Act::Change(_, Edit::CreateTable(_) | Edit::PutTable(_) | Edit::AddColumn(_))
         | Act::Tables
         | Act::Holds(_)
         | Act::KeyOf(_)
@@ -202,6 +222,7 @@ fn may_take_memory(act: Act) -> bool {
         | Act::Begin(_, _)
         | Act::TryFast(_, _)
         | Act::Reschedule(_)
+        | Act::Version(_)
         | Act::Materialise
         | Act::Reserve(_)
         | Act::Search => true,
@@ -239,8 +260,7 @@ fn done(outcome: Result<(), SpaceError>) -> Reply {
     }
 }
 
-/// What comes of a change.
-pub(crate) fn changed(outcome: Result<u64, SpaceError>) -> Reply {
+fn changed(outcome: Result<u64, SpaceError>) -> Reply {
     match outcome {
         Ok(version) => Reply::Version(version),
         Err(why) => Reply::Refused(why),
@@ -303,6 +323,13 @@ fn reschedule<R: Wait>(session: &mut Session<R>, place: Place) -> Reply {
     }
 }
 
+fn version<R>(session: &mut Session<R>, place: Place) -> Reply {
+    match session.key_of(place) {
+        Ok(_key) => Reply::Version(session.version(place)),
+        Err(why) => Reply::Refused(why),
+    }
+}
+
 fn try_fast<R>(session: &mut Session<R>, place: Place, mode: Mode) -> Reply {
     match session.key_of(place) {
         Ok(_key) => tried_fast(session.try_fast(place, mode)),
@@ -322,10 +349,15 @@ fn tried_fast(outcome: Result<Fast, SpaceError>) -> Reply {
 }
 
 fn resolve<R: Wait>(alloc: Global, session: &mut Session<R>, lock: Lock) -> Reply {
-    let Ok(key) = lock.key(alloc) else {
-        return NO_MEMORY;
-    };
-    match session.resolve(&key) {
+    match lock.key(alloc) {
+        Ok(key) => look_up(session, &key),
+        Err(_) => NO_MEMORY,
+    }
+}
+
+/// Looks a key up.
+pub(crate) fn look_up<R: Wait>(session: &mut Session<R>, key: &Key) -> Reply {
+    match session.resolve(key) {
         Ok(place) => Reply::Place(place),
         Err(why) => Reply::Refused(why),
     }
@@ -359,11 +391,10 @@ fn change<R: Wait>(alloc: Global, session: &mut Session<R>, id: TicketId, edit: 
     }
 }
 
-fn put_often<R: Wait>(session: &mut Session<R>, id: TicketId, times: u32) -> Reply {
-    let put = Change::Put(Definition::Schema);
+fn put_often<R: Wait>(alloc: Global, session: &mut Session<R>, id: TicketId, times: u32) -> Reply {
     let mut last = Reply::Done;
     for _ in 0..times {
-        last = changed(session.change_definition(id, &put));
+        last = change(alloc, session, id, Edit::PutSchema);
     }
     last
 }
@@ -390,17 +421,17 @@ fn key_of<R>(session: &mut Session<R>, place: Place) -> Reply {
 }
 
 fn names<R>(alloc: Global, session: &mut Session<R>, place: Place, lock: Lock) -> Reply {
-    match session.key_of(place) {
-        Ok(named) => is_key(alloc, lock, &named),
-        Err(why) => Reply::Refused(why),
+    match lock.key(alloc) {
+        Ok(key) => is_at(session, place, &key),
+        Err(_) => NO_MEMORY,
     }
 }
 
-// Whether a key is a lock's.
-fn is_key(alloc: Global, lock: Lock, named: &Key) -> Reply {
-    match lock.key(alloc) {
-        Ok(key) => Reply::Is(key == *named),
-        Err(_) => NO_MEMORY,
+/// Whether a place has this key.
+pub(crate) fn is_at<R>(session: &mut Session<R>, place: Place, key: &Key) -> Reply {
+    match session.key_of(place) {
+        Ok(named) => Reply::Is(named == *key),
+        Err(why) => Reply::Refused(why),
     }
 }
 

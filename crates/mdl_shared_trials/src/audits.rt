@@ -1,6 +1,6 @@
 //! An audit tells the books of all places that have a key.
-use crate::acts::{Act, Lock, Reply};
-use crate::rows::{NumberedRow, are_right_of_three};
+use crate::acts::{Act, Lock, Memory, Reply};
+use crate::rows::{NumberedCase, NumberedRow, are_right_of_three};
 use mdl_calls::{Place, SpaceError};
 use mdl_defs::Standing;
 use mdl_key::{Key, Mode};
@@ -44,12 +44,15 @@ fn is_shown(book: &Audited, key: &Key, shown: &Shown) -> bool {
 
 // Whether just these tickets are granted, in this order.
 fn are_granted(book: &Audited, granted: &[(u16, u64, Mode)]) -> bool {
-    book.book.granted.len() == granted.len()
-        && book.book.granted.iter().zip(granted).all(|(ticket, granted)| (
-            ticket.session,
-            ticket.number,
-            ticket.mode,
-        ) == *granted)
+    if book.book.granted.len() != granted.len() {
+        return false;
+    }
+    for (ticket, (session, number, mode)) in book.book.granted.iter().zip(granted) {
+        if ticket.session != *session || ticket.number != *number || ticket.mode != *mode {
+            return false;
+        }
+    }
+    true
 }
 
 const BOOKS: &[Shown] = &[
@@ -78,6 +81,7 @@ const FREE_BOOKS: &[Shown] = &[
     },
 ];
 
+// A place whose key nobody has looked up isn't told. Of the others each book is, in the order of the places, and it may be told again.
 const AUDITS: &[NumberedRow] = &[
     (1, Act::Audit(&[]), Reply::Is(true)),
     (1, Act::Resolve(Lock::Shop), Reply::Place(1)),
@@ -88,8 +92,9 @@ const AUDITS: &[NumberedRow] = &[
     (2, Act::Audit(FREE_BOOKS), Reply::Is(true)),
 ];
 
-// A place whose key nobody has looked up isn't told. Of the others each book is, in the order of the places, and it may be told again.
+const CASES_OF_THREE: &[NumberedCase] = &[("an audit tells each book", 3, AUDITS)];
+
 #[test]
-fn an_audit_tells_each_book(rt: HostRuntime) -> Result<(), Fail> {
-    are_right_of_three(&rt, 3, AUDITS)
+fn an_audit_tells_books(rt: HostRuntime) -> Result<(), Fail> {
+    are_right_of_three(&rt, Memory::Ample, CASES_OF_THREE)
 }

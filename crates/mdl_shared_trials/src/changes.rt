@@ -1,11 +1,12 @@
 //! Sessions change what stands under their keys, on one thread.
-use crate::acts::{Act, Edit, Lock, Reply};
-use crate::rows::{NumberedRow, Row, are_right, are_right_of_three};
+use crate::acts::{Act, Edit, Lock, Memory, Reply};
+use crate::rows::{Case, NumberedCase, NumberedRow, Row, are_right, are_right_of_three};
 use mdl_calls::SpaceError;
 use mdl_defs::DefError;
 use mdl_key::Mode;
 use std::test::Fail;
 
+// Each change is one version more, and is read by all who come later.
 const CHANGES: &[NumberedRow] = &[
     (1, Act::Resolve(Lock::Shop), Reply::Place(1)),
     (2, Act::Resolve(Lock::Shop), Reply::Place(1)),
@@ -20,12 +21,6 @@ const CHANGES: &[NumberedRow] = &[
     (2, Act::Release(1), Reply::Done),
 ];
 
-// Each change is one version more, and is read by all who come later.
-#[test]
-fn a_change_is_one_version_more(rt: HostRuntime) -> Result<(), Fail> {
-    are_right_of_three(&rt, 1, CHANGES)
-}
-
 const NOT_HELD: Reply = Reply::Refused(SpaceError::NotHeld);
 
 const NOT_EXCLUSIVE: Reply = Reply::Refused(SpaceError::NotExclusive);
@@ -36,6 +31,7 @@ const MISSING: Reply = Reply::Refused(SpaceError::Def(DefError::Missing));
 
 const EXISTS: Reply = Reply::Refused(SpaceError::Def(DefError::Exists));
 
+// Only an exclusive ticket lets its session change anything, and only what suits the key and what stands there.
 const REFUSED: &[Row] = &[
     (Act::Resolve(Lock::Shop), Reply::Place(1)),
     (Act::Resolve(Lock::Sales), Reply::Place(2)),
@@ -55,12 +51,7 @@ const REFUSED: &[Row] = &[
     (Act::Release(3), Reply::Done),
 ];
 
-// Only an exclusive ticket lets its session change anything, and only what suits the key and what stands there.
-#[test]
-fn a_change_that_cannot_be_made_is_refused(rt: HostRuntime) -> Result<(), Fail> {
-    are_right(&rt, 2, REFUSED)
-}
-
+// After the last version there is none.
 const ALL_VERSIONS: &[Row] = &[
     (Act::Resolve(Lock::Shop), Reply::Place(1)),
     (Act::Try(1, Mode::X), Reply::Granted(1)),
@@ -72,8 +63,15 @@ const ALL_VERSIONS: &[Row] = &[
     (Act::Release(1), Reply::Done),
 ];
 
-// After the last version there is none.
+const CASES: &[Case] = &[
+    ("a change that cannot be made is refused", 2, REFUSED),
+    ("the versions run out", 1, ALL_VERSIONS),
+];
+
+const CASES_OF_THREE: &[NumberedCase] = &[("a change is one version more", 1, CHANGES)];
+
 #[test]
-fn the_versions_run_out(rt: HostRuntime) -> Result<(), Fail> {
-    are_right(&rt, 1, ALL_VERSIONS)
+fn sessions_change_what_stands(rt: HostRuntime) -> Result<(), Fail> {
+    are_right(&rt, Memory::Ample, CASES)?;
+    are_right_of_three(&rt, Memory::Ample, CASES_OF_THREE)
 }

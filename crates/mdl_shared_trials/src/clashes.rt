@@ -19,41 +19,60 @@ fn clashes(asked: Mode, held: Mode) -> bool {
 
 /// Whether no granted tickets of different sessions clash, in each book.
 pub(crate) fn are_lawful(books: &[Audited]) -> bool {
-    books.iter().all(is_lawful)
-}
-
-fn is_lawful(book: &Audited) -> bool {
-    book.book.granted.iter().all(|asked| {
-        book.book.granted.iter().all(|held| asked.session == held.session
-            || !clashes(asked.mode, held.mode))
-    })
+    for book in books {
+        for asked in book.book.granted.iter() {
+            for held in book.book.granted.iter() {
+                if asked.session != held.session && clashes(asked.mode, held.mode) {
+                    return false;
+                }
+            }
+        }
+    }
+    true
 }
 
 /// Whether the books have of a session, which waits for nothing, just the tickets that it holds.
 pub(crate) fn are_of(books: &[Audited], session: u16, held: &[Held]) -> bool {
-    let granted = books.iter().fold(0usize, |sum, book| {
-        sum.saturating_add(granted_to(book, session))
-    });
-    granted == held.len()
-        && held.iter().all(|ticket| books.iter().any(|book| has_ticket(book, session, ticket)))
-        && books.iter().all(|book| book
-            .book
-            .waiting
-            .iter()
-            .all(|ticket| ticket.session != session))
+    for ticket in held {
+        if !has_ticket(books, session, ticket) {
+            return false;
+        }
+    }
+    granted_to(books, session) == held.len() && !waits(books, session)
 }
 
-fn granted_to(book: &Audited, session: u16) -> usize {
-    book.book
-        .granted
-        .iter()
-        .filter(|ticket| ticket.session == session)
-        .count()
+fn granted_to(books: &[Audited], session: u16) -> usize {
+    let mut granted = 0usize;
+    for book in books {
+        for ticket in book.book.granted.iter() {
+            granted = granted.saturating_add(usize::from(ticket.session == session));
+        }
+    }
+    granted
 }
 
-fn has_ticket(book: &Audited, session: u16, held: &Held) -> bool {
-    book.place == held.place
-        && book.book.granted.iter().any(|ticket| {
-            (ticket.session, ticket.number, ticket.mode) == (session, held.id, held.mode)
-        })
+fn has_ticket(books: &[Audited], session: u16, held: &Held) -> bool {
+    for book in books {
+        for ticket in book.book.granted.iter() {
+            if book.place == held.place
+                && ticket.session == session
+                && ticket.number == held.id
+                && ticket.mode == held.mode
+            {
+                return true;
+            }
+        }
+    }
+    false
+}
+
+fn waits(books: &[Audited], session: u16) -> bool {
+    for book in books {
+        for ticket in book.book.waiting.iter() {
+            if ticket.session == session {
+                return true;
+            }
+        }
+    }
+    false
 }

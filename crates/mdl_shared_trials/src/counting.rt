@@ -2,11 +2,11 @@
 ghost use Rattle.std.specs.Prelude.{◌≡◌};
 ghost use Rattle.mdl_shared.specs.Passes.{table_of, pass_table};
 
+use crate::acts::{Act, Edit, Lock, Reply, make};
 use crate::sessions::closed;
-use mdl_calls::{Attempt, Place};
-use mdl_defs::{Change, Column, Columns, Definition};
-use mdl_key::{Key, Mode};
-use mdl_shared::{Manager, Pass, Session};
+use mdl_calls::Place;
+use mdl_key::Mode;
+use mdl_shared::{Audited, Manager, Pass, Session};
 use std::alloc::Global;
 use std::process::Abort;
 use std::sync::Wait;
@@ -17,88 +17,96 @@ use std::thread::Threads;
 const TRIES: u32 = 100;
 
 // Whether a session got the lock for itself and changed what stands there. It has given the lock up again.
-fn changes<R: Wait>(session: &mut Session<R>, place: Place, change: &Change) -> bool {
-    match session.try_now(place, Mode::X) {
-        Ok(Attempt::Granted(id)) => {
-            let changed = session.change_definition(id, change).is_ok();
-            session.release(id).is_ok() && changed
+fn changes<R: Wait>(alloc: Global, session: &mut Session<R>, place: Place) -> bool {
+    match make(alloc, session, Act::Try(place, Mode::X)) {
+        Reply::Granted(id) => {
+            let put = Act::Change(id, Edit::PutTable("number"));
+            let changed = matches!(make(alloc, session, put), Reply::Version(_));
+            make(alloc, session, Act::Release(id)) == Reply::Done && changed
         }
         _ => false,
     }
 }
 
-// How often the session of a pass did so.
-fn count<R: Wait + Abort>(rt: &R, manager: &Manager, pass: Pass, key: &Key, change: &Change) -> u64
+// How often in so many tries a session did so.
+fn changes_of<R: Wait>(alloc: Global, session: &mut Session<R>) -> u64 {
+    let Reply::Place(place) = make(alloc, session, Act::Resolve(Lock::Sales)) else {
+        return 0;
+    };
+    let mut changed = 0u64;
+    for _ in 0..TRIES {
+        changed = changed.saturating_add(u64::from(changes(alloc, session, place)));
+    }
+    changed
+}
+
+// The same of the session of a pass.
+fn count<R: Wait + Abort + AllocGlobal>(rt: &R, manager: &Manager, pass: Pass) -> u64
     requires { pass_table pass ≡ table_of manager.now }
 {
     let mut session = Session::open(rt, manager, pass);
-    let mut changed = 0u64;
-    if let Ok(place) = session.resolve(key) {
-        for _ in 0..TRIES {
-            if changes(&mut session, place, change) {
-                changed = changed.saturating_add(1);
-            }
-        }
-    }
+    let changed = changes_of(rt.alloc(), &mut session);
     closed(rt, session);
     changed
 }
 
 // The same of two passes, on two threads.
-fn count_two<R: Threads + Wait + Abort + Sync>(
+fn count_two<R: Threads + Wait + Abort + AllocGlobal + Sync>(
     rt: &R,
     manager: &Manager,
     one: Pass,
     two: Pass,
-    key: &Key,
-    change: &Change,
 ) -> u64
     requires { (pass_table one ≡ table_of manager.now) × (pass_table two ≡ table_of manager.now) }
 {
     let (early, late) = thread::join(
         rt,
-        move || count(rt, manager, one, key, change),
-        move || count(rt, manager, two, key, change),
+        move || count(rt, manager, one),
+        move || count(rt, manager, two),
     );
     early.saturating_add(late)
 }
 
-/// A table with one column is put, whatever stands.
-pub(crate) fn putting(alloc: Global) -> Result<Change, Fail> {
-    let mut columns = Columns::new(alloc);
-    columns.push(Column::new(alloc, "number")?)?;
-    Ok(Change::Put(Definition::Table(columns)))
+// The version of the one book, in which no ticket is left.
+fn version_left(books: &[Audited]) -> Option<u64> {
+    match books {
+        [book] if book.book.granted.is_empty() && book.book.waiting.is_empty() => {
+            Some(book.book.standing.version)
+        }
+        _ => None,
+    }
+}
+
+// The same of the session of a pass, once all is over.
+fn version<R: Wait + Abort>(rt: &R, manager: &Manager, pass: Pass) -> Option<u64>
+    requires { pass_table pass ≡ table_of manager.now }
+{
+    let mut session = Session::open(rt, manager, pass);
+    let version = match session.audit() {
+        Ok(books) => version_left(&books),
+        Err(_) => None,
+    };
+    closed(rt, session);
+    version
 }
 
 // The version counts the changes, and no ticket is left.
 #[test]
 fn versions_count_the_changes_of_four_threads(rt: HostRuntime) -> Result<(), Fail> {
-    let alloc = rt.alloc();
-    let (manager, mut passes) = Manager::new(alloc, 1, 5)?;
-    let key = Key::table(alloc, "shop", "sales")?;
-    let change = putting(alloc)?;
+    let (manager, mut passes) = Manager::new(rt.alloc(), 1, 5)?;
     let five = passes.remove(4);
     let four = passes.remove(3);
     let three = passes.remove(2);
     let two = passes.remove(1);
     let one = passes.remove(0);
-    let (runtime, manager, key, change) = (&rt, &manager, &key, &change);
+    let (rt, manager) = (&rt, &manager);
     let (early, late) = thread::join(
-        runtime,
-        move || count_two(runtime, manager, one, two, key, change),
-        move || count_two(runtime, manager, three, four, key, change),
+        rt,
+        move || count_two(rt, manager, one, two),
+        move || count_two(rt, manager, three, four),
     );
-    let mut watcher = Session::open(&rt, manager, five);
-    let books = watcher.audit();
-    closed(&rt, watcher);
-    let books = books?;
-    let versions = books.iter().fold(0u64, |sum, book| {
-        sum.saturating_add(book.book.standing.version)
-    });
-    assert_eq!(rt; versions, early.saturating_add(late));
-    assert!(rt; versions >= 1);
-    assert!(rt;
-        books.iter().all(|book| book.book.granted.is_empty() && book.book.waiting.is_empty())
-    );
+    let changed = early.saturating_add(late);
+    assert!(rt; changed >= 1);
+    assert!(rt; version(rt, manager, five) == Some(changed));
     Ok(())
 }

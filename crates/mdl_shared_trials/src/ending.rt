@@ -1,5 +1,5 @@
 //! A lost wait ends, and who waited behind it gets the lock.
-use crate::acts::{Act, Lock, Reply};
+use crate::acts::{Act, Lock, Memory, Reply};
 use crate::rows::{NumberedRow, are_right_of_three};
 use mdl_calls::{Ended, Settled};
 use mdl_key::Mode;
@@ -24,5 +24,5 @@ const BEHIND: &[NumberedRow] = &[
 // A reader that waits behind a lost wish to write gets its lock as that wait ends.
 #[test]
 fn a_lost_wait_that_ends_makes_way(rt: HostRuntime) -> Result<(), Fail> {
-    are_right_of_three(&rt, 1, BEHIND)
+    are_right_of_three(&rt, Memory::Ample, &[("a way is made", 1, BEHIND)])
 }

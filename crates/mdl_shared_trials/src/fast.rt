@@ -1,7 +1,9 @@
 //! Sessions try for fast tickets, give them up and make slow ones of them, on one thread.
-use crate::acts::{Act, Lock, Reply, make};
+use crate::acts::{Act, Lock, Memory, Reply, make};
 use crate::audits::Shown;
-use crate::rows::{Memory, NumberedRow, Row, are_right, are_right_of_three, open_three};
+use crate::rows::{
+    Case, NumberedCase, NumberedRow, Row, are_right, are_right_of_three, open_three,
+};
 use mdl_calls::{Ended, Held, Settled, SpaceError};
 use mdl_key::Mode;
 use mdl_shared::Session;
@@ -70,13 +72,12 @@ fn a_session_gains_1023_fast_tickets_at_a_place(rt: HostRuntime) -> Result<(), F
     let more = sessions.first_wrong(alloc, ONE_MORE, Memory::Ample);
     let gone = given_up(alloc, sessions.session(1));
     sessions.close(&rt);
-    assert_eq!(rt;
-        (room, gained, more, gone),
-        (None, MOST_FAST, None, MOST_FAST)
-    );
+    assert!(rt; room.is_none() && more.is_none());
+    assert!(rt; gained == MOST_FAST && gone == MOST_FAST);
     Ok(())
 }
 
+// A wait keeps new fast tickets away. It is granted once whoever gave the last one up reschedules the place.
 const OWED: &[NumberedRow] = &[
     (1, Act::Resolve(Lock::Sales), Reply::Place(1)),
     (2, Act::Resolve(Lock::Sales), Reply::Place(1)),
@@ -101,12 +102,7 @@ const OWED: &[NumberedRow] = &[
     (2, Act::Release(1), Reply::Done),
 ];
 
-// A wait keeps new fast tickets away. It is granted once whoever gave the last one up reschedules the place.
-#[test]
-fn a_fast_release_owes_a_reschedule(rt: HostRuntime) -> Result<(), Fail> {
-    are_right_of_three(&rt, 1, OWED)
-}
-
+// A wait that was killed isn't granted, and keeps nobody away once it has ended.
 const KILLED: &[NumberedRow] = &[
     (1, Act::Resolve(Lock::Sales), Reply::Place(1)),
     (2, Act::Resolve(Lock::Sales), Reply::Place(1)),
@@ -122,12 +118,6 @@ const KILLED: &[NumberedRow] = &[
     (3, Act::TryFast(1, Mode::S), Reply::Granted(1)),
     (3, Act::ReleaseFast(1), Reply::Owes(false)),
 ];
-
-// A wait that was killed isn't granted, and keeps nobody away once it has ended.
-#[test]
-fn a_killed_wait_opens_the_fast_path(rt: HostRuntime) -> Result<(), Fail> {
-    are_right_of_three(&rt, 1, KILLED)
-}
 
 const TICKETS: &[Held] = &[
     Held {
@@ -159,6 +149,7 @@ const THREE: Shown = Shown {
     granted: &[(1, 1, Mode::S), (1, 2, Mode::S), (1, 3, Mode::SR)],
 };
 
+// Tickets that become slow ones stand in the books, and stay what they were.
 const MADE_SLOW: &[Row] = &[
     (Act::Resolve(Lock::Sales), Reply::Place(1)),
     (Act::TryFast(1, Mode::S), Reply::Granted(1)),
@@ -176,12 +167,7 @@ const MADE_SLOW: &[Row] = &[
     (Act::Materialise, Reply::Done),
 ];
 
-// Tickets that become slow ones stand in the books, and stay what they were.
-#[test]
-fn fast_tickets_become_slow_ones(rt: HostRuntime) -> Result<(), Fail> {
-    are_right(&rt, 1, MADE_SLOW)
-}
-
+// An obtrusive ticket makes the fast tickets of its session slow, and closes the fast path to all until it is given up.
 const BESIDE_READ_ONLY: &[NumberedRow] = &[
     (1, Act::Resolve(Lock::Sales), Reply::Place(1)),
     (2, Act::Resolve(Lock::Sales), Reply::Place(1)),
@@ -205,12 +191,7 @@ const BESIDE_READ_ONLY: &[NumberedRow] = &[
     (1, Act::Release(1), Reply::Done),
 ];
 
-// An obtrusive ticket makes the fast tickets of its session slow, and closes the fast path to all until it is given up.
-#[test]
-fn an_obtrusive_ticket_closes_the_fast_path(rt: HostRuntime) -> Result<(), Fail> {
-    are_right_of_three(&rt, 1, BESIDE_READ_ONLY)
-}
-
+// Only modes that aren't obtrusive are tried for so, and only what was gained so is given up so.
 const REFUSED: &[NumberedRow] = &[
     (
         1,
@@ -237,12 +218,8 @@ const REFUSED: &[NumberedRow] = &[
     (2, Act::Release(1), Reply::Done),
 ];
 
-// Only modes that aren't obtrusive are tried for so, and only what was gained so is given up so.
-#[test]
-fn what_is_not_fast_is_refused(rt: HostRuntime) -> Result<(), Fail> {
-    are_right_of_three(&rt, 1, REFUSED)
-}
-
+// All calls that wish for an unobtrusive mode get a fast ticket, which the lock's word counts. Whoever gives up the last one that stands against a
+// wait grants that.
 const WAITED_FOR: &[NumberedRow] = &[
     (1, Act::Resolve(Lock::Sales), Reply::Place(1)),
     (2, Act::Resolve(Lock::Sales), Reply::Place(1)),
@@ -277,13 +254,6 @@ const WAITED_FOR: &[NumberedRow] = &[
     (3, Act::ReleaseFast(1), Reply::Owes(false)),
 ];
 
-// All calls that wish for an unobtrusive mode get a fast ticket, which the lock's word counts. Whoever gives up the last one that stands against a
-// wait grants that.
-#[test]
-fn unobtrusive_wishes_take_the_fast_path(rt: HostRuntime) -> Result<(), Fail> {
-    are_right_of_three(&rt, 1, WAITED_FOR)
-}
-
 const READER: Shown = Shown {
     place: 1,
     lock: Lock::Sales,
@@ -308,6 +278,8 @@ const MERGED: Shown = Shown {
     granted: &[(1, 1, Mode::X)],
 };
 
+// What goes by the latch of one place makes the session's fast tickets at all places slow first. An upgrade to a mode that the ticket has leaves
+// them.
 const ELSEWHERE: &[Row] = &[
     (Act::Resolve(Lock::Sales), Reply::Place(1)),
     (Act::Resolve(Lock::Orders), Reply::Place(2)),
@@ -333,9 +305,25 @@ const ELSEWHERE: &[Row] = &[
     (Act::Release(6), Reply::Done),
 ];
 
-// What goes by the latch of one place makes the session's fast tickets at all places slow first. An upgrade to a mode that the ticket has leaves
-// them.
+const CASES: &[Case] = &[
+    ("fast tickets become slow ones", 1, MADE_SLOW),
+    ("fast tickets elsewhere become slow", 2, ELSEWHERE),
+];
+
+const CASES_OF_THREE: &[NumberedCase] = &[
+    ("a fast release owes a reschedule", 1, OWED),
+    ("a killed wait opens the fast path", 1, KILLED),
+    (
+        "an obtrusive ticket closes the fast path",
+        1,
+        BESIDE_READ_ONLY,
+    ),
+    ("what is not fast is refused", 1, REFUSED),
+    ("unobtrusive wishes take the fast path", 1, WAITED_FOR),
+];
+
 #[test]
-fn fast_tickets_elsewhere_become_slow(rt: HostRuntime) -> Result<(), Fail> {
-    are_right(&rt, 2, ELSEWHERE)
+fn fast_tickets_come_and_go(rt: HostRuntime) -> Result<(), Fail> {
+    are_right(&rt, Memory::Ample, CASES)?;
+    are_right_of_three(&rt, Memory::Ample, CASES_OF_THREE)
 }

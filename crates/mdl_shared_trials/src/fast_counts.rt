@@ -3,18 +3,20 @@ use mdl_calls::{Held, Place};
 use mdl_key::Mode;
 use mdl_word::Word;
 
-const CLASSES: [&[Mode]; 3] = [&[Mode::S, Mode::SH], &[Mode::SR], &[Mode::SW, Mode::SWLP]];
-
 // How many of the tickets are at a place, in these modes.
-fn count(held: &[Held], place: Place, modes: &[Mode]) -> usize {
-    held.iter()
-        .filter(|ticket| ticket.place == place && modes.contains(&ticket.mode))
-        .count()
+fn count(held: &[Held], place: Place, modes: &[Mode]) -> u32 {
+    let mut count = 0u32;
+    for ticket in held {
+        let counts = ticket.place == place && modes.contains(&ticket.mode);
+        count = count.saturating_add(u32::from(counts));
+    }
+    count
 }
 
 /// Whether the word of a place's lock counts just these tickets of all sessions, where each that is at the place is a fast one.
 pub(crate) fn are_counted(word: Word, held: &[Held], place: Place) -> bool {
-    let counts = word.counts();
-    counts.iter().zip(CLASSES).all(|(counted, modes)| *counted as usize
-        == count(held, place, modes))
+    let [shared, read, written] = word.counts();
+    shared == count(held, place, &[Mode::S, Mode::SH])
+        && read == count(held, place, &[Mode::SR])
+        && written == count(held, place, &[Mode::SW, Mode::SWLP])
 }

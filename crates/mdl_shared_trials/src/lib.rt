@@ -49,6 +49,8 @@ mod places;
 #[cfg(test)]
 mod players;
 #[cfg(test)]
+mod readers;
+#[cfg(test)]
 mod rows;
 #[cfg(test)]
 mod searches;

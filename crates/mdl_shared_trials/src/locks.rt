@@ -1,16 +1,18 @@
 //! Sessions try for locks, and give them up, on one thread.
-use crate::acts::{Act, Lock, Reply};
-use crate::rows::{Memory, NumberedRow, Row, are_right, are_right_of_three, first_wrong, open_one};
+use crate::acts::{Act, Lock, Memory, Reply};
+use crate::rows::{
+    Case, NumberedCase, NumberedRow, Row, are_right, are_right_of_three, led, open_one,
+};
 use crate::sessions::closed;
 use mdl_calls::SpaceError;
 use mdl_key::Mode;
 use mdl_shared::{HoldsTickets, Session};
 use std::process::Abort;
-use std::sync::Wait;
 use std::test::Fail;
 
 const NOT_HELD: Reply = Reply::Refused(SpaceError::NotHeld);
 
+// Two readers stand beside each other, and a writer beside nobody. Each session counts its own tickets.
 const WRITERS: &[NumberedRow] = &[
     (1, Act::Resolve(Lock::Sales), Reply::Place(1)),
     (2, Act::Resolve(Lock::Sales), Reply::Place(1)),
@@ -27,12 +29,7 @@ const WRITERS: &[NumberedRow] = &[
     (1, Act::Release(2), Reply::Done),
 ];
 
-// Two readers stand beside each other, and a writer beside nobody. Each session counts its own tickets.
-#[test]
-fn a_writer_stands_alone(rt: HostRuntime) -> Result<(), Fail> {
-    are_right_of_three(&rt, 1, WRITERS)
-}
-
+// A place counts only for the session that has looked its key up. A table has no intention mode.
 const REFUSED: &[NumberedRow] = &[
     (1, Act::Resolve(Lock::Sales), Reply::Place(1)),
     (
@@ -48,12 +45,6 @@ const REFUSED: &[NumberedRow] = &[
     (1, Act::Release(1), NOT_HELD),
 ];
 
-// A place counts only for the session that has looked its key up. A table has no intention mode.
-#[test]
-fn what_cannot_be_tried_is_refused(rt: HostRuntime) -> Result<(), Fail> {
-    are_right_of_three(&rt, 1, REFUSED)
-}
-
 const FIRST: &[Row] = &[
     (Act::Resolve(Lock::Sales), Reply::Place(1)),
     (Act::Try(1, Mode::S), Reply::Granted(1)),
@@ -65,19 +56,6 @@ const SECOND: &[Row] = &[
 ];
 
 const THIRD: &[Row] = &[(Act::Release(2), Reply::Done)];
-
-/// The session, for which the rows are right.
-pub(crate) fn led<'a, R: Wait + Abort + AllocGlobal>(
-    rt: &R,
-    mut session: Session<&'a R>,
-    rows: &[Row],
-) -> Session<&'a R> {
-    assert_eq!(rt;
-        first_wrong(rt.alloc(), &mut session, rows, Memory::Ample),
-        None
-    );
-    session
-}
 
 /// The session that wasn't closed.
 pub(crate) fn kept_open<R: Drop>(rt: &impl Abort, session: Session<R>) -> Session<R> {
@@ -91,13 +69,14 @@ pub(crate) fn kept_open<R: Drop>(rt: &impl Abort, session: Session<R>) -> Sessio
 #[test]
 fn a_session_with_a_ticket_stays_open(rt: HostRuntime) -> Result<(), Fail> {
     let session = open_one(&rt, 1)?;
-    let session = kept_open(&rt, led(&rt, session, FIRST));
-    let session = kept_open(&rt, led(&rt, session, SECOND));
-    let pass = closed(&rt, led(&rt, session, THIRD));
-    assert_eq!(rt; pass.number(), 1);
+    let session = kept_open(&rt, led(&rt, session, FIRST, Memory::Ample));
+    let session = kept_open(&rt, led(&rt, session, SECOND, Memory::Ample));
+    let pass = closed(&rt, led(&rt, session, THIRD, Memory::Ample));
+    assert!(rt; pass.number() == 1);
     Ok(())
 }
 
+// Under a ticket a session reads what stands at its place, and under none nothing.
 const READS: &[Row] = &[
     (Act::Resolve(Lock::Sales), Reply::Place(1)),
     (Act::Read(1), NOT_HELD),
@@ -108,8 +87,15 @@ const READS: &[Row] = &[
     (Act::Read(1), NOT_HELD),
 ];
 
-// Under a ticket a session reads what stands at its place, and under none nothing.
+const CASES: &[Case] = &[("a ticket lets its session read", 1, READS)];
+
+const CASES_OF_THREE: &[NumberedCase] = &[
+    ("a writer stands alone", 1, WRITERS),
+    ("what cannot be tried is refused", 1, REFUSED),
+];
+
 #[test]
-fn a_ticket_lets_its_session_read(rt: HostRuntime) -> Result<(), Fail> {
-    are_right(&rt, 1, READS)
+fn sessions_try_for_locks(rt: HostRuntime) -> Result<(), Fail> {
+    are_right(&rt, Memory::Ample, CASES)?;
+    are_right_of_three(&rt, Memory::Ample, CASES_OF_THREE)
 }

@@ -4,11 +4,10 @@
 ghost use Rattle.std.specs.Prelude.{◌≡◌, ◌+◌, length, IfOk};
 ghost use Rattle.mdl_shared.specs.Passes.{ArePasses, table_of};
 
-use crate::acts::{Act, Edit, Lock, NO_MEMORY, Reply, make};
+use crate::acts::{Act, Edit, Lock, Memory, NO_MEMORY, Reply, make};
 use crate::audits::Shown;
 use crate::rows::{
-    Memory, NumberedRow, Row, are_right_at_last, are_right_of_three_at_last, first_wrong,
-    open_at_last,
+    Case, NumberedCase, NumberedRow, Row, are_right, are_right_of_three, first_wrong, open_at_last,
 };
 use crate::sessions::closed;
 use mdl_calls::{Ended, Held, Place, Settled, SpaceError};
@@ -55,16 +54,6 @@ const WAITS: &[NumberedRow] = &[
     (2, Act::Release(1), Reply::Done),
 ];
 
-#[test]
-fn waits_outlive_want_of_memory(rt: HostRuntime) -> Result<(), Fail> {
-    are_right_of_three_at_last(&rt, WAITS)
-}
-
-#[test]
-fn outlives_want_of_memory(rt: HostRuntime) -> Result<(), Fail> {
-    are_right_of_three_at_last(&rt, CALLS)
-}
-
 const TICKET: Held = Held {
     id: 1,
     place: 1,
@@ -86,25 +75,15 @@ const TOLD: &[Row] = &[
     (Act::Release(1), Reply::Done),
 ];
 
-#[test]
-fn tells_at_the_second_try(rt: HostRuntime) -> Result<(), Fail> {
-    are_right_at_last(&rt, TOLD)
-}
-
+// An upgrade takes no memory, nor does it to drop what stands.
 const CHANGES: &[Row] = &[
     (Act::Resolve(Lock::Sales), Reply::Place(1)),
     (Act::Try(1, Mode::SU), Reply::Granted(1)),
     (Act::Upgrade(1, Mode::X), Reply::Upgraded),
-    (Act::Change(1, Edit::CreateTable), Reply::Version(1)),
+    (Act::Change(1, Edit::CreateTable("id")), Reply::Version(1)),
     (Act::Change(1, Edit::Drop), Reply::Version(2)),
     (Act::Release(1), Reply::Done),
 ];
-
-// An upgrade takes no memory, nor does it to drop what stands.
-#[test]
-fn changes_outlive_want_of_memory(rt: HostRuntime) -> Result<(), Fail> {
-    are_right_at_last(&rt, CHANGES)
-}
 
 const AHEAD: &[Row] = &[
     (Act::Resolve(Lock::Sales), Reply::Place(1)),
@@ -164,12 +143,13 @@ fn fast_tickets_outlive_want_of_memory(rt: HostRuntime) -> Result<(), Fail> {
     let ahead = first_wrong(rt.alloc(), &mut session, AHEAD, Memory::Scarce);
     let made = make(rt.alloc(), &mut session, Act::Materialise);
     let kept = first_wrong(rt.alloc(), &mut session, KEPT, Memory::Scarce);
-    assert_eq!(rt; (ahead, kept), (None, None));
+    assert!(rt; ahead.is_none() && kept.is_none());
     assert!(rt; made == Reply::Done || made == NO_MEMORY);
     closed(&rt, session);
     Ok(())
 }
 
+// An upgrade to a mode that the ticket covers takes no memory, though there is a fast ticket, which stays one.
 const COVERED: &[Row] = &[
     (Act::Resolve(Lock::Sales), Reply::Place(1)),
     (Act::Resolve(Lock::Orders), Reply::Place(2)),
@@ -181,12 +161,6 @@ const COVERED: &[Row] = &[
     (Act::ReleaseFast(2), Reply::Owes(false)),
     (Act::Release(1), Reply::Done),
 ];
-
-// An upgrade to a mode that the ticket covers takes no memory, though there is a fast ticket, which stays one.
-#[test]
-fn covered_upgrades_take_no_memory(rt: HostRuntime) -> Result<(), Fail> {
-    are_right_at_last(&rt, COVERED)
-}
 
 // How many of so many fast tickets are granted at a place after room was made for them, each at the first try. The session knows the key of the
 // place.
@@ -233,6 +207,23 @@ fn reserved_tickets_take_no_memory(rt: HostRuntime) -> Result<(), Fail> {
     let granted = granted_at_last(&mut session, 1, 100);
     let gone = given_up(&mut session, 100);
     closed(&rt, session);
-    assert_eq!(rt; (wrong, granted, gone), (None, Ok(100), 100));
+    assert!(rt; wrong.is_none() && granted == Ok(100) && gone == 100);
     Ok(())
+}
+
+const CASES: &[Case] = &[
+    ("tells at the second try", 2, TOLD),
+    ("changes outlive want of memory", 2, CHANGES),
+    ("covered upgrades take no memory", 2, COVERED),
+];
+
+const CASES_OF_THREE: &[NumberedCase] = &[
+    ("waits outlive want of memory", 2, WAITS),
+    ("outlives want of memory", 2, CALLS),
+];
+
+#[test]
+fn calls_outlive_want_of_memory(rt: HostRuntime) -> Result<(), Fail> {
+    are_right(&rt, Memory::Scarce, CASES)?;
+    are_right_of_three(&rt, Memory::Scarce, CASES_OF_THREE)
 }

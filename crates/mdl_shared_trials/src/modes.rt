@@ -1,6 +1,6 @@
 //! Tickets get weaker modes, are cloned and merged.
-use crate::acts::{Act, Lock, Reply};
-use crate::rows::{NumberedRow, Row, are_right, are_right_of_three};
+use crate::acts::{Act, Lock, Memory, Reply};
+use crate::rows::{Case, NumberedCase, NumberedRow, Row, are_right, are_right_of_three};
 use mdl_calls::SpaceError;
 use mdl_key::Mode;
 use std::test::Fail;
@@ -11,6 +11,7 @@ const NOT_UPGRADABLE: Reply = Reply::Refused(SpaceError::NotUpgradable);
 
 const BAD_MODE: Reply = Reply::Refused(SpaceError::BadMode);
 
+// What the weaker mode lets stand is had beside it at once.
 const DOWNGRADES: &[NumberedRow] = &[
     (1, Act::Resolve(Lock::Sales), Reply::Place(1)),
     (2, Act::Resolve(Lock::Sales), Reply::Place(1)),
@@ -27,12 +28,7 @@ const DOWNGRADES: &[NumberedRow] = &[
     (2, Act::Release(2), Reply::Done),
 ];
 
-// What the weaker mode lets stand is had beside it at once.
-#[test]
-fn a_downgraded_ticket_lets_others_in(rt: HostRuntime) -> Result<(), Fail> {
-    are_right_of_three(&rt, 1, DOWNGRADES)
-}
-
+// A schema's lock has none of the modes that X may become.
 const NO_DOWNGRADES: &[Row] = &[
     (Act::Resolve(Lock::Sales), Reply::Place(1)),
     (Act::Resolve(Lock::Shop), Reply::Place(2)),
@@ -47,12 +43,7 @@ const NO_DOWNGRADES: &[Row] = &[
     (Act::Release(2), Reply::Done),
 ];
 
-// A schema's lock has none of the modes that X may become.
-#[test]
-fn other_modes_are_no_downgrades(rt: HostRuntime) -> Result<(), Fail> {
-    are_right(&rt, 2, NO_DOWNGRADES)
-}
-
+// A clone keeps the lock when the first ticket is gone. Where others hold weaker modes it is had still.
 const CLONES: &[NumberedRow] = &[
     (1, Act::Resolve(Lock::Sales), Reply::Place(1)),
     (2, Act::Resolve(Lock::Sales), Reply::Place(1)),
@@ -72,12 +63,7 @@ const CLONES: &[NumberedRow] = &[
     (2, Act::Release(3), Reply::Done),
 ];
 
-// A clone keeps the lock when the first ticket is gone. Where others hold weaker modes it is had still.
-#[test]
-fn a_clone_outlives_its_ticket(rt: HostRuntime) -> Result<(), Fail> {
-    are_right_of_three(&rt, 1, CLONES)
-}
-
+// A schema's lock has none of the modes of a table's, and a clone is no stronger than its ticket.
 const NO_CLONES: &[Row] = &[
     (Act::Resolve(Lock::Sales), Reply::Place(1)),
     (Act::Resolve(Lock::Shop), Reply::Place(2)),
@@ -93,12 +79,7 @@ const NO_CLONES: &[Row] = &[
     (Act::Release(3), Reply::Done),
 ];
 
-// A schema's lock has none of the modes of a table's, and a clone is no stronger than its ticket.
-#[test]
-fn no_clone_is_stronger(rt: HostRuntime) -> Result<(), Fail> {
-    are_right(&rt, 2, NO_CLONES)
-}
-
+// The first ticket has the mode of the second then, and the second is gone.
 const MERGES: &[NumberedRow] = &[
     (1, Act::Resolve(Lock::Sales), Reply::Place(1)),
     (2, Act::Resolve(Lock::Sales), Reply::Place(1)),
@@ -113,12 +94,7 @@ const MERGES: &[NumberedRow] = &[
     (2, Act::Release(1), Reply::Done),
 ];
 
-// The first ticket has the mode of the second then, and the second is gone.
-#[test]
-fn merged_tickets_are_one(rt: HostRuntime) -> Result<(), Fail> {
-    are_right_of_three(&rt, 1, MERGES)
-}
-
+// Two tickets of one place are merged, into the mode of the stronger.
 const NO_MERGES: &[Row] = &[
     (Act::Resolve(Lock::Sales), Reply::Place(1)),
     (Act::Resolve(Lock::Orders), Reply::Place(2)),
@@ -136,8 +112,20 @@ const NO_MERGES: &[Row] = &[
     (Act::Release(3), Reply::Done),
 ];
 
-// Two tickets of one place are merged, into the mode of the stronger.
+const CASES: &[Case] = &[
+    ("other modes are no downgrades", 2, NO_DOWNGRADES),
+    ("no clone is stronger", 2, NO_CLONES),
+    ("others are not merged", 2, NO_MERGES),
+];
+
+const CASES_OF_THREE: &[NumberedCase] = &[
+    ("a downgraded ticket lets others in", 1, DOWNGRADES),
+    ("a clone outlives its ticket", 1, CLONES),
+    ("merged tickets are one", 1, MERGES),
+];
+
 #[test]
-fn others_are_not_merged(rt: HostRuntime) -> Result<(), Fail> {
-    are_right(&rt, 2, NO_MERGES)
+fn tickets_get_weaker_modes(rt: HostRuntime) -> Result<(), Fail> {
+    are_right(&rt, Memory::Ample, CASES)?;
+    are_right_of_three(&rt, Memory::Ample, CASES_OF_THREE)
 }

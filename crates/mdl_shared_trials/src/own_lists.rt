@@ -1,6 +1,6 @@
 //! Sessions tell their tickets, and the keys of the places that they have looked up.
-use crate::acts::{Act, Lock, Reply};
-use crate::rows::{NumberedRow, Row, are_right, are_right_of_three};
+use crate::acts::{Act, Lock, Memory, Reply};
+use crate::rows::{Case, NumberedCase, NumberedRow, Row, are_right, are_right_of_three};
 use mdl_calls::{Held, SpaceError};
 use mdl_key::Mode;
 use std::test::Fail;
@@ -19,6 +19,7 @@ const SECOND: Held = Held {
     mode: Mode::IX,
 };
 
+// Tickets are told in the order in which they were gained. What wasn't granted isn't told, nor what was given up.
 const GAINS: &[Row] = &[
     (Act::Resolve(Lock::Shop), Reply::Place(1)),
     (Act::Resolve(Lock::Sales), Reply::Place(2)),
@@ -31,12 +32,7 @@ const GAINS: &[Row] = &[
     (Act::Holds(&[]), Reply::Is(true)),
 ];
 
-// Tickets are told in the order in which they were gained. What wasn't granted isn't told, nor what was given up.
-#[test]
-fn tickets_are_told_in_order_of_gain(rt: HostRuntime) -> Result<(), Fail> {
-    are_right(&rt, 2, GAINS)
-}
-
+// What others hold isn't told.
 const OF_OTHERS: &[NumberedRow] = &[
     (1, Act::Resolve(Lock::Sales), Reply::Place(1)),
     (2, Act::Resolve(Lock::Sales), Reply::Place(1)),
@@ -46,12 +42,7 @@ const OF_OTHERS: &[NumberedRow] = &[
     (1, Act::Release(1), Reply::Done),
 ];
 
-// What others hold isn't told.
-#[test]
-fn only_tickets_of_its_own_are_told(rt: HostRuntime) -> Result<(), Fail> {
-    are_right_of_three(&rt, 1, OF_OTHERS)
-}
-
+// A key is told to the session that has looked it up, and to no other.
 const KEYS: &[NumberedRow] = &[
     (1, Act::Names(1, Lock::Shop), NO_PLACE),
     (1, Act::Resolve(Lock::Shop), Reply::Place(1)),
@@ -65,8 +56,15 @@ const KEYS: &[NumberedRow] = &[
     (2, Act::Names(2, Lock::Sales), Reply::Is(true)),
 ];
 
-// A key is told to the session that has looked it up, and to no other.
+const CASES: &[Case] = &[("tickets are told in order of gain", 2, GAINS)];
+
+const CASES_OF_THREE: &[NumberedCase] = &[
+    ("only tickets of its own are told", 1, OF_OTHERS),
+    ("a key is told to whom it is known", 2, KEYS),
+];
+
 #[test]
-fn a_key_is_told_to_whom_it_is_known(rt: HostRuntime) -> Result<(), Fail> {
-    are_right_of_three(&rt, 2, KEYS)
+fn sessions_tell_their_own_lists(rt: HostRuntime) -> Result<(), Fail> {
+    are_right(&rt, Memory::Ample, CASES)?;
+    are_right_of_three(&rt, Memory::Ample, CASES_OF_THREE)
 }

@@ -1,5 +1,5 @@
 //! Rows of calls, which one session makes or three of one space.
-use crate::acts::{Act, Reply, make, make_at_last};
+use crate::acts::{Act, Memory, Reply, make_at_last};
 use crate::memory::space;
 use crate::sessions::closed;
 use mdl_shared::{Manager, NewError, Session};
@@ -14,21 +14,11 @@ pub(crate) type Row = (Act, Reply);
 /// The same with the session's number, 1 to 3.
 pub(crate) type NumberedRow = (u16, Act, Reply);
 
-/// Whether memory may be refused to an act.
-#[derive(Clone, Copy)]
-pub(crate) enum Memory {
-    Ample,
-    /// Once: the act is made again then, if it may take some.
-    Scarce,
-}
+/// What rows show, how many places there are, and the rows.
+pub(crate) type Case = (&'static str, u16, &'static [Row]);
 
-// Does it.
-fn make_by<R: Wait>(alloc: Global, session: &mut Session<R>, act: Act, memory: Memory) -> Reply {
-    match memory {
-        Memory::Ample => make(alloc, session, act),
-        Memory::Scarce => make_at_last(alloc, session, act),
-    }
-}
+/// The same of numbered rows.
+pub(crate) type NumberedCase = (&'static str, u16, &'static [NumberedRow]);
 
 /// Three sessions of one space, with the numbers 1 to 3.
 pub(crate) struct Three<R> {
@@ -57,7 +47,7 @@ impl<R: Wait> Three<R> {
         memory: Memory,
     ) -> Option<usize> {
         for (at, (number, act, wanted)) in rows.iter().enumerate() {
-            if make_by(alloc, self.session(*number), *act, memory) != *wanted {
+            if make_at_last(alloc, self.session(*number), *act, memory) != *wanted {
                 return Some(at);
             }
         }
@@ -127,64 +117,54 @@ pub(crate) fn first_wrong<R: Wait>(
     memory: Memory,
 ) -> Option<usize> {
     for (at, (act, wanted)) in rows.iter().enumerate() {
-        if make_by(alloc, session, *act, memory) != *wanted {
+        if make_at_last(alloc, session, *act, memory) != *wanted {
             return Some(at);
         }
     }
     None
 }
 
-/// The rows are right of the session of a space of so many places.
+/// The session, for which the rows are right.
+pub(crate) fn led<'a, R: Wait + Abort + AllocGlobal>(
+    rt: &R,
+    mut session: Session<&'a R>,
+    rows: &[Row],
+    memory: Memory,
+) -> Session<&'a R> {
+    let wrong = first_wrong(rt.alloc(), &mut session, rows, memory);
+    assert!(rt; wrong.is_none(), "row {wrong:?}");
+    session
+}
+
+/// The rows of each case are right of the session of a space of so many places.
 pub(crate) fn are_right<R: Wait + Abort + AllocGlobal>(
     rt: &R,
-    places: u16,
-    rows: &[Row],
+    memory: Memory,
+    cases: &[Case],
 ) -> Result<(), Fail> {
-    let mut session = open_one(rt, places)?;
-    assert_eq!(rt;
-        first_wrong(rt.alloc(), &mut session, rows, Memory::Ample),
-        None
-    );
-    closed(rt, session);
+    for (shown, places, rows) in cases {
+        let mut session = match memory {
+            Memory::Ample => open_one(rt, *places)?,
+            Memory::Scarce => open_at_last(rt, *places)?,
+        };
+        let wrong = first_wrong(rt.alloc(), &mut session, rows, memory);
+        assert!(rt; wrong.is_none(), "{shown}: row {wrong:?}");
+        closed(rt, session);
+    }
     Ok(())
 }
 
-/// The rows are right of a session, where memory may be refused once.
-pub(crate) fn are_right_at_last<R: Wait + Abort + AllocGlobal>(
-    rt: &R,
-    rows: &[Row],
-) -> Result<(), Fail> {
-    let mut session = open_at_last(rt, 2)?;
-    assert_eq!(rt;
-        first_wrong(rt.alloc(), &mut session, rows, Memory::Scarce),
-        None
-    );
-    closed(rt, session);
-    Ok(())
-}
-
-/// The rows are right of the three sessions of a space of so many places.
+/// The rows of each case are right of the three sessions of a space of so many places.
 pub(crate) fn are_right_of_three<R: Wait + Abort + AllocGlobal>(
     rt: &R,
-    places: u16,
-    rows: &[NumberedRow],
+    memory: Memory,
+    cases: &[NumberedCase],
 ) -> Result<(), Fail> {
-    let mut sessions = open_three(rt, places)?;
-    assert_eq!(rt; sessions.first_wrong(rt.alloc(), rows, Memory::Ample), None);
-    sessions.close(rt);
-    Ok(())
-}
-
-/// The rows are right of three sessions, where memory may be refused once.
-pub(crate) fn are_right_of_three_at_last<R: Wait + Abort + AllocGlobal>(
-    rt: &R,
-    rows: &[NumberedRow],
-) -> Result<(), Fail> {
-    let mut sessions = open_three(rt, 2)?;
-    assert_eq!(rt;
-        sessions.first_wrong(rt.alloc(), rows, Memory::Scarce),
-        None
-    );
-    sessions.close(rt);
+    for (shown, places, rows) in cases {
+        let mut sessions = open_three(rt, *places)?;
+        let wrong = sessions.first_wrong(rt.alloc(), rows, memory);
+        assert!(rt; wrong.is_none(), "{shown}: row {wrong:?}");
+        sessions.close(rt);
+    }
     Ok(())
 }

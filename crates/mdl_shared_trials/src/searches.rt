@@ -1,10 +1,12 @@
 //! Sessions that wait for one another look for deadlocks.
-use crate::acts::{Act, Lock, Reply};
-use crate::rows::{NumberedRow, are_right_of_three, are_right_of_three_at_last};
+use crate::acts::{Act, Lock, Memory, Reply};
+use crate::rows::{NumberedCase, NumberedRow, are_right_of_three};
 use mdl_calls::{Ended, Settled};
 use mdl_key::Mode;
 use std::test::Fail;
 
+// Two that wait for one another weigh as much, and so the one of the greater number falls. Its deadlock is gone then, and who waits alone, or not at
+// all, is in none.
 const A_CYCLE: &[NumberedRow] = &[
     (1, Act::Resolve(Lock::Sales), Reply::Place(1)),
     (2, Act::Resolve(Lock::Sales), Reply::Place(1)),
@@ -29,19 +31,7 @@ const A_CYCLE: &[NumberedRow] = &[
     (1, Act::Release(2), Reply::Done),
 ];
 
-// Two that wait for one another weigh as much, and so the one of the greater number falls. Its deadlock is gone then, and who waits alone, or not at
-// all, is in none.
-#[test]
-fn of_two_in_a_cycle_one_falls(rt: HostRuntime) -> Result<(), Fail> {
-    are_right_of_three(&rt, 2, A_CYCLE)
-}
-
-// Each call does at the second try what it would have done at the first.
-#[test]
-fn searches_outlive_want_of_memory(rt: HostRuntime) -> Result<(), Fail> {
-    are_right_of_three_at_last(&rt, A_CYCLE)
-}
-
+// A wish to read weighs less than one to change: the session that searches goes on to wait, and the other one falls.
 const THE_OTHER: &[NumberedRow] = &[
     (1, Act::Resolve(Lock::Sales), Reply::Place(1)),
     (2, Act::Resolve(Lock::Sales), Reply::Place(1)),
@@ -63,12 +53,7 @@ const THE_OTHER: &[NumberedRow] = &[
     (2, Act::Release(2), Reply::Done),
 ];
 
-// A wish to read weighs less than one to change: the session that searches goes on to wait, and the other one falls.
-#[test]
-fn another_falls_than_who_searches(rt: HostRuntime) -> Result<(), Fail> {
-    are_right_of_three(&rt, 2, THE_OTHER)
-}
-
+// A wait that was lost before it is ended ties nobody.
 const SETTLED: &[NumberedRow] = &[
     (1, Act::Resolve(Lock::Sales), Reply::Place(1)),
     (2, Act::Resolve(Lock::Sales), Reply::Place(1)),
@@ -88,12 +73,7 @@ const SETTLED: &[NumberedRow] = &[
     (2, Act::Release(2), Reply::Done),
 ];
 
-// A wait that was lost before it is ended ties nobody.
-#[test]
-fn a_settled_wait_is_in_no_cycle(rt: HostRuntime) -> Result<(), Fail> {
-    are_right_of_three(&rt, 2, SETTLED)
-}
-
+// Of three that wait in a round the one falls whose wish weighs least.
 const A_ROUND: &[NumberedRow] = &[
     (1, Act::Resolve(Lock::Sales), Reply::Place(1)),
     (3, Act::Resolve(Lock::Sales), Reply::Place(1)),
@@ -120,8 +100,22 @@ const A_ROUND: &[NumberedRow] = &[
     (1, Act::Release(2), Reply::Done),
 ];
 
-// Of three that wait in a round the one falls whose wish weighs least.
+const CASES_OF_THREE: &[NumberedCase] = &[
+    ("of two in a cycle one falls", 2, A_CYCLE),
+    ("another falls than who searches", 2, THE_OTHER),
+    ("a settled wait is in no cycle", 2, SETTLED),
+    ("of three in a round one falls", 3, A_ROUND),
+];
+
+const CASES_AT_LAST: &[NumberedCase] = &[("searches outlive want of memory", 2, A_CYCLE)];
+
 #[test]
-fn of_three_in_a_round_one_falls(rt: HostRuntime) -> Result<(), Fail> {
-    are_right_of_three(&rt, 3, A_ROUND)
+fn deadlocks_are_found(rt: HostRuntime) -> Result<(), Fail> {
+    are_right_of_three(&rt, Memory::Ample, CASES_OF_THREE)
+}
+
+// Each call does at the second try what it would have done at the first.
+#[test]
+fn searches_outlive_want_of_memory(rt: HostRuntime) -> Result<(), Fail> {
+    are_right_of_three(&rt, Memory::Scarce, CASES_AT_LAST)
 }

@@ -44,7 +44,7 @@ fn a_session_has_its_number_each_time(rt: HostRuntime) -> Result<(), Fail> {
     for pass in passes {
         numbers.push(reopened(&manager, pass, 3))?;
     }
-    assert_eq!(rt; numbers.as_slice(), [1, 2, 3].as_slice());
+    assert!(rt; numbers.as_slice() == [1, 2, 3].as_slice());
     Ok(())
 }
 
@@ -59,6 +59,6 @@ fn two_threads_open_two_sessions(rt: HostRuntime) -> Result<(), Fail> {
         move || reopened(manager, one, 20_000),
         move || reopened(manager, two, 20_000),
     );
-    assert_eq!(rt; (first, second), (1, 2));
+    assert!(rt; first == 1 && second == 2);
     Ok(())
 }

@@ -1,5 +1,5 @@
 //! Sessions as lock spaces, to code that stands on the trait alone.
-use crate::acts::Lock;
+use crate::acts::{Act, Lock, Reply, make};
 use crate::rows::{Pair, open_two};
 use crate::sessions::closed;
 use mdl_calls::{Attempt, LockSpace, SpaceError};
@@ -38,52 +38,30 @@ fn visited<R: Wait>(
     }
 }
 
-// What comes of visits of both, while nobody has a ticket.
-fn visits<R: Wait>(
-    alloc: Global,
-    one: &mut Session<R>,
-    two: &mut Session<R>,
-) -> [Result<bool, SpaceError>; 4] {
-    [
-        visited(alloc, one, Lock::Sales, Mode::X),
-        visited(alloc, two, Lock::Sales, Mode::SR),
-        visited(alloc, two, Lock::Sales, Mode::IX),
-        visited(alloc, one, Lock::Orders, Mode::SR),
-    ]
+// Whether visits of both come to what they should, while nobody has a ticket.
+fn visit_in_turn<R: Wait>(alloc: Global, one: &mut Session<R>, two: &mut Session<R>) -> bool {
+    visited(alloc, one, Lock::Sales, Mode::X) == Ok(true)
+        && visited(alloc, two, Lock::Sales, Mode::SR) == Ok(true)
+        && visited(alloc, two, Lock::Sales, Mode::IX) == Err(SpaceError::BadMode)
+        && visited(alloc, one, Lock::Orders, Mode::SR) == Err(SpaceError::NoPlace)
 }
 
-// What comes of a visit of the second, while the first one has a ticket.
-fn visit_beside<R: Wait>(
-    alloc: Global,
-    one: &mut Session<R>,
-    two: &mut Session<R>,
-) -> (
-    Result<Attempt, SpaceError>,
-    Result<bool, SpaceError>,
-    Result<(), SpaceError>,
-) {
-    let gained = one.try_now(1, Mode::SNW);
-    let visited = visited(alloc, two, Lock::Sales, Mode::X);
-    (gained, visited, one.release(2))
+// Whether a visit of the second is in vain, while the first one has a ticket.
+fn visit_beside<R: Wait>(alloc: Global, one: &mut Session<R>, two: &mut Session<R>) -> bool {
+    make(alloc, one, Act::Try(1, Mode::SNW)) == Reply::Granted(2)
+        && visited(alloc, two, Lock::Sales, Mode::X) == Ok(false)
+        && make(alloc, one, Act::Release(2)) == Reply::Done
 }
 
 // One session visits a lock that the other has looked up, and another one for which there is no place.
 #[test]
 fn sessions_are_lock_spaces(rt: HostRuntime) -> Result<(), Fail> {
     let Pair { mut one, mut two } = open_two(&rt, 1)?;
-    let visits = visits(rt.alloc(), &mut one, &mut two);
+    let in_turn = visit_in_turn(rt.alloc(), &mut one, &mut two);
     let beside = visit_beside(rt.alloc(), &mut one, &mut two);
     closed(&rt, one);
     closed(&rt, two);
-    assert_eq!(rt;
-        visits,
-        [
-            Ok(true),
-            Ok(true),
-            Err(SpaceError::BadMode),
-            Err(SpaceError::NoPlace)
-        ]
-    );
-    assert_eq!(rt; beside, (Ok(Attempt::Granted(2)), Ok(false), Ok(())));
+    assert!(rt; in_turn);
+    assert!(rt; beside);
     Ok(())
 }

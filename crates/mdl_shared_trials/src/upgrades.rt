@@ -1,6 +1,6 @@
 //! Sessions ask for stronger modes of their tickets, on one thread.
-use crate::acts::{Act, Lock, Reply};
-use crate::rows::{NumberedRow, Row, are_right, are_right_of_three};
+use crate::acts::{Act, Lock, Memory, Reply};
+use crate::rows::{Case, NumberedCase, NumberedRow, Row, are_right, are_right_of_three};
 use mdl_calls::SpaceError;
 use mdl_key::Mode;
 use std::test::Fail;
@@ -9,6 +9,8 @@ const NOT_HELD: Reply = Reply::Refused(SpaceError::NotHeld);
 
 const NOT_UPGRADABLE: Reply = Reply::Refused(SpaceError::NotUpgradable);
 
+// A stronger mode is had at once where no other session stands in the way, and then stands in theirs. Nobody stands in the way of
+// itself.
 const AT_ONCE: &[NumberedRow] = &[
     (1, Act::Resolve(Lock::Sales), Reply::Place(1)),
     (2, Act::Resolve(Lock::Sales), Reply::Place(1)),
@@ -28,13 +30,7 @@ const AT_ONCE: &[NumberedRow] = &[
     (2, Act::Release(2), Reply::Done),
 ];
 
-// A stronger mode is had at once where no other session stands in the way, and then stands in theirs. Nobody stands in the way of
-// itself.
-#[test]
-fn an_upgrade_is_had_at_once_or_not_at_all(rt: HostRuntime) -> Result<(), Fail> {
-    are_right_of_three(&rt, 1, AT_ONCE)
-}
-
+// A reader's ticket is for readers. What the held mode covers is there already.
 const REFUSED: &[Row] = &[
     (Act::Resolve(Lock::Sales), Reply::Place(1)),
     (Act::Upgrade(1, Mode::X), NOT_HELD),
@@ -49,8 +45,12 @@ const REFUSED: &[Row] = &[
     (Act::Release(1), Reply::Done),
 ];
 
-// A reader's ticket is for readers. What the held mode covers is there already.
+const CASES: &[Case] = &[("an upgrade that cannot be asked for is refused", 1, REFUSED)];
+
+const CASES_OF_THREE: &[NumberedCase] = &[("an upgrade is had at once or not at all", 1, AT_ONCE)];
+
 #[test]
-fn an_upgrade_that_cannot_be_asked_for_is_refused(rt: HostRuntime) -> Result<(), Fail> {
-    are_right(&rt, 1, REFUSED)
+fn tickets_are_upgraded(rt: HostRuntime) -> Result<(), Fail> {
+    are_right(&rt, Memory::Ample, CASES)?;
+    are_right_of_three(&rt, Memory::Ample, CASES_OF_THREE)
 }

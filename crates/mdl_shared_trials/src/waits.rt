@@ -1,7 +1,9 @@
 //! Sessions wait for locks, are granted them, and lose their waits, on one thread.
-use crate::acts::{Act, Lock, Reply};
-use crate::locks::{kept_open, led};
-use crate::rows::{NumberedRow, Pair, Row, are_right, are_right_of_three, open_two};
+use crate::acts::{Act, Lock, Memory, Reply};
+use crate::locks::kept_open;
+use crate::rows::{
+    Case, NumberedCase, NumberedRow, Pair, Row, are_right, are_right_of_three, led, open_two,
+};
 use crate::sessions::closed;
 use mdl_calls::{Ended, Settled, SpaceError};
 use mdl_key::Mode;
@@ -13,6 +15,7 @@ const WAITS_ALREADY: Reply = Reply::Refused(SpaceError::AlreadyWaiting);
 
 const BAD_MODE: Reply = Reply::Refused(SpaceError::BadMode);
 
+// What cannot be had now is waited for, and all sessions see the wait's number.
 const CLASHING: &[NumberedRow] = &[
     (1, Act::Resolve(Lock::Sales), Reply::Place(1)),
     (2, Act::Resolve(Lock::Sales), Reply::Place(1)),
@@ -28,12 +31,7 @@ const CLASHING: &[NumberedRow] = &[
     (1, Act::Release(1), Reply::Done),
 ];
 
-// What cannot be had now is waited for, and all sessions see the wait's number.
-#[test]
-fn a_wish_that_clashes_waits(rt: HostRuntime) -> Result<(), Fail> {
-    are_right_of_three(&rt, 1, CLASHING)
-}
-
+// Whoever gives a ticket up grants the wait that stood against it alone. A kill comes too late then.
 const MAKING_WAY: &[NumberedRow] = &[
     (1, Act::Resolve(Lock::Sales), Reply::Place(1)),
     (2, Act::Resolve(Lock::Sales), Reply::Place(1)),
@@ -52,12 +50,7 @@ const MAKING_WAY: &[NumberedRow] = &[
     (2, Act::Release(1), Reply::Done),
 ];
 
-// Whoever gives a ticket up grants the wait that stood against it alone. A kill comes too late then.
-#[test]
-fn a_release_grants_who_waits(rt: HostRuntime) -> Result<(), Fail> {
-    are_right_of_three(&rt, 1, MAKING_WAY)
-}
-
+// So does whoever weakens one.
 const DOWNGRADED: &[NumberedRow] = &[
     (1, Act::Resolve(Lock::Sales), Reply::Place(1)),
     (2, Act::Resolve(Lock::Sales), Reply::Place(1)),
@@ -70,12 +63,7 @@ const DOWNGRADED: &[NumberedRow] = &[
     (1, Act::Release(1), Reply::Done),
 ];
 
-// So does whoever weakens one.
-#[test]
-fn a_downgrade_grants_who_waits(rt: HostRuntime) -> Result<(), Fail> {
-    are_right_of_three(&rt, 1, DOWNGRADED)
-}
-
+// A kill hits the wait of its number once, and its session learns of it. A wait that was killed isn't granted.
 const KILLED: &[NumberedRow] = &[
     (1, Act::Resolve(Lock::Sales), Reply::Place(1)),
     (2, Act::Resolve(Lock::Sales), Reply::Place(1)),
@@ -92,12 +80,7 @@ const KILLED: &[NumberedRow] = &[
     (2, Act::Release(2), Reply::Done),
 ];
 
-// A kill hits the wait of its number once, and its session learns of it. A wait that was killed isn't granted.
-#[test]
-fn a_kill_settles_a_wait(rt: HostRuntime) -> Result<(), Fail> {
-    are_right_of_three(&rt, 1, KILLED)
-}
-
+// A kill that comes late doesn't hit the session's next wait.
 const KILLED_LATE: &[NumberedRow] = &[
     (1, Act::Resolve(Lock::Sales), Reply::Place(1)),
     (2, Act::Resolve(Lock::Sales), Reply::Place(1)),
@@ -113,12 +96,7 @@ const KILLED_LATE: &[NumberedRow] = &[
     (1, Act::Release(1), Reply::Done),
 ];
 
-// A kill that comes late doesn't hit the session's next wait.
-#[test]
-fn a_late_kill_misses(rt: HostRuntime) -> Result<(), Fail> {
-    are_right_of_three(&rt, 1, KILLED_LATE)
-}
-
+// What can be had now isn't waited for, and what isn't there is refused.
 const ALONE: &[Row] = &[
     (Act::Begin(1, Mode::S), Reply::Refused(SpaceError::NoPlace)),
     (Act::Reschedule(1), Reply::Refused(SpaceError::NoPlace)),
@@ -136,12 +114,7 @@ const ALONE: &[Row] = &[
     (Act::Release(1), Reply::Done),
 ];
 
-// What can be had now isn't waited for, and what isn't there is refused.
-#[test]
-fn a_wish_that_clashes_with_nothing_is_granted(rt: HostRuntime) -> Result<(), Fail> {
-    are_right(&rt, 1, ALONE)
-}
-
+// A session that waits asks for nothing more, but keeps its tickets, and may give them up. A cause of a lesser number is told first.
 const ASKING_MORE: &[NumberedRow] = &[
     (1, Act::Resolve(Lock::Sales), Reply::Place(1)),
     (2, Act::Resolve(Lock::Sales), Reply::Place(1)),
@@ -165,12 +138,6 @@ const ASKING_MORE: &[NumberedRow] = &[
     (1, Act::Release(1), Reply::Done),
 ];
 
-// A session that waits asks for nothing more, but keeps its tickets, and may give them up. A cause of a lesser number is told first.
-#[test]
-fn a_session_that_waits_has_its_tickets(rt: HostRuntime) -> Result<(), Fail> {
-    are_right_of_three(&rt, 1, ASKING_MORE)
-}
-
 const HOLDS: &[Row] = &[
     (Act::Resolve(Lock::Sales), Reply::Place(1)),
     (Act::Try(1, Mode::X), Reply::Granted(1)),
@@ -192,9 +159,26 @@ const RELEASES: &[Row] = &[(Act::Release(1), Reply::Done)];
 #[test]
 fn a_session_that_waits_stays_open(rt: HostRuntime) -> Result<(), Fail> {
     let Pair { one, two } = open_two(&rt, 1)?;
-    let one = led(&rt, one, HOLDS);
-    let two = kept_open(&rt, led(&rt, two, WAITS));
-    closed(&rt, led(&rt, two, GIVES_UP));
-    closed(&rt, led(&rt, one, RELEASES));
+    let one = led(&rt, one, HOLDS, Memory::Ample);
+    let two = kept_open(&rt, led(&rt, two, WAITS, Memory::Ample));
+    closed(&rt, led(&rt, two, GIVES_UP, Memory::Ample));
+    closed(&rt, led(&rt, one, RELEASES, Memory::Ample));
     Ok(())
+}
+
+const CASES: &[Case] = &[("a wish that clashes with nothing is granted", 1, ALONE)];
+
+const CASES_OF_THREE: &[NumberedCase] = &[
+    ("a wish that clashes waits", 1, CLASHING),
+    ("a release grants who waits", 1, MAKING_WAY),
+    ("a downgrade grants who waits", 1, DOWNGRADED),
+    ("a kill settles a wait", 1, KILLED),
+    ("a late kill misses", 1, KILLED_LATE),
+    ("a session that waits has its tickets", 1, ASKING_MORE),
+];
+
+#[test]
+fn sessions_wait(rt: HostRuntime) -> Result<(), Fail> {
+    are_right(&rt, Memory::Ample, CASES)?;
+    are_right_of_three(&rt, Memory::Ample, CASES_OF_THREE)
 }

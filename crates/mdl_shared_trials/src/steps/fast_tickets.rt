@@ -1,6 +1,6 @@
 //! What the word of a lock is as fast tickets are granted and released.
 use crate::steps::fast_visitors::{FastVisitor, MOST_FAST};
-use crate::steps::rows::{Answer, Deed, Row, are_right_of_fast};
+use crate::steps::rows::{Answer, Case, Deed, Row, are_right_of_fast};
 use crate::steps::seated::{Seated, come_three};
 use mdl_key::Mode;
 use mdl_steps::{Loss, WaitWord};
@@ -25,10 +25,8 @@ fn a_session_has_1023_fast_tickets_at_a_place(rt: HostRuntime) -> Result<(), Fai
     let mut one = FastVisitor::new(one);
     let granted = gained(&mut one, MOST_FAST);
     let (word, more) = (one.lock_word(), one.try_fast(Mode::S));
-    assert_eq!(rt;
-        (granted, word, more),
-        (MOST_FAST, Word(0x0000_0000_0000_03ff), None)
-    );
+    assert!(rt; granted == MOST_FAST && more.is_none());
+    assert!(rt; word == Word(0x0000_0000_0000_03ff));
     Ok(())
 }
 
@@ -36,6 +34,7 @@ const FREE: Answer = Answer::Lock(Word(0));
 
 const OBTRUDED: Answer = Answer::Obtruded(Word(0x3000_0000_0000_0000));
 
+// A wait for X keeps new fast tickets away, and is granted once the session that released the last one looks at the place.
 const WAITED_FOR: &[Row] = &[
     (1, Deed::TryFast(Mode::SR), Answer::Granted),
     (1, Deed::LockWord, Answer::Lock(Word(0x0000_0000_0010_0000))),
@@ -61,12 +60,7 @@ const WAITED_FOR: &[Row] = &[
     (3, Deed::LockWord, Answer::Lock(Word(0x0000_0000_0000_0001))),
 ];
 
-// A wait for X keeps new fast tickets away, and is granted once the session that released the last one looks at the place.
-#[test]
-fn a_wait_is_granted_after_the_last_fast_ticket(rt: HostRuntime) -> Result<(), Fail> {
-    are_right_of_fast(&rt, WAITED_FOR)
-}
-
+// A wait that was killed before that isn't granted, and nothing is left of it once it has ended.
 const KILLED: &[Row] = &[
     (1, Deed::TryFast(Mode::SR), Answer::Granted),
     (2, Deed::BeginWait(Mode::X), Answer::Waiting(1)),
@@ -82,12 +76,7 @@ const KILLED: &[Row] = &[
     (1, Deed::LockWord, FREE),
 ];
 
-// A wait that was killed before that isn't granted, and nothing is left of it once it has ended.
-#[test]
-fn a_killed_wait_is_not_granted_after_the_last_fast_ticket(rt: HostRuntime) -> Result<(), Fail> {
-    are_right_of_fast(&rt, KILLED)
-}
-
+// Where no ticket is listed, nobody can wait for the one that goes.
 const ALONE: &[Row] = &[
     (1, Deed::TryFast(Mode::SW), Answer::Granted),
     (1, Deed::LockWord, Answer::Lock(Word(0x0000_0100_0000_0000))),
@@ -96,27 +85,18 @@ const ALONE: &[Row] = &[
     (1, Deed::ReleaseFast, Answer::Refused),
 ];
 
-// Where no ticket is listed, nobody can wait for the one that goes.
-#[test]
-fn a_fast_ticket_goes_without_a_trace(rt: HostRuntime) -> Result<(), Fail> {
-    are_right_of_fast(&rt, ALONE)
-}
-
-// What comes of a fast ticket that comes and goes while another session holds the latch of the place, if that got it.
-fn beside_a_latch(
-    one: &mut FastVisitor,
-    holder: Seated,
-) -> Option<(Option<FastTried>, Option<bool>)> {
+// Whether a fast ticket comes and goes while another session holds the latch of the place, if that got it.
+fn goes_beside_a_latch(one: &mut FastVisitor, holder: Seated) -> Option<bool> {
     let Seated {
         mut seat,
         place,
         kind: _,
     } = holder;
     let latch = seat.take_latch(place)?;
-    let tried = one.try_fast(Mode::SW);
-    let owes = one.release_fast();
+    let granted = one.try_fast(Mode::SW) == Some(FastTried::Granted);
+    let free = one.release_fast() == Some(false);
     seat.put_latch(latch, &[]);
-    Some((tried, owes))
+    Some(granted && free)
 }
 
 // It comes and goes while another session holds the latch of the place, so it takes none.
@@ -124,13 +104,11 @@ fn beside_a_latch(
 fn a_fast_ticket_needs_no_latch(rt: HostRuntime) -> Result<(), Fail> {
     let (one, _two, three) = come_three(&rt, rt.alloc())?;
     let mut one = FastVisitor::new(one);
-    assert_eq!(rt;
-        beside_a_latch(&mut one, three),
-        Some((Some(FastTried::Granted), Some(false)))
-    );
+    assert!(rt; goes_beside_a_latch(&mut one, three) == Some(true));
     Ok(())
 }
 
+// A listed ticket in a mode that isn't obtrusive leaves the fast path open. Whoever releases a fast ticket beside it can't know that nobody waits.
 const BESIDE_LISTED: &[Row] = &[
     (2, Deed::TryNow(Mode::SW), Answer::Granted),
     (1, Deed::LockWord, Answer::Lock(Word(0x1000_0000_0000_0000))),
@@ -141,8 +119,20 @@ const BESIDE_LISTED: &[Row] = &[
     (1, Deed::LockWord, Answer::Lock(Word(0x1000_0000_0000_0000))),
 ];
 
-// A listed ticket in a mode that isn't obtrusive leaves the fast path open. Whoever releases a fast ticket beside it can't know that nobody waits.
+const CASES_OF_FAST: &[Case] = &[
+    ("a wait is granted after the last fast ticket", WAITED_FOR),
+    (
+        "a killed wait is not granted after the last fast ticket",
+        KILLED,
+    ),
+    ("a fast ticket goes without a trace", ALONE),
+    (
+        "fast tickets are granted beside a listed one",
+        BESIDE_LISTED,
+    ),
+];
+
 #[test]
-fn fast_tickets_are_granted_beside_a_listed_one(rt: HostRuntime) -> Result<(), Fail> {
-    are_right_of_fast(&rt, BESIDE_LISTED)
+fn words_count_fast_tickets(rt: HostRuntime) -> Result<(), Fail> {
+    are_right_of_fast(&rt, CASES_OF_FAST)
 }

@@ -1,5 +1,5 @@
 //! Latches of a table with three places.
-use crate::steps::visits::{EMPTY, visit};
+use crate::steps::visits::visit;
 use mdl_steps::Maker;
 use std::sync::Arc;
 use std::test::Fail;
@@ -15,14 +15,14 @@ fn a_latch_has_one_holder(rt: HostRuntime) -> Result<(), Fail> {
         panic!(rt; "there is room for two");
     };
     assert!(rt; maker.enrol(table).is_none());
-    assert_eq!(rt; (one.number(), two.number()), (1, 2));
+    assert!(rt; one.number() == 1 && two.number() == 2);
     let Some(latch) = one.take_latch(2) else {
         panic!(rt; "the latch is free");
     };
-    assert_eq!(rt; latch.place(), 2);
-    assert_eq!(rt; visit(&mut two, 2), None);
-    assert_eq!(rt; visit(&mut two, 3), Some(EMPTY));
+    assert!(rt; latch.place() == 2);
+    assert!(rt; visit(&mut two, 2).is_none());
+    assert!(rt; visit(&mut two, 3) == Some(true));
     one.put_latch(latch, &[]);
-    assert_eq!(rt; visit(&mut two, 2), Some(EMPTY));
+    assert!(rt; visit(&mut two, 2) == Some(true));
     Ok(())
 }

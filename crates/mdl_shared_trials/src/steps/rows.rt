@@ -29,7 +29,7 @@ pub(crate) enum Deed {
 }
 
 /// What comes of it.
-#[derive(Clone, Copy, Debug, PartialEq, Eq)]
+#[derive(Clone, Copy, PartialEq, Eq)]
 pub(crate) enum Answer {
     Granted,
     WouldWait,
@@ -53,6 +53,9 @@ pub(crate) enum Answer {
 
 /// A session's number, 1 to 3, what it does, and what is to come of it.
 pub(crate) type Row = (u16, Deed, Answer);
+
+/// What rows show, and the rows.
+pub(crate) type Case = (&'static str, &'static [Row]);
 
 impl Visitor {
     // Does it.
@@ -178,19 +181,25 @@ fn come_fast<R: Wait + Abort + AllocGlobal>(rt: &R) -> Result<Guests, Fail> {
     })
 }
 
-/// The rows are right of three sessions that take the latch.
-pub(crate) fn are_right<R: Wait + Abort + AllocGlobal>(rt: &R, rows: &[Row]) -> Result<(), Fail> {
-    let mut guests = come_slow(rt)?;
-    assert_eq!(rt; guests.first_wrong(rt, rows), None);
+/// The rows of each case are right of three sessions that take the latch.
+pub(crate) fn are_right<R: Wait + Abort + AllocGlobal>(rt: &R, cases: &[Case]) -> Result<(), Fail> {
+    for (shown, rows) in cases {
+        let mut guests = come_slow(rt)?;
+        let wrong = guests.first_wrong(rt, rows);
+        assert!(rt; wrong.is_none(), "{shown}: row {wrong:?}");
+    }
     Ok(())
 }
 
-/// The rows are right where the first and the third session have fast tickets alone.
+/// The rows of each case are right where the first and the third session have fast tickets alone.
 pub(crate) fn are_right_of_fast<R: Wait + Abort + AllocGlobal>(
     rt: &R,
-    rows: &[Row],
+    cases: &[Case],
 ) -> Result<(), Fail> {
-    let mut guests = come_fast(rt)?;
-    assert_eq!(rt; guests.first_wrong(rt, rows), None);
+    for (shown, rows) in cases {
+        let mut guests = come_fast(rt)?;
+        let wrong = guests.first_wrong(rt, rows);
+        assert!(rt; wrong.is_none(), "{shown}: row {wrong:?}");
+    }
     Ok(())
 }

@@ -2,7 +2,7 @@
 ghost use Rattle.std.specs.Prelude.{◌≡◌, []};
 ghost use Rattle.mdl_steps.specs.Seats.{IsPlace};
 
-use crate::steps::visits::{EMPTY, visit};
+use crate::steps::visits::visit;
 use mdl_steps::{Maker, TableSeat};
 use std::sync::Arc;
 use std::test::Fail;
@@ -15,9 +15,7 @@ fn saw_nobody(mut seat: TableSeat, place: usize, visits: u32) -> bool
 {
     let mut nobody = true;
     for _ in 0..visits {
-        if let Some(sight) = visit(&mut seat, place) {
-            nobody = nobody && sight == EMPTY;
-        }
+        nobody = visit(&mut seat, place) != Some(false) && nobody;
     }
     nobody
 }

@@ -6,29 +6,17 @@ use mdl_book::Needs;
 use mdl_steps::TableSeat;
 use mdl_word::Word;
 
-/// What a session saw at a place.
-#[derive(Clone, Copy, Debug, PartialEq, Eq)]
-pub(crate) struct Sight {
-    /// What the book's lists ask of the flags.
-    pub needs: Needs,
-    /// The word, as both flags were up.
-    pub raised: Word,
-    /// The word, as the flags that the lists don't ask for were down again.
-    pub lowered: Word,
+// Whether nobody has a ticket: the book's lists ask for no flag, and the word has both while they are raised and nothing after that.
+fn is_empty(needs: Needs, raised: Word, lowered: Word) -> bool {
+    !needs.obtrusive
+        && !needs.slow
+        && raised == Word(Word::SLOW | Word::OBTRUSIVE)
+        && lowered == Word(0)
 }
 
-/// What there is to see where nobody has a ticket.
-pub(crate) const EMPTY: Sight = Sight {
-    needs: Needs {
-        obtrusive: false,
-        slow: false,
-    },
-    raised: Word(Word::SLOW | Word::OBTRUSIVE),
-    lowered: Word(0),
-};
-
-/// Takes the latch of a place, looks round there with all flags raised, and gives the latch back; nothing, where it is taken.
-pub(crate) fn visit(seat: &mut TableSeat, place: usize) -> Option<Sight>
+/// Takes the latch of a place, looks round there with all flags raised, and gives the latch back: whether nobody has a ticket. Nothing, where the latch
+/// is taken.
+pub(crate) fn visit(seat: &mut TableSeat, place: usize) -> Option<bool>
     requires place { IsPlace seat.old.table place }
     requires idle { seat.old.me.0.latches ≡ [] }
     ensures table { seat.new.table ≡ seat.old.table }
@@ -41,9 +29,5 @@ pub(crate) fn visit(seat: &mut TableSeat, place: usize) -> Option<Sight>
     seat.lower_flags(&latch, needs.slow, needs.obtrusive, &[]);
     let lowered = seat.read_word(&latch);
     seat.put_latch(latch, &[]);
-    Some(Sight {
-        needs,
-        raised,
-        lowered,
-    })
+    Some(is_empty(needs, raised, lowered))
 }

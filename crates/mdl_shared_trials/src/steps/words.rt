@@ -1,5 +1,5 @@
 //! What the words of a lock and of a wait are, from one visit to the next.
-use crate::steps::rows::{Answer, Deed, Row, are_right};
+use crate::steps::rows::{Answer, Case, Deed, Row, are_right};
 use mdl_key::Mode;
 use mdl_steps::{Loss, WaitWord};
 use mdl_word::Word;
@@ -11,6 +11,7 @@ const LISTED: Answer = Answer::Lock(Word(0x1000_0000_0000_0000));
 
 const OBTRUSIVE: Answer = Answer::Lock(Word(0x3000_0000_0000_0000));
 
+// The wait's word has the wait's number and its state, the lock's word the flags that its lists need.
 const GRANTED: &[Row] = &[
     (1, Deed::TryNow(Mode::SR), Answer::Granted),
     (1, Deed::LockWord, LISTED),
@@ -25,12 +26,7 @@ const GRANTED: &[Row] = &[
     (2, Deed::LockWord, FREE),
 ];
 
-// The wait's word has the wait's number and its state, the lock's word the flags that its lists need.
-#[test]
-fn the_words_tell_of_a_wait_that_is_granted(rt: HostRuntime) -> Result<(), Fail> {
-    are_right(&rt, GRANTED)
-}
-
+// A kill is seen in the word of the wait that it hits, and a late one leaves the word of the next wait as it is.
 const KILLED: &[Row] = &[
     (1, Deed::TryNow(Mode::X), Answer::Granted),
     (2, Deed::BeginWait(Mode::SR), Answer::Waiting(1)),
@@ -76,12 +72,7 @@ const KILLED: &[Row] = &[
     (2, Deed::WaitWord(2), Answer::Wait(WaitWord(16))),
 ];
 
-// A kill is seen in the word of the wait that it hits, and a late one leaves the word of the next wait as it is.
-#[test]
-fn the_words_tell_of_a_wait_that_is_killed(rt: HostRuntime) -> Result<(), Fail> {
-    are_right(&rt, KILLED)
-}
-
+// The ticket of a lost wait still stands against others, with its flags, until the wait is ended.
 const LOST: &[Row] = &[
     (1, Deed::TryNow(Mode::SR), Answer::Granted),
     (2, Deed::BeginWait(Mode::X), Answer::Waiting(1)),
@@ -99,8 +90,13 @@ const LOST: &[Row] = &[
     (3, Deed::TryNow(Mode::SR), Answer::Granted),
 ];
 
-// The ticket of a lost wait still stands against others, with its flags, until the wait is ended.
+const CASES: &[Case] = &[
+    ("the words tell of a wait that is granted", GRANTED),
+    ("the words tell of a wait that is killed", KILLED),
+    ("the words tell of a lost wait until it is ended", LOST),
+];
+
 #[test]
-fn the_words_tell_of_a_lost_wait_until_it_is_ended(rt: HostRuntime) -> Result<(), Fail> {
-    are_right(&rt, LOST)
+fn words_tell_of_waits(rt: HostRuntime) -> Result<(), Fail> {
+    are_right(&rt, CASES)
 }

@@ -3,7 +3,7 @@ use Rattle.std.proofs.Common.{◌∙◌, ap, is_some}
 use Rattle.mdl_key.specs.declared.mode.Mode.TheVariants.{SR}
 use Rattle.mdl_shared.specs.SessionSpaces.{is_known}
 use Rattle.mdl_shared_trials.proofs.MetAfter.{met-same, try-same}
-use Rattle.mdl_shared_trials.proofs.cached_reads.take_fast.Goals as goal
+use Rattle.mdl_shared_trials.proofs.readers.take_fast.Goals as goal
 
 pub try_fast-requires : goal.try_fast-requires
 try_fast-requires g c =
