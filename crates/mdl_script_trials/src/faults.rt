@@ -1,6 +1,6 @@
 //! Devices that fail while a script is replayed, and scripts that end early.
 use crate::devices::{Failure, Source, Target};
-use crate::scripts::{lines, replayed, told};
+use crate::scripts::{lines, must_be_replayed, replayed, told};
 use mdl_script::{Fault, replay};
 use std::alloc::Global;
 use std::io::{ErrorKind, Read, Write};
@@ -19,23 +19,43 @@ fn play<R: Read, W: Write>(alloc: Global, reader: &mut R, writer: &mut W) -> Res
     replay(alloc, reader, writer)
 }
 
+// Failures of a read, and what is told of each.
+const READ_FAULTS: &[(ErrorKind, Fault)] = &[
+    (ErrorKind::ConnectionReset, Fault::Read),
+    (ErrorKind::OutOfMemory, Fault::Memory),
+];
+
+// Whether this is told of a read that fails so, and nothing is written.
+fn is_told(alloc: Global, script: &str, failure: Failure, fault: Fault) -> bool {
+    let mut source = Source::new(script.as_bytes(), failure);
+    let mut written = Vec::new(alloc);
+    let result = play(alloc, &mut source, &mut written);
+    result == Err(fault) && written.is_empty()
+}
+
 #[test]
 fn a_read_that_fails_is_told(rt: HostRuntime) -> Result<(), Fail> {
     let script = lines(rt.alloc(), SCRIPT)?;
-    for (kind, fault) in [
-        (ErrorKind::ConnectionReset, Fault::Read),
-        (ErrorKind::OutOfMemory, Fault::Memory),
-    ] {
+    for (kind, fault) in READ_FAULTS {
         for bytes in 0..=script.len() {
-            let failure = Failure::after(bytes, kind);
-            let mut source = Source::new(script.as_bytes(), failure);
-            let mut written = Vec::new(rt.alloc());
-            let result = play(rt.alloc(), &mut source, &mut written);
-            assert_eq!(rt; result, Err(fault), "after {bytes}");
-            assert!(rt; written.is_empty(), "after {bytes}");
+            let failure = Failure::after(bytes, *kind);
+            assert!(rt;
+                is_told(rt.alloc(), script.as_str(), failure, *fault),
+                "after {bytes}"
+            );
         }
     }
     Ok(())
+}
+
+// Whether a write that fails behind so many bytes is told, and these are the first of the answers.
+fn leaves_a_beginning(alloc: Global, script: &str, answers: &str, bytes: usize) -> bool {
+    let failure = Failure::after(bytes, ErrorKind::BrokenPipe);
+    let mut target = Target::new(alloc, failure);
+    let result = play(alloc, &mut script.as_bytes(), &mut target);
+    result == Err(Fault::Write)
+        && target.taken.len() == bytes
+        && answers.as_bytes().starts_with(&target.taken)
 }
 
 #[test]
@@ -43,14 +63,19 @@ fn a_write_that_fails_leaves_a_beginning(rt: HostRuntime) -> Result<(), Fail> {
     let script = lines(rt.alloc(), SCRIPT)?;
     let answers = lines(rt.alloc(), ANSWERS)?;
     for bytes in 0..answers.len() {
-        let failure = Failure::after(bytes, ErrorKind::BrokenPipe);
-        let mut target = Target::new(rt.alloc(), failure);
-        let result = play(rt.alloc(), &mut script.as_bytes(), &mut target);
-        assert_eq!(rt; result, Err(Fault::Write), "after {bytes}");
-        assert_eq!(rt; target.taken.len(), bytes);
-        assert!(rt; answers.as_bytes().starts_with(&target.taken));
+        let is_so = leaves_a_beginning(rt.alloc(), script.as_str(), answers.as_str(), bytes);
+        assert!(rt; is_so, "after {bytes}");
     }
     Ok(())
+}
+
+// Whether all is read and written where a slow device is interrupted behind so many bytes.
+fn serve(alloc: Global, script: &str, answers: &str, bytes: usize) -> bool {
+    let failure = Failure::after(bytes, ErrorKind::Interrupted);
+    let mut source = Source::new(script.as_bytes(), failure);
+    let mut target = Target::new(alloc, failure);
+    let result = play(alloc, &mut source, &mut target);
+    result == Ok(()) && target.taken.as_slice() == answers.as_bytes()
 }
 
 // Wherever the one call of a slow device is interrupted, all is read and written.
@@ -59,39 +84,42 @@ fn slow_and_interrupted_devices_serve(rt: HostRuntime) -> Result<(), Fail> {
     let script = lines(rt.alloc(), SCRIPT)?;
     let answers = lines(rt.alloc(), ANSWERS)?;
     for bytes in 0..=script.len() {
-        let failure = Failure::after(bytes, ErrorKind::Interrupted);
-        let mut source = Source::new(script.as_bytes(), failure);
-        let mut target = Target::new(rt.alloc(), failure);
-        let result = play(rt.alloc(), &mut source, &mut target);
-        assert_eq!(rt; result, Ok(()), "after {bytes}");
-        assert_eq!(rt; target.taken.as_slice(), answers.as_bytes());
+        let is_so = serve(rt.alloc(), script.as_str(), answers.as_str(), bytes);
+        assert!(rt; is_so, "after {bytes}");
     }
     Ok(())
+}
+
+// Whether a script that ends in the line of this number is answered as a shorter one, or refused by that line.
+fn is_a_shorter_one(alloc: Global, cut: &[u8], number: u32) -> Result<bool, Fail> {
+    let replayed = replayed(alloc, cut)?;
+    let want = if replayed.starts_with("line ") {
+        format!(in alloc; "line {number}: BadWord\n")?
+    } else {
+        told(alloc, cut)?
+    };
+    Ok(replayed == want)
 }
 
 // A script that ends at any byte is a shorter one: if it is refused, then by its last line.
 #[test]
 fn a_script_that_ends_early_is_a_shorter_one(rt: HostRuntime) -> Result<(), Fail> {
     let script = lines(rt.alloc(), SCRIPT)?;
-    let answers = lines(rt.alloc(), ANSWERS)?;
     let mut number = 1_u32;
     for bytes in 0..=script.len() {
         let cut = &script.as_bytes()[..bytes];
         if cut.last() == Some(&b'\n') {
             number = number.wrapping_add(1);
         }
-        let replayed = replayed(rt.alloc(), cut)?;
-        if replayed.starts_with("line ") {
-            let refused = format!(in rt.alloc(); "line {number}: BadWord\n")?;
-            assert_eq!(rt; replayed.as_str(), refused.as_str());
-        } else {
-            assert_eq!(rt; replayed.as_str(), told(rt.alloc(), cut)?.as_str());
-        }
+        assert!(rt; is_a_shorter_one(rt.alloc(), cut, number)?, "after {bytes}");
     }
-    assert_eq!(rt; number, 10);
-    assert_eq!(rt;
-        replayed(rt.alloc(), script.as_bytes())?.as_str(),
-        answers.as_str()
-    );
+    assert!(rt; number == 10);
     Ok(())
+}
+
+#[test]
+fn the_whole_script_is_answered(rt: HostRuntime) -> Result<(), Fail> {
+    let script = lines(rt.alloc(), SCRIPT)?;
+    let answers = lines(rt.alloc(), ANSWERS)?;
+    must_be_replayed(&rt, rt.alloc(), script.as_bytes(), answers.as_str())
 }

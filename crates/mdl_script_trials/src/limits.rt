@@ -1,62 +1,65 @@
 //! Scripts of as many sessions, tables, columns, savepoints and lines as there may be, or of many. Where a statement told that
 //! memory was wanting though there is enough, no contract would refuse it.
-use mdl_script::replay;
-use std::alloc::Global;
+use crate::cases::{Case, Numbered};
+use crate::scripts::must_be_replayed;
+use std::alloc::{AllocError, Global};
+use std::process::Abort;
 use std::test::Fail;
 
-// What `replay` writes for a script.
-fn played(alloc: Global, script: &str) -> Result<String, Fail> {
-    let mut reader = script.as_bytes();
-    let mut written = Vec::new(alloc);
-    match replay(alloc, &mut reader, &mut written) {
-        Ok(()) => Ok(String::from_utf8(written)?),
-        Err(_) => Err(Fail::from("the script was not played")),
-    }
+// A case has to be answered so.
+fn must_be_played(rt: &impl Abort, alloc: Global, case: &Case) -> Result<(), Fail> {
+    must_be_replayed(rt, alloc, case.script.as_bytes(), case.answers.as_str())
 }
 
-// A script in which all sessions but the first wait for one table, and what is answered to it.
-fn all_waiting(alloc: Global) -> Result<(String, String), Fail> {
-    let mut script = String::new(alloc);
-    let mut answers = String::new(alloc);
-    script.push_str("1 CREATE TABLE t x\n1 BEGIN\n1 SELECT t\n")?;
-    answers.push_str("1 1 OK\n2 1 OK\n3 1 OK test.t@1(x)\n")?;
+// All sessions but the first come to wait for one table.
+fn add_waits(case: &mut Case) -> Result<(), AllocError> {
+    case.add((
+        "1 CREATE TABLE t x\n1 BEGIN\n1 SELECT t\n",
+        "1 1 OK\n2 1 OK\n3 1 OK test.t@1(x)\n",
+    ))?;
     for who in 2..=64_u16 {
         let line = who.wrapping_add(2);
-        writeln!(script, "{who} DROP TABLE t")?;
-        writeln!(answers, "{line} {who} WAIT TABLE test.t X")?;
+        writeln!(case.script, "{who} DROP TABLE t")?;
+        writeln!(case.answers, "{line} {who} WAIT TABLE test.t X")?;
     }
-    Ok((script, answers))
+    Ok(())
 }
 
-#[test]
-fn all_sessions_may_wait_at_the_end(rt: HostRuntime) -> Result<(), Fail> {
-    let (script, mut answers) = all_waiting(rt.alloc())?;
+// They wait at the end.
+fn add_waits_at_the_end(case: &mut Case) -> Result<(), AllocError> {
+    add_waits(case)?;
     for who in 2..=64_u16 {
-        writeln!(answers, "END {who} WAIT")?;
+        writeln!(case.answers, "END {who} WAIT")?;
     }
-    let played = played(rt.alloc(), script.as_str())?;
-    assert_eq!(rt; played.as_str(), answers.as_str());
     Ok(())
 }
 
 // The first of them drops the table, and all others miss it.
-#[test]
-fn all_sessions_go_on_after_one_line(rt: HostRuntime) -> Result<(), Fail> {
-    let (mut script, mut answers) = all_waiting(rt.alloc())?;
-    script.push_str("1 COMMIT\n")?;
-    answers.push_str("67 1 OK\n4 2 OK\n")?;
+fn add_waits_that_end(case: &mut Case) -> Result<(), AllocError> {
+    add_waits(case)?;
+    case.add(("1 COMMIT\n", "67 1 OK\n4 2 OK\n"))?;
     for who in 3..=64_u16 {
         let line = who.wrapping_add(2);
-        writeln!(answers, "{line} {who} ERR 1146")?;
+        writeln!(case.answers, "{line} {who} ERR 1146")?;
     }
-    let played = played(rt.alloc(), script.as_str())?;
-    assert_eq!(rt; played.as_str(), answers.as_str());
     Ok(())
 }
 
 #[test]
-fn eight_tables_are_shown_and_dropped(rt: HostRuntime) -> Result<(), Fail> {
-    let script = "\
+fn all_sessions_may_wait_at_the_end(rt: HostRuntime) -> Result<(), Fail> {
+    let mut case = Case::new(rt.alloc());
+    add_waits_at_the_end(&mut case)?;
+    must_be_played(&rt, rt.alloc(), &case)
+}
+
+#[test]
+fn all_sessions_go_on_after_one_line(rt: HostRuntime) -> Result<(), Fail> {
+    let mut case = Case::new(rt.alloc());
+    add_waits_that_end(&mut case)?;
+    must_be_played(&rt, rt.alloc(), &case)
+}
+
+const EIGHT_TABLES: &[u8] = b"\
 1 CREATE TABLE a x
 1 CREATE TABLE b x
 1 CREATE TABLE c x
@@ -70,7 +73,8 @@ fn eight_tables_are_shown_and_dropped(rt: HostRuntime) -> Result<(), Fail> {
 1 SELECT a
 1 DROP TABLE s7.t s6.t s5.t s4.t s3.t s2.t s1.t s0.t
 ";
-    let answers = "\
+
+const OF_EIGHT_TABLES: &str = "\
 1 1 OK
 2 1 OK
 3 1 OK
@@ -84,80 +88,87 @@ fn eight_tables_are_shown_and_dropped(rt: HostRuntime) -> Result<(), Fail> {
 11 1 ERR 1146
 12 1 ERR 1146
 ";
-    let played = played(rt.alloc(), script)?;
-    assert_eq!(rt; played.as_str(), answers);
-    Ok(())
+
+#[test]
+fn eight_tables_are_shown_and_dropped(rt: HostRuntime) -> Result<(), Fail> {
+    must_be_replayed(&rt, rt.alloc(), EIGHT_TABLES, OF_EIGHT_TABLES)
 }
 
-// Their names are as long as a line lets them be.
+// A table of columns whose names are as long as a line lets them be.
+fn add_columns(case: &mut Case) -> Result<(), AllocError> {
+    let long = "abcdefghijklmnopqrstuvwxyz_abcdefghijklmnopqrstuvwxyz_12345";
+    case.add(("1 CREATE TABLE t", "1 1 OK\n2 1 OK test.t@1"))?;
+    let mut before = '(';
+    for number in 10..=73_u16 {
+        write!(case.script, " {long}_{number}")?;
+        write!(case.answers, "{before}{long}_{number}")?;
+        before = ',';
+    }
+    case.add(("\n1 SELECT t\n", ")\n"))
+}
+
 #[test]
 fn sixty_four_columns_are_shown(rt: HostRuntime) -> Result<(), Fail> {
-    let long = "abcdefghijklmnopqrstuvwxyz_abcdefghijklmnopqrstuvwxyz_12345";
-    let mut script = String::new(rt.alloc());
-    let mut columns = String::new(rt.alloc());
-    script.push_str("1 CREATE TABLE t")?;
-    for number in 10..=73_u16 {
-        write!(script, " {long}_{number}")?;
-        if number > 10 {
-            columns.push(',')?;
-        }
-        write!(columns, "{long}_{number}")?;
-    }
-    script.push_str("\n1 SELECT t\n")?;
-    let played = played(rt.alloc(), script.as_str())?;
-    let answers = format!(in rt.alloc(); "1 1 OK\n2 1 OK test.t@1({columns})\n")?;
-    assert_eq!(rt; played.as_str(), answers.as_str());
-    Ok(())
+    let mut case = Case::new(rt.alloc());
+    add_columns(&mut case)?;
+    must_be_played(&rt, rt.alloc(), &case)
 }
 
+const NUMBERED: &[Numbered] = &[
+    // Three hundred savepoints stand.
+    Numbered {
+        before: ("1 BEGIN\n", "1 1 OK\n"),
+        first: 2,
+        last: 301,
+        words: "SAVEPOINT p",
+        answer: "OK",
+        behind: (
+            "1 ROLLBACK TO p301\n1 ROLLBACK TO p2\n1 ROLLBACK TO p3\n",
+            "302 1 OK\n303 1 OK\n304 1 ERR 1305\n",
+        ),
+    },
+    // The locks of schema test, of all writes and of 253 tables have places, and so one table more can come to stand.
+    Numbered {
+        before: ("", ""),
+        first: 1,
+        last: 253,
+        words: "SELECT t",
+        answer: "ERR 1146",
+        behind: (
+            "1 CREATE TABLE t254 x\n1 SELECT t254\n1 CREATE TABLE t255 x\n",
+            "254 1 OK\n255 1 OK test.t254@1(x)\n256 1 ERR 9004\n",
+        ),
+    },
+];
+
 #[test]
-fn three_hundred_savepoints_stand(rt: HostRuntime) -> Result<(), Fail> {
-    let mut script = String::new(rt.alloc());
-    let mut answers = String::new(rt.alloc());
-    script.push_str("1 BEGIN\n")?;
-    answers.push_str("1 1 OK\n")?;
-    for line in 2..=301_u16 {
-        writeln!(script, "1 SAVEPOINT p{line}")?;
-        writeln!(answers, "{line} 1 OK")?;
+fn savepoints_and_the_last_place_serve(rt: HostRuntime) -> Result<(), Fail> {
+    for numbered in NUMBERED {
+        let mut case = Case::new(rt.alloc());
+        case.add_numbered(numbered)?;
+        must_be_played(&rt, rt.alloc(), &case)?;
     }
-    script.push_str("1 ROLLBACK TO p301\n1 ROLLBACK TO p2\n1 ROLLBACK TO p3\n")?;
-    answers.push_str("302 1 OK\n303 1 OK\n304 1 ERR 1305\n")?;
-    let played = played(rt.alloc(), script.as_str())?;
-    assert_eq!(rt; played.as_str(), answers.as_str());
     Ok(())
 }
 
 // A table comes and goes, and its version tells how often.
-#[test]
-fn three_thousand_lines_are_played(rt: HostRuntime) -> Result<(), Fail> {
-    let mut script = String::new(rt.alloc());
-    let mut answers = String::new(rt.alloc());
+fn add_versions(case: &mut Case) -> Result<(), AllocError> {
     for line in 1..=3000_u16 {
         match line % 2 {
-            1 => script.push_str("1 CREATE TABLE t x\n")?,
-            _ => script.push_str("1 DROP TABLE t\n")?,
+            1 => case.script.push_str("1 CREATE TABLE t x\n")?,
+            _ => case.script.push_str("1 DROP TABLE t\n")?,
         }
-        writeln!(answers, "{line} 1 OK")?;
+        writeln!(case.answers, "{line} 1 OK")?;
     }
-    script.push_str("1 CREATE TABLE t y\n1 SELECT t\n")?;
-    answers.push_str("3001 1 OK\n3002 1 OK test.t@3001(y)\n")?;
-    let played = played(rt.alloc(), script.as_str())?;
-    assert_eq!(rt; played.as_str(), answers.as_str());
-    Ok(())
+    case.add((
+        "1 CREATE TABLE t y\n1 SELECT t\n",
+        "3001 1 OK\n3002 1 OK test.t@3001(y)\n",
+    ))
 }
 
-// The locks of schema test, of all writes and of 253 tables have places, and so one table more can come to stand.
 #[test]
-fn a_table_stands_at_the_last_place(rt: HostRuntime) -> Result<(), Fail> {
-    let mut script = String::new(rt.alloc());
-    let mut answers = String::new(rt.alloc());
-    for number in 1..=253_u16 {
-        writeln!(script, "1 SELECT t{number}")?;
-        writeln!(answers, "{number} 1 ERR 1146")?;
-    }
-    script.push_str("1 CREATE TABLE t254 x\n1 SELECT t254\n1 CREATE TABLE t255 x\n")?;
-    answers.push_str("254 1 OK\n255 1 OK test.t254@1(x)\n256 1 ERR 9004\n")?;
-    let played = played(rt.alloc(), script.as_str())?;
-    assert_eq!(rt; played.as_str(), answers.as_str());
-    Ok(())
+fn three_thousand_lines_are_played(rt: HostRuntime) -> Result<(), Fail> {
+    let mut case = Case::new(rt.alloc());
+    add_versions(&mut case)?;
+    must_be_played(&rt, rt.alloc(), &case)
 }

@@ -1,6 +1,6 @@
 //! The language of statements run once more, as slowly and as plainly as can be: one list of all tickets, granted and
-//! waiting, in the order in which they came, and one of all sessions. Whatever is asked, the lists are read from end
-//! to end.
+//! waiting, in the order in which they came, one of what was locked, and one of all sessions. Whatever is asked, the
+//! first two are read from end to end.
 mod deadlocks;
 mod definitions;
 mod granting;
@@ -138,6 +138,8 @@ enum Step {
 enum Taken {
     // With the next step.
     Done,
+    // No step was left: the statement is done.
+    Last,
     // When a lock is had.
     MustWait,
     // The statement ends with the error of a check.
@@ -251,25 +253,21 @@ impl Plain {
         let mut steps = self.plan(who, statement)?;
         steps.reverse();
         let start = self.mark(who);
-        for session in &mut self.sessions {
-            if session.number == who {
-                session.line = line;
-                session.start = start;
-                session.answer.clear();
-            }
+        if let Some(session) = self.session_mut(who) {
+            session.line = line;
+            session.start = start;
+            session.steps = steps;
+            session.answer.clear();
         }
-        self.give_steps(who, steps);
         self.go_on(who)
     }
 
     // Takes step after step, until the statement is done, waits or fails.
     fn go_on(&mut self, who: u16) -> Result<(), AllocError> {
         for _turn in 0..MANY {
-            let Some(step) = self.next_step(who) else {
-                return self.tell_done(who);
-            };
-            match self.take(who, step)? {
+            match self.take_next(who)? {
                 Taken::Done => {}
+                Taken::Last => return self.tell_done(who),
                 Taken::MustWait => return Ok(()),
                 Taken::Failed(number) => return self.fail(who, number),
                 Taken::NotGot(number) => return self.get_nothing(who, number),
@@ -300,9 +298,8 @@ impl Plain {
 
     // Who waits still.
     fn tell_ends(&mut self) -> Result<(), AllocError> {
-        for session in &self.sessions {
-            if session.wait.is_some() {
-                let who = session.number;
+        for who in 1..=SESSIONS {
+            if self.wait(who).is_some() {
                 writeln!(self.output, "END {who} WAIT")?;
             }
         }

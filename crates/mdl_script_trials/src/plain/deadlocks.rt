@@ -63,9 +63,15 @@ impl Plain {
             return false;
         };
         let waits = self.is_unsettled(other);
-        self.tickets.iter().any(|ticket| ticket.session == other
-            && (ticket.is_granted || waits)
-            && self.is_in_the_way(ticket, wish.place, wish.mode))
+        for ticket in &self.tickets {
+            if ticket.session == other
+                && (ticket.is_granted || waits)
+                && self.is_in_the_way(ticket, wish.place, wish.mode)
+            {
+                return true;
+            }
+        }
+        false
     }
 
     // The member of a cycle whose wish weighs least, and of equal weights that of the greatest number.

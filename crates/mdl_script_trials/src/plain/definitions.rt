@@ -15,30 +15,54 @@ impl Plain {
 
     // The same, where a new key takes a place that is left.
     pub(super) fn resolve(&mut self, key: &Key) -> Result<Option<usize>, AllocError> {
-        if let Some(place) = self.place_of(key) {
-            return Ok(Some(place));
+        if self.place_of(key).is_none() && self.places.len() < MOST_PLACES {
+            self.places.push(Place {
+                key: key.clone()?,
+                version: 0,
+                definition: None,
+            })?;
         }
-        if self.places.len() >= MOST_PLACES {
-            return Ok(None);
-        }
-        self.places.push(Place {
-            key: key.clone()?,
-            version: 0,
-            definition: None,
-        })?;
         Ok(self.place_of(key))
+    }
+
+    // What was locked under a key.
+    fn place(&self, key: &Key) -> Option<&Place> {
+        self.places.get(self.place_of(key)?)
+    }
+
+    // The same, to be changed.
+    fn place_mut(&mut self, key: &Key) -> Option<&mut Place> {
+        let at = self.place_of(key)?;
+        self.places.get_mut(at)
     }
 
     // Whether something stands under a key.
     fn is_there(&self, key: &Key) -> bool {
-        self.places
-            .iter()
-            .any(|place| place.key == *key && place.definition.is_some())
+        match self.place(key) {
+            Some(place) => place.definition.is_some(),
+            None => false,
+        }
+    }
+
+    // How often what stands under a key has changed.
+    fn version(&self, key: &Key) -> u64 {
+        match self.place(key) {
+            Some(place) => place.version,
+            None => 0,
+        }
+    }
+
+    // The columns of a table that is there.
+    fn columns(&self, table: &Key) -> Option<&Columns> {
+        match &self.place(table)?.definition {
+            Some(Definition::Table(columns)) => Some(columns),
+            _ => None,
+        }
     }
 
     // Whether a key has had all its versions.
     fn is_used_up(&self, key: &Key) -> bool {
-        self.places.iter().any(|place| place.key == *key && place.version >= MOST_VERSIONS)
+        self.version(key) >= MOST_VERSIONS
     }
 
     // Fails where there is no such table.
@@ -65,19 +89,11 @@ impl Plain {
         self.answer(who, text.as_str())
     }
 
-    // A blank, and a table with its version and columns.
+    // A table with its version and columns, if it is there.
     fn text_of(&self, table: &Key) -> Result<String, AllocError> {
         let mut text = String::new(self.alloc);
-        for place in &self.places {
-            if place.key == *table {
-                if let Some(Definition::Table(columns)) = &place.definition {
-                    let schema = table.schema_name();
-                    let name = table.table_name();
-                    let version = place.version;
-                    write!(text, " {schema}.{name}@{version}")?;
-                    write_columns(&mut text, columns)?;
-                }
-            }
+        if let Some(columns) = self.columns(table) {
+            write_table(&mut text, table, self.version(table), columns)?;
         }
         Ok(text)
     }
@@ -126,10 +142,8 @@ impl Plain {
         }
         let mut steps = self.steps_of_drop(schema)?;
         steps.reverse();
-        for session in &mut self.sessions {
-            if session.number == who {
-                session.steps.append(&mut steps)?;
-            }
+        if let Some(session) = self.session_mut(who) {
+            session.steps.append(&mut steps)?;
         }
         Ok(Taken::Done)
     }
@@ -189,54 +203,35 @@ impl Plain {
 
     // What stood under a key, which is gone from there.
     fn taken_from(&mut self, key: &Key) -> Option<Definition> {
-        for place in &mut self.places {
-            if place.key == *key {
-                return place.definition.take();
-            }
-        }
-        None
+        self.place_mut(key)?.definition.take()
     }
 
     // Fails where a table isn't there, or can't gain or lose a column.
     pub(super) fn check_change(&self, table: &Key, change: &Change) -> Taken {
-        for place in &self.places {
-            if place.key == *table {
-                if let Some(Definition::Table(columns)) = &place.definition {
-                    return match change {
-                        Change::AddColumn(column) => can_gain(columns, column),
-                        Change::DropColumn(column) => can_lose(columns, column),
-                        _ => Taken::Done,
-                    };
-                }
-            }
+        let Some(columns) = self.columns(table) else {
+            return Taken::Failed(1146);
+        };
+        match change {
+            Change::AddColumn(column) => can_gain(columns, column),
+            Change::DropColumn(column) => can_lose(columns, column),
+            _ => Taken::Done,
         }
-        Taken::Failed(1146)
     }
 
     // Changes the columns of a table.
     pub(super) fn alter(&mut self, table: &Key, change: &Change) -> Result<Taken, AllocError> {
-        let mut columns = Columns::new(self.alloc);
-        for place in &self.places {
-            if place.key == *table {
-                if let Some(Definition::Table(before)) = &place.definition {
-                    columns = altered(self.alloc, before, change)?;
-                }
-            }
+        if let Some(before) = self.columns(table) {
+            let columns = altered(self.alloc, before, change)?;
+            self.change(table, Some(Definition::Table(columns)));
         }
-        self.change(table, Some(Definition::Table(columns)));
         Ok(Taken::Done)
     }
 
     // Lets something stand under a key, or nothing, in a new version.
     fn change(&mut self, key: &Key, definition: Option<Definition>) {
-        let mut definition = Some(definition);
-        for place in &mut self.places {
-            if place.key == *key {
-                if let Some(definition) = definition.take() {
-                    place.definition = definition;
-                    place.version = place.version.wrapping_add(1);
-                }
-            }
+        if let Some(place) = self.place_mut(key) {
+            place.definition = definition;
+            place.version = place.version.wrapping_add(1);
         }
     }
 }
@@ -278,23 +273,31 @@ fn altered(alloc: Global, before: &Columns, change: &Change) -> Result<Columns, 
     Ok(columns)
 }
 
-// Columns in parentheses.
-fn write_columns(text: &mut String, columns: &Columns) -> Result<(), AllocError> {
-    let mut before = "(";
+// A blank, and a table with its version and its columns in parentheses.
+fn write_table(
+    text: &mut String,
+    table: &Key,
+    version: u64,
+    columns: &Columns,
+) -> Result<(), AllocError> {
+    let (schema, name) = (table.schema_name(), table.table_name());
+    write!(text, " {schema}.{name}@{version}")?;
+    let mut before = '(';
     for column in columns.as_slice() {
-        text.push_str(before)?;
-        text.push_str(column.name())?;
-        before = ",";
+        let name = column.name();
+        write!(text, "{before}{name}")?;
+        before = ',';
     }
-    text.push_str(")")
+    text.push(')')
 }
 
 // Whether a column is named twice.
 fn names_twice(columns: &Columns) -> bool {
-    columns.as_slice().iter().any(|column| columns
-        .as_slice()
-        .iter()
-        .filter(|other| *other == column)
-        .count()
-        > 1)
+    let columns = columns.as_slice();
+    for at in 0..columns.len() {
+        if columns[..at].contains(&columns[at]) {
+            return true;
+        }
+    }
+    false
 }

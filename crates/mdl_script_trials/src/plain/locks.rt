@@ -3,6 +3,13 @@ use super::{Mark, Plain, Taken, Ticket, Wait};
 use mdl_key::{Duration, Key, Mode, at_least};
 use std::alloc::AllocError;
 
+impl Ticket {
+    // Whether a session has it, for so long.
+    pub(super) fn is_of(&self, who: u16, duration: Duration) -> bool {
+        self.session == who && self.duration == duration
+    }
+}
+
 impl Plain {
     // Asks for a lock: a ticket of the session that lasts as long and is as strong serves again; beside one that lasts
     // otherwise a second one is had at once; else a new ticket is granted or waited for.
@@ -20,21 +27,15 @@ impl Plain {
             return Ok(Taken::NotGot(9004));
         };
         let is_granted = self.has(who, key, mode) || self.is_grantable(who, place, mode);
-        self.drawn = self.drawn.wrapping_add(1);
-        self.tickets.push(Ticket {
-            number: self.drawn,
+        let ticket = Ticket {
+            number: 0,
             session: who,
             place,
             mode,
             duration,
             is_granted,
-        })?;
-        if is_granted {
-            return Ok(Taken::Done);
-        }
-        self.begin_wait(who)?;
-        self.tell_wait(who, key, mode)?;
-        Ok(Taken::MustWait)
+        };
+        self.put(ticket, key)
     }
 
     // Asks for a stronger lock of a table beside the one that is had, which doesn't stand in its way.
@@ -43,20 +44,28 @@ impl Plain {
             return Ok(Taken::NotGot(9004));
         };
         let is_granted = self.is_grantable(who, place, mode);
-        self.drawn = self.drawn.wrapping_add(1);
-        self.tickets.push(Ticket {
-            number: self.drawn,
+        let ticket = Ticket {
+            number: 0,
             session: who,
             place,
             mode,
             duration: Duration::Transaction,
             is_granted,
-        })?;
-        if is_granted {
+        };
+        self.put(ticket, table)
+    }
+
+    // Puts a ticket last, under the next number. Unless it is granted its session waits for it.
+    fn put(&mut self, ticket: Ticket, key: &Key) -> Result<Taken, AllocError> {
+        let mut ticket = ticket;
+        self.drawn = self.drawn.wrapping_add(1);
+        ticket.number = self.drawn;
+        self.tickets.push(ticket)?;
+        if ticket.is_granted {
             return Ok(Taken::Done);
         }
-        self.begin_wait(who)?;
-        self.tell_wait(who, table, mode)?;
+        self.begin_wait(ticket.session)?;
+        self.tell_wait(ticket.session, key, ticket.mode)?;
         Ok(Taken::MustWait)
     }
 
@@ -80,10 +89,7 @@ impl Plain {
     // Gives the ticket that a session has of a place for its transaction another mode.
     fn set_mode(&mut self, who: u16, place: usize, mode: Mode) {
         for ticket in &mut self.tickets {
-            if ticket.session == who
-                && ticket.place == place
-                && ticket.duration == Duration::Transaction
-            {
+            if ticket.is_of(who, Duration::Transaction) && ticket.place == place {
                 ticket.mode = mode;
             }
         }
@@ -92,10 +98,15 @@ impl Plain {
     // Whether the session has a ticket of a key that lasts so long and is so strong.
     fn has_for(&self, who: u16, key: &Key, mode: Mode, duration: Duration) -> bool {
         let place = self.place_of(key);
-        self.tickets.iter().any(|ticket| ticket.session == who
-            && ticket.duration == duration
-            && Some(ticket.place) == place
-            && at_least(key.kind(), ticket.mode, mode))
+        for ticket in &self.tickets {
+            if ticket.is_of(who, duration)
+                && Some(ticket.place) == place
+                && at_least(key.kind(), ticket.mode, mode)
+            {
+                return true;
+            }
+        }
+        false
     }
 
     // Whether it has one that is so strong.
@@ -127,10 +138,13 @@ impl Plain {
 
     // How many tickets of a duration.
     fn count(&self, who: u16, duration: Duration) -> usize {
-        self.tickets
-            .iter()
-            .filter(|ticket| ticket.session == who && ticket.duration == duration)
-            .count()
+        let mut count = 0_usize;
+        for ticket in &self.tickets {
+            if ticket.is_of(who, duration) {
+                count = count.wrapping_add(1);
+            }
+        }
+        count
     }
 
     // A session's newest ticket.
@@ -162,19 +176,25 @@ impl Plain {
         duration: Duration,
         kept: usize,
     ) -> Result<(), AllocError> {
-        let mut gone = Vec::new(self.alloc);
-        let mut met = 0_usize;
-        for ticket in &self.tickets {
-            if ticket.session == who && ticket.duration == duration {
-                if met >= kept {
-                    gone.push(*ticket)?;
-                }
-                met = met.wrapping_add(1);
-            }
-        }
-        for ticket in &gone {
+        let tickets = self.tickets_of(who, duration)?;
+        for ticket in tickets.iter().skip(kept) {
             self.let_go(*ticket);
         }
         Ok(())
+    }
+
+    // A session's tickets of a duration.
+    pub(super) fn tickets_of(
+        &self,
+        who: u16,
+        duration: Duration,
+    ) -> Result<Vec<Ticket>, AllocError> {
+        let mut tickets = Vec::new(self.alloc);
+        for ticket in &self.tickets {
+            if ticket.is_of(who, duration) {
+                tickets.push(*ticket)?;
+            }
+        }
+        Ok(tickets)
     }
 }

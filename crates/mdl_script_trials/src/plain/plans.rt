@@ -5,6 +5,7 @@ use mdl_defs::Columns;
 use mdl_key::{Duration, Key, Mode};
 use mdl_syntax::{Algorithm, Alteration, LockType, Name, Priority, Statement, TableLocks, Tables};
 use std::alloc::{AllocError, Global};
+use std::slice;
 
 // A list of steps that grows.
 #[derive(Drop)]
@@ -76,9 +77,15 @@ impl Plan<'_> {
         self.push(Step::Ask(key, mode, duration))
     }
 
-    // The lock of a table for the transaction.
+    // The lock of a table, or of a schema as a whole, for the transaction.
     fn ask_table(&mut self, table: &Key, mode: Mode) -> Result<(), AllocError> {
         self.ask(table.clone()?, mode, Duration::Transaction)
+    }
+
+    // The lock of a table's schema for the transaction.
+    fn ask_schema(&mut self, table: &Key) -> Result<(), AllocError> {
+        let schema = made(Key::schema(self.alloc, table.schema_name()))?;
+        self.ask(schema, Mode::IX, Duration::Transaction)
     }
 
     // The lock of whatever changes something.
@@ -186,15 +193,19 @@ impl Plan<'_> {
         Ok(())
     }
 
-    // What begins each change of definitions: it commits, and then asks for the global lock, the schemas and the
-    // tables, both in the order of keys. A schema that is asked for again is had already.
-    fn begin_change(&mut self, keys: &Vec<Key>) -> Result<(), AllocError> {
+    // What begins each change of definitions: it commits, and then asks for the global lock.
+    fn begin_change(&mut self) -> Result<(), AllocError> {
         self.refuse_locks()?;
         self.commit()?;
-        self.ask_global()?;
+        self.ask_global()
+    }
+
+    // A change of tables asks for the schemas then and for the tables, both in the order of keys. A schema that is asked
+    // for again is had already.
+    fn begin_tables(&mut self, keys: &[Key]) -> Result<(), AllocError> {
+        self.begin_change()?;
         for key in keys {
-            let schema = made(Key::schema(self.alloc, key.schema_name()))?;
-            self.ask(schema, Mode::IX, Duration::Transaction)?;
+            self.ask_schema(key)?;
         }
         for key in keys {
             self.ask_table(key, Mode::X)?;
@@ -202,62 +213,75 @@ impl Plan<'_> {
         Ok(())
     }
 
+    // A change of a schema asks for that, so that nobody else is in it.
+    fn begin_schema(&mut self, schema: &Key) -> Result<(), AllocError> {
+        self.begin_change()?;
+        self.ask_table(schema, Mode::X)
+    }
+
     // A new table.
     fn create(&mut self, table: &Key, columns: &Columns) -> Result<(), AllocError> {
-        let mut keys = Vec::new(self.alloc);
-        keys.push(table.clone()?)?;
-        self.begin_change(&keys)?;
+        self.begin_tables(slice::from_ref(table))?;
         self.push(Step::Create(table.clone()?, columns.clone()?))?;
         self.push(Step::End)
     }
 
-    // A new schema, which nobody else is in.
+    // A new schema.
     fn create_schema(&mut self, name: &Name) -> Result<(), AllocError> {
         let schema = made(Key::schema(self.alloc, name.as_str()))?;
-        self.refuse_locks()?;
-        self.commit()?;
-        self.ask_global()?;
-        self.ask(schema.clone()?, Mode::X, Duration::Transaction)?;
+        self.begin_schema(&schema)?;
         self.push(Step::CreateSchema(schema))?;
         self.push(Step::End)
     }
 
-    // All tables are looked at under all locks before the first is dropped.
+    // Tables that go.
     fn drop_tables(&mut self, tables: &Tables) -> Result<(), AllocError> {
         let keys = self.sorted(tables)?;
-        self.begin_change(&keys)?;
-        for key in &keys {
-            self.push(Step::Look(key.clone()?))?;
-        }
-        for key in &keys {
+        self.drop_keys(&keys)
+    }
+
+    // All are looked at under all locks before the first is dropped.
+    fn drop_keys(&mut self, keys: &[Key]) -> Result<(), AllocError> {
+        self.begin_tables(keys)?;
+        self.look_at(keys)?;
+        for key in keys {
             self.push(Step::CheckVersion(key.clone()?))?;
         }
-        for key in &keys {
+        for key in keys {
             self.push(Step::Drop(key.clone()?))?;
         }
         self.push(Step::End)
     }
 
+    // Looks at tables.
+    fn look_at(&mut self, keys: &[Key]) -> Result<(), AllocError> {
+        for key in keys {
+            self.push(Step::Look(key.clone()?))?;
+        }
+        Ok(())
+    }
+
     // The tables of a schema are found once nobody else is in it.
     fn drop_schema(&mut self, name: &Name) -> Result<(), AllocError> {
         let schema = made(Key::schema(self.alloc, name.as_str()))?;
-        self.refuse_locks()?;
-        self.commit()?;
-        self.ask_global()?;
-        self.ask(schema.clone()?, Mode::X, Duration::Transaction)?;
+        self.begin_schema(&schema)?;
         self.push(Step::DropSchema(schema))?;
         self.push(Step::End)
     }
 
     // Both names are locked before the first is looked at.
     fn rename(&mut self, from: &Key, to: &Key) -> Result<(), AllocError> {
+        self.begin_rename(from, to)?;
+        self.push(Step::Rename(from.clone()?, to.clone()?))?;
+        self.push(Step::End)
+    }
+
+    fn begin_rename(&mut self, from: &Key, to: &Key) -> Result<(), AllocError> {
         let mut keys = Vec::new(self.alloc);
         keys.push(from.clone()?)?;
         keys.push(to.clone()?)?;
         keys.sort()?;
-        self.begin_change(&keys)?;
-        self.push(Step::Rename(from.clone()?, to.clone()?))?;
-        self.push(Step::End)
+        self.begin_tables(&keys)
     }
 
     // A table whose columns change: nobody else uses it while they do.
@@ -270,8 +294,7 @@ impl Plan<'_> {
         }
         self.commit()?;
         self.ask_global()?;
-        let schema = made(Key::schema(self.alloc, table.schema_name()))?;
-        self.ask(schema, Mode::IX, Duration::Transaction)?;
+        self.ask_schema(table)?;
         let first = if has_locked { Mode::SNRW } else { Mode::SU };
         self.ask_table(table, first)?;
         self.push(Step::CheckChange(table.clone()?, alteration.change.clone()?))?;
@@ -301,19 +324,15 @@ impl Plan<'_> {
         self.push(Step::Merge)
     }
 
-    // Tables that stay locked, the earlier ones given up: what is around those that are to be written is locked first. All
-    // are looked at under all locks.
+    // Tables that stay locked, the earlier ones given up.
     fn lock_tables(&mut self, tables: &TableLocks) -> Result<(), AllocError> {
-        let mut keys = Vec::new(self.alloc);
-        let mut written = Vec::new(self.alloc);
-        for lock in tables.as_slice() {
-            keys.push(lock.table.clone()?)?;
-            if lock.lock_type == LockType::Write {
-                written.push(lock.table.clone()?)?;
-            }
-        }
-        keys.sort()?;
-        written.sort()?;
+        let keys = self.locked(tables, false)?;
+        let written = self.locked(tables, true)?;
+        self.lock_keys(&keys, &written)
+    }
+
+    // What is around those that are to be written is locked first. All are looked at under all locks.
+    fn lock_keys(&mut self, keys: &[Key], written: &[Key]) -> Result<(), AllocError> {
         if !written.is_empty() {
             self.refuse_read_lock()?;
         }
@@ -322,22 +341,27 @@ impl Plan<'_> {
         if !written.is_empty() {
             self.ask_global()?;
         }
-        for key in &written {
-            let schema = made(Key::schema(self.alloc, key.schema_name()))?;
-            self.ask(schema, Mode::IX, Duration::Transaction)?;
+        for key in written {
+            self.ask_schema(key)?;
         }
-        for key in &keys {
-            let mode = if written.contains(key) {
-                Mode::SNRW
-            } else {
-                Mode::SRO
-            };
-            self.ask_table(key, mode)?;
+        for key in keys {
+            let is_written = written.contains(key);
+            self.ask_table(key, if is_written { Mode::SNRW } else { Mode::SRO })?;
         }
-        for key in &keys {
-            self.push(Step::Look(key.clone()?))?;
-        }
+        self.look_at(keys)?;
         self.push(Step::Keep)
+    }
+
+    // The tables to lock, or those of them to be written, in the order of their keys.
+    fn locked(&self, tables: &TableLocks, to_write: bool) -> Result<Vec<Key>, AllocError> {
+        let mut keys = Vec::new(self.alloc);
+        for lock in tables.as_slice() {
+            if !to_write || lock.lock_type == LockType::Write {
+                keys.push(lock.table.clone()?)?;
+            }
+        }
+        keys.sort()?;
+        Ok(keys)
     }
 
     // A lock that sessions name. No transaction begins or ends, and nothing else is locked.

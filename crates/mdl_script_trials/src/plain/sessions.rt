@@ -26,9 +26,22 @@ impl Session {
 }
 
 impl Plain {
-    // A session.
+    // A session. They stand in the order of their numbers, from 1 on.
     pub(super) fn session(&self, who: u16) -> Option<&Session> {
-        self.sessions.iter().find(|session| session.number == who)
+        self.sessions.get(usize::from(who).wrapping_sub(1))
+    }
+
+    // The same, to be changed.
+    pub(super) fn session_mut(&mut self, who: u16) -> Option<&mut Session> {
+        self.sessions.get_mut(usize::from(who).wrapping_sub(1))
+    }
+
+    // The line of its statement.
+    fn line(&self, who: u16) -> u64 {
+        match self.session(who) {
+            Some(session) => session.line,
+            None => 0,
+        }
     }
 
     // Whether its transaction is open.
@@ -88,98 +101,71 @@ impl Plain {
         if !self.is_unsettled(who) {
             return;
         }
-        for session in &mut self.sessions {
-            if session.number == who {
-                if let Some(wait) = session.wait {
-                    session.wait = Some(Wait {
-                        ticket: wait.ticket,
-                        settled: Some(how),
-                    });
-                }
-            }
+        if let Some(
+            Session {
+                wait: Some(wait),
+                ..
+            },
+        ) = self.session_mut(who)
+        {
+            wait.settled = Some(how);
         }
     }
 
     // Gives a session a wait, or none.
     pub(super) fn set_wait(&mut self, who: u16, wait: Option<Wait>) {
-        for session in &mut self.sessions {
-            if session.number == who {
-                session.wait = wait;
-            }
-        }
-    }
-
-    // Gives a session the steps of its statement, the next one last.
-    pub(super) fn give_steps(&mut self, who: u16, steps: Vec<Step>) {
-        let mut steps = Some(steps);
-        for session in &mut self.sessions {
-            if session.number == who {
-                if let Some(steps) = steps.take() {
-                    session.steps = steps;
-                }
-            }
+        if let Some(session) = self.session_mut(who) {
+            session.wait = wait;
         }
     }
 
     // The next step of a session's statement.
     pub(super) fn next_step(&mut self, who: u16) -> Option<Step> {
-        for session in &mut self.sessions {
-            if session.number == who {
-                return session.steps.pop();
-            }
+        self.session_mut(who)?.steps.pop()
+    }
+
+    // No step of its statement is left.
+    fn clear_steps(&mut self, who: u16) {
+        if let Some(session) = self.session_mut(who) {
+            session.steps.clear();
         }
-        None
     }
 
     // A word more of its answer.
     pub(super) fn answer(&mut self, who: u16, word: &str) -> Result<Taken, AllocError> {
-        for session in &mut self.sessions {
-            if session.number == who {
-                session.answer.push_str(word)?;
-            }
+        if let Some(session) = self.session_mut(who) {
+            session.answer.push_str(word)?;
         }
         Ok(Taken::Done)
     }
 
-    // Its statement is done, and nothing came of it: no step of it is left.
+    // Its statement is done, and nothing came of it.
     pub(super) fn tell_no(&mut self, who: u16) -> Result<(), AllocError> {
-        self.give_steps(who, Vec::new(self.alloc));
+        self.clear_steps(who);
         self.answer(who, " 0")?;
         self.tell_done(who)
     }
 
     // Its statement is done.
     pub(super) fn tell_done(&mut self, who: u16) -> Result<(), AllocError> {
-        for session in &self.sessions {
-            if session.number == who {
-                let line = session.line;
-                let answer = session.answer.as_str();
-                writeln!(self.output, "{line} {who} OK{answer}")?;
-            }
+        let line = self.line(who);
+        write!(self.output, "{line} {who} OK")?;
+        if let Some(session) = self.sessions.get(usize::from(who).wrapping_sub(1)) {
+            self.output.push_str(session.answer.as_str())?;
         }
-        Ok(())
+        self.output.push('\n')
     }
 
     // It waits for a lock.
     pub(super) fn tell_wait(&mut self, who: u16, key: &Key, mode: Mode) -> Result<(), AllocError> {
-        for session in &self.sessions {
-            if session.number == who {
-                let line = session.line;
-                writeln!(self.output, "{line} {who} WAIT {key} {mode}")?;
-            }
-        }
-        Ok(())
+        let line = self.line(who);
+        writeln!(self.output, "{line} {who} WAIT {key} {mode}")
     }
 
-    // Its statement fails: no step of it is left.
+    // Its statement fails.
     pub(super) fn tell_error(&mut self, who: u16, number: u32) -> Result<(), AllocError> {
-        for session in &mut self.sessions {
-            if session.number == who {
-                session.steps.clear();
-                let line = session.line;
-                writeln!(self.output, "{line} {who} ERR {number}")?;
-            }
-        }
-        Ok(())
+        self.clear_steps(who);
+        let line = self.line(who);
+        writeln!(self.output, "{line} {who} ERR {number}")
     }
 }

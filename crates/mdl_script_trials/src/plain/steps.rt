@@ -1,37 +1,63 @@
 //! What a step does, and how a statement ends.
-use super::{Mark, Plain, Savepoint, Step, Taken};
+use super::{Mark, Plain, Savepoint, Session, Step, Taken};
 use mdl_key::Duration;
 use mdl_syntax::Name;
 use std::alloc::AllocError;
 
+impl Session {
+    // Where a savepoint of a name is.
+    fn savepoint(&self, name: &str) -> Option<usize> {
+        self.savepoints
+            .iter()
+            .position(|other| other.name.as_str() == name)
+    }
+
+    // Puts a savepoint last. An older one of its name goes.
+    fn save(&mut self, name: &Name, mark: Mark) -> Result<(), AllocError> {
+        self.savepoints
+            .retain(|other| other.name.as_str() != name.as_str());
+        let name = name.clone()?;
+        self.savepoints.push(Savepoint { name, mark })?;
+        Ok(())
+    }
+}
+
 impl Plain {
+    // Takes the next step, if one is left.
+    pub(super) fn take_next(&mut self, who: u16) -> Result<Taken, AllocError> {
+        match self.next_step(who) {
+            Some(step) => self.take(who, &step),
+            None => Ok(Taken::Last),
+        }
+    }
+
     // Takes a step.
-    pub(super) fn take(&mut self, who: u16, step: Step) -> Result<Taken, AllocError> {
+    fn take(&mut self, who: u16, step: &Step) -> Result<Taken, AllocError> {
         match step {
-            Step::Ask(key, mode, duration) => self.ask(who, &key, mode, duration),
-            Step::Look(table) => Ok(self.look(&table)),
-            Step::Read(table) => self.read(who, &table),
-            Step::Create(table, columns) => self.create(&table, &columns),
-            Step::CreateSchema(schema) => Ok(self.create_schema(&schema)),
-            Step::CheckVersion(table) => Ok(self.check_version(&table)),
-            Step::DropSchema(schema) => self.drop_schema(who, &schema),
-            Step::Drop(key) => Ok(self.drop_key(&key)),
-            Step::Rename(from, to) => self.rename(&from, &to),
-            Step::CheckChange(table, change) => Ok(self.check_change(&table, &change)),
-            Step::Raise(table, mode) => self.raise(who, &table, mode),
-            Step::Lower(table, mode) => Ok(self.lower(who, &table, mode)),
-            Step::Alter(table, change) => self.alter(&table, &change),
-            Step::LeaveUserLock(key) => self.leave_user_lock(who, &key),
+            Step::Ask(key, mode, duration) => self.ask(who, key, *mode, *duration),
+            Step::Look(table) => Ok(self.look(table)),
+            Step::Read(table) => self.read(who, table),
+            Step::Create(table, columns) => self.create(table, columns),
+            Step::CreateSchema(schema) => Ok(self.create_schema(schema)),
+            Step::CheckVersion(table) => Ok(self.check_version(table)),
+            Step::DropSchema(schema) => self.drop_schema(who, schema),
+            Step::Drop(key) => Ok(self.drop_key(key)),
+            Step::Rename(from, to) => self.rename(from, to),
+            Step::CheckChange(table, change) => Ok(self.check_change(table, change)),
+            Step::Raise(table, mode) => self.raise(who, table, *mode),
+            Step::Lower(table, mode) => Ok(self.lower(who, table, *mode)),
+            Step::Alter(table, change) => self.alter(table, change),
+            Step::LeaveUserLock(key) => self.leave_user_lock(who, key),
             Step::AnswerYes => self.answer(who, " 1"),
-            Step::Fail(number) => Ok(Taken::Failed(number)),
+            Step::Fail(number) => Ok(Taken::Failed(*number)),
             Step::Save(name) => self.save(who, name),
-            Step::GoBack(name) => self.go_back(who, &name),
+            Step::GoBack(name) => self.go_back(who, name),
             other => self.take_plain(who, other),
         }
     }
 
     // Takes a step that names nothing.
-    fn take_plain(&mut self, who: u16, step: Step) -> Result<Taken, AllocError> {
+    fn take_plain(&mut self, who: u16, step: &Step) -> Result<Taken, AllocError> {
         match step {
             Step::EndStatement => self.end_statement(who)?,
             Step::End => self.end_transaction(who)?,
@@ -105,22 +131,18 @@ impl Plain {
     // The newest ticket is of no use without the global read lock; or the session has that.
     fn set_half_lock(&mut self, who: u16, is_whole: bool) {
         let newest = self.newest(who);
-        for session in &mut self.sessions {
-            if session.number == who {
-                session.has_read_lock = is_whole;
-                session.half_lock = if is_whole { None } else { newest };
-            }
+        if let Some(session) = self.session_mut(who) {
+            session.has_read_lock = is_whole;
+            session.half_lock = if is_whole { None } else { newest };
         }
     }
 
     // Gives up the ticket that is of no use without the global read lock.
     fn drop_half_lock(&mut self, who: u16) {
-        let mut half = None;
-        for session in &mut self.sessions {
-            if session.number == who {
-                half = session.half_lock.take();
-            }
-        }
+        let half = match self.session_mut(who) {
+            Some(session) => session.half_lock.take(),
+            None => None,
+        };
         if let Some(ticket) = half {
             self.let_go(ticket);
         }
@@ -128,62 +150,41 @@ impl Plain {
 
     // Gives up locked tables, what was locked around them, and the global read lock.
     fn unlock_all(&mut self, who: u16) -> Result<(), AllocError> {
-        for ticket in &self.explicit(who)? {
+        for ticket in &self.tickets_of(who, Duration::Explicit)? {
             if !self.is_of_user_lock(ticket) {
                 self.let_go(*ticket);
             }
         }
-        for session in &mut self.sessions {
-            if session.number == who {
-                session.has_read_lock = false;
-            }
+        if let Some(session) = self.session_mut(who) {
+            session.has_read_lock = false;
         }
         Ok(())
     }
 
     // A transaction begins or is over: nothing is written in it.
     fn set_open(&mut self, who: u16, is_open: bool) {
-        for session in &mut self.sessions {
-            if session.number == who {
-                session.is_open = is_open;
-                session.has_written = false;
-                session.savepoints.clear();
-            }
+        if let Some(session) = self.session_mut(who) {
+            session.is_open = is_open;
+            session.has_written = false;
+            session.savepoints.clear();
         }
     }
 
     // The transaction has written.
     fn set_written(&mut self, who: u16) {
-        for session in &mut self.sessions {
-            if session.number == who {
-                session.has_written = true;
-            }
+        if let Some(session) = self.session_mut(who) {
+            session.has_written = true;
         }
     }
 
-    // A savepoint in an open transaction: an older one of its name goes.
-    fn save(&mut self, who: u16, name: Name) -> Result<Taken, AllocError> {
-        if self.is_open(who) {
-            let mark = self.mark(who);
-            self.set_savepoint(who, Savepoint { name, mark })?;
+    // A savepoint in an open transaction.
+    fn save(&mut self, who: u16, name: &Name) -> Result<Taken, AllocError> {
+        let mark = self.mark(who);
+        match self.session_mut(who) {
+            Some(session) if session.is_open => session.save(name, mark)?,
+            _ => {}
         }
         Ok(Taken::Done)
-    }
-
-    // Puts a savepoint last.
-    fn set_savepoint(&mut self, who: u16, savepoint: Savepoint) -> Result<(), AllocError> {
-        let mut savepoint = Some(savepoint);
-        for session in &mut self.sessions {
-            if session.number == who {
-                if let Some(savepoint) = savepoint.take() {
-                    session
-                        .savepoints
-                        .retain(|other| other.name.as_str() != savepoint.name.as_str());
-                    session.savepoints.push(savepoint)?;
-                }
-            }
-        }
-        Ok(())
     }
 
     // Releases what was locked since a savepoint, and forgets the later ones.
@@ -197,17 +198,10 @@ impl Plain {
 
     // Forgets the savepoints that are later than this one.
     fn keep_savepoints(&mut self, who: u16, name: &Name) -> Option<Mark> {
-        for session in &mut self.sessions {
-            if session.number == who {
-                let at = session
-                    .savepoints
-                    .iter()
-                    .position(|other| other.name.as_str() == name.as_str())?;
-                let mark = session.savepoints.get(at)?.mark;
-                session.savepoints.truncate(at.wrapping_add(1));
-                return Some(mark);
-            }
-        }
-        None
+        let session = self.session_mut(who)?;
+        let at = session.savepoint(name.as_str())?;
+        let mark = session.savepoints.get(at)?.mark;
+        session.savepoints.truncate(at.wrapping_add(1));
+        Some(mark)
     }
 }

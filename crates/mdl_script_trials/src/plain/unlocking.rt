@@ -4,17 +4,6 @@ use mdl_key::{Duration, Key, Mode, Namespace};
 use std::alloc::AllocError;
 
 impl Plain {
-    // The tickets that stay with a session until it gives them up.
-    pub(super) fn explicit(&self, who: u16) -> Result<Vec<Ticket>, AllocError> {
-        let mut tickets = Vec::new(self.alloc);
-        for ticket in &self.tickets {
-            if ticket.session == who && ticket.duration == Duration::Explicit {
-                tickets.push(*ticket)?;
-            }
-        }
-        Ok(tickets)
-    }
-
     // Whether a ticket is of a table.
     fn is_of_table(&self, ticket: &Ticket) -> bool {
         match self.places.get(ticket.place) {
@@ -25,19 +14,19 @@ impl Plain {
 
     // Whether a session has locked tables.
     pub(super) fn has_locked(&self, who: u16) -> bool {
-        self.tickets.iter().any(|ticket| ticket.session == who
-            && ticket.duration == Duration::Explicit
-            && self.is_of_table(ticket))
+        for ticket in &self.tickets {
+            if ticket.is_of(who, Duration::Explicit) && self.is_of_table(ticket) {
+                return true;
+            }
+        }
+        false
     }
 
     // In which mode it has locked a table.
     pub(super) fn locked_mode(&self, who: u16, table: &Key) -> Option<Mode> {
         let place = self.place_of(table);
         for ticket in &self.tickets {
-            if ticket.session == who
-                && ticket.duration == Duration::Explicit
-                && Some(ticket.place) == place
-            {
+            if ticket.is_of(who, Duration::Explicit) && Some(ticket.place) == place {
                 return Some(ticket.mode);
             }
         }
@@ -46,7 +35,7 @@ impl Plain {
 
     // Gives up locked tables, and then what was locked around them. The global read lock stays.
     pub(super) fn unlock(&mut self, who: u16) -> Result<(), AllocError> {
-        let tickets = self.explicit(who)?;
+        let tickets = self.tickets_of(who, Duration::Explicit)?;
         for ticket in &tickets {
             if self.is_of_table(ticket) {
                 self.let_go(*ticket);

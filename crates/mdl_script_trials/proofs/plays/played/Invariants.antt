@@ -1,6 +1,0 @@
--- All sessions are there after each line.
-use Rattle.mdl_script.specs.Plays.{IsManned}
-use Rattle.mdl_script_trials.proofs.plays.played.Given as goal
-
-abbrev pub invariant-loop-line : goal.invariant-loop-line
-invariant-loop-line l = IsManned l.play
