@@ -11,11 +11,15 @@ mod books;
 #[cfg(test)]
 mod calls;
 #[cfg(test)]
+mod deadlocks;
+#[cfg(test)]
 mod definitions;
 #[cfg(test)]
 mod keys;
 #[cfg(test)]
 mod strength;
+#[cfg(test)]
+mod syntax;
 #[cfg(test)]
 mod texts;
 #[cfg(test)]

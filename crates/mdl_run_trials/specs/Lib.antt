@@ -1,1 +1,2 @@
+pub mod used_up
 pub mod Rooms

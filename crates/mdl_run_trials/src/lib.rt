@@ -38,4 +38,6 @@ mod stress;
 #[cfg(test)]
 mod turns;
 #[cfg(test)]
+mod used_up;
+#[cfg(test)]
 mod versions;

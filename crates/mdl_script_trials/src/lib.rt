@@ -19,6 +19,8 @@ mod faults;
 #[cfg(test)]
 mod limits;
 #[cfg(test)]
+mod one_lock;
+#[cfg(test)]
 mod plain;
 #[cfg(test)]
 mod plays;

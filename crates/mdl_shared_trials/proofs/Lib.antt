@@ -1,3 +1,4 @@
+pub mod contexts
 pub mod HoldersKnow
 pub mod MetAfter
 pub mod VainTries

@@ -1,2 +1,3 @@
+pub mod contexts
 pub mod Holders
 pub mod VersionReads

@@ -21,6 +21,8 @@ mod clashes;
 #[cfg(test)]
 mod columns;
 #[cfg(test)]
+mod contexts;
+#[cfg(test)]
 mod counting;
 #[cfg(test)]
 mod ending;

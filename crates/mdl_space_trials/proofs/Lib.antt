@@ -1,3 +1,4 @@
+pub mod contexts
 pub mod CauseLemmas
 pub mod LoneModes
 pub mod LoneRedefinitions

@@ -1,3 +1,4 @@
+pub mod contexts
 pub mod LoneTickets
 pub mod Serving
 pub mod Visits

@@ -14,6 +14,10 @@ mod alone;
 #[cfg(test)]
 mod books;
 #[cfg(test)]
+mod by_chance;
+#[cfg(test)]
+mod contexts;
+#[cfg(test)]
 mod deadlocks;
 #[cfg(test)]
 mod definitions;

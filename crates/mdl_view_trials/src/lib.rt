@@ -13,6 +13,8 @@ mod deadlocks;
 #[cfg(test)]
 mod examples;
 #[cfg(test)]
+mod lock_rows;
+#[cfg(test)]
 mod pictures;
 #[cfg(test)]
 mod refusals;

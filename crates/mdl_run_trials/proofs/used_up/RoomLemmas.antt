@@ -1,0 +1,38 @@
+-- Two sessions over one lock space, of which one makes calls.
+use Rattle.std.proofs.Common.{◌≡◌, ◌≢◌, ℕ, [], Some, None, refl, ◌∙◌, arith}
+use Rattle.std.proofs.lemmas.List.Elements.{All-nil}
+use Rattle.mdl_defs.specs.Caches.{CacheView}
+use Rattle.mdl_core.specs.Words.{Core, SpeaksFor, own_at}
+use Rattle.mdl_space.specs.CoreMembers.{core_space}
+use Rattle.mdl_context.specs.Contexts.{ContextView, LeavesOthers}
+use Rattle.mdl_stmt.specs.Attendance.{AttendsWith}
+use Rattle.mdl_stmt.proofs.AttendanceLemmas.{attends-besides, attends-empty}
+use Rattle.mdl_run_trials.specs.used_up.Rooms.{ServesBoth}
+
+-- session 1 has made calls
+pub first_then : (before after : Core) (context x : ContextView) (cache y : CacheView) → ServesBoth before context cache → x.who ≡ context.who
+    → AttendsWith core_space after x y → LeavesOthers core_space context.who before after → ServesBoth after x y
+first_then before after context x cache y both who attends by = record {
+  one = who ∙ both.one;
+  served = attends;
+  speaks = (by.0 2 (λ e. omega (arith, e, both.one)) both.speaks).0;
+}
+
+-- session 2 has made a call
+pub other_then : (before after : Core) (context : ContextView) (cache : CacheView) → ServesBoth before context cache → SpeaksFor after 2
+    → LeavesOthers core_space 2 before after → ServesBoth after context cache
+other_then before after context cache both speaks by = record {
+  one = both.one;
+  served = attends-besides core_space before after context cache 2 by (λ e. omega (arith, e, both.one)) both.served;
+  speaks = speaks;
+}
+
+-- neither session has anything, and nothing is cached
+pub fresh_both : (space : Core) (context : ContextView) (cache : CacheView) → context ≡ record { who = 1; kept = []; known = []; wait = None }
+    → cache.kept ≡ [] → SpeaksFor space 1 → SpeaksFor space 2 → own_at space 1 ≡ record { held = []; wait = None } → ServesBoth space context cache
+fresh_both space context cache new empty speaks speaks_other nothing = record {
+  one = rw new refl;
+  served = attends-empty core_space space context cache empty
+      (rw new (record { speaks = speaks; serves = rw nothing (record { held = refl; wait = refl }); known = All-nil _; places = All-nil _; wish = tt }));
+  speaks = speaks_other;
+}

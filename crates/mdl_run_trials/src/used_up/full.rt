@@ -1,0 +1,191 @@
+//! Locks that have as many tickets as a lock can have: 9005. The other session has all of them, which the sessions of a script never come
+//! to, since none of them has more than a few of one lock. As soon as one of them goes, the statement is done.
+use crate::used_up::room::{Lock, Outcome};
+use crate::used_up::rows::Row::{Crowds, Leaves, Says};
+use crate::used_up::rows::{Row, first_wrong};
+use mdl_key::Mode;
+
+const DONE: Outcome = Outcome::Done;
+
+const FULL: Outcome = Outcome::Fails(9005);
+
+const FIRST: Outcome = Outcome::Reads(1);
+
+// Places for the keys of the rows.
+const PLACES: u16 = 8;
+
+const MOST_TICKETS: u32 = 65_535;
+
+// Others read a table.
+const OF_A_TABLE: &[Row] = &[
+    Says("CREATE SCHEMA test", DONE, 0),
+    Says("CREATE TABLE a x", DONE, 0),
+    Says("CREATE TABLE b x", DONE, 0),
+    Crowds(Lock::Table("a"), Mode::SR, MOST_TICKETS),
+    Says("SELECT b a", FULL, 0),
+    Says("INSERT a", FULL, 0),
+    Says("DELETE LOW_PRIORITY a", FULL, 0),
+    Says("CREATE TABLE a x", FULL, 0),
+    Says("DROP TABLE b a", FULL, 0),
+    Says("DROP SCHEMA test", FULL, 0),
+    Says("RENAME TABLE a TO c", FULL, 0),
+    Says("RENAME TABLE b TO a", FULL, 0),
+    Says("ALTER TABLE a ADD y COPY", FULL, 0),
+    Says("ALTER TABLE a ADD y INPLACE", FULL, 0),
+    Says("LOCK TABLES a READ b READ", FULL, 0),
+    Says("LOCK TABLES a WRITE b WRITE", FULL, 0),
+    // An open transaction keeps what it had.
+    Says("BEGIN", DONE, 0),
+    Says("SELECT b", FIRST, 1),
+    Says("SAVEPOINT p", DONE, 1),
+    Says("SELECT b a", FULL, 1),
+    Says("INSERT a", FULL, 1),
+    Says("ROLLBACK TO p", DONE, 1),
+    Says("COMMIT", DONE, 0),
+    Leaves,
+    Says("SELECT b a", FIRST, 0),
+    // There is room for a ticket, and none for the second one by which a stronger lock is waited for.
+    Says("ALTER TABLE a ADD y COPY", FULL, 0),
+    Says("ALTER TABLE a ADD y INPLACE", FULL, 0),
+    Says("SELECT a", FIRST, 0),
+];
+
+#[test]
+fn the_lock_of_a_table_is_full(rt: HostRuntime) {
+    assert_eq!(rt; first_wrong(rt.alloc(), PLACES, OF_A_TABLE), None);
+}
+
+// Others look at a table, which is locked to be written.
+const OF_A_LOCKED_TABLE: &[Row] = &[
+    Says("CREATE SCHEMA test", DONE, 0),
+    Says("CREATE TABLE a x", DONE, 0),
+    Crowds(Lock::Table("a"), Mode::SH, MOST_TICKETS - 1),
+    Says("LOCK TABLES a WRITE", DONE, 3),
+    // Its lock can't be cloned, and once it can, the clone can't become stronger.
+    Says("ALTER TABLE a ADD y COPY", FULL, 3),
+    Leaves,
+    Says("ALTER TABLE a ADD y COPY", FULL, 3),
+    Says("ALTER TABLE a ADD y INPLACE", FULL, 3),
+    Says("SELECT a", FIRST, 3),
+    Says("INSERT a", DONE, 3),
+    Says("UNLOCK TABLES", DONE, 0),
+];
+
+#[test]
+fn the_lock_of_a_locked_table_is_full(rt: HostRuntime) {
+    assert_eq!(rt; first_wrong(rt.alloc(), PLACES, OF_A_LOCKED_TABLE), None);
+}
+
+// Others change what is in a schema.
+const OF_THE_SCHEMA: &[Row] = &[
+    Says("CREATE SCHEMA test", DONE, 0),
+    Says("CREATE TABLE a x", DONE, 0),
+    Crowds(Lock::Schema("test"), Mode::IX, MOST_TICKETS),
+    Says("CREATE TABLE b x", FULL, 0),
+    Says("CREATE SCHEMA test", FULL, 0),
+    Says("DROP TABLE a", FULL, 0),
+    Says("DROP SCHEMA test", FULL, 0),
+    Says("RENAME TABLE a TO b", FULL, 0),
+    Says("ALTER TABLE a ADD y COPY", FULL, 0),
+    Says("LOCK TABLES a WRITE", FULL, 0),
+    // What changes nothing in it doesn't ask for its lock.
+    Says("LOCK TABLES a READ", DONE, 1),
+    Says("BEGIN", DONE, 0),
+    Says("SELECT a", FIRST, 1),
+    Says("INSERT a", DONE, 2),
+    Says("COMMIT", DONE, 0),
+    Leaves,
+    Says("CREATE TABLE b x", DONE, 0),
+    Says("DROP TABLE a", DONE, 0),
+];
+
+#[test]
+fn the_lock_of_the_schema_is_full(rt: HostRuntime) {
+    assert_eq!(rt; first_wrong(rt.alloc(), PLACES, OF_THE_SCHEMA), None);
+}
+
+// Others write.
+const OF_ALL_WRITES: &[Row] = &[
+    Says("CREATE SCHEMA test", DONE, 0),
+    Says("CREATE TABLE a x", DONE, 0),
+    Crowds(Lock::Global, Mode::IX, MOST_TICKETS),
+    Says("INSERT a", FULL, 0),
+    Says("CREATE TABLE b x", FULL, 0),
+    Says("CREATE SCHEMA s", FULL, 0),
+    Says("DROP TABLE a", FULL, 0),
+    Says("DROP SCHEMA test", FULL, 0),
+    Says("RENAME TABLE a TO b", FULL, 0),
+    Says("ALTER TABLE a ADD y COPY", FULL, 0),
+    Says("LOCK TABLES a WRITE", FULL, 0),
+    Says("FLUSH TABLES WITH READ LOCK", FULL, 0),
+    // A transaction is committed before.
+    Says("BEGIN", DONE, 0),
+    Says("SELECT a", FIRST, 1),
+    Says("INSERT a", FULL, 1),
+    Says("DROP TABLE a", FULL, 0),
+    Says("LOCK TABLES a READ", DONE, 1),
+    Says("UNLOCK TABLES", DONE, 0),
+    Leaves,
+    Says("INSERT a", DONE, 0),
+    Says("DROP TABLE a", DONE, 0),
+];
+
+#[test]
+fn the_lock_of_all_writes_is_full(rt: HostRuntime) {
+    assert_eq!(rt; first_wrong(rt.alloc(), PLACES, OF_ALL_WRITES), None);
+}
+
+// Others commit.
+const OF_COMMITS: &[Row] = &[
+    Says("CREATE SCHEMA test", DONE, 0),
+    Says("CREATE TABLE a x", DONE, 0),
+    Crowds(Lock::Commit, Mode::IX, MOST_TICKETS),
+    Says("INSERT a", FULL, 0),
+    // The global read lock is had whole or not at all.
+    Says("FLUSH TABLES WITH READ LOCK", FULL, 0),
+    Says("CREATE TABLE b x", DONE, 0),
+    Says("LOCK TABLES a WRITE", DONE, 3),
+    Says("INSERT a", FULL, 3),
+    Says("UNLOCK TABLES", DONE, 0),
+    // A transaction that wrote stays open.
+    Says("BEGIN", DONE, 0),
+    Says("INSERT a", DONE, 1),
+    Says("SAVEPOINT p", DONE, 1),
+    Says("COMMIT", FULL, 1),
+    Says("BEGIN", FULL, 1),
+    Says("CREATE TABLE c x", FULL, 1),
+    Says("CREATE SCHEMA s", FULL, 1),
+    Says("DROP TABLE b", FULL, 1),
+    Says("DROP SCHEMA test", FULL, 1),
+    Says("RENAME TABLE b TO c", FULL, 1),
+    Says("ALTER TABLE b ADD y COPY", FULL, 1),
+    Says("LOCK TABLES b READ", FULL, 1),
+    Says("FLUSH TABLES WITH READ LOCK", FULL, 1),
+    Says("ROLLBACK TO p", DONE, 1),
+    Leaves,
+    Says("DROP TABLE b", DONE, 0),
+    Says("INSERT a", DONE, 0),
+];
+
+#[test]
+fn the_lock_of_commits_is_full(rt: HostRuntime) {
+    assert_eq!(rt; first_wrong(rt.alloc(), PLACES, OF_COMMITS), None);
+}
+
+// Another session has a user-level lock as often as can be. That it has the lock is told before there is no room for a wait.
+const OF_A_USER_LOCK: &[Row] = &[
+    Crowds(Lock::User("a"), Mode::X, MOST_TICKETS),
+    Says("BEGIN", DONE, 0),
+    Says("GET_LOCK b", Outcome::Says(true), 1),
+    Says("GET_LOCK a", FULL, 1),
+    Says("RELEASE_LOCK a", Outcome::Says(false), 1),
+    Leaves,
+    Says("RELEASE_LOCK a", Outcome::Says(false), 1),
+    Says("COMMIT", DONE, 1),
+    Says("GET_LOCK a", Outcome::Waits, 1),
+];
+
+#[test]
+fn a_user_lock_is_full(rt: HostRuntime) {
+    assert_eq!(rt; first_wrong(rt.alloc(), PLACES, OF_A_USER_LOCK), None);
+}

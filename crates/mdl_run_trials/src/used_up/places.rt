@@ -1,0 +1,206 @@
+//! Spaces that have no place for one more key: 9004, at each lock that a statement asks for first of its key. The locks that it had before
+//! are given up again, and an open transaction keeps what it had.
+use crate::used_up::room::Outcome;
+use crate::used_up::rows::Row::Says;
+use crate::used_up::rows::{Row, first_wrong};
+
+const DONE: Outcome = Outcome::Done;
+
+const NO_PLACE: Outcome = Outcome::Fails(9004);
+
+const NO_SUCH_TABLE: Outcome = Outcome::Fails(1146);
+
+const FIRST: Outcome = Outcome::Reads(1);
+
+// Two tables have the places. The lock of all writes has none, which is the first of all that changes anything.
+const OF_ALL_WRITES: &[Row] = &[
+    Says("SELECT a", NO_SUCH_TABLE, 0),
+    Says("SELECT b", NO_SUCH_TABLE, 0),
+    Says("INSERT a", NO_PLACE, 0),
+    Says("UPDATE LOW_PRIORITY a", NO_PLACE, 0),
+    Says("DELETE a", NO_PLACE, 0),
+    Says("CREATE TABLE a x", NO_PLACE, 0),
+    Says("CREATE SCHEMA s", NO_PLACE, 0),
+    Says("DROP TABLE a", NO_PLACE, 0),
+    Says("DROP SCHEMA s", NO_PLACE, 0),
+    Says("RENAME TABLE a TO b", NO_PLACE, 0),
+    Says("ALTER TABLE a ADD x COPY", NO_PLACE, 0),
+    Says("ALTER TABLE a DROP x INPLACE", NO_PLACE, 0),
+    Says("LOCK TABLES a WRITE", NO_PLACE, 0),
+    Says("FLUSH TABLES WITH READ LOCK", NO_PLACE, 0),
+    // Locks of keys that have a place are had, and nothing else needs one.
+    Says("LOCK TABLES a READ", NO_SUCH_TABLE, 0),
+    Says("UNLOCK TABLES", DONE, 0),
+    Says("BEGIN", DONE, 0),
+    Says("SELECT a", NO_SUCH_TABLE, 1),
+    Says("SAVEPOINT p", DONE, 1),
+    Says("SELECT c", NO_PLACE, 1),
+    Says("INSERT b", NO_PLACE, 1),
+    Says("SELECT b", NO_SUCH_TABLE, 2),
+    Says("ROLLBACK TO p", DONE, 1),
+    Says("KILL QUERY 2", DONE, 1),
+    Says("TIMEOUT", DONE, 1),
+    Says("COMMIT", DONE, 0),
+    Says("ROLLBACK", DONE, 0),
+];
+
+#[test]
+fn the_lock_of_all_writes_has_no_place(rt: HostRuntime) {
+    assert_eq!(rt; first_wrong(rt.alloc(), 2, OF_ALL_WRITES), None);
+}
+
+// All writes and a table have the places, and the schema none.
+const OF_THE_SCHEMA: &[Row] = &[
+    Says("INSERT a", NO_SUCH_TABLE, 0),
+    Says("CREATE TABLE a x", NO_PLACE, 0),
+    Says("CREATE SCHEMA test", NO_PLACE, 0),
+    Says("DROP TABLE a", NO_PLACE, 0),
+    Says("DROP SCHEMA test", NO_PLACE, 0),
+    Says("RENAME TABLE a TO b", NO_PLACE, 0),
+    Says("ALTER TABLE a ADD x COPY", NO_PLACE, 0),
+    Says("LOCK TABLES a WRITE", NO_PLACE, 0),
+    Says("INSERT a", NO_SUCH_TABLE, 0),
+];
+
+#[test]
+fn the_schema_has_no_place(rt: HostRuntime) {
+    assert_eq!(rt; first_wrong(rt.alloc(), 2, OF_THE_SCHEMA), None);
+}
+
+// All writes and the schema have the places, and no table has one.
+const OF_A_TABLE: &[Row] = &[
+    Says("CREATE SCHEMA test", DONE, 0),
+    Says("SELECT a", NO_PLACE, 0),
+    Says("INSERT a", NO_PLACE, 0),
+    Says("CREATE TABLE a x", NO_PLACE, 0),
+    Says("DROP TABLE a", NO_PLACE, 0),
+    Says("RENAME TABLE a TO b", NO_PLACE, 0),
+    Says("ALTER TABLE a ADD x INPLACE", NO_PLACE, 0),
+    Says("LOCK TABLES a READ", NO_PLACE, 0),
+    Says("LOCK TABLES a WRITE", NO_PLACE, 0),
+    Says("BEGIN", DONE, 0),
+    Says("INSERT a", NO_PLACE, 0),
+    Says("COMMIT", DONE, 0),
+    Says("CREATE SCHEMA test", Outcome::Fails(1007), 0),
+    Says("DROP SCHEMA test", DONE, 0),
+    Says("CREATE SCHEMA test", DONE, 0),
+];
+
+#[test]
+fn a_table_has_no_place(rt: HostRuntime) {
+    assert_eq!(rt; first_wrong(rt.alloc(), 2, OF_A_TABLE), None);
+}
+
+// All writes, a schema and a table have the places. What names another one besides gets neither.
+const OF_ANOTHER: &[Row] = &[
+    Says("CREATE SCHEMA test", DONE, 0),
+    Says("CREATE TABLE a x", DONE, 0),
+    Says("SELECT a b", NO_PLACE, 0),
+    Says("DROP TABLE a b", NO_PLACE, 0),
+    Says("RENAME TABLE a TO b", NO_PLACE, 0),
+    Says("RENAME TABLE b TO a", NO_PLACE, 0),
+    Says("LOCK TABLES a READ b READ", NO_PLACE, 0),
+    Says("LOCK TABLES b READ a WRITE", NO_PLACE, 0),
+    // Nor what names one in another schema.
+    Says("CREATE TABLE s.a x", NO_PLACE, 0),
+    Says("DROP TABLE a s.a", NO_PLACE, 0),
+    Says("RENAME TABLE a TO s.a", NO_PLACE, 0),
+    Says("LOCK TABLES a WRITE s.a WRITE", NO_PLACE, 0),
+    // Tables that were locked before are given up first, and stay given up.
+    Says("LOCK TABLES a WRITE", DONE, 3),
+    Says("LOCK TABLES b READ", NO_PLACE, 0),
+    // The table stands, and its transaction keeps it.
+    Says("BEGIN", DONE, 0),
+    Says("SELECT a", FIRST, 1),
+    Says("SELECT a b", NO_PLACE, 1),
+    Says("INSERT b", NO_PLACE, 1),
+    Says("COMMIT", DONE, 0),
+    Says("ALTER TABLE a ADD y COPY", DONE, 0),
+    Says("DROP SCHEMA test", DONE, 0),
+];
+
+#[test]
+fn another_table_has_no_place(rt: HostRuntime) {
+    assert_eq!(rt; first_wrong(rt.alloc(), 3, OF_ANOTHER), None);
+}
+
+// All writes, a schema and a table have the places, and the lock of commits has none.
+const OF_COMMITS: &[Row] = &[
+    Says("CREATE SCHEMA test", DONE, 0),
+    Says("CREATE TABLE a x", DONE, 0),
+    Says("INSERT a", NO_PLACE, 0),
+    Says("FLUSH TABLES WITH READ LOCK", NO_PLACE, 0),
+    Says("LOCK TABLES a WRITE", DONE, 3),
+    Says("INSERT a", NO_PLACE, 3),
+    Says("ALTER TABLE a ADD y COPY", DONE, 3),
+    Says("UNLOCK TABLES", DONE, 0),
+    // A transaction that wrote can't be committed, also not by what commits it first, and stays open.
+    Says("BEGIN", DONE, 0),
+    Says("INSERT a", DONE, 1),
+    Says("SAVEPOINT p", DONE, 1),
+    Says("COMMIT", NO_PLACE, 1),
+    Says("BEGIN", NO_PLACE, 1),
+    Says("CREATE TABLE a x", NO_PLACE, 1),
+    Says("CREATE SCHEMA test", NO_PLACE, 1),
+    Says("DROP TABLE a", NO_PLACE, 1),
+    Says("DROP SCHEMA test", NO_PLACE, 1),
+    Says("RENAME TABLE a TO b", NO_PLACE, 1),
+    Says("ALTER TABLE a DROP y COPY", NO_PLACE, 1),
+    Says("LOCK TABLES a READ", NO_PLACE, 1),
+    Says("FLUSH TABLES WITH READ LOCK", NO_PLACE, 1),
+    Says("SELECT a", Outcome::Reads(2), 1),
+    Says("ROLLBACK TO p", DONE, 1),
+    Says("ROLLBACK", DONE, 0),
+    // One that only read needs no such lock.
+    Says("BEGIN", DONE, 0),
+    Says("SELECT a", Outcome::Reads(2), 1),
+    Says("COMMIT", DONE, 0),
+];
+
+#[test]
+fn the_lock_of_commits_has_no_place(rt: HostRuntime) {
+    assert_eq!(rt; first_wrong(rt.alloc(), 3, OF_COMMITS), None);
+}
+
+// With one place more a commit has it, and keeps it. Nor is that of a dropped table given to another one.
+const OF_ALL_BUT_ONE: &[Row] = &[
+    Says("CREATE SCHEMA test", DONE, 0),
+    Says("CREATE TABLE a x", DONE, 0),
+    Says("INSERT a", DONE, 0),
+    Says("CREATE TABLE b x", NO_PLACE, 0),
+    Says("FLUSH TABLES WITH READ LOCK", DONE, 2),
+    Says("UNLOCK TABLES", DONE, 0),
+    Says("DROP TABLE a", DONE, 0),
+    Says("CREATE TABLE b x", NO_PLACE, 0),
+    Says("CREATE TABLE a x", DONE, 0),
+    Says("SELECT a", Outcome::Reads(3), 0),
+];
+
+#[test]
+fn a_place_is_kept(rt: HostRuntime) {
+    assert_eq!(rt; first_wrong(rt.alloc(), 4, OF_ALL_BUT_ONE), None);
+}
+
+// A table and a user-level lock have the places. The lock keeps its place when nobody has it.
+const OF_A_USER_LOCK: &[Row] = &[
+    Says("RELEASE_LOCK a", Outcome::Null, 0),
+    Says("BEGIN", DONE, 0),
+    Says("SELECT t", NO_SUCH_TABLE, 1),
+    Says("SAVEPOINT p", DONE, 1),
+    Says("GET_LOCK b", NO_PLACE, 1),
+    Says("RELEASE_LOCK b", NO_PLACE, 1),
+    Says("ROLLBACK TO p", DONE, 1),
+    Says("GET_LOCK a", Outcome::Says(true), 2),
+    Says("GET_LOCK a", Outcome::Says(true), 3),
+    Says("COMMIT", DONE, 2),
+    Says("RELEASE_LOCK a", Outcome::Says(true), 1),
+    Says("UNLOCK TABLES", DONE, 1),
+    Says("RELEASE_LOCK a", Outcome::Says(true), 0),
+    Says("RELEASE_LOCK a", Outcome::Null, 0),
+    Says("GET_LOCK t", NO_PLACE, 0),
+];
+
+#[test]
+fn a_user_lock_has_no_place(rt: HostRuntime) {
+    assert_eq!(rt; first_wrong(rt.alloc(), 2, OF_A_USER_LOCK), None);
+}

@@ -1,0 +1,223 @@
+//! A lock space with a session whose statements are tried, and another one that has locks.
+ghost use Rattle.std.specs.Prelude.{◌≡◌};
+ghost use Rattle.mdl_space.specs.CoreMembers.{core_space};
+ghost use Rattle.mdl_context.specs.Contexts.{LeavesOthers};
+ghost use Rattle.mdl_stmt.specs.Attendance.{AttendsWith};
+
+use mdl_defs::Change;
+use mdl_key::{Key, KeyError, Mode};
+use mdl_space::{Attempt, CoreSpace, LockSpace, NewError, Place, SpaceError, TicketId};
+use mdl_stmt::{OutOfMemory, Progress, Reply, Runner, Statement};
+use std::alloc::Global;
+use std::marker::Model;
+
+/// What comes of a statement.
+#[derive(Clone, Copy, PartialEq, Eq)]
+pub(crate) enum Outcome {
+    Done,
+    /// The version of the last table that it read.
+    Reads(u64),
+    /// A truth value.
+    Says(bool),
+    /// NULL.
+    Null,
+    Fails(u16),
+    Waits,
+    NoMemory,
+}
+
+/// What the other session locks.
+#[derive(Clone, Copy)]
+pub(crate) enum Lock {
+    Global,
+    Commit,
+    Schema(&'static str),
+    /// A table of the schema test.
+    Table(&'static str),
+    /// A user-level lock.
+    User(&'static str),
+}
+
+impl Lock {
+    /// Its key.
+    pub(crate) fn key(self, alloc: Global) -> Result<Key, KeyError> {
+        match self {
+            Lock::Global => Ok(Key::global(alloc)),
+            Lock::Commit => Ok(Key::commit(alloc)),
+            Lock::Schema(name) => Key::schema(alloc, name),
+            Lock::Table(name) => Key::table(alloc, "test", name),
+            Lock::User(name) => Key::user_lock(alloc, name),
+        }
+    }
+}
+
+/// How many definitions a session's cache keeps.
+pub(crate) const CACHE: u16 = 64;
+
+/// The session that has locks.
+pub(crate) const OTHER: u16 = 2;
+
+/// A space and the statements of its session 1. Its session 2 has locks.
+#[derive(Drop)]
+pub(crate) struct Room<'s> {
+    alloc: Global,
+    space: CoreSpace,
+    runner: Runner<'s, CoreSpace>,
+}
+
+impl<'s> Model for Room<'s> {
+    ghost use Rattle.mdl_run_trials.specs.used_up.Rooms.{ServesBoth};
+
+    ghost Value = { Unit };
+
+    ghost view = { λ _. tt };
+
+    ghost invariant = { λ room. ServesBoth room.space room.runner.context room.runner.cache };
+}
+
+impl<'s> Room<'s> {
+    /// Nobody has asked for anything.
+    pub(crate) fn new(alloc: Global, places: u16) -> Result<Room<'s>, NewError> {
+        let space = CoreSpace::new(alloc, places, OTHER)?;
+        match Runner::new(alloc, 1, CACHE) {
+            Ok(runner) => Ok(Room {
+                alloc,
+                space,
+                runner,
+            }),
+            Err(OutOfMemory) => Err(NewError::OutOfMemory),
+        }
+    }
+
+    /// What comes of a statement.
+    pub(crate) fn say(&mut self, statement: &'s Statement) -> Outcome {
+        say(&mut self.space, &mut self.runner, statement)
+    }
+
+    /// How many tickets the session has whose statements these are.
+    pub(crate) fn held(&self) -> Option<usize> {
+        held(&self.space, 1)
+    }
+
+    /// The place of a lock.
+    pub(crate) fn place(&mut self, lock: Lock) -> Option<Place> {
+        let key = lock.key(self.alloc).ok()?;
+        place(&mut self.space, OTHER, &key)
+    }
+
+    /// The ticket of the other session, where it can have the lock of a place now.
+    pub(crate) fn take(&mut self, place: Place, mode: Mode) -> Option<TicketId> {
+        take(&mut self.space, OTHER, place, mode)
+    }
+
+    /// A clone of a ticket that it has.
+    pub(crate) fn copy(&mut self, ticket: TicketId, mode: Mode) -> Option<TicketId> {
+        copy(&mut self.space, OTHER, ticket, mode)
+    }
+
+    /// The version that comes of a change under its exclusive ticket.
+    pub(crate) fn change(&mut self, ticket: TicketId, change: &Change) -> Option<u64> {
+        changed(&mut self.space, OTHER, ticket, change)
+    }
+
+    /// Whether it gives a ticket up.
+    pub(crate) fn leave(&mut self, ticket: TicketId) -> bool {
+        leave(&mut self.space, OTHER, ticket)
+    }
+}
+
+fn say<'s>(
+    space: &mut CoreSpace,
+    runner: &mut Runner<'s, CoreSpace>,
+    statement: &'s Statement,
+) -> Outcome
+    requires { AttendsWith core_space space.old runner.old.context runner.old.cache }
+    ensures attends { AttendsWith core_space space.new runner.new.context runner.new.cache }
+    ensures who { runner.new.context.who ≡ runner.old.context.who }
+    ensures others { LeavesOthers core_space runner.old.context.who space.old space.new }
+{
+    if runner.is_waiting() {
+        return Outcome::Waits;
+    }
+    outcome_of(runner.start(space, statement))
+}
+
+pub(crate) fn outcome_of(progress: Result<Progress, OutOfMemory>) -> Outcome {
+    match progress {
+        Ok(Progress::Done(reply)) => outcome_of_reply(&reply),
+        Ok(Progress::Waiting(_, _)) | Ok(Progress::Pending) => Outcome::Waits,
+        Err(_) => Outcome::NoMemory,
+    }
+}
+
+fn outcome_of_reply(reply: &Reply) -> Outcome {
+    match reply {
+        Reply::Ok => Outcome::Done,
+        Reply::Error(error) => Outcome::Fails(error.number()),
+        Reply::Columns(tables) => match tables.as_slice().last() {
+            Some(table) => Outcome::Reads(table.version),
+            None => Outcome::Reads(0),
+        },
+        Reply::Number(yes) => Outcome::Says(*yes),
+        Reply::Null => Outcome::Null,
+    }
+}
+
+pub(crate) fn held<S: LockSpace>(space: &S, who: u16) -> Option<usize>
+    requires { S.speaks_for space.now who }
+{
+    let tickets = space.held(who).ok()?;
+    Some(tickets.len())
+}
+
+pub(crate) fn place<S: LockSpace>(space: &mut S, who: u16, key: &Key) -> Option<Place>
+    requires { S.speaks_for space.old who }
+    ensures speaks { S.speaks_for space.new who }
+    ensures others { LeavesOthers S.LockSpace who space.old space.new }
+{
+    space.resolve(who, key).ok()
+}
+
+pub(crate) fn take<S: LockSpace>(
+    space: &mut S,
+    who: u16,
+    place: Place,
+    mode: Mode,
+) -> Option<TicketId>
+    requires { S.speaks_for space.old who }
+    ensures speaks { S.speaks_for space.new who }
+    ensures others { LeavesOthers S.LockSpace who space.old space.new }
+{
+    granted(space.try_now(who, place, mode))
+}
+
+fn granted(outcome: Result<Attempt, SpaceError>) -> Option<TicketId> {
+    match outcome {
+        Ok(Attempt::Granted(id)) => Some(id),
+        Ok(Attempt::WouldWait) | Err(_) => None,
+    }
+}
+
+fn copy<S: LockSpace>(space: &mut S, who: u16, id: TicketId, mode: Mode) -> Option<TicketId>
+    requires { S.speaks_for space.old who }
+    ensures speaks { S.speaks_for space.new who }
+    ensures others { LeavesOthers S.LockSpace who space.old space.new }
+{
+    space.clone_ticket(who, id, mode).ok()
+}
+
+fn changed<S: LockSpace>(space: &mut S, who: u16, id: TicketId, change: &Change) -> Option<u64>
+    requires { S.speaks_for space.old who }
+    ensures speaks { S.speaks_for space.new who }
+    ensures others { LeavesOthers S.LockSpace who space.old space.new }
+{
+    space.change_definition(who, id, change).ok()
+}
+
+pub(crate) fn leave<S: LockSpace>(space: &mut S, who: u16, id: TicketId) -> bool
+    requires { S.speaks_for space.old who }
+    ensures speaks { S.speaks_for space.new who }
+    ensures others { LeavesOthers S.LockSpace who space.old space.new }
+{
+    space.release(who, id).is_ok()
+}

@@ -1,0 +1,211 @@
+//! Savepoints, and how long tickets last.
+use crate::contexts::acts::{Act, Lock, Reply};
+use crate::contexts::rows::{NOT_HELD, Row, STALE, first_wrong};
+use mdl_context::Resume;
+use mdl_key::{Duration, Mode};
+
+const WANTED: &[Row] = &[
+    (
+        1,
+        Act::Acquire(Lock::A, Mode::SR, Duration::Transaction),
+        Reply::Acquired(1),
+    ),
+    (
+        1,
+        Act::Acquire(Lock::A, Mode::S, Duration::Statement),
+        Reply::Acquired(2),
+    ),
+    (
+        1,
+        Act::Acquire(Lock::A, Mode::SR, Duration::Transaction),
+        Reply::Acquired(1),
+    ),
+    // No explicit ticket is used again.
+    (
+        1,
+        Act::Acquire(Lock::A, Mode::SR, Duration::Explicit),
+        Reply::Acquired(3),
+    ),
+    (
+        1,
+        Act::Acquire(Lock::A, Mode::SR, Duration::Explicit),
+        Reply::Acquired(4),
+    ),
+    (1, Act::Mark, Reply::Stands(1, 1)),
+    (
+        1,
+        Act::Acquire(Lock::B, Mode::SW, Duration::Transaction),
+        Reply::Acquired(5),
+    ),
+    (1, Act::Mark, Reply::Stands(1, 2)),
+    (1, Act::GoBack(1, 1), Reply::Done),
+    (1, Act::Release(5), NOT_HELD),
+    (1, Act::Mark, Reply::Stands(1, 1)),
+    (1, Act::EndStatement, Reply::Done),
+    (1, Act::Release(2), NOT_HELD),
+    (1, Act::GoBack(1, 1), STALE),
+    (1, Act::EndTransaction, Reply::Done),
+    (1, Act::Release(1), NOT_HELD),
+    (1, Act::Release(3), Reply::Done),
+    (1, Act::ReleaseName(Lock::A), Reply::Done),
+    (1, Act::Release(4), NOT_HELD),
+];
+
+const CHANGED: &[Row] = &[
+    (
+        1,
+        Act::Acquire(Lock::A, Mode::SR, Duration::Statement),
+        Reply::Acquired(1),
+    ),
+    (
+        1,
+        Act::Acquire(Lock::B, Mode::SR, Duration::Transaction),
+        Reply::Acquired(2),
+    ),
+    // What is made explicit before its statement ends outlives it, and its transaction.
+    (1, Act::MakeExplicit, Reply::Done),
+    (1, Act::EndStatement, Reply::Done),
+    (1, Act::EndTransaction, Reply::Done),
+    (1, Act::Mark, Reply::Stands(0, 0)),
+    (
+        2,
+        Act::Acquire(Lock::A, Mode::X, Duration::Transaction),
+        Reply::MustWait(1),
+    ),
+    (1, Act::MakeTransactional, Reply::Done),
+    (1, Act::EndStatement, Reply::Done),
+    (1, Act::Mark, Reply::Stands(0, 2)),
+    (1, Act::Release(1), Reply::Done),
+    (1, Act::EndTransaction, Reply::Done),
+    (1, Act::Release(2), NOT_HELD),
+    // Tickets of the statement stay so.
+    (
+        1,
+        Act::Acquire(Lock::B, Mode::SR, Duration::Statement),
+        Reply::Acquired(3),
+    ),
+    (1, Act::MakeTransactional, Reply::Done),
+    (1, Act::Mark, Reply::Stands(1, 0)),
+];
+
+const TWO_NUMBERS: &[Row] = &[
+    (
+        1,
+        Act::Acquire(Lock::A, Mode::SR, Duration::Transaction),
+        Reply::Acquired(1),
+    ),
+    (
+        1,
+        Act::Acquire(Lock::B, Mode::SR, Duration::Transaction),
+        Reply::Acquired(2),
+    ),
+    (1, Act::Mark, Reply::Stands(0, 2)),
+    // What was gained later moves up where an earlier one goes.
+    (
+        1,
+        Act::Acquire(Lock::B, Mode::SW, Duration::Transaction),
+        Reply::Acquired(3),
+    ),
+    (
+        1,
+        Act::Acquire(Lock::Global, Mode::IX, Duration::Transaction),
+        Reply::Acquired(4),
+    ),
+    (1, Act::Release(1), Reply::Done),
+    (1, Act::GoBack(0, 2), Reply::Done),
+    (1, Act::Release(4), NOT_HELD),
+    (1, Act::Mark, Reply::Stands(0, 2)),
+    // To go back to where the session stands gives up nothing.
+    (1, Act::GoBack(0, 2), Reply::Done),
+    (1, Act::Release(3), Reply::Done),
+    (1, Act::Release(2), Reply::Done),
+];
+
+// A mark is stale where either number is too great.
+const TOO_GREAT: &[Row] = &[
+    (
+        1,
+        Act::Acquire(Lock::A, Mode::SR, Duration::Statement),
+        Reply::Acquired(1),
+    ),
+    (
+        1,
+        Act::Acquire(Lock::B, Mode::SR, Duration::Transaction),
+        Reply::Acquired(2),
+    ),
+    (1, Act::GoBack(2, 0), STALE),
+    (1, Act::GoBack(0, 2), STALE),
+    (1, Act::GoBack(2, 2), STALE),
+    (1, Act::Mark, Reply::Stands(1, 1)),
+    // Explicit tickets aren't counted.
+    (1, Act::MakeExplicit, Reply::Done),
+    (1, Act::GoBack(1, 1), STALE),
+    (1, Act::GoBack(0, 0), Reply::Done),
+    (1, Act::Release(1), Reply::Done),
+    (1, Act::Release(2), Reply::Done),
+    (1, Act::GoBack(0, 0), Reply::Done),
+];
+
+const IN_FRONT: &[Row] = &[
+    (
+        1,
+        Act::Acquire(Lock::A, Mode::SR, Duration::Explicit),
+        Reply::Acquired(1),
+    ),
+    (
+        1,
+        Act::Acquire(Lock::B, Mode::SR, Duration::Transaction),
+        Reply::Acquired(2),
+    ),
+    (1, Act::Mark, Reply::Stands(0, 1)),
+    (1, Act::MakeTransactional, Reply::Done),
+    (1, Act::Mark, Reply::Stands(0, 2)),
+    // The mark counted the second ticket, and now keeps the first.
+    (1, Act::GoBack(0, 1), Reply::Done),
+    (1, Act::Release(2), NOT_HELD),
+    (1, Act::Release(1), Reply::Done),
+];
+
+const FREE_AGAIN: &[Row] = &[
+    (
+        1,
+        Act::Acquire(Lock::A, Mode::SR, Duration::Transaction),
+        Reply::Acquired(1),
+    ),
+    (
+        1,
+        Act::Acquire(Lock::B, Mode::SW, Duration::Transaction),
+        Reply::Acquired(2),
+    ),
+    (
+        2,
+        Act::Acquire(Lock::B, Mode::SRO, Duration::Transaction),
+        Reply::MustWait(1),
+    ),
+    (1, Act::GoBack(0, 1), Reply::Done),
+    (2, Act::Resume, Reply::Resumed(Resume::Acquired(1))),
+    (
+        2,
+        Act::Acquire(Lock::A, Mode::X, Duration::Transaction),
+        Reply::MustWait(2),
+    ),
+    (1, Act::EndTransaction, Reply::Done),
+    (2, Act::Resume, Reply::Resumed(Resume::Acquired(2))),
+];
+
+const STORIES: &[(&str, &[Row])] = &[
+    ("tickets last as long as they are wanted", WANTED),
+    ("durations change", CHANGED),
+    ("marks are two numbers", TWO_NUMBERS),
+    ("marks are too great", TOO_GREAT),
+    ("explicit tickets slip in front of a mark", IN_FRONT),
+    ("what was locked since a mark is free", FREE_AGAIN),
+];
+
+#[test]
+fn tickets_last_as_long_as_they_are_wanted(rt: HostRuntime) {
+    for (what, rows) in STORIES {
+        let wrong = first_wrong(rt.alloc(), rows);
+        assert!(rt; wrong.is_none(), "{what}: {wrong:?}");
+    }
+}

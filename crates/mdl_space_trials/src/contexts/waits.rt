@@ -1,0 +1,350 @@
+//! Waits, and what is refused meanwhile.
+use crate::contexts::acts::{Act, Lock, Reply};
+use crate::contexts::rows::{
+    BAD_MODE, NO_PLACE, NO_WAIT, NOT_HELD, Row, STALE, WAITS, first_wrong,
+};
+use mdl_context::Resume;
+use mdl_key::{Duration, Mode};
+use mdl_space::Settled;
+use std::alloc::Global;
+
+const STILL_WAITING: Reply = Reply::Resumed(Resume::Waiting);
+
+const TIMED_OUT: Reply = Reply::Resumed(Resume::Lost(Settled::Timeout));
+
+const VICTIM: Reply = Reply::Resumed(Resume::Lost(Settled::Victim));
+
+const KILLED: Reply = Reply::Resumed(Resume::Lost(Settled::Killed));
+
+// The first session holds a ticket of the statement, and waits behind the second. Whatever it asks for is refused.
+const MEANWHILE: &[Row] = &[
+    (
+        1,
+        Act::Acquire(Lock::B, Mode::SR, Duration::Statement),
+        Reply::Acquired(1),
+    ),
+    (
+        2,
+        Act::Acquire(Lock::A, Mode::SW, Duration::Statement),
+        Reply::Acquired(1),
+    ),
+    (
+        1,
+        Act::Acquire(Lock::A, Mode::X, Duration::Transaction),
+        Reply::MustWait(1),
+    ),
+    (
+        1,
+        Act::Acquire(Lock::B, Mode::SR, Duration::Statement),
+        WAITS,
+    ),
+    (
+        1,
+        Act::Acquire(Lock::Global, Mode::SR, Duration::Explicit),
+        WAITS,
+    ),
+    (1, Act::Release(1), WAITS),
+    (1, Act::ReleaseName(Lock::B), WAITS),
+    (1, Act::GoBack(0, 0), WAITS),
+    (1, Act::GoBack(1, 0), WAITS),
+    (1, Act::EndStatement, WAITS),
+    (1, Act::EndTransaction, WAITS),
+    (1, Act::MakeExplicit, WAITS),
+    (1, Act::MakeTransactional, WAITS),
+    // These come before. The ticket that is waited for isn't held, and not counted.
+    (1, Act::GoBack(2, 0), STALE),
+    (1, Act::GoBack(0, 1), STALE),
+    (1, Act::Release(2), NOT_HELD),
+    (1, Act::Mark, Reply::Stands(1, 0)),
+];
+
+// The same once the wait is settled.
+const SETTLED: &[Row] = &[
+    (
+        1,
+        Act::Acquire(Lock::B, Mode::SR, Duration::Statement),
+        WAITS,
+    ),
+    (1, Act::Release(1), WAITS),
+    (1, Act::Release(2), NOT_HELD),
+    (1, Act::ReleaseName(Lock::A), WAITS),
+    (1, Act::GoBack(0, 0), WAITS),
+    (1, Act::EndStatement, WAITS),
+    (1, Act::EndTransaction, WAITS),
+    (1, Act::MakeExplicit, WAITS),
+    (1, Act::MakeTransactional, WAITS),
+    (1, Act::Mark, Reply::Stands(1, 0)),
+];
+
+// Nothing of it has changed a thing.
+const GIVEN_UP: &[Row] = &[
+    (1, Act::Resume, STILL_WAITING),
+    (1, Act::GiveUp, TIMED_OUT),
+    (1, Act::GiveUp, NO_WAIT),
+    (1, Act::Resume, NO_WAIT),
+    (1, Act::Mark, Reply::Stands(1, 0)),
+    // The number of the lost ticket is used up.
+    (
+        1,
+        Act::Acquire(Lock::B, Mode::SR, Duration::Transaction),
+        Reply::Acquired(3),
+    ),
+];
+
+// A settled wait is one as well, until it is ended.
+const KILLED_MEANWHILE: &[Row] = &[(3, Act::Kill(1, 1), Reply::Killed(true))];
+
+const GRANTED_MEANWHILE: &[Row] = &[(2, Act::EndStatement, Reply::Done)];
+
+// Whether these rows come to what is wanted, behind those of a wait.
+fn are_right(alloc: Global, second: &[Row], third: &[Row]) -> bool {
+    let mut rows = Vec::new(alloc);
+    rows.extend_from_slice(MEANWHILE).is_ok()
+        && rows.extend_from_slice(second).is_ok()
+        && rows.extend_from_slice(third).is_ok()
+        && first_wrong(alloc, &rows).is_none()
+}
+
+#[test]
+fn who_waits_does_nothing_else(rt: HostRuntime) {
+    assert!(rt; are_right(rt.alloc(), &[], GIVEN_UP));
+    assert!(rt; are_right(rt.alloc(), KILLED_MEANWHILE, SETTLED));
+    assert!(rt; are_right(rt.alloc(), GRANTED_MEANWHILE, SETTLED));
+}
+
+const ENDS: &[Row] = &[
+    (1, Act::Resume, NO_WAIT),
+    (1, Act::GiveUp, NO_WAIT),
+    (1, Act::Kill(1, 1), Reply::Killed(false)),
+    (
+        1,
+        Act::Acquire(Lock::A, Mode::SW, Duration::Statement),
+        Reply::Acquired(1),
+    ),
+    (
+        2,
+        Act::Acquire(Lock::A, Mode::SRO, Duration::Statement),
+        Reply::MustWait(1),
+    ),
+    (2, Act::Kill(2, 2), Reply::Killed(false)),
+    // What is granted lasts as long as it was wanted.
+    (1, Act::EndStatement, Reply::Done),
+    (2, Act::Kill(2, 1), Reply::Killed(false)),
+    (2, Act::Mark, Reply::Stands(0, 0)),
+    (2, Act::Resume, Reply::Resumed(Resume::Acquired(1))),
+    (2, Act::Mark, Reply::Stands(1, 0)),
+    // Patience that is lost too late loses nothing.
+    (
+        1,
+        Act::Acquire(Lock::A, Mode::SW, Duration::Transaction),
+        Reply::MustWait(1),
+    ),
+    (2, Act::Release(1), Reply::Done),
+    (1, Act::GiveUp, Reply::Resumed(Resume::Acquired(2))),
+    (1, Act::Mark, Reply::Stands(0, 1)),
+    (
+        2,
+        Act::Acquire(Lock::A, Mode::X, Duration::Explicit),
+        Reply::MustWait(2),
+    ),
+    (2, Act::Kill(2, 2), Reply::Killed(true)),
+    (2, Act::Kill(2, 2), Reply::Killed(false)),
+    (1, Act::EndTransaction, Reply::Done),
+    (2, Act::GiveUp, KILLED),
+    (2, Act::Resume, NO_WAIT),
+];
+
+// A lost one, until it is ended.
+const LOST_IN_THE_WAY: &[Row] = &[
+    (
+        1,
+        Act::Acquire(Lock::A, Mode::SR, Duration::Transaction),
+        Reply::Acquired(1),
+    ),
+    (
+        2,
+        Act::Acquire(Lock::A, Mode::X, Duration::Transaction),
+        Reply::MustWait(1),
+    ),
+    (3, Act::Kill(2, 1), Reply::Killed(true)),
+    (
+        3,
+        Act::Acquire(Lock::A, Mode::SR, Duration::Transaction),
+        Reply::MustWait(1),
+    ),
+    (3, Act::Resume, STILL_WAITING),
+    (2, Act::Resume, KILLED),
+    (3, Act::Resume, Reply::Resumed(Resume::Acquired(1))),
+];
+
+// A granted one, as a held ticket does.
+const GRANTED_IN_THE_WAY: &[Row] = &[
+    (
+        3,
+        Act::Acquire(Lock::Commit, Mode::S, Duration::Explicit),
+        Reply::Acquired(1),
+    ),
+    (
+        2,
+        Act::Acquire(Lock::Commit, Mode::IX, Duration::Transaction),
+        Reply::MustWait(1),
+    ),
+    (
+        1,
+        Act::Acquire(Lock::Commit, Mode::IX, Duration::Transaction),
+        Reply::MustWait(1),
+    ),
+    (3, Act::Release(1), Reply::Done),
+    (1, Act::Resume, Reply::Resumed(Resume::Acquired(1))),
+    (1, Act::EndTransaction, Reply::Done),
+    (
+        1,
+        Act::Acquire(Lock::Commit, Mode::S, Duration::Explicit),
+        Reply::MustWait(2),
+    ),
+    (1, Act::Resume, STILL_WAITING),
+    (2, Act::Resume, Reply::Resumed(Resume::Acquired(1))),
+    (2, Act::EndTransaction, Reply::Done),
+    (1, Act::Resume, Reply::Resumed(Resume::Acquired(2))),
+];
+
+const STRONG: &[Row] = &[
+    (
+        1,
+        Act::Acquire(Lock::A, Mode::SW, Duration::Transaction),
+        Reply::Acquired(1),
+    ),
+    (
+        2,
+        Act::Acquire(Lock::A, Mode::X, Duration::Transaction),
+        Reply::MustWait(1),
+    ),
+    // Used again by strength, and cloned for another duration.
+    (
+        1,
+        Act::Acquire(Lock::A, Mode::SR, Duration::Transaction),
+        Reply::Acquired(1),
+    ),
+    (
+        1,
+        Act::Acquire(Lock::A, Mode::SWLP, Duration::Transaction),
+        Reply::Acquired(1),
+    ),
+    (
+        1,
+        Act::Acquire(Lock::A, Mode::SR, Duration::Explicit),
+        Reply::Acquired(2),
+    ),
+    (
+        1,
+        Act::Acquire(Lock::A, Mode::SH, Duration::Statement),
+        Reply::Acquired(3),
+    ),
+    // The clone has the mode that was asked for: it isn't as strong as the first.
+    (1, Act::Release(1), Reply::Done),
+    (
+        1,
+        Act::Acquire(Lock::A, Mode::SW, Duration::Transaction),
+        Reply::MustWait(1),
+    ),
+    // It waits behind the second session, which waits for it.
+    (1, Act::GiveUp, VICTIM),
+    // Each ticket is one lock.
+    (1, Act::EndTransaction, Reply::Done),
+    (2, Act::Resume, STILL_WAITING),
+    (1, Act::Release(2), Reply::Done),
+    (2, Act::Resume, Reply::Resumed(Resume::Acquired(1))),
+];
+
+// A weaker ticket doesn't serve.
+const WEAK: &[Row] = &[
+    (
+        1,
+        Act::Acquire(Lock::A, Mode::SR, Duration::Transaction),
+        Reply::Acquired(1),
+    ),
+    (
+        2,
+        Act::Acquire(Lock::A, Mode::X, Duration::Transaction),
+        Reply::MustWait(1),
+    ),
+    (
+        1,
+        Act::Acquire(Lock::A, Mode::SW, Duration::Transaction),
+        Reply::MustWait(1),
+    ),
+];
+
+const REFUSED_BY_THE_SPACE: &[Row] = &[
+    (
+        1,
+        Act::Acquire(Lock::A, Mode::IX, Duration::Transaction),
+        BAD_MODE,
+    ),
+    (
+        1,
+        Act::Acquire(Lock::A, Mode::X, Duration::Transaction),
+        Reply::Acquired(1),
+    ),
+    // A mode of other locks, which no ticket serves for.
+    (
+        1,
+        Act::Acquire(Lock::A, Mode::IX, Duration::Transaction),
+        BAD_MODE,
+    ),
+    (
+        1,
+        Act::Acquire(Lock::Global, Mode::X, Duration::Statement),
+        Reply::Acquired(2),
+    ),
+    (
+        1,
+        Act::Acquire(Lock::Global, Mode::SR, Duration::Statement),
+        BAD_MODE,
+    ),
+    // There are four places, and the fifth lock finds none, in whatever mode.
+    (
+        1,
+        Act::Acquire(Lock::Schema, Mode::SNW, Duration::Statement),
+        BAD_MODE,
+    ),
+    (
+        1,
+        Act::Acquire(Lock::B, Mode::SU, Duration::Statement),
+        Reply::Acquired(3),
+    ),
+    (
+        1,
+        Act::Acquire(Lock::Commit, Mode::IX, Duration::Statement),
+        NO_PLACE,
+    ),
+    (
+        2,
+        Act::Acquire(Lock::Commit, Mode::SR, Duration::Statement),
+        NO_PLACE,
+    ),
+    (1, Act::Mark, Reply::Stands(2, 1)),
+    (1, Act::Release(0), NOT_HELD),
+    (1, Act::Release(4), NOT_HELD),
+    (2, Act::Release(1), NOT_HELD),
+    (2, Act::ReleaseName(Lock::A), Reply::Done),
+    (1, Act::ReleaseName(Lock::Commit), Reply::Done),
+    (1, Act::EndTransaction, Reply::Done),
+];
+
+const STORIES: &[(&str, &[Row])] = &[
+    ("waits end as they are settled", ENDS),
+    ("a lost wait stands in the way", LOST_IN_THE_WAY),
+    ("a granted wait stands in the way", GRANTED_IN_THE_WAY),
+    ("a strong ticket serves behind a waiter", STRONG),
+    ("a weak ticket doesn't serve", WEAK),
+    ("what the space refuses is refused", REFUSED_BY_THE_SPACE),
+];
+
+#[test]
+fn waits_go_as_told(rt: HostRuntime) {
+    for (what, rows) in STORIES {
+        let wrong = first_wrong(rt.alloc(), rows);
+        assert!(rt; wrong.is_none(), "{what}: {wrong:?}");
+    }
+}

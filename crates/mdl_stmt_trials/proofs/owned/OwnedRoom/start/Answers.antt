@@ -1,6 +1,0 @@
--- The other session is served as before.
-use Rattle.mdl_stmt_trials.proofs.RoomLemmas.{first_then}
-use Rattle.mdl_stmt_trials.proofs.owned.OwnedRoom.start.Goals as goal
-
-pub invariant_of-self : goal.invariant_of-self
-invariant_of-self c = first_then _ _ _ _ _ _ c.self.invariant c.start.ensures.who c.start.ensures.attends c.start.ensures.others

@@ -1,6 +1,0 @@
--- The session of statements is served as before.
-use Rattle.mdl_stmt_trials.proofs.RoomLemmas.{other_then}
-use Rattle.mdl_stmt_trials.proofs.room.Room.copy.Goals as goal
-
-pub invariant_of-self : goal.invariant_of-self
-invariant_of-self c = other_then _ _ _ _ c.self.invariant c.copy.ensures.speaks c.copy.ensures.others
