@@ -1,2 +1,1 @@
-pub mod used_up
 pub mod PassLemmas

@@ -1,4 +1,3 @@
-pub mod contexts
 pub mod HoldersKnow
 pub mod MetAfter
 pub mod VainTries

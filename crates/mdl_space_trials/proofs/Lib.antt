@@ -1,4 +1,3 @@
-pub mod contexts
 pub mod CauseLemmas
 pub mod LoneModes
 pub mod LoneRedefinitions
