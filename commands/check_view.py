@@ -1,5 +1,5 @@
 """Gives mdlview words and scripts, and looks what it prints, and with which status it ends: the answers of examples/view, what each way to ask
-comes to, objects of JSON beside the tables, timelines, refused words and lines, rows of real servers, completions, and streams that fail.
+comes to, objects of JSON beside the tables, timelines, refused words and lines, rows of real servers and others, completions, and streams that fail.
 
 Usage, at the top of the repository: python3 commands/check_view.py [PROGRAM]    the program that was built last, or another one
 """
@@ -11,10 +11,15 @@ import subprocess
 import sys
 from xml.etree import ElementTree
 
+from view_rows import wrong_rows
+from view_scripts import wrong_scripts
+
 PROGRAM = "crates/mdlview/out/mdlview"
 FOLDER = pathlib.Path(__file__).resolve().parent
 EXAMPLES = FOLDER.with_name("examples")
 SERVERS = FOLDER / "server_locks"
+VIEW = FOLDER / "view"
+SIGNS = VIEW / "signs.replay"
 COMPLETIONS = sorted(FOLDER.glob("completions/*mdlview*"))
 VERSION = FOLDER.with_name("VERSION").read_text().strip()
 
@@ -31,6 +36,9 @@ SERVER = (
 KILL = "  KILL: SELECT processlist_id FROM performance_schema.threads WHERE thread_id = "
 SERVER_WHY = f"If 48213 ended, waits granted: 1\n{KILL}48213\n  holds SR of TABLE shop.Orders-2\n  then 48300 gets X of TABLE shop.Orders-2\n"
 LEFT_OUT = "BACKUP\tNULL\tNULL\tBACKUP_DDL\tTRANSACTION\tGRANTED\t48213\n"
+OTHERS = HEADER + LEFT_OUT + "TABLESPACE\tNULL\tts\tEXCLUSIVE\tTRANSACTION\tGRANTED\t7\n" + LEFT_OUT
+OTHERS_LEFT_OUT = "3 rows left out: BACKUP BACKUP_DDL 2, TABLESPACE EXCLUSIVE 1\n"
+SETTLED = "TABLE\tshop\tOrders-2\tSHARED_WRITE\tTRANSACTION\tTIMEOUT\t48301\n"
 USER_LOCK = "USER LEVEL LOCK\tNULL\tjob.1\tEXCLUSIVE\tEXPLICIT\tGRANTED\t5\n"
 LONG = "n" * 64
 DEADLOCK = (
@@ -45,6 +53,8 @@ READERS = (
     + "".join(f"TABLE\t{LONG}\t{LONG}\tSHARED_READ\tTRANSACTION\tPENDING\t{n}\n" for n in range(1, 46))
 )
 ROWS = "LOCK\tWAITING\tFOR\tBLOCKING\tREASON\nTABLE test.t\t2\tX\t1\tholds SR\n"
+BEHIND = "# a reader, a change, and a reader behind it\n" + WAITS + "3 SELECT t\n1 COMMIT\n"
+GRAPH = 'digraph waits {\n  2 -> 1 [label="TABLE test.t: holds SR"];\n  3 -> 2 [label="TABLE test.t: waits before it for X"];\n}\n'
 
 # Words, a script, and the status, the answer and what is reported.
 ROWS_OF_WORDS = [
@@ -56,8 +66,13 @@ ROWS_OF_WORDS = [
     ("--script --at 3", WAITS, 0, NOBODY, ""),
     ("--script --at=4", WAITS, 0, WHY, ""),
     ("--script", "", 0, NOBODY, ""),
+    ("why --script --at 4", BEHIND, 0, NOBODY, ""),
+    ("waits --script --at 5", BEHIND, 0, ROWS, ""),
+    ("graph --script --at 6", BEHIND, 0, GRAPH, ""),
+    ("locks --script", BEHIND, 0, "LOCK\tSESSION\tMODE\tSTATUS\n", ""),
     ("", SERVER, 0, SERVER_WHY, ""),
     ("why", SERVER, 0, SERVER_WHY, ""),
+    ("why", SERVER + SETTLED, 0, SERVER_WHY, ""),
     ("", HEADER, 0, NOBODY, ""),
     ("", SERVER + "TABLE\tshop\n", 1, "", "line 5: fewer fields than the header\n"),
     ("", WAITS, 1, "", "line 1: no column OBJECT_TYPE\n"),
@@ -65,14 +80,9 @@ ROWS_OF_WORDS = [
     ("", HEADER + LEFT_OUT, 0, NOBODY + "1 row left out: BACKUP BACKUP_DDL 1\n", ""),
     ("waits", HEADER + 2 * LEFT_OUT, 0, "LOCK\tWAITING\tFOR\tBLOCKING\tREASON\n2 rows left out: BACKUP BACKUP_DDL 2\n", ""),
     ("graph", HEADER + LEFT_OUT, 0, "digraph waits {\n}\n// 1 row left out: BACKUP BACKUP_DDL 1\n", ""),
+    ("", OTHERS, 0, NOBODY + OTHERS_LEFT_OUT, ""),
+    ("graph", OTHERS, 0, "digraph waits {\n}\n// " + OTHERS_LEFT_OUT, ""),
     ("", DEADLOCK, 0, "deadlock: 7 waits for 9, 9 waits for 7; victim 9\n" + JAMMED, ""),
-    ("--script", "1 BEGIN\n65 BEGIN\n", 1, "", 'line 2, word 1: "65" is no session: sessions are 1 to 64\n'),
-    ("--script --at 1", "1 BEGIN\n65 BEGIN\n", 1, "", 'line 2, word 1: "65" is no session: sessions are 1 to 64\n'),
-    ("--script", "\n\n1 SELECT Orders\n", 1, "", 'line 3, word 3: "Orders" is no name: names have a-z, 0-9 and _\n'),
-    ("--script", "1 SELCT t\n", 1, "", 'line 1, word 2: "SELCT" can\'t stand here\n'),
-    ("--script", "1 SELECT\n", 1, "", 'line 1, word 2: "SELECT": a word is missing behind it\n'),
-    ("--script", "1 BEGIN\n1 SELECT \u00e9\n", 1, "", "line 2: it has a byte that is not ASCII\n"),
-    ("--script", 5000 * "x" + "\n", 1, "", "line 1: it has more than 4096 bytes\n"),
 ]
 
 # Words that ask for an object of JSON, what is read, and the object.
@@ -108,6 +118,17 @@ OBJECTS = [
                 }
             ],
             "left_out": [],
+        },
+    ),
+    (
+        "waits --json",
+        OTHERS,
+        {
+            "waits": [],
+            "left_out": [
+                {"object_type": "BACKUP", "lock_type": "BACKUP_DDL", "rows": 2},
+                {"object_type": "TABLESPACE", "lock_type": "EXCLUSIVE", "rows": 1},
+            ],
         },
     ),
     (
@@ -202,14 +223,23 @@ def wrong_lines(program):
     counted = lines[-1:] == ["  and 37 more readers"] and f"{KILL}18446744073709551615" in lines
     if status or reported or not counted or any(len(line) > 100 for line in lines) or not any(line.endswith("..") for line in lines):
         yield "why", found
+    # No character of three bytes is cut.
+    wide = READERS.replace(LONG, 100 * "\u20ac").encode()
+    ran = subprocess.run([program, "why"], input=wide, capture_output=True)
+    lines = ran.stdout.decode("utf-8", "replace").splitlines()
+    if ran.returncode or not any(line.endswith("\u20ac..") for line in lines) or any("\ufffd" in line or len(line.encode()) > 100 for line in lines):
+        yield "why", ran
 
 
 def wrong_servers(program):
-    """Returns the rows of real servers to which `why` is answered otherwise: NAME.rows with the answer NAME.why."""
-    for rows in sorted(SERVERS.glob("*.rows")):
-        ran = subprocess.run([program, "why"], input=rows.read_bytes(), capture_output=True)
-        if (ran.returncode, ran.stdout, ran.stderr) != (0, rows.with_suffix(".why").read_bytes(), b""):
-            yield rows.name, ran
+    """Returns the rows of real servers and others to which a question is answered otherwise: NAME.rows with the answers NAME.QUESTION and
+    NAME.QUESTION.json."""
+    for rows in sorted([*SERVERS.glob("*.rows"), *VIEW.glob("*.rows")]):
+        for wanted in sorted(it for it in rows.parent.glob(f"{rows.stem}.*") if it != rows):
+            question, *form = wanted.name.split(".")[1:]
+            ran = subprocess.run([program, question, *(f"--{it}" for it in form)], input=rows.read_bytes(), capture_output=True)
+            if (ran.returncode, ran.stdout, ran.stderr) != (0, wanted.read_bytes(), b""):
+                yield wanted.name, ran
 
 
 def wrong_examples(program):
@@ -222,11 +252,16 @@ def wrong_examples(program):
 
 
 def wrong_pictures(program):
-    """Returns the pictures of examples that are drawn otherwise, NAME.svg beside the script NAME.replay, and scripts whose pictures lack something."""
-    for wanted in sorted(EXAMPLES.glob("*.svg")):
+    """Returns the pictures that are drawn otherwise, NAME.svg beside the script NAME.replay, also line by line, and scripts whose pictures lack something."""
+    for wanted in sorted([*EXAMPLES.glob("*.svg"), *VIEW.glob("*.svg")]):
         found = run(program, "timeline --script", wanted.with_suffix(".replay").read_text())
         if found != (0, wanted.read_text(), ""):
             yield wanted.name, found
+    lines = SIGNS.read_text().splitlines(keepends=True)
+    for last in range(1, len(lines)):
+        found = run(program, f"timeline --script --at {last}", "".join(lines))
+        if found != run(program, "timeline --script", "".join(lines[:last])):
+            yield f"{SIGNS.name}, up to line {last}", found
     for script in sorted(EXAMPLES.glob("*.replay")):
         status, picture, reported = run(program, "timeline --script", script.read_text())
         answers = script.with_suffix(".answers").read_text().splitlines()
@@ -272,6 +307,8 @@ def main(words):
     wrong = [
         *wrong_words(program),
         *wrong_objects(program),
+        *wrong_rows(program),
+        *wrong_scripts(program),
         *wrong_lines(program),
         *wrong_servers(program),
         *wrong_examples(program),

@@ -29,12 +29,11 @@ pub enum Answer {
     NoSession,
 }
 
-impl From<Result<Progress, OutOfMemory>> for Answer {
-    fn from(outcome: Result<Progress, OutOfMemory>) -> Answer {
-        match outcome {
-            Ok(progress) => Answer::Progress(progress),
-            Err(OutOfMemory) => Answer::OutOfMemory,
-        }
+// The answer to a statement that came so far.
+fn answer_of(outcome: Result<Progress, OutOfMemory>) -> Answer {
+    match outcome {
+        Ok(progress) => Answer::Progress(progress),
+        Err(OutOfMemory) => Answer::OutOfMemory,
     }
 }
 
@@ -125,7 +124,7 @@ fn start(
     if runner.is_waiting() {
         return Answer::Busy;
     }
-    runner.start(space, statement).into()
+    answer_of(runner.start(space, statement))
 }
 
 // Goes on with a statement that waits. While its wait isn't settled there is nothing to answer.
@@ -138,9 +137,9 @@ fn go_on(space: &mut CoreSpace, runner: &mut OwnedRunner<CoreSpace>) -> Option<A
     if !runner.is_waiting() {
         return None;
     }
-    match runner.go_on(space) {
-        Ok(Progress::Pending) => None,
-        outcome => Some(outcome.into()),
+    match answer_of(runner.go_on(space)) {
+        Answer::Progress(Progress::Pending) => None,
+        answer => Some(answer),
     }
 }
 

@@ -4,36 +4,41 @@ use mdl_stmt::{Progress, Reply, TableShown};
 use std::io::{self, Write};
 
 /// Prints what the server answers a session.
-pub fn tell<W: Write>(output: &mut W, who: u16, answer: &Answer) -> io::Result<()> {
+pub fn tell<W: Write>(output: &mut W, who: u16, answer: Answer) -> io::Result<()> {
+    let told = tell_answer(output, who, &answer);
+    drop(answer);
+    told
+}
+
+// Prints an answer to a session.
+fn tell_answer<W: Write>(output: &mut W, who: u16, answer: &Answer) -> io::Result<()> {
+    write!(output, "session {who}")?;
     match answer {
-        Answer::Progress(progress) => tell_progress(output, who, progress),
-        Answer::OutOfMemory => writeln!(output, "session {who}: out of memory"),
-        Answer::Busy => writeln!(output, "session {who} is busy"),
-        Answer::NoSession => writeln!(output, "there is no session {who}"),
-    }
-}
-
-// Prints how far a statement has come.
-fn tell_progress<W: Write>(output: &mut W, who: u16, progress: &Progress) -> io::Result<()> {
-    match progress {
-        Progress::Waiting(key, mode) => writeln!(output, "session {who} waits for {key} in {mode}"),
-        Progress::Pending => writeln!(output, "session {who} still waits"),
-        Progress::Done(reply) => tell_reply(output, who, reply),
-    }
-}
-
-// Prints how a statement has ended.
-fn tell_reply<W: Write>(output: &mut W, who: u16, reply: &Reply) -> io::Result<()> {
-    match reply {
-        Reply::Ok => writeln!(output, "session {who}: done"),
-        Reply::Error(error) => writeln!(output, "session {who}: error {}", error.number()),
-        Reply::Columns(tables) => {
-            for TableShown { key, version, .. } in tables.as_slice() {
-                writeln!(output, "session {who}: {key}, version {version}")?;
-            }
-            Ok(())
+        Answer::Progress(Progress::Waiting(key, mode)) => {
+            writeln!(output, " waits for {key} in {mode}")
         }
-        Reply::Number(yes) => writeln!(output, "session {who}: {}", u8::from(*yes)),
-        Reply::Null => writeln!(output, "session {who}: NULL"),
+        Answer::Progress(Progress::Pending) => output.write_all(b" still waits\n"),
+        Answer::Progress(Progress::Done(reply)) => tell_reply(output, reply),
+        Answer::OutOfMemory => output.write_all(b": out of memory\n"),
+        Answer::Busy => output.write_all(b" is busy\n"),
+        Answer::NoSession => output.write_all(b" isn't there\n"),
+    }
+}
+
+// Prints how a statement has ended, and which versions of tables it has read.
+fn tell_reply<W: Write>(output: &mut W, reply: &Reply) -> io::Result<()> {
+    match reply {
+        Reply::Ok => output.write_all(b": done\n"),
+        Reply::Error(error) => writeln!(output, ": error {}", error.number()),
+        Reply::Columns(tables) => {
+            output.write_all(b": done")?;
+            for TableShown { key, version, .. } in tables.as_slice() {
+                write!(output, "; {key}, version {version}")?;
+            }
+            output.write_all(b"\n")
+        }
+        Reply::Number(true) => output.write_all(b": 1\n"),
+        Reply::Number(false) => output.write_all(b": 0\n"),
+        Reply::Null => output.write_all(b": NULL\n"),
     }
 }

@@ -1,85 +1,109 @@
-//! Small tables of locks.
+//! Small tables of locks, with all that is found of them worked out by hand.
 use mdl_book::{Sessions, Ticket};
+use mdl_graph::{Cycle, victim};
 use mdl_key::{Mode, Namespace};
-use mdl_view::{Blocking, Lock, Reason, blockings, course_after, roots};
-use std::alloc::Global;
+use mdl_view::{
+    AtLock, Blocking, Lock, Reason, RootRank, Scene, StillWaiting, blockings, deadlocks, ending_of,
+    has_blockings, ranked_roots, roots,
+};
+use std::alloc::{AllocError, Global};
 use std::test::Fail;
 
 // A session with a mode.
 type Of = (u16, Mode);
 
-// Who holds a lock, and who waits for it, in order.
+// A lock: who holds it, and who waits for it, in order.
 type Row = (Namespace, &'static [Of], &'static [Of]);
 
-// Waiter, the session in its way, and why.
-type Told = (u16, u16, Reason);
+// Some locks, and what is found of them.
+struct Case {
+    name: &'static str,
+    locks: &'static [Row],
+    // The session whose wait is settled, or 0.
+    settled: u16,
+    // Each waiter, with who is in its way, and why.
+    in_the_way: &'static [(u16, u16, Reason)],
+    // The members of each deadlock, and its victim behind them all.
+    deadlocks: &'static [&'static [u16]],
+    // The roots by their rank, each with how many waits are granted if it ends.
+    roots: &'static [(u16, usize)],
+    // A session that ends, and who then gets a lock.
+    ends: u16,
+    gets: &'static [u16],
+    // Who goes on waiting then, for whom first, or 0 for nobody, and how many tickets are in its way.
+    waits: &'static [(u16, u16, usize)],
+}
 
-// Locks, a settled session or 0, who is told to be in whose way, the roots, and one that ends, with the sessions that are then granted, lock by
-// lock.
-type Case = (
-    &'static [Row],
-    u16,
-    &'static [Told],
-    &'static [u16],
-    u16,
-    &'static [&'static [u16]],
-);
+const TABLE: Namespace = Namespace::Table;
 
 const CASES: &[Case] = &[
-    // Nobody waits.
-    (
-        &[(Namespace::Table, &[(1, Mode::SR), (2, Mode::SW)], &[])],
-        0,
-        &[],
-        &[],
-        1,
-        &[&[]],
-    ),
-    // A change behind two readers, a reader behind the change, and one with high priority, who could be granted by itself.
-    (
-        &[(
-            Namespace::Table,
+    Case {
+        name: "nobody waits",
+        locks: &[(TABLE, &[(1, Mode::SR), (2, Mode::SW)], &[])],
+        settled: 0,
+        in_the_way: &[],
+        deadlocks: &[],
+        roots: &[],
+        ends: 1,
+        gets: &[],
+        waits: &[],
+    },
+    // One with high priority could be granted by itself.
+    Case {
+        name: "a change behind two readers, and two readers behind the change",
+        locks: &[(
+            TABLE,
             &[(4, Mode::SR), (2, Mode::SR)],
             &[(3, Mode::X), (1, Mode::SR), (5, Mode::SH)],
         )],
-        0,
-        &[
+        settled: 0,
+        in_the_way: &[
             (3, 4, Reason::Holds),
             (3, 2, Reason::Holds),
             (1, 3, Reason::WaitsBefore),
         ],
-        &[2, 4],
-        3,
-        &[&[1, 5]],
-    ),
-    // The same once the change is settled: its ticket still stops who comes later, but nobody waits for it.
-    (
-        &[(
-            Namespace::Table,
-            &[(4, Mode::SR)],
-            &[(3, Mode::X), (1, Mode::SR)],
+        deadlocks: &[],
+        roots: &[(2, 1), (4, 1)],
+        ends: 3,
+        gets: &[1, 5],
+        waits: &[],
+    },
+    // The ticket of the change still stops who comes later, but nobody waits for it.
+    Case {
+        name: "a change that is settled",
+        locks: &[(TABLE, &[(4, Mode::SR)], &[(3, Mode::X), (1, Mode::SR)])],
+        settled: 3,
+        in_the_way: &[],
+        deadlocks: &[],
+        roots: &[],
+        ends: 4,
+        gets: &[],
+        waits: &[(1, 0, 0)],
+    },
+    // The reader behind it also waits for the later change, and that for both who read.
+    Case {
+        name: "a change that is settled, and a later one",
+        locks: &[(
+            TABLE,
+            &[(1, Mode::SR), (4, Mode::SR)],
+            &[(2, Mode::X), (3, Mode::SR), (5, Mode::X)],
         )],
-        3,
-        &[],
-        &[],
-        4,
-        &[&[]],
-    ),
-    // Each waits for the other, and there is no root.
-    (
-        &[
-            (Namespace::Table, &[(1, Mode::SR)], &[(2, Mode::X)]),
-            (Namespace::Table, &[(2, Mode::SR)], &[(1, Mode::X)]),
+        settled: 2,
+        in_the_way: &[
+            (3, 5, Reason::WaitsBefore),
+            (5, 1, Reason::Holds),
+            (5, 4, Reason::Holds),
         ],
-        0,
-        &[(2, 1, Reason::Holds), (1, 2, Reason::Holds)],
-        &[],
-        1,
-        &[&[2], &[]],
-    ),
-    // The global read lock behind a write, and a write behind that. One's own ticket is in nobody's way.
-    (
-        &[
+        deadlocks: &[],
+        roots: &[(1, 0), (4, 0)],
+        ends: 1,
+        gets: &[],
+        waits: &[(3, 5, 1), (5, 4, 1)],
+    },
+    // One's own ticket is in nobody's way.
+    Case {
+        name: "the global read lock behind a write, and a write behind that",
+        locks: &[
             (
                 Namespace::Global,
                 &[(1, Mode::IX), (9, Mode::IX)],
@@ -87,16 +111,93 @@ const CASES: &[Case] = &[
             ),
             (Namespace::Commit, &[(1, Mode::IX)], &[]),
         ],
-        0,
-        &[(9, 1, Reason::Holds), (1024, 9, Reason::WaitsBefore)],
-        &[1],
-        1,
-        &[&[9], &[]],
-    ),
+        settled: 0,
+        in_the_way: &[(9, 1, Reason::Holds), (1024, 9, Reason::WaitsBefore)],
+        deadlocks: &[],
+        roots: &[(1, 1)],
+        ends: 1,
+        gets: &[9],
+        waits: &[(1024, 9, 1)],
+    },
+    // Their weights are equal.
+    Case {
+        name: "each of two readers wants to change the table of the other",
+        locks: &[
+            (TABLE, &[(1, Mode::SR)], &[(2, Mode::X)]),
+            (TABLE, &[(2, Mode::SR)], &[(1, Mode::X)]),
+        ],
+        settled: 0,
+        in_the_way: &[(2, 1, Reason::Holds), (1, 2, Reason::Holds)],
+        deadlocks: &[&[1, 2, 2]],
+        roots: &[],
+        ends: 1,
+        gets: &[2],
+        waits: &[],
+    },
+    Case {
+        name: "the same, once one of the waits is settled",
+        locks: &[
+            (TABLE, &[(1, Mode::SR)], &[(2, Mode::X)]),
+            (TABLE, &[(2, Mode::SR)], &[(1, Mode::X)]),
+        ],
+        settled: 2,
+        in_the_way: &[(1, 2, Reason::Holds)],
+        deadlocks: &[],
+        roots: &[(2, 1)],
+        ends: 2,
+        gets: &[1],
+        waits: &[],
+    },
+    Case {
+        name: "a reader falls rather than a change",
+        locks: &[
+            (TABLE, &[(3, Mode::SR)], &[(4, Mode::X)]),
+            (TABLE, &[(7, Mode::X)], &[(3, Mode::SR)]),
+            (TABLE, &[(4, Mode::SR)], &[(7, Mode::X), (9, Mode::SR)]),
+        ],
+        settled: 0,
+        in_the_way: &[
+            (4, 3, Reason::Holds),
+            (3, 7, Reason::Holds),
+            (7, 4, Reason::Holds),
+            (9, 7, Reason::WaitsBefore),
+        ],
+        deadlocks: &[&[3, 7, 4, 3]],
+        roots: &[],
+        ends: 7,
+        gets: &[3, 9],
+        waits: &[(4, 3, 1)],
+    },
+    Case {
+        name: "two deadlocks, and two roots, of which one comes first since its end lets more be granted",
+        locks: &[
+            (TABLE, &[(1, Mode::SR)], &[(2, Mode::X)]),
+            (TABLE, &[(2, Mode::SR)], &[(1, Mode::X)]),
+            (TABLE, &[(5, Mode::SR)], &[(6, Mode::X)]),
+            (TABLE, &[(6, Mode::SR)], &[(5, Mode::X)]),
+            (TABLE, &[(3, Mode::SR)], &[(4, Mode::X)]),
+            (TABLE, &[(8, Mode::X)], &[(9, Mode::SR), (10, Mode::SR)]),
+        ],
+        settled: 0,
+        in_the_way: &[
+            (2, 1, Reason::Holds),
+            (1, 2, Reason::Holds),
+            (6, 5, Reason::Holds),
+            (5, 6, Reason::Holds),
+            (4, 3, Reason::Holds),
+            (9, 8, Reason::Holds),
+            (10, 8, Reason::Holds),
+        ],
+        deadlocks: &[&[1, 2, 2], &[5, 6, 6]],
+        roots: &[(8, 2), (3, 1)],
+        ends: 8,
+        gets: &[9, 10],
+        waits: &[(2, 1, 1), (1, 2, 1), (6, 5, 1), (5, 6, 1), (4, 3, 1)],
+    },
 ];
 
-// A lock at which these stand. Granted tickets have odd numbers, and waiting ones even numbers.
-fn lock_of(alloc: Global, row: &Row) -> Result<Lock, Fail> {
+// The lock of a row.
+fn lock_of(alloc: Global, row: &Row) -> Result<Lock, AllocError> {
     let mut lock = Lock::new(alloc, row.0);
     for (session, mode) in row.1 {
         lock.add_granted(Ticket {
@@ -115,45 +216,126 @@ fn lock_of(alloc: Global, row: &Row) -> Result<Lock, Fail> {
     Ok(lock)
 }
 
-// Whether just these are told, in order.
-fn are_told(found: &[Blocking], told: &[Told]) -> bool {
-    found.len() == told.len()
-        && found.iter().zip(told).all(|(one, other)| {
-            one.waiter.session == other.0 && one.other.session == other.1 && one.reason == other.2
-        })
+// Whether these tell who is in whose way.
+fn are_pairs(found: &[Blocking], wanted: &[(u16, u16, Reason)]) -> bool {
+    for (pair, told) in found.iter().zip(wanted) {
+        if (pair.waiter.session, pair.other.session) != (told.0, told.1) || pair.reason != told.2 {
+            return false;
+        }
+    }
+    found.len() == wanted.len()
 }
 
-// Whether just these sessions are granted, in order.
-fn are_granted(tickets: &[Ticket], sessions: &[u16]) -> bool {
-    tickets.len() == sessions.len()
-        && tickets
-            .iter()
-            .zip(sessions)
-            .all(|(ticket, session)| ticket.session == *session)
+// Whether these are the roots, in order of their numbers and by their rank.
+fn are_roots(found: &[u16], ranks: &[RootRank], wanted: &[(u16, usize)]) -> bool {
+    for (rank, told) in ranks.iter().zip(wanted) {
+        if rank.session != told.0 || rank.gets != told.1 || !found.contains(&told.0) {
+            return false;
+        }
+    }
+    ranks.len() == wanted.len() && found.len() == wanted.len()
+}
+
+// Whether it is found who is in whose way, and who is at the root.
+fn are_waits_found(alloc: Global, case: &Case, scene: Scene<'_>) -> Result<bool, AllocError> {
+    let found = blockings(alloc, scene.settled, scene.locks)?;
+    let at_root = roots(alloc, &found)?;
+    let ranks = ranked_roots(alloc, scene)?;
+    Ok(
+        has_blockings(scene.settled, scene.locks) == !found.is_empty()
+            && are_pairs(&found, case.in_the_way)
+            && are_roots(&at_root, &ranks, case.roots),
+    )
+}
+
+// Whether this deadlock has these members, and the last of them as its victim.
+fn is_deadlock(cycle: &Cycle, wanted: &[u16]) -> bool {
+    for (member, session) in cycle.members().iter().zip(wanted) {
+        if member.session != *session {
+            return false;
+        }
+    }
+    match wanted {
+        [members @ .., last] => members.len() == cycle.members().len() && *last == victim(cycle),
+        [] => false,
+    }
+}
+
+// Whether these are the deadlocks.
+fn are_deadlocks(found: &[Cycle], wanted: &[&[u16]]) -> bool {
+    for (cycle, sessions) in found.iter().zip(wanted) {
+        if !is_deadlock(cycle, sessions) {
+            return false;
+        }
+    }
+    found.len() == wanted.len()
+}
+
+// Whether these go on waiting: for whom first, and for how many.
+fn are_left(found: &[StillWaiting], wanted: &[(u16, u16, usize)]) -> bool {
+    for (waiting, told) in found.iter().zip(wanted) {
+        let first = match waiting.first {
+            Some(first) => first.other.session,
+            None => 0,
+        };
+        if waiting.waiter.session != told.0 || first != told.1 || waiting.count != told.2 {
+            return false;
+        }
+    }
+    found.len() == wanted.len()
+}
+
+// Whether these get a lock.
+fn are_granted(found: &[AtLock], wanted: &[u16]) -> bool {
+    for (got, session) in found.iter().zip(wanted) {
+        if got.ticket.session != *session {
+            return false;
+        }
+    }
+    found.len() == wanted.len()
+}
+
+// Whether the deadlocks are found, and what follows if the session of the case ends.
+fn is_end_found(alloc: Global, case: &Case, scene: Scene<'_>) -> Result<bool, AllocError> {
+    let cycles = deadlocks(alloc, scene)?;
+    let ending = ending_of(alloc, scene, case.ends)?;
+    Ok(
+        are_deadlocks(&cycles, case.deadlocks)
+            && are_granted(ending.gets(), case.gets)
+            && are_left(ending.waits(), case.waits),
+    )
+}
+
+// Whether all that a case says is found of its locks.
+fn is_all_found(alloc: Global, case: &Case, locks: &[Lock]) -> Result<bool, AllocError> {
+    let mut settled = Sessions::new();
+    let mut unsettled = Sessions::all();
+    if case.settled >= 1 && case.settled <= 1024 {
+        settled.insert(case.settled);
+        unsettled.remove(case.settled);
+    }
+    let scene = Scene {
+        locks,
+        settled: &settled,
+        unsettled: &unsettled,
+    };
+    Ok(are_waits_found(alloc, case, scene)? && is_end_found(alloc, case, scene)?)
+}
+
+// The same, of locks as the case has them.
+fn holds(alloc: Global, case: &Case) -> Result<bool, AllocError> {
+    let mut locks = Vec::new(alloc);
+    for row in case.locks {
+        locks.push(lock_of(alloc, row)?)?;
+    }
+    is_all_found(alloc, case, &locks)
 }
 
 #[test]
 fn tables_by_hand(rt: HostRuntime) -> Result<(), Fail> {
-    let alloc = rt.alloc();
-    for (rows, settled, told, at_root, ends, granted) in CASES {
-        let mut closed = Sessions::new();
-        let mut open = Sessions::all();
-        if *settled >= 1 && *settled <= 1024 {
-            closed.insert(*settled);
-            open.remove(*settled);
-        }
-        let mut locks = Vec::new(alloc);
-        for row in *rows {
-            locks.push(lock_of(alloc, row)?)?;
-        }
-        let found = blockings(alloc, &closed, &locks)?;
-        assert!(rt; are_told(&found, told));
-        let first = roots(alloc, &found)?;
-        assert_eq!(rt; first.as_slice(), *at_root);
-        for (lock, sessions) in locks.iter().zip(*granted) {
-            let course = course_after(alloc, lock, &open, *ends)?;
-            assert!(rt; are_granted(&course.granted, sessions));
-        }
+    for case in CASES {
+        let holds = holds(rt.alloc(), case)?;
+        assert!(rt; holds, "{}", case.name);
     }
     Ok(())
 }

@@ -1,4 +1,5 @@
 //! The examples that the libraries show.
+mod lock_rows;
 mod picture;
 mod timeline;
 mod view;

@@ -1,2 +1,0 @@
-//! The example that the library shows.
-mod lock_rows;
