@@ -3,7 +3,6 @@ mod caches;
 mod columns;
 mod standings;
 
-use crate::texts::first_misprinted;
 use columns::{Names, columns};
 use mdl_defs::{Change, Column, DefError, Definition, apply};
 use std::alloc::Global;
@@ -156,7 +155,7 @@ fn standing(alloc: Global, what: Option<What>) -> Option<Definition> {
 }
 
 // The change, if there was memory for it.
-fn change(alloc: Global, act: Act) -> Option<Change> {
+fn new_change(alloc: Global, act: Act) -> Option<Change> {
     match act {
         Act::Drop => Some(Change::Drop),
         Act::Create(what) => match definition(alloc, what) {
@@ -175,6 +174,14 @@ fn change(alloc: Global, act: Act) -> Option<Change> {
             Ok(column) => Some(Change::DropColumn(column)),
             Err(_) => None,
         },
+    }
+}
+
+// A copy of it.
+fn change(alloc: Global, act: Act) -> Option<Change> {
+    match new_change(alloc, act) {
+        Some(change) => change.clone().ok(),
+        None => None,
     }
 }
 
@@ -217,67 +224,4 @@ fn changes_what_stands(rt: HostRuntime) {
         let wrong = first_wrong(rt.alloc(), rows);
         assert!(rt; wrong.is_none(), "{what}: {wrong:?}");
     }
-}
-
-// Changes no two of which are the same.
-const DIFFERENT: &[Act] = &[
-    Act::Drop,
-    Act::Create(What::Schema),
-    Act::Create(X),
-    Act::Put(What::Schema),
-    Act::Put(X),
-    Act::Put(X_Y),
-    Act::Add("x"),
-    Act::Add("y"),
-    Act::Lose("x"),
-];
-
-fn is_copied(change: &Change) -> bool {
-    match change.clone() {
-        Ok(copy) => copy == *change,
-        Err(_) => false,
-    }
-}
-
-fn is_equal(alloc: Global, change: &Change, act: Act) -> Option<bool> {
-    match self::change(alloc, act) {
-        Some(other) => Some(*change == other),
-        None => None,
-    }
-}
-
-// Whether two changes are equal as is wanted, and the first is equal to its copy.
-fn compare(alloc: Global, a: Act, b: Act, equal: bool) -> bool {
-    match change(alloc, a) {
-        Some(a) => is_equal(alloc, &a, b) == Some(equal) && is_copied(&a),
-        None => false,
-    }
-}
-
-#[test]
-fn copies_are_equal(rt: HostRuntime) {
-    for (i, a) in DIFFERENT.iter().enumerate() {
-        for (j, b) in DIFFERENT.iter().enumerate() {
-            assert!(rt; compare(rt.alloc(), *a, *b, i == j), "{i} and {j}");
-        }
-    }
-}
-
-const CAUSES: [(DefError, &str); 8] = [
-    (DefError::Exists, "already exists"),
-    (DefError::Missing, "doesn't exist"),
-    (DefError::DuplicateColumn, "duplicate column name"),
-    (DefError::NoColumn, "no such column"),
-    (DefError::LastColumn, "a table can't lose its last column"),
-    (DefError::ManyColumns, "more than 64 columns"),
-    (
-        DefError::WrongKind,
-        "columns where none can be, or none where some have to be",
-    ),
-    (DefError::OutOfMemory, "out of memory"),
-];
-
-#[test]
-fn tells_each_cause(rt: HostRuntime) {
-    assert!(rt; first_misprinted(rt.alloc(), &CAUSES).is_none());
 }

@@ -1,4 +1,4 @@
 //! Modes, the matrices and keys.
 mod matrices;
 mod modes;
-mod names;
+pub(crate) mod names;

@@ -1,4 +1,2 @@
 pub mod contexts
-pub mod LoneTickets
 pub mod Serving
-pub mod Visits

@@ -60,7 +60,7 @@ fn first_has(room: &Room, granted: &[Ticket], waiting: &[Ticket]) -> bool {
 
 // Whether a lost wait is in its book until its session ends it.
 fn list_what_stands(room: &mut Room) -> bool {
-    are_of_places(room, 3)
+    are_of_places(room, 5)
         && first_has(room, NO_TICKETS, NO_TICKETS)
         && room.first_wrong(TIMED_OUT).is_none()
         && first_has(room, &[READER], &[CHANGE, LATE_READER])
@@ -70,7 +70,7 @@ fn list_what_stands(room: &mut Room) -> bool {
 
 #[test]
 fn the_books_list_who_holds_and_who_waits(rt: HostRuntime) {
-    let are_listed = match Room::of_three(rt.alloc()) {
+    let are_listed = match Room::new(rt.alloc()) {
         Some(mut room) => list_what_stands(&mut room),
         None => false,
     };

@@ -1,17 +1,9 @@
 //! Deadlocks, and the victims of searches, as rows of calls.
 use crate::acts::{Act, Reply};
-use crate::room::{Room, first_wrong_of_four};
+use crate::room::{COMMIT, GLOBAL, OTHER_TABLE as B, Room, Story, TABLE as A};
 use mdl_key::Mode;
 use mdl_space::{Place, Settled};
 use std::alloc::Global;
-
-const A: Place = 1;
-
-const B: Place = 2;
-
-const COMMIT: Place = 3;
-
-const GLOBAL: Place = 4;
 
 const TWO_CYCLES: &[(Act, Reply)] = &[
     (Act::TryNow(1, B, Mode::X), Reply::Granted(1)),
@@ -109,7 +101,7 @@ const BEHIND_A_KILLED_WAIT: &[(Act, Reply)] = &[
     (Act::Search(6), Reply::NoSession),
 ];
 
-const DEADLOCKS: &[(&str, &[(Act, Reply)])] = &[
+pub(crate) const DEADLOCKS: &[Story] = &[
     ("each search breaks one cycle", TWO_CYCLES),
     ("of the shortest cycles the least is chosen", LEAST_CYCLE),
     ("the shortest cycle is chosen", SHORTEST_CYCLE),
@@ -121,20 +113,12 @@ const DEADLOCKS: &[(&str, &[(Act, Reply)])] = &[
     ),
 ];
 
-#[test]
-fn searches_name_their_victims(rt: HostRuntime) {
-    for (what, rows) in DEADLOCKS {
-        let wrong = first_wrong_of_four(rt.alloc(), rows);
-        assert!(rt; wrong.is_none(), "{what}: {wrong:?}");
-    }
-}
-
-/// A lock that one holds in a mode, and another one wishes for in the other mode.
+// A lock that one holds in a mode, and another one wishes for in the other mode.
 type Wish = (Place, Mode, Mode);
 
-/// What a search answers where 1 wishes for a lock of 2's, and 2 for one of 1's.
+// What a search answers where 1 wishes for a lock of 2's, and 2 for one of 1's.
 fn search_between(alloc: Global, first: Wish, second: Wish) -> Reply {
-    let Some(mut room) = Room::of_four(alloc) else {
+    let Some(mut room) = Room::new(alloc) else {
         return Reply::NoSession;
     };
     let rows = [
@@ -172,7 +156,10 @@ const VICTIMS: &[(Wish, Wish, u16)] = &[
 
 #[test]
 fn the_lightest_wish_falls(rt: HostRuntime) {
-    for (first, second, victim) in VICTIMS {
-        assert!(rt; search_between(rt.alloc(), *first, *second) == Reply::Victim(*victim));
+    for (number, (first, second, victim)) in VICTIMS.iter().enumerate() {
+        assert!(rt;
+            search_between(rt.alloc(), *first, *second) == Reply::Victim(*victim),
+            "case {number}"
+        );
     }
 }

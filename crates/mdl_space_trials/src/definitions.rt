@@ -2,7 +2,7 @@
 //!
 //! One refusal is in no row: what stands under a key has had all its versions only after 1,000,000 changes.
 use crate::acts::{Act, Reply};
-use crate::room::{GLOBAL, SCHEMA, TABLE, first_wrong};
+use crate::room::{GLOBAL, SCHEMA, Story, TABLE};
 use crate::wishes::{Shown, Wish};
 use mdl_defs::DefError;
 use mdl_key::Mode;
@@ -125,16 +125,8 @@ const REFUSED: &[(Act, Reply)] = &[
     (Act::Read(1, 4), Reply::Reads(0, Shown::Nothing)),
 ];
 
-const DEFINITIONS: &[(&str, &[(Act, Reply)])] = &[
+pub(crate) const DEFINITIONS: &[Story] = &[
     ("definitions are read and changed", CHANGES),
     ("definitions are read with a cache", WITH_A_CACHE),
     ("reads and changes are refused", REFUSED),
 ];
-
-#[test]
-fn definitions_are_read_and_changed(rt: HostRuntime) {
-    for (what, rows) in DEFINITIONS {
-        let wrong = first_wrong(rt.alloc(), rows);
-        assert!(rt; wrong.is_none(), "{what}: {wrong:?}");
-    }
-}

@@ -52,7 +52,7 @@ fn is_full_at_last(room: &mut Room) -> bool {
 
 #[test]
 fn a_lock_is_full(rt: HostRuntime) {
-    let full = match Room::of_three(rt.alloc()) {
+    let full = match Room::new(rt.alloc()) {
         Some(mut room) => is_full_at_last(&mut room),
         None => false,
     };

@@ -1,16 +1,14 @@
-//! Trials of the lock space: worked examples, each of which shows one thing.
+//! Trials of the lock space and of contexts over it: worked examples, each of which shows one thing, and calls by chance.
 //!
 //! Everything here is for tests. Most of them are rows of calls and of what these have to answer (`acts`), which a space with
 //! its sessions plays one after another (`room`): the ordinary `life` of locks, `refusals`, `deadlocks`, `definitions`, the
 //! `tables` of a schema, held tickets in other `modes`, the `books` of all places, a lock that is `full`, want of `memory`, and
-//! `limits`. `alone` plays such rows in a space of another make, `lone_session`: one session, whose lock another one takes and
-//! gives up between its calls, changing what stands under its key. So the trait is no tighter than a shared space can meet.
+//! `limits`. `contexts` has such rows of contexts, which a `hall` plays: a space with the contexts of its sessions. `by_chance`
+//! compares contexts with a plain program.
 #![tactic(auto)]
 
 #[cfg(test)]
 mod acts;
-#[cfg(test)]
-mod alone;
 #[cfg(test)]
 mod books;
 #[cfg(test)]
@@ -24,11 +22,11 @@ mod definitions;
 #[cfg(test)]
 mod full;
 #[cfg(test)]
+mod hall;
+#[cfg(test)]
 mod life;
 #[cfg(test)]
 mod limits;
-#[cfg(test)]
-mod lone_session;
 #[cfg(test)]
 mod memory;
 #[cfg(test)]

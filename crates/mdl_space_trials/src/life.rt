@@ -1,6 +1,6 @@
 //! The ordinary life of locks, as rows of calls.
 use crate::acts::{Act, Reply};
-use crate::room::{GLOBAL, SCHEMA, TABLE, first_wrong};
+use crate::room::{GLOBAL, SCHEMA, Story, TABLE};
 use mdl_key::Mode;
 use mdl_space::{Settled, SpaceError};
 
@@ -135,7 +135,7 @@ const APART: &[(Act, Reply)] = &[
     (Act::EndWait(1), Reply::Granted(3)),
 ];
 
-const LIVES: &[(&str, &[(Act, Reply)])] = &[
+pub(crate) const LIVES: &[Story] = &[
     ("a writer waits for readers", READERS_AND_A_WRITER),
     ("a granted wait holds its lock", GRANTED_UNENDED),
     (
@@ -147,11 +147,3 @@ const LIVES: &[(&str, &[(Act, Reply)])] = &[
     ("one release grants all that can be", ONE_RELEASE),
     ("places and tickets stand apart", APART),
 ];
-
-#[test]
-fn locks_live_as_told(rt: HostRuntime) {
-    for (what, rows) in LIVES {
-        let wrong = first_wrong(rt.alloc(), rows);
-        assert!(rt; wrong.is_none(), "{what}: {wrong:?}");
-    }
-}

@@ -1,9 +1,9 @@
-//! Limits, places and lists of the space.
+//! Limits and places of the space.
 use crate::acts::{Act, Reply};
-use crate::room::{Room, SCHEMA};
+use crate::room::{Of, Room, SCHEMA};
 use crate::wishes::{Shown, Wish};
-use mdl_key::{Key, KeyError, Mode};
-use mdl_space::{CoreSpace, Held, NewError, Place, SpaceError};
+use mdl_key::Mode;
+use mdl_space::{CoreSpace, NewError, Place, SpaceError};
 use std::alloc::Global;
 
 const LIMITS: &[(u16, u16, Option<NewError>)] = &[
@@ -30,99 +30,27 @@ fn spaces_have_their_limits(rt: HostRuntime) {
     }
 }
 
-// What a key, if it can be made, has for a place.
-fn place_of(room: &mut Room, key: Result<Key, KeyError>) -> Result<Place, SpaceError> {
-    match key {
-        Ok(key) => room.resolve(&key),
-        Err(_) => Err(SpaceError::OutOfMemory),
-    }
-}
-
-// The places of four keys in turn, where two are free: a table, a schema, the table again, and one key too many.
-fn places(alloc: Global, room: &mut Room) -> [Result<Place, SpaceError>; 4] {
-    [
-        place_of(room, Key::table(alloc, "test", "t")),
-        place_of(room, Key::schema(alloc, "test")),
-        place_of(room, Key::table(alloc, "test", "t")),
-        place_of(room, Ok(Key::global(alloc))),
-    ]
-}
-
-#[test]
-fn keys_keep_their_places(rt: HostRuntime) {
-    let are_kept = match Room::new(rt.alloc(), 2, 1) {
-        Ok(mut room) => places(rt.alloc(), &mut room)
-            == [Ok(1), Ok(2), Ok(1), Err(SpaceError::NoPlace)],
-        Err(_) => false,
-    };
-    assert!(rt; are_kept);
-}
-
-// Whether a place has this key.
-fn has_key(room: &mut Room, place: Place, key: &Key) -> bool {
-    match room.key_of(place) {
-        Ok(told) => told == *key,
-        Err(_) => false,
-    }
-}
-
-// Whether a place has none.
+// Whether a place has no key.
 fn has_none(room: &mut Room, place: Place) -> bool {
     room.key_of(place).err() == Some(SpaceError::NoPlace)
 }
 
-// Whether a table and the global lock have the places 1 and 3, and there are no more than three.
-fn tells_keys(alloc: Global, room: &mut Room) -> bool {
-    match Key::table(alloc, "test", "t") {
-        Ok(table) => {
-            has_key(room, 1, &table)
-                && has_key(room, 3, &Key::global(alloc))
-                && !has_key(room, 2, &table)
-                && has_none(room, 0)
-                && has_none(room, 4)
-        }
-        Err(_) => false,
-    }
+// Whether keys keep their places, which are numbered from 1 to 5, and a sixth key finds none.
+fn keeps_places(room: &mut Room) -> bool {
+    room.place_of(Of::Table("test", "t")) == Ok(1)
+        && room.place_of(Of::Global) == Ok(3)
+        && room.place_of(Of::Table("test", "v")) == Err(SpaceError::NoPlace)
+        && has_none(room, 0)
+        && has_none(room, 6)
 }
 
 #[test]
-fn the_key_of_a_place_is_told(rt: HostRuntime) {
-    let are_told = match Room::of_three(rt.alloc()) {
-        Some(mut room) => tells_keys(rt.alloc(), &mut room),
+fn keys_keep_their_places(rt: HostRuntime) {
+    let are_kept = match Room::new(rt.alloc()) {
+        Some(mut room) => keeps_places(&mut room),
         None => false,
     };
-    assert!(rt; are_told);
-}
-
-const HELD: &[Held] = &[Held {
-    id: 1,
-    place: 2,
-    mode: Mode::IX,
-}];
-
-// Whether these are the tickets that a session holds.
-fn holds(room: &Room, who: u16, tickets: &[Held]) -> bool {
-    match room.held(who) {
-        Ok(held) => held.as_slice() == tickets,
-        Err(_) => false,
-    }
-}
-
-// Whether a session that has nothing comes to hold the lock of a schema, and another one holds nothing.
-fn lists_what_is_held(room: &mut Room) -> bool {
-    holds(room, 2, &[])
-        && room.make(Act::TryNow(2, 2, Mode::IX)) == Reply::Granted(1)
-        && holds(room, 2, HELD)
-        && holds(room, 1, &[])
-}
-
-#[test]
-fn what_is_held_is_listed(rt: HostRuntime) {
-    let are_listed = match Room::of_three(rt.alloc()) {
-        Some(mut room) => lists_what_is_held(&mut room),
-        None => false,
-    };
-    assert!(rt; are_listed);
+    assert!(rt; are_kept);
 }
 
 const MOST_VERSIONS: u64 = 1_000_000;
@@ -163,7 +91,7 @@ fn has_versions_up_to_the_last(room: &mut Room) -> bool {
 
 #[test]
 fn a_definition_has_a_last_version(rt: HostRuntime) {
-    let has_one = match Room::of_three(rt.alloc()) {
+    let has_one = match Room::new(rt.alloc()) {
         Some(mut room) => has_versions_up_to_the_last(&mut room),
         None => false,
     };

@@ -1,9 +1,9 @@
 //! Held tickets that get other modes: upgrades, downgrades and merges, and each refusal, alone and beside those that come later in
 //! the order.
 use crate::acts::{Act, Reply};
-use crate::room::{Room, SCHEMA, TABLE, first_wrong};
+use crate::room::{Room, SCHEMA, Story, TABLE};
 use mdl_key::Mode;
-use mdl_space::{Held, Settled, SpaceError};
+use mdl_space::{Settled, SpaceError};
 use std::alloc::Global;
 
 const NOT_HELD: Reply = Reply::Refused(SpaceError::NotHeld);
@@ -162,7 +162,7 @@ const WHILE_WAITING: &[(Act, Reply)] = &[
     (Act::Merge(2, 2, 1), Reply::Done),
 ];
 
-const LIVES: &[(&str, &[(Act, Reply)])] = &[
+pub(crate) const LIVES: &[Story] = &[
     (
         "a session's own tickets are in no upgrade's way",
         BESIDE_OWN_TICKETS,
@@ -178,103 +178,87 @@ const LIVES: &[(&str, &[(Act, Reply)])] = &[
     ("who waits gets no stronger mode", WHILE_WAITING),
 ];
 
-#[test]
-fn tickets_get_other_modes(rt: HostRuntime) {
-    for (what, rows) in LIVES {
-        let wrong = first_wrong(rt.alloc(), rows);
-        assert!(rt; wrong.is_none(), "{what}: {wrong:?}");
+// A held mode, a call for another one, and the mode of the ticket then, where the call isn't refused.
+const CHANGES: &[(Mode, Act, Option<Mode>)] = &[
+    (Mode::SU, Act::Upgrade(1, 1, Mode::SNW), Some(Mode::SNW)),
+    (Mode::SU, Act::Upgrade(1, 1, Mode::SNRW), Some(Mode::SNRW)),
+    (Mode::SU, Act::Upgrade(1, 1, Mode::X), Some(Mode::X)),
+    (Mode::SNW, Act::Upgrade(1, 1, Mode::SNRW), Some(Mode::SNRW)),
+    (Mode::SNW, Act::Upgrade(1, 1, Mode::X), Some(Mode::X)),
+    (Mode::SNRW, Act::Upgrade(1, 1, Mode::X), Some(Mode::X)),
+    (Mode::X, Act::Upgrade(1, 1, Mode::X), Some(Mode::X)),
+    (Mode::X, Act::Upgrade(1, 1, Mode::SNRW), Some(Mode::X)),
+    (Mode::SNRW, Act::Upgrade(1, 1, Mode::SNW), Some(Mode::SNRW)),
+    (Mode::SU, Act::Upgrade(1, 1, Mode::SR), Some(Mode::SU)),
+    (Mode::SW, Act::Upgrade(1, 1, Mode::SR), Some(Mode::SW)),
+    (Mode::S, Act::Upgrade(1, 1, Mode::SH), Some(Mode::S)),
+    (Mode::SU, Act::Upgrade(1, 1, Mode::SW), None),
+    (Mode::SU, Act::Upgrade(1, 1, Mode::SRO), None),
+    (Mode::SRO, Act::Upgrade(1, 1, Mode::SNRW), None),
+    (Mode::SW, Act::Upgrade(1, 1, Mode::X), None),
+    (Mode::SWLP, Act::Upgrade(1, 1, Mode::SU), None),
+    (Mode::SR, Act::Upgrade(1, 1, Mode::X), None),
+    (Mode::SH, Act::Upgrade(1, 1, Mode::SR), None),
+    (Mode::S, Act::Upgrade(1, 1, Mode::IX), None),
+    (Mode::X, Act::Upgrade(1, 1, Mode::IX), None),
+    (Mode::X, Act::Downgrade(1, 1, Mode::SU), Some(Mode::SU)),
+    (Mode::X, Act::Downgrade(1, 1, Mode::SNW), Some(Mode::SNW)),
+    (Mode::X, Act::Downgrade(1, 1, Mode::SNRW), Some(Mode::SNRW)),
+    (Mode::SNW, Act::Downgrade(1, 1, Mode::SU), Some(Mode::SU)),
+    (Mode::X, Act::Downgrade(1, 1, Mode::X), None),
+    (Mode::X, Act::Downgrade(1, 1, Mode::SR), None),
+    (Mode::X, Act::Downgrade(1, 1, Mode::IX), None),
+    (Mode::SNRW, Act::Downgrade(1, 1, Mode::SNW), None),
+    (Mode::SNRW, Act::Downgrade(1, 1, Mode::SU), None),
+    (Mode::SNW, Act::Downgrade(1, 1, Mode::SNW), None),
+    (Mode::SNW, Act::Downgrade(1, 1, Mode::SR), None),
+    (Mode::SU, Act::Downgrade(1, 1, Mode::SU), None),
+    (Mode::SU, Act::Downgrade(1, 1, Mode::SR), None),
+    (Mode::SW, Act::Downgrade(1, 1, Mode::SR), None),
+    (Mode::SU, Act::Downgrade(1, 1, Mode::X), None),
+];
+
+// What a call answers that isn't refused.
+fn granted(act: Act) -> Reply {
+    match act {
+        Act::Upgrade(_, _, _) => Reply::Upgraded,
+        _ => Reply::Done,
     }
 }
 
-// A held mode, another one, and the mode of the ticket once that was asked for, where it isn't refused.
-const UPGRADES: &[(Mode, Mode, Option<Mode>)] = &[
-    (Mode::SU, Mode::SNW, Some(Mode::SNW)),
-    (Mode::SU, Mode::SNRW, Some(Mode::SNRW)),
-    (Mode::SU, Mode::X, Some(Mode::X)),
-    (Mode::SNW, Mode::SNRW, Some(Mode::SNRW)),
-    (Mode::SNW, Mode::X, Some(Mode::X)),
-    (Mode::SNRW, Mode::X, Some(Mode::X)),
-    (Mode::X, Mode::X, Some(Mode::X)),
-    (Mode::X, Mode::SNRW, Some(Mode::X)),
-    (Mode::SNRW, Mode::SNW, Some(Mode::SNRW)),
-    (Mode::SU, Mode::SR, Some(Mode::SU)),
-    (Mode::SW, Mode::SR, Some(Mode::SW)),
-    (Mode::S, Mode::SH, Some(Mode::S)),
-    (Mode::SU, Mode::SW, None),
-    (Mode::SU, Mode::SRO, None),
-    (Mode::SRO, Mode::SNRW, None),
-    (Mode::SW, Mode::X, None),
-    (Mode::SWLP, Mode::SU, None),
-    (Mode::SR, Mode::X, None),
-    (Mode::SH, Mode::SR, None),
-    (Mode::S, Mode::IX, None),
-    (Mode::X, Mode::IX, None),
-];
-
-const FALLS: &[(Mode, Mode, Option<Mode>)] = &[
-    (Mode::X, Mode::SU, Some(Mode::SU)),
-    (Mode::X, Mode::SNW, Some(Mode::SNW)),
-    (Mode::X, Mode::SNRW, Some(Mode::SNRW)),
-    (Mode::SNW, Mode::SU, Some(Mode::SU)),
-    (Mode::X, Mode::X, None),
-    (Mode::X, Mode::SR, None),
-    (Mode::X, Mode::IX, None),
-    (Mode::SNRW, Mode::SNW, None),
-    (Mode::SNRW, Mode::SU, None),
-    (Mode::SNW, Mode::SNW, None),
-    (Mode::SNW, Mode::SR, None),
-    (Mode::SU, Mode::SU, None),
-    (Mode::SU, Mode::SR, None),
-    (Mode::SW, Mode::SR, None),
-    (Mode::SU, Mode::X, None),
-];
-
-// Whether a session's one ticket, which it gains in a mode, has this one after a call that answers so.
-fn comes_to(room: &mut Room, held: Mode, act: Act, reply: Reply, mode: Mode) -> bool {
-    let gained = room.make(Act::TryNow(1, TABLE, held));
-    let answered = room.make(act);
-    let ticket = Held {
-        id: 1,
-        place: TABLE,
-        mode,
-    };
+// Whether the first session holds one ticket, in this mode.
+fn holds(room: &Room, mode: Mode) -> bool {
     match room.held(1) {
-        Ok(tickets) => gained == Reply::Granted(1)
-            && answered == reply
-            && tickets.as_slice() == [ticket].as_slice(),
+        Ok(tickets) => match tickets.as_slice() {
+            [ticket] => ticket.id == 1 && ticket.place == TABLE && ticket.mode == mode,
+            _ => false,
+        },
         Err(_) => false,
     }
 }
 
-// The same of a new room, where the call, if it isn't refused, answers this.
-fn is_right(alloc: Global, held: Mode, act: Act, reply: Reply, mode: Option<Mode>) -> bool {
-    let Some(mut room) = Room::of_three(alloc) else {
-        return false;
+// Whether the ticket that it gains comes to the mode that it should.
+fn comes_to(room: &mut Room, held: Mode, act: Act, mode: Option<Mode>) -> bool {
+    let want = match mode {
+        Some(_) => granted(act),
+        None => NOT_UPGRADABLE,
     };
-    match mode {
-        Some(mode) => comes_to(&mut room, held, act, reply, mode),
-        None => comes_to(&mut room, held, act, NOT_UPGRADABLE, held),
+    room.make(Act::TryNow(1, TABLE, held)) == Reply::Granted(1)
+        && room.make(act) == want
+        && holds(room, mode.unwrap_or(held))
+}
+
+// The same in a new room.
+fn is_right(alloc: Global, held: Mode, act: Act, mode: Option<Mode>) -> bool {
+    match Room::new(alloc) {
+        Some(mut room) => comes_to(&mut room, held, act, mode),
+        None => false,
     }
 }
 
 #[test]
-fn each_mode_has_its_upgrades(rt: HostRuntime) {
-    for (held, wanted, mode) in UPGRADES {
-        let act = Act::Upgrade(1, 1, *wanted);
-        assert!(rt;
-            is_right(rt.alloc(), *held, act, Reply::Upgraded, *mode),
-            "{held} to {wanted}"
-        );
-    }
-}
-
-#[test]
-fn each_mode_has_its_downgrades(rt: HostRuntime) {
-    for (held, wanted, mode) in FALLS {
-        let act = Act::Downgrade(1, 1, *wanted);
-        assert!(rt;
-            is_right(rt.alloc(), *held, act, Reply::Done, *mode),
-            "{held} to {wanted}"
-        );
+fn each_mode_has_its_upgrades_and_downgrades(rt: HostRuntime) {
+    for (number, (held, act, mode)) in CHANGES.iter().enumerate() {
+        assert!(rt; is_right(rt.alloc(), *held, *act, *mode), "case {number}");
     }
 }

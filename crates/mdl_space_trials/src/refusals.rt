@@ -3,7 +3,7 @@
 //! Two refusals are in no row. A session has used up its numbers only after 2 to the 60 tickets or waits, and no test lives
 //! so long. A lock takes 65,535 tickets: that is a test of its own.
 use crate::acts::{Act, Reply};
-use crate::room::{GLOBAL, SCHEMA, TABLE, first_wrong};
+use crate::room::{GLOBAL, SCHEMA, Story, TABLE};
 use mdl_key::Mode;
 use mdl_space::SpaceError;
 
@@ -19,9 +19,9 @@ const NO_WAIT: Reply = Reply::Refused(SpaceError::NoWait);
 
 const REQUESTS: &[(Act, Reply)] = &[
     (Act::TryNow(1, 0, Mode::S), NO_PLACE),
-    (Act::BeginWait(1, 4, Mode::S), NO_PLACE),
+    (Act::BeginWait(1, 6, Mode::S), NO_PLACE),
     // No mode is one of no place.
-    (Act::TryNow(1, 4, Mode::SR), NO_PLACE),
+    (Act::TryNow(1, 6, Mode::SR), NO_PLACE),
     (Act::BeginWait(1, 0, Mode::IX), NO_PLACE),
     (Act::TryNow(1, TABLE, Mode::IX), BAD_MODE),
     (Act::BeginWait(1, TABLE, Mode::IX), BAD_MODE),
@@ -110,17 +110,9 @@ const WAITS: &[(Act, Reply)] = &[
     (Act::EndWait(6), Reply::NoSession),
 ];
 
-const REFUSALS: &[(&str, &[(Act, Reply)])] = &[
+pub(crate) const REFUSALS: &[Story] = &[
     ("requests are refused", REQUESTS),
     ("who waits asks for nothing else", WHILE_WAITING),
     ("clones and releases are refused", CLONES_AND_RELEASES),
     ("waits are refused", WAITS),
 ];
-
-#[test]
-fn each_refusal_has_its_cause(rt: HostRuntime) {
-    for (what, rows) in REFUSALS {
-        let wrong = first_wrong(rt.alloc(), rows);
-        assert!(rt; wrong.is_none(), "{what}: {wrong:?}");
-    }
-}

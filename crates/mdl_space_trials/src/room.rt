@@ -3,20 +3,23 @@ ghost use Rattle.mdl_core.specs.CoreJoins.{SpeaksFor};
 ghost use Rattle.mdl_space_trials.specs.Serving.{SpeaksForAll};
 
 use crate::acts::{Act, Reply, call, key_of, resolve, tables_of};
+use crate::{deadlocks, definitions, life, modes, refusals};
 use mdl_book::Book;
 use mdl_key::{Key, KeyError};
 use mdl_space::{CoreSpace, Held, LockSpace, NewError, Place, SpaceError};
 use std::alloc::Global;
 use std::marker::Model;
 
-/// The places of a room of three.
+/// The places of an ordinary room.
 pub(crate) const TABLE: Place = 1;
 
 pub(crate) const SCHEMA: Place = 2;
 
 pub(crate) const GLOBAL: Place = 3;
 
-const SESSIONS: u16 = 5;
+pub(crate) const COMMIT: Place = 4;
+
+pub(crate) const OTHER_TABLE: Place = 5;
 
 /// What a key is of: a table of a schema, a schema, or what has no name.
 #[derive(Clone, Copy)]
@@ -27,14 +30,17 @@ pub(crate) enum Of {
     Global,
 }
 
-const THREE: &[Of] = &[Of::Table("test", "t"), Of::Schema("test"), Of::Global];
-
-const FOUR: &[Of] = &[
-    Of::Table("test", "a"),
-    Of::Table("test", "b"),
-    Of::Commit,
+/// The keys of an ordinary room.
+pub(crate) const ORDINARY: &[Of] = &[
+    Of::Table("test", "t"),
+    Of::Schema("test"),
     Of::Global,
+    Of::Commit,
+    Of::Table("test", "u"),
 ];
+
+/// What rows of calls show, and the rows.
+pub(crate) type Story = (&'static str, &'static [(Act, Reply)]);
 
 fn new_key(alloc: Global, of: Of) -> Result<Key, KeyError> {
     match of {
@@ -65,8 +71,8 @@ impl Model for Room {
 }
 
 impl Room {
-    /// Nobody has asked for anything.
-    pub(crate) fn new(alloc: Global, places: u16, sessions: u16) -> Result<Room, NewError> {
+    // Nobody has asked for anything.
+    fn empty(alloc: Global, places: u16, sessions: u16) -> Result<Room, NewError> {
         match CoreSpace::new(alloc, places, sessions) {
             Ok(space) => Ok(Room {
                 alloc,
@@ -77,19 +83,12 @@ impl Room {
         }
     }
 
-    /// A table, a schema and the global lock have the places 1 to 3, and nobody has anything.
-    pub(crate) fn of_three(alloc: Global) -> Option<Room> {
-        Room::with_keys(alloc, 3, THREE)
-    }
-
-    /// Two tables, the commit lock and the global lock have the places 1 to 4, and nobody has anything.
-    pub(crate) fn of_four(alloc: Global) -> Option<Room> {
-        Room::with_keys(alloc, 4, FOUR)
-    }
-
-    /// Each of these keys has a place, in this order, of so many.
-    pub(crate) fn with_keys(alloc: Global, places: u16, keys: &[Of]) -> Option<Room> {
-        let Ok(mut room) = Room::new(alloc, places, SESSIONS) else {
+    /// Each of these keys has a place, in this order, and there are no more places. Nobody has anything.
+    pub(crate) fn of_keys(alloc: Global, keys: &[Of], sessions: u16) -> Option<Room> {
+        let Ok(places) = u16::try_from(keys.len()) else {
+            return None;
+        };
+        let Ok(mut room) = Room::empty(alloc, places, sessions) else {
             return None;
         };
         if room.has_places(keys) {
@@ -99,25 +98,31 @@ impl Room {
         }
     }
 
+    /// A table, a schema, the global lock, the commit lock and another table have the places 1 to 5.
+    pub(crate) fn new(alloc: Global) -> Option<Room> {
+        Room::of_keys(alloc, ORDINARY, 5)
+    }
+
     // Whether these keys come to have places.
     fn has_places(&mut self, keys: &[Of]) -> bool {
         for of in keys {
-            if !self.has_place(*of) {
+            if self.place_of(*of).is_err() {
                 return false;
             }
         }
         true
     }
 
-    fn has_place(&mut self, of: Of) -> bool {
+    /// The place of a key, for the first session.
+    pub(crate) fn place_of(&mut self, of: Of) -> Result<Place, SpaceError> {
         match new_key(self.alloc, of) {
-            Ok(key) => self.resolve(&key).is_ok(),
-            Err(_) => false,
+            Ok(key) => self.resolve(&key),
+            Err(_) => Err(SpaceError::OutOfMemory),
         }
     }
 
-    /// The place of a key, for the first session.
-    pub(crate) fn resolve(&mut self, key: &Key) -> Result<Place, SpaceError> {
+    // The same.
+    fn resolve(&mut self, key: &Key) -> Result<Place, SpaceError> {
         if self.sessions == 0 {
             return Err(SpaceError::NoPlace);
         }
@@ -153,17 +158,6 @@ impl Room {
         self.space.books()
     }
 
-    /// How many waits aren't settled.
-    pub(crate) fn open_waits(&mut self) -> usize {
-        let mut waits = 0usize;
-        for who in 1..self.sessions.saturating_add(1) {
-            if self.make(Act::Poll(who)) == Reply::Pending {
-                waits = waits.saturating_add(1);
-            }
-        }
-        waits
-    }
-
     /// Makes a call. For a session that there isn't, it makes only those that anyone may make.
     pub(crate) fn make(&mut self, act: Act) -> Reply {
         let who = act.caller(1);
@@ -184,18 +178,28 @@ impl Room {
     }
 }
 
-/// The same in a room of three.
-pub(crate) fn first_wrong(alloc: Global, rows: &[(Act, Reply)]) -> Option<usize> {
-    match Room::of_three(alloc) {
+// The same in a new room.
+fn first_wrong(alloc: Global, rows: &[(Act, Reply)]) -> Option<usize> {
+    match Room::new(alloc) {
         Some(mut room) => room.first_wrong(rows),
         None => Some(rows.len()),
     }
 }
 
-/// And in one of four.
-pub(crate) fn first_wrong_of_four(alloc: Global, rows: &[(Act, Reply)]) -> Option<usize> {
-    match Room::of_four(alloc) {
-        Some(mut room) => room.first_wrong(rows),
-        None => Some(rows.len()),
+const STORIES: &[&[Story]] = &[
+    life::LIVES,
+    refusals::REFUSALS,
+    deadlocks::DEADLOCKS,
+    definitions::DEFINITIONS,
+    modes::LIVES,
+];
+
+#[test]
+fn a_space_does_as_told(rt: HostRuntime) {
+    for stories in STORIES {
+        for (what, rows) in *stories {
+            let wrong = first_wrong(rt.alloc(), rows);
+            assert!(rt; wrong.is_none(), "{what}: {wrong:?}");
+        }
     }
 }

@@ -59,7 +59,7 @@ fn tells_what_is_defined(room: &mut Room) -> bool {
 
 #[test]
 fn the_tables_of_a_schema_are_told(rt: HostRuntime) {
-    let are_told = match Room::with_keys(rt.alloc(), 5, KEYS) {
+    let are_told = match Room::of_keys(rt.alloc(), KEYS, 2) {
         Some(mut room) => tells_what_is_defined(&mut room),
         None => false,
     };

@@ -1,8 +1,7 @@
 //! Fast tickets, which the word counts and no list has, and what those who take them are told.
-use super::steps::{Answer, CONFLICT, Life, NO, NO_FAST, Step, Steps, YES, first_wrong};
+use super::steps::{Answer, CONFLICT, Life, NO, NO_FAST, Step, Steps, YES};
 use mdl_key::{Kind, Mode};
 use mdl_word::Word;
-use std::alloc::Global;
 
 // The words of one fast ticket: in S or IX, in SR, and in SW.
 const FAST_S: Word = Word(0x1);
@@ -11,43 +10,19 @@ const FAST_SR: Word = Word(0x10_0000);
 
 const FAST_SW: Word = Word(0x100_0000_0000);
 
-// Whether a book that nobody has locked takes this word into account for this mode, as is wanted, in all that looks at it.
-fn minds(alloc: Global, word: Word, mode: Mode, want: bool) -> bool {
-    let (found, granted) = if want {
-        (Answer::Finds(1, 1), Answer::Done)
-    } else {
-        (Answer::FindsNobody, CONFLICT)
-    };
-    let steps = [
-        (Step::CanGrant(1, mode, word), Answer::Is(want)),
-        (Step::Enqueue(1, 1, mode), Answer::Done),
-        (Step::Next(word, &[]), found),
-        (Step::Grant(1, 2, mode, word), granted),
-    ];
-    first_wrong(alloc, Kind::Object, &steps).is_none()
-}
-
-// A word of one fast ticket or none, a mode, and whether the book takes the word into account for the mode.
-const MINDED: &[(Word, Mode, bool)] = &[
-    (NO_FAST, Mode::X, true),
-    (FAST_S, Mode::X, false),
-    (FAST_S, Mode::SNRW, true),
-    (FAST_SR, Mode::SNRW, false),
-    (FAST_SR, Mode::SNW, true),
-    (FAST_SW, Mode::SRO, false),
-    (FAST_SW, Mode::SNW, false),
-    (FAST_SW, Mode::SU, true),
+// Where nobody has locked the table, a fast ticket in SR clashes with some modes, in all that looks at it.
+const FAST_AT_A_TABLE: Steps = &[
+    (Step::CanGrant(1, Mode::X, FAST_SR), NO),
+    (Step::CanGrant(1, Mode::SNW, FAST_SR), YES),
+    (Step::CanGrant(1, Mode::SNRW, FAST_S), YES),
+    (Step::CanGrant(1, Mode::SU, FAST_SW), YES),
+    (Step::CanGrant(1, Mode::SNW, FAST_SW), NO),
+    (Step::Enqueue(1, 1, Mode::SNRW), Answer::Done),
+    (Step::Next(FAST_SR, &[]), Answer::FindsNobody),
+    (Step::Next(FAST_S, &[]), Answer::Finds(1, 1)),
+    (Step::Grant(1, 2, Mode::SNRW, FAST_SR), CONFLICT),
+    (Step::Grant(1, 2, Mode::SNRW, FAST_S), Answer::Done),
 ];
-
-#[test]
-fn minds_fast_tickets(rt: HostRuntime) {
-    for (word, mode, want) in MINDED {
-        assert!(rt;
-            minds(rt.alloc(), *word, *mode, *want),
-            "{mode} at {word:?}"
-        );
-    }
-}
 
 const FAST_IN_A_SCHEMA: Steps = &[
     (Step::CanGrant(1, Mode::IX, FAST_S), YES),
@@ -97,6 +72,7 @@ const OBTRUSIVE_AT_A_SCHEMA: Steps = &[
 ];
 
 pub(super) const LIVES: &[Life] = &[
+    ("fast tickets of a table", Kind::Object, FAST_AT_A_TABLE),
     ("fast tickets of a schema", Kind::Scoped, FAST_IN_A_SCHEMA),
     ("what comes and goes", Kind::Object, NEEDS),
     ("obtrusive at a table", Kind::Object, OBTRUSIVE_AT_A_TABLE),

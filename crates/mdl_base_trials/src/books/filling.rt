@@ -27,49 +27,26 @@ fn enqueued(book: &mut Book, most: u64) -> u64 {
     most
 }
 
-// Whether a book is full, and goes on, with so many tickets.
-fn fills_up(alloc: Global, most: u64) -> bool {
+// Whether a book comes to be full with so many tickets, and goes on.
+fn fills_up(book: &mut Book, most: u64) -> bool {
+    make(book, Step::Grant(1, 0, Mode::X, NO_FAST)) == Answer::Done
+        && enqueued(book, most) == most
+        && first_wrong_of(book, FULL_UP).is_none()
+        && book.granted().len() == 2
+        && book.waiting().len() == 65_533
+}
+
+// The same of a new one.
+fn new_one_fills_up(alloc: Global, most: u64) -> bool {
     match new_book(alloc, Kind::Object) {
-        Some(mut book) => make(&mut book, Step::Grant(1, 0, Mode::X, NO_FAST)) == Answer::Done
-            && enqueued(&mut book, most) == most
-            && first_wrong_of(&mut book, FULL_UP).is_none()
-            && book.granted().len() == 2
-            && book.waiting().len() == 65_533,
+        Some(mut book) => fills_up(&mut book, most),
         None => false,
     }
 }
 
 #[test]
 fn is_full_at_65535_tickets(rt: HostRuntime) {
-    assert!(rt; fills_up(rt.alloc(), 65_535));
-}
-
-// One refusal of memory in the whole life of the book changes nothing but the answer of the call that met it.
-#[test]
-fn outlives_want_of_memory(rt: HostRuntime) {
-    let table = new_book(rt.alloc(), Kind::Object);
-    let survivors = match table.or_else(|| new_book(rt.alloc(), Kind::Object)) {
-        Some(mut book) => survivors(&mut book),
-        None => 0,
-    };
-    assert_eq!(rt; survivors, 78);
-}
-
-// How many tickets are granted in the end, half of which waited.
-fn survivors(book: &mut Book) -> usize {
-    for number in 1..40 {
-        if !outlives(book, Step::Enqueue(1, number, Mode::S))
-            || !outlives(book, Step::Grant(2, number, Mode::S, NO_FAST))
-        {
-            return 0;
-        }
-    }
-    for number in 1..40 {
-        if book.admit(1, number).is_err() {
-            return 0;
-        }
-    }
-    book.granted().len()
+    assert!(rt; new_one_fills_up(rt.alloc(), 65_535));
 }
 
 // Whether a call is done, at the second try where memory was refused to the first, which changed nothing.
@@ -86,24 +63,35 @@ fn outlives(book: &mut Book, step: Step) -> bool {
     }
 }
 
-// Grants so many tickets, of which the last 99 stay. How many there are.
-fn kept(book: &mut Book, most: u64) -> usize {
-    for number in 0..most {
-        if make(book, Step::Grant(1, number, Mode::SR, NO_FAST)) != Answer::Done {
-            return 0;
-        }
-        if number >= 99 && book.remove(1, number - 99).is_err() {
-            return 0;
+// Whether tickets are granted in the end, half of which waited.
+fn all_outlive(book: &mut Book) -> bool {
+    for number in 1..40 {
+        if !outlives(book, Step::Enqueue(1, number, Mode::S))
+            || !outlives(book, Step::Grant(2, number, Mode::S, NO_FAST))
+        {
+            return false;
         }
     }
-    book.granted().len()
+    for number in 1..40 {
+        if book.admit(1, number).is_err() {
+            return false;
+        }
+    }
+    book.granted().len() == 78
 }
 
+// The same of a new book, at the second try where memory was refused to the first.
+fn all_of_a_new_one_outlive(alloc: Global) -> bool {
+    for _try in 0..2 {
+        if let Some(mut book) = new_book(alloc, Kind::Object) {
+            return all_outlive(&mut book);
+        }
+    }
+    false
+}
+
+// One refusal of memory in the whole life of the book changes nothing but the answer of the call that met it.
 #[test]
-fn old_ones_make_room(rt: HostRuntime) {
-    let kept = match new_book(rt.alloc(), Kind::Object) {
-        Some(mut book) => kept(&mut book, 1_000),
-        None => 0,
-    };
-    assert_eq!(rt; kept, 99);
+fn outlives_want_of_memory(rt: HostRuntime) {
+    assert!(rt; all_of_a_new_one_outlive(rt.alloc()));
 }

@@ -1,7 +1,6 @@
 //! Books of locks that are granted and waited for.
-use super::steps::{Answer, CONFLICT, Life, NO, NO_FAST, Step, Steps, YES, new_book};
+use super::steps::{Answer, CONFLICT, Life, NO, NO_FAST, Step, Steps, YES};
 use mdl_key::{Kind, Mode};
-use std::alloc::Global;
 
 const LIFE: Steps = &[
     (Step::Next(NO_FAST, &[]), Answer::FindsNobody),
@@ -105,15 +104,3 @@ pub(super) const LIVES: &[Life] = &[
         LATER_AND_SETTLED,
     ),
 ];
-
-fn keeps_its_key(alloc: Global) -> bool {
-    match new_book(alloc, Kind::Object) {
-        Some(book) => book.key().schema_name() == "test" && book.key().table_name() == "t",
-        None => false,
-    }
-}
-
-#[test]
-fn has_its_key(rt: HostRuntime) {
-    assert!(rt; keeps_its_key(rt.alloc()));
-}

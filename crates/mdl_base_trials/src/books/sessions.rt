@@ -1,11 +1,8 @@
 //! Sets of sessions.
 use mdl_book::Sessions;
 
-// Sessions that are put in.
-const PUT_IN: &[u16] = &[1, 64, 65, 1024];
-
-// Sessions, and whether each is in the set when session 64 has been taken out.
-const AFTERWARDS: &[(u16, bool)] = &[
+// Sessions, and whether each is in the set of 1, 64, 65 and 1,024 when session 64 has been taken out.
+const OF_THREE: &[(u16, bool)] = &[
     (1, true),
     (64, false),
     (65, true),
@@ -18,11 +15,13 @@ const AFTERWARDS: &[(u16, bool)] = &[
     (1025, false),
 ];
 
-// Puts them in: whether each is in the set then.
-fn are_put_in(sessions: &mut Sessions) -> bool {
-    for session in PUT_IN {
-        sessions.insert(*session);
-        if !sessions.contains(*session) {
+// Sessions, and whether each is in the set of all.
+const OF_ALL: &[(u16, bool)] = &[(0, false), (1, true), (1024, true), (1025, false)];
+
+// Whether a set has of these sessions just those that it is to have.
+fn has(sessions: &Sessions, rows: &[(u16, bool)]) -> bool {
+    for (session, want) in rows {
+        if sessions.contains(*session) != *want {
             return false;
         }
     }
@@ -30,22 +29,13 @@ fn are_put_in(sessions: &mut Sessions) -> bool {
 }
 
 #[test]
-fn puts_in_and_takes_out(rt: HostRuntime) {
+fn sets_have_what_was_put_in(rt: HostRuntime) {
     let mut sessions = Sessions::new();
-    assert!(rt; !sessions.contains(1) && are_put_in(&mut sessions));
+    sessions.insert(1);
+    sessions.insert(64);
+    sessions.insert(65);
+    sessions.insert(1024);
     sessions.remove(64);
-    for (session, want) in AFTERWARDS {
-        assert!(rt; sessions.contains(*session) == *want, "at {session}");
-    }
-}
-
-// Sessions, and whether each is in the set of all.
-const OF_ALL: &[(u16, bool)] = &[(0, false), (1, true), (1024, true), (1025, false)];
-
-#[test]
-fn holds_every_session(rt: HostRuntime) {
-    let sessions = Sessions::all();
-    for (session, want) in OF_ALL {
-        assert!(rt; sessions.contains(*session) == *want, "at {session}");
-    }
+    assert!(rt; has(&sessions, OF_THREE));
+    assert!(rt; has(&Sessions::all(), OF_ALL));
 }

@@ -1,5 +1,5 @@
 //! Deadlocks of a few locks, and of many that are plain to see.
-use mdl_book::{Book, BookError, Sessions, Ticket};
+use mdl_book::{Book, Sessions, Ticket};
 use mdl_graph::{Cycle, Member, WaitGraph, victim};
 use mdl_key::{Key, Mode};
 use mdl_word::Word;
@@ -22,6 +22,9 @@ type Found = (u16, &'static [u16], u16);
 
 // Who stands at some tables, one session that is settled, or 0, and what is found.
 type Case = (&'static [&'static [At]], u16, &'static [Found]);
+
+// Who waits for whom in pairs, each at a table of its own, and what is found.
+type Tied = (&'static [(u16, u16)], Found);
 
 // The last one waits for the others, who don't wait for it.
 const TWO_CYCLES: &[&[At]] = &[
@@ -85,8 +88,8 @@ const CASES: &[Case] = &[
     ),
 ];
 
-// Puts a ticket into a book.
-fn put(book: &mut Book, at: At) -> Result<(), BookError> {
+// Puts a ticket into a book: whether that went well.
+fn put(book: &mut Book, at: At) -> bool {
     match at {
         At::Holds(session, mode) => {
             let ticket = Ticket {
@@ -94,7 +97,7 @@ fn put(book: &mut Book, at: At) -> Result<(), BookError> {
                 number: 1,
                 mode,
             };
-            book.grant(ticket, NO_FAST)
+            book.grant(ticket, NO_FAST).is_ok()
         }
         At::Waits(session, mode) => {
             let ticket = Ticket {
@@ -102,16 +105,18 @@ fn put(book: &mut Book, at: At) -> Result<(), BookError> {
                 number: 2,
                 mode,
             };
-            book.enqueue(ticket)
+            book.enqueue(ticket).is_ok()
         }
     }
 }
 
-fn put_all(book: &mut Book, rows: &[At]) -> Result<(), BookError> {
+fn put_all(book: &mut Book, rows: &[At]) -> bool {
     for row in rows {
-        put(book, *row)?;
+        if !put(book, *row) {
+            return false;
+        }
     }
-    Ok(())
+    true
 }
 
 // Adds a table at which these stand: whether there was memory for it.
@@ -120,7 +125,7 @@ fn add_table(graph: &mut WaitGraph, alloc: Global, rows: &[At]) -> bool {
         return false;
     };
     let mut book = Book::new(alloc, key);
-    put_all(&mut book, rows).is_ok() && graph.add(&book).is_ok()
+    put_all(&mut book, rows) && graph.add(&book).is_ok()
 }
 
 fn add_tables(graph: &mut WaitGraph, alloc: Global, tables: &[&[At]]) -> bool {
@@ -132,8 +137,8 @@ fn add_tables(graph: &mut WaitGraph, alloc: Global, tables: &[&[At]]) -> bool {
     true
 }
 
-// A graph of nothing yet, in which this session is settled, if it is one.
-fn empty_graph(alloc: Global, settled: u16) -> WaitGraph {
+/// A graph of nothing yet, in which this session is settled, if it is one.
+pub(super) fn empty_graph(alloc: Global, settled: u16) -> WaitGraph {
     let mut sessions = Sessions::new();
     if 0 < settled && settled <= MOST {
         sessions.insert(settled);
@@ -149,12 +154,14 @@ fn is_cycle_of(found: &Option<Cycle>, sessions: &[u16], falls: u16) -> bool {
     }
 }
 
-fn are_of(members: &[Member], sessions: &[u16]) -> bool {
+/// Whether members are these sessions.
+pub(super) fn are_of(members: &[Member], sessions: &[u16]) -> bool {
+    for (member, session) in members.iter().zip(sessions) {
+        if member.session != *session {
+            return false;
+        }
+    }
     members.len() == sessions.len()
-        && members
-            .iter()
-            .zip(sessions)
-            .all(|(member, session)| member.session == *session)
 }
 
 // Whether this is found.
@@ -188,9 +195,6 @@ fn finds_deadlocks_of_a_few(rt: HostRuntime) {
     }
 }
 
-// Who waits for whom in pairs, each at a table of its own, and what is found.
-type Tied = (&'static [(u16, u16)], Found);
-
 const TIED: &[Tied] = &[
     (&[(1, 2), (2, 1)], (1, &[1, 2], 2)),
     (&[(1, 2), (2, 3), (3, 1)], (3, &[3, 1, 2], 3)),
@@ -215,10 +219,15 @@ const TIED: &[Tied] = &[
     (&[(1, 2), (2, 3)], (1, &[], 0)),
 ];
 
+/// Adds a table at which one session waits for another.
+pub(super) fn add_tie(graph: &mut WaitGraph, alloc: Global, waiter: u16, other: u16) -> bool {
+    let rows = [At::Holds(other, Mode::X), At::Waits(waiter, Mode::X)];
+    add_table(graph, alloc, &rows)
+}
+
 fn add_ties(graph: &mut WaitGraph, alloc: Global, ties: &[(u16, u16)]) -> bool {
     for (waiter, other) in ties {
-        let rows = [At::Holds(*other, Mode::X), At::Waits(*waiter, Mode::X)];
-        if !add_table(graph, alloc, &rows) {
+        if !add_tie(graph, alloc, *waiter, *other) {
             return false;
         }
     }
@@ -241,9 +250,7 @@ fn finds_the_shortest_and_of_those_the_first(rt: HostRuntime) {
 // Adds tables at each of which one session waits for the next, and the last for the first.
 fn add_ring(graph: &mut WaitGraph, alloc: Global) -> bool {
     for session in 1..=MOST {
-        let next = session % MOST + 1;
-        let rows = [At::Holds(next, Mode::SR), At::Waits(session, Mode::X)];
-        if !add_table(graph, alloc, &rows) {
+        if !add_tie(graph, alloc, session, session % MOST + 1) {
             return false;
         }
     }
@@ -277,37 +284,22 @@ fn goes_round_a_ring(rt: HostRuntime) {
     assert!(rt; finds_ring(&graph, 1) && finds_ring(&graph, 65) && finds_ring(&graph, MOST));
 }
 
-// The sessions of a crowd.
-const CROWD: u16 = 1024;
-
-// Puts all sessions of a crowd into a book, each of which holds the lock.
-fn put_holders(book: &mut Book) -> Result<(), BookError> {
-    for session in 1..=CROWD {
-        put(book, At::Holds(session, Mode::SR))?;
+// All sessions of a crowd, each of which holds the lock and waits for it.
+fn crowd(rows: &mut Vec<At>) -> bool {
+    for session in 1..=MOST {
+        if rows.push(At::Holds(session, Mode::SR)).is_err()
+            || rows.push(At::Waits(session, Mode::X)).is_err()
+        {
+            return false;
+        }
     }
-    Ok(())
+    true
 }
 
-// And each of which waits for it.
-fn put_waiters(book: &mut Book) -> Result<(), BookError> {
-    for session in 1..=CROWD {
-        put(book, At::Waits(session, Mode::X))?;
-    }
-    Ok(())
-}
-
-// Adds a table at which all sessions wait for all others: whether there was memory for it.
-fn add_crowd(graph: &mut WaitGraph, alloc: Global, table: &str) -> bool {
-    let Ok(key) = Key::table(alloc, "test", table) else {
-        return false;
-    };
-    let mut book = Book::new(alloc, key);
-    put_holders(&mut book).is_ok() && put_waiters(&mut book).is_ok() && graph.add(&book).is_ok()
-}
-
-// Adds three such tables.
+// Adds three tables at which all sessions wait for all others: whether there was memory for it.
 fn add_crowds(graph: &mut WaitGraph, alloc: Global) -> bool {
-    add_crowd(graph, alloc, "t") && add_crowd(graph, alloc, "u") && add_crowd(graph, alloc, "v")
+    let mut rows = Vec::new(alloc);
+    crowd(&mut rows) && add_tables(graph, alloc, &[&rows, &rows, &rows])
 }
 
 const IN_A_CROWD: &[Found] = &[

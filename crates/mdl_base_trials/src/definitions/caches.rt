@@ -1,6 +1,5 @@
 //! Caches of definitions, step by step.
 use super::{What, X, X_Y, Y, definition, standing};
-use crate::texts::first_misprinted;
 use mdl_defs::{CacheError, DefCache};
 use std::alloc::Global;
 
@@ -156,17 +155,4 @@ fn caches_keep_1_to_4096(rt: HostRuntime) {
     for (capacity, want) in CAPACITIES {
         assert!(rt; refusal(rt.alloc(), *capacity) == *want, "{capacity}");
     }
-}
-
-const CAUSES: [(CacheError, &str); 2] = [
-    (
-        CacheError::BadCapacity,
-        "a cache keeps 1 to 4096 definitions",
-    ),
-    (CacheError::OutOfMemory, "out of memory"),
-];
-
-#[test]
-fn tells_why_there_is_no_cache(rt: HostRuntime) {
-    assert!(rt; first_misprinted(rt.alloc(), &CAUSES).is_none());
 }

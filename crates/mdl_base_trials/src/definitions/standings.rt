@@ -1,9 +1,9 @@
 //! What stands under a key, in its book, change by change.
 use super::{Act, What, X, X_Y, change, definition};
-use crate::texts::first_misprinted;
+use crate::keys::names::{Name, key_of};
 use mdl_book::Book;
 use mdl_defs::{ChangeError, DefError, Definition, Standing};
-use mdl_key::{Key, KeyError, Namespace};
+use mdl_key::Namespace;
 use std::alloc::Global;
 
 // A change, the version after it or why it is refused, and what stands then.
@@ -59,9 +59,19 @@ const UNDER_OTHERS: &[Step] = &[
     (Act::Add("x"), Err(ChangeError::WrongKind), None),
 ];
 
+fn is_copied(standing: &Standing) -> bool {
+    match standing.clone() {
+        Ok(copy) => copy == *standing,
+        Err(_) => false,
+    }
+}
+
+// Whether this is read in a book, and copied.
 fn is_read(book: &Book, version: u64, wanted: &Option<Definition>) -> bool {
     match book.read() {
-        Ok(standing) => standing.version == version && standing.definition == *wanted,
+        Ok(standing) => {
+            standing.version == version && standing.definition == *wanted && is_copied(&standing)
+        }
         Err(_) => false,
     }
 }
@@ -84,16 +94,6 @@ fn goes_so(alloc: Global, book: &mut Book, (act, want, what): Step) -> bool {
     answer == want && stands(alloc, book, want.unwrap_or(before), what)
 }
 
-fn key_of(alloc: Global, namespace: Namespace) -> Result<Key, KeyError> {
-    match namespace {
-        Namespace::Global => Ok(Key::global(alloc)),
-        Namespace::Schema => Key::schema(alloc, "test"),
-        Namespace::Table => Key::table(alloc, "test", "t"),
-        Namespace::Commit => Ok(Key::commit(alloc)),
-        Namespace::UserLevelLock => Key::user_lock(alloc, "t"),
-    }
-}
-
 // The first step that goes wrong.
 fn first_wrong_of(alloc: Global, book: &mut Book, steps: &[Step]) -> Option<usize> {
     for (place, step) in steps.iter().enumerate() {
@@ -104,89 +104,61 @@ fn first_wrong_of(alloc: Global, book: &mut Book, steps: &[Step]) -> Option<usiz
     None
 }
 
-// The same of the book of a key of this namespace.
-fn first_wrong(alloc: Global, namespace: Namespace, steps: &[Step]) -> Option<usize> {
-    match key_of(alloc, namespace) {
+// The same of the book of a key of this name.
+fn first_wrong(alloc: Global, name: Name, steps: &[Step]) -> Option<usize> {
+    match key_of(alloc, name) {
         Ok(key) => first_wrong_of(alloc, &mut Book::new(alloc, key), steps),
         Err(_) => Some(0),
     }
 }
 
-// A namespace, and what a book of a key of it is asked.
-const BOOKS: &[(Namespace, &[Step])] = &[
-    (Namespace::Table, UNDER_A_TABLE),
-    (Namespace::Schema, UNDER_A_SCHEMA),
-    (Namespace::Commit, UNDER_OTHERS),
-    (Namespace::UserLevelLock, UNDER_OTHERS),
+// What a lock is named, and what its book is asked.
+const BOOKS: &[(Name, &[Step])] = &[
+    ((Namespace::Table, "test", "t"), UNDER_A_TABLE),
+    ((Namespace::Schema, "test", ""), UNDER_A_SCHEMA),
+    ((Namespace::Commit, "", ""), UNDER_OTHERS),
+    ((Namespace::UserLevelLock, "t", ""), UNDER_OTHERS),
 ];
 
 #[test]
 fn books_keep_what_stands(rt: HostRuntime) {
-    for (namespace, steps) in BOOKS {
-        let wrong = first_wrong(rt.alloc(), *namespace, steps);
-        assert!(rt; wrong.is_none(), "under {namespace:?}: {wrong:?}");
-    }
-}
-
-// What a change answers where there were so many before it.
-fn answer_after(alloc: Global, version: u64, act: Act) -> Result<u64, ChangeError> {
-    let mut standing = Standing {
-        version,
-        definition: definition(alloc, X),
-    };
-    match change(alloc, act) {
-        Some(change) => standing.change(alloc, Namespace::Table, &change),
-        None => Err(ChangeError::OutOfMemory),
+    for (name, steps) in BOOKS {
+        let wrong = first_wrong(rt.alloc(), *name, steps);
+        assert!(rt; wrong.is_none(), "under {:?}: {wrong:?}", name.0);
     }
 }
 
 // The last change there can be, and changes that come too late.
-const LATE: &[(u64, Act, Result<u64, ChangeError>)] = &[
-    (999_999, Act::Drop, Ok(1_000_000)),
-    (1_000_000, Act::Drop, Err(ChangeError::VersionFull)),
-    (1_000_000, Act::Put(X), Err(ChangeError::VersionFull)),
-    (
-        1_000_000,
-        Act::Create(What::Schema),
-        Err(ChangeError::VersionFull),
-    ),
-    (1_000_000, Act::Lose("x"), Err(ChangeError::VersionFull)),
+const LATE: &[(Act, Result<u64, ChangeError>)] = &[
+    (Act::Lose("x"), Ok(1_000_000)),
+    (Act::Drop, Err(ChangeError::VersionFull)),
+    (Act::Put(X), Err(ChangeError::VersionFull)),
+    (Act::Create(What::Schema), Err(ChangeError::VersionFull)),
+    (Act::Lose("z"), Err(ChangeError::VersionFull)),
 ];
+
+// Whether a change of a table is answered so.
+fn answers(
+    alloc: Global,
+    standing: &mut Standing,
+    act: Act,
+    want: Result<u64, ChangeError>,
+) -> bool {
+    match change(alloc, act) {
+        Some(change) => standing.change(alloc, Namespace::Table, &change) == want,
+        None => false,
+    }
+}
 
 #[test]
 fn versions_have_an_end(rt: HostRuntime) {
-    for (version, act, want) in LATE {
-        assert!(rt; answer_after(rt.alloc(), *version, *act) == *want);
+    let mut standing = Standing::new();
+    standing.definition = definition(rt.alloc(), X_Y);
+    standing.version = 999_999;
+    for (place, (act, want)) in LATE.iter().enumerate() {
+        assert!(rt;
+            answers(rt.alloc(), &mut standing, *act, *want),
+            "change {place}"
+        );
     }
-}
-
-fn is_copied(version: u64) -> bool {
-    let standing = Standing {
-        version,
-        definition: Some(Definition::Schema),
-    };
-    match standing.clone() {
-        Ok(copy) => copy == standing && copy != Standing::new(),
-        Err(_) => false,
-    }
-}
-
-#[test]
-fn copies_of_what_stands_are_equal(rt: HostRuntime) {
-    assert!(rt; is_copied(0) && is_copied(1) && is_copied(1_000_000));
-}
-
-const CAUSES: [(ChangeError, &str); 4] = [
-    (ChangeError::VersionFull, "no version is left"),
-    (ChangeError::WrongKind, "no definition for such a key"),
-    (
-        ChangeError::Def(DefError::LastColumn),
-        "a table can't lose its last column",
-    ),
-    (ChangeError::OutOfMemory, "out of memory"),
-];
-
-#[test]
-fn tells_why_nothing_changes(rt: HostRuntime) {
-    assert!(rt; first_misprinted(rt.alloc(), &CAUSES).is_none());
 }

@@ -1,21 +1,23 @@
 //! Keys: what they are made of, and how they are refused, compared and printed.
-use crate::texts::{first_misprinted, is_printed};
+use crate::texts::is_printed;
+use mdl_defs::Column;
 use mdl_key::{Key, KeyError, Kind, Namespace, check_name};
 use std::alloc::Global;
 use std::cmp::Ordering;
 
-// The longest name, and two that are longer, the last of which has a bad byte as well.
-const LONGEST: &str = "0123456789_abcdefghijklmnopqrstuvwxyz_0123456789_abcdefghijklmno";
+/// The longest name.
+pub(crate) const LONGEST: &str = "0123456789_abcdefghijklmnopqrstuvwxyz_0123456789_abcdefghijklmno";
 
+// Two that are longer, the second of which has a bad byte as well.
 const TOO_LONG: &str = "0123456789_abcdefghijklmnopqrstuvwxyz_0123456789_abcdefghijklmnoz";
 
 const TOO_LONG_AND_BAD: &str = "0123456789_abcdefghijklmnopqrstuvwxyz_0123456789_abcdefghijklmnoZ";
 
-// A lock's namespace and the names that its key has there.
-type Name = (Namespace, &'static str, &'static str);
+/// A lock's namespace and the names that its key has there.
+pub(crate) type Name = (Namespace, &'static str, &'static str);
 
-// A key of a namespace, of those names that it takes there.
-fn key_of(alloc: Global, (namespace, schema, table): Name) -> Result<Key, KeyError> {
+/// A key of a namespace, of those names that it takes there.
+pub(crate) fn key_of(alloc: Global, (namespace, schema, table): Name) -> Result<Key, KeyError> {
     match namespace {
         Namespace::Global => Ok(Key::global(alloc)),
         Namespace::Schema => Key::schema(alloc, schema),
@@ -33,10 +35,18 @@ fn has_names(key: &Key, (namespace, schema, table): Name) -> bool {
         && key.table_name() == table
 }
 
-// The same, and it is of this kind, and is printed so.
+// Whether a copy of a key has these names, is of this kind, and is printed so.
+fn is_copied_so(alloc: Global, key: &Key, name: Name, kind: Kind, text: &str) -> bool {
+    match key.clone() {
+        Ok(copy) => has_names(&copy, name) && copy.kind() == kind && is_printed(alloc, &copy, text),
+        Err(_) => false,
+    }
+}
+
+// The same of the key of these names.
 fn is_named(alloc: Global, name: Name, kind: Kind, text: &str) -> bool {
     match key_of(alloc, name) {
-        Ok(key) => has_names(&key, name) && key.kind() == kind && is_printed(alloc, &key, text),
+        Ok(key) => is_copied_so(alloc, &key, name, kind, text),
         Err(_) => false,
     }
 }
@@ -73,6 +83,7 @@ fn refusal(alloc: Global, name: Name) -> Option<KeyError> {
 // Whether a name is refused so, wherever it stands.
 fn is_refused(alloc: Global, name: &'static str, want: Option<KeyError>) -> bool {
     check_name(name).err() == want
+        && Column::new(alloc, name).err() == want
         && refusal(alloc, (Namespace::Schema, name, "")) == want
         && refusal(alloc, (Namespace::Table, name, "t")) == want
         && refusal(alloc, (Namespace::Table, "s", name)) == want
@@ -138,14 +149,10 @@ const RISING: &[Name] = &[
     (Namespace::UserLevelLock, "b", ""),
 ];
 
-fn is_ordered(a: &Key, b: &Key, want: Ordering) -> bool {
-    a.cmp(b) == want && a.partial_cmp(b) == Some(want) && (*a == *b) == (want == Ordering::Equal)
-}
-
 // Whether a key stands in this order to the one of these names.
 fn is_ordered_to(alloc: Global, a: &Key, b: Name, want: Ordering) -> bool {
     match key_of(alloc, b) {
-        Ok(b) => is_ordered(a, &b, want),
+        Ok(b) => a.cmp(&b) == want && a.partial_cmp(&b) == Some(want),
         Err(_) => false,
     }
 }
@@ -157,35 +164,11 @@ fn are_ordered(alloc: Global, a: Name, b: Name, want: Ordering) -> bool {
     }
 }
 
-// Whether the copy of a key is the same.
-fn is_copied(alloc: Global, name: Name) -> bool {
-    match key_of(alloc, name) {
-        Ok(key) => match key.clone() {
-            Ok(copy) => copy == key && copy.table_name() == key.table_name(),
-            Err(_) => false,
-        },
-        Err(_) => false,
-    }
-}
-
 #[test]
 fn stands_in_order(rt: HostRuntime) {
     for (i, a) in RISING.iter().enumerate() {
         for (j, b) in RISING.iter().enumerate() {
             assert!(rt; are_ordered(rt.alloc(), *a, *b, i.cmp(&j)), "{i} and {j}");
         }
-        assert!(rt; is_copied(rt.alloc(), *a), "{i}");
     }
-}
-
-const CAUSES: [(KeyError, &str); 4] = [
-    (KeyError::EmptyName, "empty name"),
-    (KeyError::LongName, "name of more than 64 bytes"),
-    (KeyError::BadByte(3), "bad byte at 3 of a name"),
-    (KeyError::OutOfMemory, "out of memory"),
-];
-
-#[test]
-fn tells_each_cause(rt: HostRuntime) {
-    assert!(rt; first_misprinted(rt.alloc(), &CAUSES).is_none());
 }

@@ -1,136 +1,152 @@
 //! What was read of a script, in words.
-use mdl_defs::{Change, Columns};
+use mdl_defs::Change;
 use mdl_key::Key;
-use mdl_syntax::{
-    Algorithm, Alteration, Line, LockType, Name, Priority, Script, Statement, TableLocks, Tables,
-    parse,
-};
+use mdl_syntax::{Algorithm, Alteration, Line, LockType, Priority, Statement, TableLock, parse};
 use std::alloc::{AllocError, Global};
 use std::fmt::Write;
 
-/// What is read of a script: a line for each statement, each parted from the next by ` / `, or the fault that refuses it.
-pub(crate) fn read(alloc: Global, script: &[u8]) -> Result<String, AllocError> {
-    match parse(alloc, script) {
-        Ok(script) => written(alloc, &script),
-        Err(fault) => fault.to_string(alloc),
+/// Whether this is read of a script: a line for each statement, each parted from the next by ` / `, or the fault that refuses it.
+/// What is wanted behind two dots is only the end of that.
+pub(crate) fn is_read_so(alloc: Global, script: &[u8], want: &str) -> bool {
+    let mut text = String::new(alloc);
+    push_read(alloc, &mut text, script).is_ok() && fits(text.as_str(), want)
+}
+
+fn fits(text: &str, want: &str) -> bool {
+    match want.strip_prefix("..") {
+        Some(end) => text.ends_with(end),
+        None => text == want,
     }
 }
 
-// All lines of a script.
-fn written(alloc: Global, script: &Script) -> Result<String, AllocError> {
-    let mut text = String::new(alloc);
-    for (at, line) in script.lines().iter().enumerate() {
+// Adds what is read of a script.
+fn push_read(alloc: Global, text: &mut String, script: &[u8]) -> Result<(), AllocError> {
+    match parse(alloc, script) {
+        Ok(script) => push_lines(text, script.lines()),
+        Err(fault) => write!(text, "{fault}"),
+    }
+}
+
+// Adds lines: for each its number, its session and its statement.
+fn push_lines(text: &mut String, lines: &[Line]) -> Result<(), AllocError> {
+    for (at, line) in lines.iter().enumerate() {
         if at > 0 {
             text.push_str(" / ")?;
         }
-        push_line(alloc, &mut text, line)?;
+        let number = line.number;
+        let session = line.session;
+        let what = what(&line.statement);
+        write!(text, "{number} {session} {what}")?;
+        push_whereof(text, &line.statement)?;
     }
-    Ok(text)
+    Ok(())
 }
 
-// Adds a line: its number, its session and its statement.
-fn push_line(alloc: Global, text: &mut String, line: &Line) -> Result<(), AllocError> {
-    let number = line.number;
-    let session = line.session;
-    let statement = statement_text(alloc, &line.statement)?;
-    write!(text, "{number} {session} {statement}")
-}
-
-fn statement_text(alloc: Global, statement: &Statement) -> Result<String, AllocError> {
+// What a statement does.
+fn what(statement: &Statement) -> &'static str {
     match statement {
-        Statement::Begin => String::from_str(alloc, "begin"),
-        Statement::Commit => String::from_str(alloc, "commit"),
-        Statement::Rollback => String::from_str(alloc, "roll back"),
-        Statement::Savepoint(name) => with_name(alloc, "savepoint", name),
-        Statement::RollbackTo(name) => with_name(alloc, "roll back to", name),
-        Statement::Select(tables) => with_tables(alloc, "read", tables),
-        Statement::Write { table, priority } => write_text(alloc, table, *priority),
-        Statement::CreateTable { table, columns } => create_text(alloc, table, columns),
-        Statement::CreateSchema(name) => with_name(alloc, "create schema", name),
-        Statement::DropTables(tables) => with_tables(alloc, "drop", tables),
-        Statement::DropSchema(name) => with_name(alloc, "drop schema", name),
-        Statement::RenameTable { from, to } => format!(in alloc; "rename {from} to {to}"),
-        Statement::UnlockTables => String::from_str(alloc, "unlock tables"),
-        Statement::FlushTablesWithReadLock => {
-            String::from_str(alloc, "flush tables with read lock")
+        Statement::Begin => "begin",
+        Statement::Commit => "commit",
+        Statement::Rollback => "roll back",
+        Statement::Savepoint(_) => "savepoint",
+        Statement::RollbackTo(_) => "roll back to",
+        Statement::Select(_) => "read",
+        Statement::Write { priority, .. } => match priority {
+            Priority::Normal => "write",
+            Priority::Low => "write late",
+        },
+        Statement::CreateTable { .. } => "create",
+        Statement::CreateSchema(_) => "create schema",
+        Statement::DropTables(_) => "drop",
+        Statement::DropSchema(_) => "drop schema",
+        Statement::RenameTable { .. } => "rename",
+        Statement::UnlockTables => "unlock tables",
+        Statement::FlushTablesWithReadLock => "flush tables with read lock",
+        Statement::AlterTable(_) => "alter",
+        Statement::LockTables(_) => "lock",
+        Statement::KillQuery(_) => "kill",
+        Statement::Timeout => "time out",
+        Statement::GetLock(_) => "get",
+        Statement::ReleaseLock(_) => "release",
+    }
+}
+
+// Adds what a statement does it to.
+fn push_whereof(text: &mut String, statement: &Statement) -> Result<(), AllocError> {
+    match statement {
+        Statement::Savepoint(name)
+        | Statement::RollbackTo(name)
+        | Statement::CreateSchema(name)
+        | Statement::DropSchema(name)
+        | Statement::GetLock(name)
+        | Statement::ReleaseLock(name) => push_word(text, name.as_str()),
+        Statement::Select(tables) | Statement::DropTables(tables) => {
+            push_keys(text, tables.as_slice())
         }
-        Statement::AlterTable(alteration) => alter_text(alloc, alteration),
-        Statement::LockTables(locks) => lock_text(alloc, locks),
-        Statement::KillQuery(session) => format!(in alloc; "kill {session}"),
-        Statement::Timeout => String::from_str(alloc, "time out"),
-        Statement::GetLock(name) => with_name(alloc, "get", name),
-        Statement::ReleaseLock(name) => with_name(alloc, "release", name),
+        Statement::Write { table, .. } => push_key(text, table),
+        Statement::CreateTable { table, columns } => {
+            push_key(text, table)?;
+            for column in columns.as_slice() {
+                push_word(text, column.name())?;
+            }
+            Ok(())
+        }
+        Statement::RenameTable { from, to } => {
+            push_key(text, from)?;
+            push_word(text, "to")?;
+            push_key(text, to)
+        }
+        Statement::KillQuery(session) => write!(text, " {session}"),
+        Statement::AlterTable(alteration) => push_alteration(text, alteration),
+        Statement::LockTables(locks) => push_locks(text, locks.as_slice()),
+        _ => Ok(()),
     }
 }
 
-// What is done to what has this name.
-fn with_name(alloc: Global, what: &str, name: &Name) -> Result<String, AllocError> {
-    let name = name.as_str();
-    format!(in alloc; "{what} {name}")
+fn push_word(text: &mut String, word: &str) -> Result<(), AllocError> {
+    text.push_str(" ")?;
+    text.push_str(word)
 }
 
-// What is done to tables.
-fn with_tables(alloc: Global, what: &str, tables: &Tables) -> Result<String, AllocError> {
-    let mut text = String::from_str(alloc, what)?;
-    for table in tables.as_slice() {
-        write!(text, " {table}")?;
+fn push_key(text: &mut String, key: &Key) -> Result<(), AllocError> {
+    write!(text, " {key}")
+}
+
+fn push_keys(text: &mut String, keys: &[Key]) -> Result<(), AllocError> {
+    for key in keys {
+        push_key(text, key)?;
     }
-    Ok(text)
+    Ok(())
 }
 
-// A write of a table.
-fn write_text(alloc: Global, table: &Key, priority: Priority) -> Result<String, AllocError> {
-    let priority = match priority {
-        Priority::Normal => "write",
-        Priority::Low => "write late",
-    };
-    format!(in alloc; "{priority} {table}")
-}
-
-// A new table, and its columns.
-fn create_text(alloc: Global, table: &Key, columns: &Columns) -> Result<String, AllocError> {
-    let mut text = format!(in alloc; "create {table}")?;
-    for column in columns.as_slice() {
-        text.push_str(" ")?;
-        text.push_str(column.name())?;
+// Adds a table to alter, what becomes of which column, and how.
+fn push_alteration(text: &mut String, alteration: &Alteration) -> Result<(), AllocError> {
+    push_key(text, &alteration.table)?;
+    match &alteration.change {
+        Change::AddColumn(column) => {
+            push_word(text, "add")?;
+            push_word(text, column.name())?;
+        }
+        Change::DropColumn(column) => {
+            push_word(text, "drop")?;
+            push_word(text, column.name())?;
+        }
+        _ => push_word(text, "neither")?,
     }
-    Ok(text)
-}
-
-// A table to alter: its column, and how.
-fn alter_text(alloc: Global, alteration: &Alteration) -> Result<String, AllocError> {
-    let table = &alteration.table;
-    let (what, column) = change_words(&alteration.change);
-    let how = match alteration.algorithm {
-        Algorithm::Copy => "by copying",
-        Algorithm::Inplace => "in place",
-    };
-    format!(in alloc; "alter {table} {what} {column} {how}")
-}
-
-// What is done to a column, and the column.
-fn change_words(change: &Change) -> (&str, &str) {
-    match change {
-        Change::AddColumn(column) => ("add", column.name()),
-        Change::DropColumn(column) => ("drop", column.name()),
-        _ => ("neither", ""),
+    match alteration.algorithm {
+        Algorithm::Copy => push_word(text, "by copying"),
+        Algorithm::Inplace => push_word(text, "in place"),
     }
 }
 
-// Tables to lock, and what for.
-fn lock_text(alloc: Global, locks: &TableLocks) -> Result<String, AllocError> {
-    let mut text = String::from_str(alloc, "lock")?;
-    for lock in locks.as_slice() {
-        let table = &lock.table;
-        let lock_type = lock_word(lock.lock_type);
-        write!(text, " {table} to {lock_type}")?;
+// Adds tables to lock, and what for.
+fn push_locks(text: &mut String, locks: &[TableLock]) -> Result<(), AllocError> {
+    for lock in locks {
+        push_key(text, &lock.table)?;
+        match lock.lock_type {
+            LockType::Read => push_word(text, "to read")?,
+            LockType::Write => push_word(text, "to write")?,
+        }
     }
-    Ok(text)
-}
-
-fn lock_word(lock_type: LockType) -> &'static str {
-    match lock_type {
-        LockType::Read => "read",
-        LockType::Write => "write",
-    }
+    Ok(())
 }

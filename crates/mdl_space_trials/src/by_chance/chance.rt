@@ -2,12 +2,10 @@
 ghost use Rattle.std.specs.Prelude.{◌<◌};
 
 use crate::by_chance::plain::Plain;
+use crate::hall::SESSIONS;
 use mdl_key::{Duration, Key, KeyError, Kind, Mode};
 use mdl_space::TicketId;
 use std::alloc::Global;
-
-/// The sessions are numbered from 1 up to this.
-pub(crate) const SESSIONS: u16 = 5;
 
 // What is asked for, some of it more often than others.
 const OBJECT_MODES: [Mode; 16] = [
@@ -38,34 +36,6 @@ const SCOPED_MODES: [Mode; 8] = [
     Mode::S,
     Mode::X,
     Mode::SR,
-];
-
-/// What may be upgraded.
-pub(crate) const RISING: [Mode; 3] = [Mode::SU, Mode::SNW, Mode::SNRW];
-
-/// What may be downgraded.
-pub(crate) const FALLING: [Mode; 2] = [Mode::X, Mode::SNW];
-
-const RISEN_MODES: [Mode; 8] = [
-    Mode::SNW,
-    Mode::SNW,
-    Mode::SNRW,
-    Mode::SNRW,
-    Mode::X,
-    Mode::X,
-    Mode::X,
-    Mode::SR,
-];
-
-const FALLEN_MODES: [Mode; 8] = [
-    Mode::SU,
-    Mode::SU,
-    Mode::SU,
-    Mode::SNW,
-    Mode::SNW,
-    Mode::SNRW,
-    Mode::SR,
-    Mode::X,
 ];
 
 const DURATIONS: [Duration; 8] = [
@@ -104,16 +74,6 @@ impl Chance {
         }
     }
 
-    /// Some mode for an upgrade.
-    pub(crate) fn draw_risen(&mut self) -> Mode {
-        RISEN_MODES[usize::from(self.draw(8))]
-    }
-
-    /// Some mode for a downgrade.
-    pub(crate) fn draw_fallen(&mut self) -> Mode {
-        FALLEN_MODES[usize::from(self.draw(8))]
-    }
-
     /// Some key, of six.
     pub(crate) fn draw_key(&mut self, alloc: Global) -> Result<Key, KeyError> {
         match self.draw(10) {
@@ -135,14 +95,6 @@ impl Chance {
                 None => 1,
             },
             _ => u64::from(at),
-        }
-    }
-
-    /// The number of some ticket that the session holds, mostly of one in these modes.
-    pub(crate) fn draw_id_in(&mut self, plain: &Plain, who: u16, modes: &[Mode]) -> TicketId {
-        match plain.first_in(who, modes) {
-            Some(id) if self.draw(6) > 0 => id,
-            _ => self.draw_id(plain, who),
         }
     }
 

@@ -1,14 +1,16 @@
-//! Ten thousand calls by chance and more, after each of which contexts stand where the plain program does.
+//! Ten thousand calls by chance, after each of which contexts stand where the plain program does.
 ghost use Rattle.std.specs.Prelude.{◌≡◌};
 ghost use Rattle.mdl_context.specs.Contexts.{Attends, LeavesOthers};
 
-use crate::by_chance::chance::{Chance, FALLING, RISING, SESSIONS};
-use crate::by_chance::hall::{Hall, PLACES};
+use crate::by_chance::chance::Chance;
 use crate::by_chance::plain::{Plain, Seen};
+use crate::hall::{Hall, SESSIONS};
 use mdl_context::{Context, Mark, Request};
 use mdl_space::LockSpace;
 use std::alloc::Global;
-use std::test::Fail;
+
+// One fewer than there are keys.
+const PLACES: u16 = 5;
 
 /// The plain program beside which contexts are tried, and what is drawn for them.
 #[derive(Drop)]
@@ -27,7 +29,7 @@ fn draw_call(trial: &mut Trial, who: u16) -> u16 {
             _ => {}
         }
     }
-    trial.chance.draw(83)
+    trial.chance.draw(63)
 }
 
 // A mark of where the session stood, or at times where it never was.
@@ -65,41 +67,6 @@ fn acquires_alike<S: LockSpace>(
     context.acquire(space, request) == wanted
 }
 
-// Tries some lock, likewise.
-fn tries_alike<S: LockSpace>(
-    space: &mut S,
-    context: &mut Context<S>,
-    trial: &mut Trial,
-    who: u16,
-) -> bool
-    requires { Attends S.LockSpace space.old context.old }
-    ensures attends { Attends S.LockSpace space.new context.new }
-    ensures who { context.new.who ≡ context.old.who }
-    ensures others { LeavesOthers S.LockSpace context.old.who space.old space.new }
-{
-    let Ok(key) = trial.chance.draw_key(trial.alloc) else {
-        return false;
-    };
-    let mode = trial.chance.draw_mode(key.kind());
-    let duration = trial.chance.draw_duration();
-    let wanted = trial.plain.try_acquire(who, &key, mode, duration);
-    let request = Request {
-        key: &key,
-        mode,
-        duration,
-    };
-    context.try_acquire(space, request) == wanted
-}
-
-// Whether a context finds the same: the last ticket of some key, and whether a user-level lock is waited for.
-fn finds_alike<S: LockSpace>(context: &Context<S>, trial: &mut Trial, who: u16) -> bool {
-    let Ok(key) = trial.chance.draw_key(trial.alloc) else {
-        return false;
-    };
-    context.last_ticket(&key) == trial.plain.last_ticket(who, &key)
-        && context.waits_for_user_lock() == trial.plain.waits_for_user_lock(who)
-}
-
 // Releases all tickets of some key, likewise.
 fn releases_name_alike<S: LockSpace>(
     space: &mut S,
@@ -116,28 +83,6 @@ fn releases_name_alike<S: LockSpace>(
         return false;
     };
     context.release_name(space, &key) == trial.plain.give_back_name(who, &key)
-}
-
-// Lets some ticket have another mode, likewise.
-fn alters_alike<S: LockSpace>(
-    space: &mut S,
-    context: &mut Context<S>,
-    trial: &mut Trial,
-    who: u16,
-) -> bool
-    requires { Attends S.LockSpace space.old context.old }
-    ensures attends { Attends S.LockSpace space.new context.new }
-    ensures who { context.new.who ≡ context.old.who }
-    ensures others { LeavesOthers S.LockSpace context.old.who space.old space.new }
-{
-    if trial.chance.draw(3) == 0 {
-        let id = trial.chance.draw_id_in(&trial.plain, who, &FALLING);
-        let mode = trial.chance.draw_fallen();
-        return context.downgrade(space, id, mode) == trial.plain.fall(who, id, mode);
-    }
-    let id = trial.chance.draw_id_in(&trial.plain, who, &RISING);
-    let mode = trial.chance.draw_risen();
-    context.upgrade(space, id, mode) == trial.plain.upgrade(who, id, mode)
 }
 
 /// A context makes some call: whether the plain one answers the same.
@@ -170,9 +115,6 @@ pub(crate) fn acts_alike<S: LockSpace>(
         59 => context.make_transactional() == trial.plain.make_transactional(who),
         60 => context.resume(space) == trial.plain.resume(who),
         61 => context.give_up(space) == trial.plain.give_up(who),
-        64..=79 => alters_alike(space, context, trial, who),
-        80 | 81 => tries_alike(space, context, trial, who),
-        82 => finds_alike(context, trial, who),
         _ => {
             let (target, number) = trial.chance.draw_wait(&trial.plain);
             space.kill(target, number) == trial.plain.kill(target, number)
@@ -180,51 +122,58 @@ pub(crate) fn acts_alike<S: LockSpace>(
     }
 }
 
-// The first of ten thousand calls that contexts and the plain program answer apart, or after which they don't stand alike.
+// Whether it came in earnest to waits that were granted, given up, killed and lost by victims, to marks that were stale, and to
+// tickets that were used again and cloned.
+fn are_met(seen: Seen) -> bool {
+    seen.granted >= 100
+        && seen.timed_out >= 100
+        && seen.killed >= 20
+        && seen.victims >= 20
+        && seen.stale >= 20
+        && seen.reused >= 100
+        && seen.cloned >= 100
+}
+
+const CALLS: u32 = 10_000;
+
+// The first call that contexts and the plain program answer apart, or after which they don't stand alike. It is the one behind the
+// last where too little was met.
 fn first_apart(hall: &mut Hall, trial: &mut Trial) -> Option<u32> {
-    for call in 0..10_000 {
+    for call in 0..CALLS {
         if !hall.acts_alike(trial) {
             return Some(call);
         }
     }
-    None
+    if are_met(trial.plain.seen) {
+        None
+    } else {
+        Some(CALLS)
+    }
 }
 
-// The same of new contexts, with what is drawn for them from this seed, and what was seen of them.
-fn tried(alloc: Global, seed: u64) -> Result<(Option<u32>, Seen), Fail> {
-    let mut hall = Hall::new(alloc)?;
+// The same of new contexts.
+fn first_apart_of_new(alloc: Global, plain: Plain) -> Option<u32> {
     let mut trial = Trial {
         alloc,
-        plain: Plain::new(alloc, usize::from(PLACES), SESSIONS)?,
-        chance: Chance(seed),
+        plain,
+        chance: Chance(1),
     };
-    let apart = first_apart(&mut hall, &mut trial);
-    Ok((apart, trial.plain.seen))
+    match Hall::new(alloc, PLACES) {
+        Ok(mut hall) => first_apart(&mut hall, &mut trial),
+        Err(_) => Some(0),
+    }
 }
 
-// Whether waits were met in earnest that were granted, given up, killed and lost by victims.
-fn are_waits_met(seen: Seen) -> bool {
-    seen.granted >= 100 && seen.timed_out >= 100 && seen.killed >= 20 && seen.victims >= 20
-}
-
-// Whether marks that are stale were, and tickets that were used again, not had and cloned.
-fn are_tickets_met(seen: Seen) -> bool {
-    seen.stale >= 20 && seen.reused >= 100 && seen.not_had >= 10 && seen.cloned >= 100
-}
-
-// Whether upgrades were, at once and after a wait, and downgrades.
-fn are_changes_met(seen: Seen) -> bool {
-    seen.upgraded >= 20 && seen.merged >= 5 && seen.fallen >= 5
+// The same beside a new plain program.
+fn first_apart_of_all(alloc: Global) -> Option<u32> {
+    match Plain::new(alloc, usize::from(PLACES), SESSIONS) {
+        Ok(plain) => first_apart_of_new(alloc, plain),
+        Err(_) => Some(0),
+    }
 }
 
 #[test]
-fn contexts_stand_where_the_plain_ones_do(rt: HostRuntime) -> Result<(), Fail> {
-    for seed in 1..=3 {
-        let (apart, seen) = tried(rt.alloc(), seed)?;
-        assert_eq!(rt; apart, None, "with seed {seed}");
-        assert!(rt; are_waits_met(seen), "waits with seed {seed}");
-        assert!(rt; are_tickets_met(seen), "tickets with seed {seed}");
-        assert!(rt; are_changes_met(seen), "changes with seed {seed}");
-    }
-    Ok(())
+fn contexts_stand_where_the_plain_ones_do(rt: HostRuntime) {
+    let apart = first_apart_of_all(rt.alloc());
+    assert!(rt; apart.is_none(), "call {apart:?}");
 }

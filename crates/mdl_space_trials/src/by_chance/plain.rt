@@ -4,12 +4,9 @@ mod contexts;
 mod deadlocks;
 mod granting;
 mod lists;
-mod modes;
 
 use mdl_key::{Duration, Key, Mode, at_least};
-use mdl_space::{
-    Attempt, Begun, Ended, Place, Poll, Search, Settled, SpaceError, TicketId, TimedOut,
-};
+use mdl_space::{Begun, Ended, Place, Search, Settled, SpaceError, TicketId, TimedOut};
 use std::alloc::{AllocError, Global};
 
 /// A ticket, granted or waiting. A granted one is held, unless the wait for it isn't ended. A space keeps it until it is given up;
@@ -24,14 +21,12 @@ struct Ticket {
     is_granted: bool,
 }
 
-// A wait that isn't ended, the number of the ticket that it is for, and that of the held one that is upgraded by it, if it is one
-// for an upgrade; that is a context's concern too.
+// A wait that isn't ended, and the number of the ticket that it is for.
 #[derive(Clone, Copy)]
 struct Wait {
     session: u16,
     number: u64,
     ticket: TicketId,
-    upgrades: Option<TicketId>,
     settled: Option<Settled>,
 }
 
@@ -47,17 +42,12 @@ struct Used {
 #[derive(Clone, Copy)]
 pub(crate) struct Seen {
     pub(crate) granted: u64,
-    pub(crate) lost: u64,
     pub(crate) timed_out: u64,
     pub(crate) killed: u64,
     pub(crate) victims: u64,
     pub(crate) cloned: u64,
     pub(crate) reused: u64,
-    pub(crate) not_had: u64,
     pub(crate) stale: u64,
-    pub(crate) upgraded: u64,
-    pub(crate) merged: u64,
-    pub(crate) fallen: u64,
 }
 
 /// A space of so many places.
@@ -92,17 +82,12 @@ impl Plain {
             waits: Vec::new(alloc),
             seen: Seen {
                 granted: 0,
-                lost: 0,
                 timed_out: 0,
                 killed: 0,
                 victims: 0,
                 cloned: 0,
                 reused: 0,
-                not_had: 0,
                 stale: 0,
-                upgraded: 0,
-                merged: 0,
-                fallen: 0,
             },
         })
     }
@@ -123,20 +108,6 @@ impl Plain {
             Ok(()) => Ok(self.place_of(key)),
             Err(_) => Err(SpaceError::OutOfMemory),
         }
-    }
-
-    /// A lock, if it can be had now.
-    pub(crate) fn try_now(
-        &mut self,
-        who: u16,
-        place: Place,
-        mode: Mode,
-    ) -> Result<Attempt, SpaceError> {
-        self.check_request(who, place, mode)?;
-        if !self.is_grantable(who, place, mode) {
-            return Ok(Attempt::WouldWait);
-        }
-        Ok(Attempt::Granted(self.add(who, place, mode, true)?))
     }
 
     /// A lock, or a wait for it.
@@ -177,17 +148,6 @@ impl Plain {
         }
     }
 
-    /// A held ticket is given up.
-    pub(crate) fn release(&mut self, who: u16, id: TicketId) -> Result<(), SpaceError> {
-        match self.held_ticket(who, id) {
-            Some(ticket) => {
-                self.let_go(ticket);
-                Ok(())
-            }
-            None => Err(SpaceError::NotHeld),
-        }
-    }
-
     /// The victim of a deadlock that the session waits in loses its wait.
     pub(crate) fn search(&mut self, who: u16) -> Result<Search, SpaceError> {
         match self.victim(who) {
@@ -198,17 +158,6 @@ impl Plain {
             }
             Ok(None) => Ok(Search::NoCycle),
             Err(_) => Err(SpaceError::OutOfMemory),
-        }
-    }
-
-    /// How the session's wait stands.
-    pub(crate) fn poll_wait(&self, who: u16) -> Result<Poll, SpaceError> {
-        match self.wait(who) {
-            Some(wait) => match wait.settled {
-                Some(how) => Ok(Poll::Settled(how)),
-                None => Ok(Poll::Pending),
-            },
-            None => Err(SpaceError::NoWait),
         }
     }
 
@@ -242,7 +191,6 @@ impl Plain {
             Settled::Timeout => Ended::Timeout,
             Settled::Killed => Ended::Killed,
         };
-        self.seen.lost = self.seen.lost.wrapping_add(1);
         if let Some(ticket) = self.ticket(who, wait.ticket) {
             self.let_go(ticket);
         }

@@ -1,17 +1,9 @@
 //! Deadlocks, and who is the victim.
-//!
-//! `rt try --test --fail-alloc N` refuses the allocation of that number to those of two sessions. Then the act that needed it
-//! is done again.
-ghost use Rattle.std.specs.Prelude.{◌≤◌};
-ghost use Rattle.mdl_space_trials.specs.contexts.Halls.{AreServed};
-
 use crate::contexts::acts::{Act, Lock, Reply};
-use crate::contexts::hall::Hall;
-use crate::contexts::rows::{Row, first_wrong, is_about};
+use crate::contexts::rows::{Row, Story};
 use mdl_context::Resume;
 use mdl_key::{Duration, Mode};
 use mdl_space::Settled;
-use std::alloc::Global;
 
 const READ_A: Act = Act::Acquire(Lock::A, Mode::SR, Duration::Transaction);
 
@@ -26,36 +18,6 @@ const STILL_WAITING: Reply = Reply::Resumed(Resume::Waiting);
 const VICTIM: Reply = Reply::Resumed(Resume::Lost(Settled::Victim));
 
 const HAS_SECOND: Reply = Reply::Resumed(Resume::Acquired(2));
-
-// What an act comes to, at the second try where memory was refused to the first.
-fn make_at_last(hall: &mut Hall, who: u16, act: Act) -> Option<Reply>
-    requires served { AreServed hall.old.space 1 hall.old.contexts }
-    requires least { 1 ≤ who }
-    requires most { who ≤ 5 }
-    ensures { AreServed hall.new.space 1 hall.new.contexts }
-{
-    match hall.make(who, act) {
-        Some(reply) => Some(reply),
-        None => hall.make(who, act),
-    }
-}
-
-/// Two sessions do this one after another: the first row whose reply isn't the wanted one. Memory may be refused once.
-pub(crate) fn first_lost(alloc: Global, rows: &[Row]) -> Option<usize> {
-    let Ok(mut hall) = Hall::new(alloc) else {
-        return Some(rows.len());
-    };
-    for (index, (who, act, wanted)) in rows.iter().enumerate() {
-        if *who == 0 || *who > 2 {
-            return Some(index);
-        }
-        let reply = make_at_last(&mut hall, *who, *act);
-        if !is_about(reply, *wanted) {
-            return Some(index);
-        }
-    }
-    None
-}
 
 const EQUALS: &[Row] = &[
     (1, READ_A, Reply::Acquired(1)),
@@ -83,35 +45,40 @@ const LIGHTER: &[Row] = &[
     (2, Act::Resume, HAS_SECOND),
 ];
 
-// Where the first wrong row is, if one is, of two sessions whose wishes are weak: the first closes the circle, and the second
-// wishes for this lock.
-fn first_wrong_of_weak(alloc: Global, lock: Lock, first: Reply, second: Reply) -> Option<usize> {
-    let rows = [
-        (
-            1,
-            Act::Acquire(lock, Mode::S, Duration::Transaction),
-            Reply::Acquired(1),
-        ),
-        (2, LOCK_A, Reply::Acquired(1)),
-        (
-            2,
-            Act::Acquire(lock, Mode::IX, Duration::Transaction),
-            Reply::MustWait(1),
-        ),
-        (1, READ_A, Reply::MustWait(1)),
-        (1, Act::Resume, first),
-        (2, Act::Resume, second),
-    ];
-    first_wrong(alloc, &rows)
-}
-
 // The first is the victim only where the second wishes in GLOBAL.
-#[test]
-fn wishes_in_global_weigh_as_much_as_the_strong(rt: HostRuntime) {
-    let of_global = first_wrong_of_weak(rt.alloc(), Lock::Global, VICTIM, STILL_WAITING);
-    let of_commit = first_wrong_of_weak(rt.alloc(), Lock::Commit, STILL_WAITING, VICTIM);
-    assert!(rt; of_global.is_none() && of_commit.is_none());
-}
+const WEAK_IN_GLOBAL: &[Row] = &[
+    (
+        1,
+        Act::Acquire(Lock::Global, Mode::S, Duration::Transaction),
+        Reply::Acquired(1),
+    ),
+    (2, LOCK_A, Reply::Acquired(1)),
+    (
+        2,
+        Act::Acquire(Lock::Global, Mode::IX, Duration::Transaction),
+        Reply::MustWait(1),
+    ),
+    (1, READ_A, Reply::MustWait(1)),
+    (1, Act::Resume, VICTIM),
+    (2, Act::Resume, STILL_WAITING),
+];
+
+const WEAK_IN_COMMIT: &[Row] = &[
+    (
+        1,
+        Act::Acquire(Lock::Commit, Mode::S, Duration::Transaction),
+        Reply::Acquired(1),
+    ),
+    (2, LOCK_A, Reply::Acquired(1)),
+    (
+        2,
+        Act::Acquire(Lock::Commit, Mode::IX, Duration::Transaction),
+        Reply::MustWait(1),
+    ),
+    (1, READ_A, Reply::MustWait(1)),
+    (1, Act::Resume, STILL_WAITING),
+    (2, Act::Resume, VICTIM),
+];
 
 const THREE: &[Row] = &[
     (1, LOCK_A, Reply::Acquired(1)),
@@ -154,28 +121,15 @@ const TWO_CIRCLES: &[Row] = &[
     (3, Act::Resume, HAS_SECOND),
 ];
 
-const STORIES_OF_TWO: &[(&str, &[Row])] = &[
+/// Memory may be refused once to these.
+pub(super) const STORIES_OF_TWO: &[Story] = &[
     ("of equals the greater number is the victim", EQUALS),
     ("whoever weighs less is the victim", LIGHTER),
 ];
 
-#[test]
-fn of_two_sessions_one_is_the_victim(rt: HostRuntime) {
-    for (what, rows) in STORIES_OF_TWO {
-        let wrong = first_lost(rt.alloc(), rows);
-        assert!(rt; wrong.is_none(), "{what}: {wrong:?}");
-    }
-}
-
-const STORIES: &[(&str, &[Row])] = &[
+pub(super) const STORIES: &[Story] = &[
+    ("a weak wish in GLOBAL weighs more", WEAK_IN_GLOBAL),
+    ("a weak wish in COMMIT weighs no more", WEAK_IN_COMMIT),
     ("three in a circle have one victim", THREE),
     ("one wait closes two circles", TWO_CIRCLES),
 ];
-
-#[test]
-fn each_circle_has_its_victim(rt: HostRuntime) {
-    for (what, rows) in STORIES {
-        let wrong = first_wrong(rt.alloc(), rows);
-        assert!(rt; wrong.is_none(), "{what}: {wrong:?}");
-    }
-}

@@ -1,11 +1,12 @@
 //! Many tickets at many places: a context that is asked for more than a few still finds room.
+ghost use Rattle.std.specs.Prelude.{◌≡◌, IfOk};
 ghost use Rattle.mdl_space.specs.CoreMembers.{core_space};
 ghost use Rattle.mdl_context.specs.Contexts.{Attends};
 
-use crate::contexts::memory::start;
+use crate::hall::new_space;
 use mdl_context::{Acquire, Context, Request};
 use mdl_key::{Duration, Key, Mode};
-use mdl_space::{CoreSpace, TicketId};
+use mdl_space::{CoreSpace, NewError, TicketId};
 use std::alloc::Global;
 
 // How many tables are locked: as many as a space has places.
@@ -77,7 +78,16 @@ fn are_locked(space: &mut CoreSpace, context: &mut Context<CoreSpace>, keys: &[K
         && context.who() == 2
 }
 
-// The same of a new space and its context.
+// A space of so many places and two sessions, and the context of its second session.
+fn start(alloc: Global, places: u16) -> Result<(CoreSpace, Context<CoreSpace>), NewError>
+    ensures attends { IfOk result (λ pair. Attends core_space pair.0 pair.1) }
+    ensures who { IfOk result (λ pair. pair.1.who ≡ 2) }
+{
+    let space = new_space(alloc, places, 2)?;
+    Ok((space, Context::new(alloc, 2)))
+}
+
+// The same of these.
 fn are_locked_from_nothing(alloc: Global, keys: &[Key]) -> bool {
     match start(alloc, TABLES) {
         Ok((mut space, mut context)) => are_locked(&mut space, &mut context, keys),

@@ -1,6 +1,6 @@
 //! Savepoints, and how long tickets last.
 use crate::contexts::acts::{Act, Lock, Reply};
-use crate::contexts::rows::{NOT_HELD, Row, STALE, first_wrong};
+use crate::contexts::rows::{NOT_HELD, Row, STALE, Story};
 use mdl_context::Resume;
 use mdl_key::{Duration, Mode};
 
@@ -193,7 +193,7 @@ const FREE_AGAIN: &[Row] = &[
     (2, Act::Resume, Reply::Resumed(Resume::Acquired(2))),
 ];
 
-const STORIES: &[(&str, &[Row])] = &[
+pub(super) const STORIES: &[Story] = &[
     ("tickets last as long as they are wanted", WANTED),
     ("durations change", CHANGED),
     ("marks are two numbers", TWO_NUMBERS),
@@ -201,11 +201,3 @@ const STORIES: &[(&str, &[Row])] = &[
     ("explicit tickets slip in front of a mark", IN_FRONT),
     ("what was locked since a mark is free", FREE_AGAIN),
 ];
-
-#[test]
-fn tickets_last_as_long_as_they_are_wanted(rt: HostRuntime) {
-    for (what, rows) in STORIES {
-        let wrong = first_wrong(rt.alloc(), rows);
-        assert!(rt; wrong.is_none(), "{what}: {wrong:?}");
-    }
-}

@@ -3,7 +3,7 @@
 //! A session holds S and X, and others wait for X and then for SH. Where X goes first, SH is granted beside S; where S goes
 //! first, X is.
 use crate::contexts::acts::{Act, Lock, Reply};
-use crate::contexts::rows::{Row, first_wrong};
+use crate::contexts::rows::{Row, Story, first_wrong};
 use mdl_context::Resume;
 use mdl_key::{Duration, Mode};
 use std::alloc::Global;
@@ -62,7 +62,9 @@ fn first_wrong_turn(alloc: Global, (first, second, act): Turn, is_x_first: bool)
     first_wrong(alloc, &rows)
 }
 
-const TWO_DURATIONS: &[(Turn, bool)] = &[
+// Turns, and whether X goes first.
+const TURNS: &[(Turn, bool)] = &[
+    // Tickets of the statement go before those of the transaction.
     (
         (
             (Mode::S, Duration::Transaction),
@@ -95,29 +97,54 @@ const TWO_DURATIONS: &[(Turn, bool)] = &[
         ),
         false,
     ),
+    // Those of one duration go as they came.
+    (
+        (
+            (Mode::S, Duration::Statement),
+            (Mode::X, Duration::Statement),
+            Act::EndStatement,
+        ),
+        false,
+    ),
+    (
+        (
+            (Mode::S, Duration::Transaction),
+            (Mode::X, Duration::Transaction),
+            Act::EndTransaction,
+        ),
+        false,
+    ),
+    (
+        (
+            (Mode::S, Duration::Transaction),
+            (Mode::X, Duration::Transaction),
+            Act::GoBack(0, 0),
+        ),
+        false,
+    ),
+    (
+        (
+            (Mode::S, Duration::Transaction),
+            (Mode::X, Duration::Transaction),
+            Act::ReleaseName(Lock::A),
+        ),
+        false,
+    ),
+    (
+        (
+            (Mode::S, Duration::Explicit),
+            (Mode::X, Duration::Explicit),
+            Act::ReleaseName(Lock::A),
+        ),
+        false,
+    ),
 ];
 
 #[test]
-fn the_statements_tickets_go_first(rt: HostRuntime) {
-    for (turn, is_x_first) in TWO_DURATIONS {
-        assert!(rt; first_wrong_turn(rt.alloc(), *turn, *is_x_first).is_none());
-    }
-}
-
-// A duration, and how its tickets go.
-const ONE_DURATION: &[(Duration, Act)] = &[
-    (Duration::Statement, Act::EndStatement),
-    (Duration::Transaction, Act::EndTransaction),
-    (Duration::Transaction, Act::GoBack(0, 0)),
-    (Duration::Transaction, Act::ReleaseName(Lock::A)),
-    (Duration::Explicit, Act::ReleaseName(Lock::A)),
-];
-
-#[test]
-fn tickets_of_a_duration_go_as_they_came(rt: HostRuntime) {
-    for (duration, act) in ONE_DURATION {
-        let turn = ((Mode::S, *duration), (Mode::X, *duration), *act);
-        assert!(rt; first_wrong_turn(rt.alloc(), turn, false).is_none());
+fn tickets_go_in_turn(rt: HostRuntime) {
+    for (number, (turn, is_x_first)) in TURNS.iter().enumerate() {
+        let wrong = first_wrong_turn(rt.alloc(), *turn, *is_x_first);
+        assert!(rt; wrong.is_none(), "turn {number}: {wrong:?}");
     }
 }
 
@@ -147,7 +174,4 @@ const OF_A_NAME: &[Row] = &[
     (1, Act::Release(3), Reply::Done),
 ];
 
-#[test]
-fn tickets_of_a_name_go_as_they_came(rt: HostRuntime) {
-    assert!(rt; first_wrong(rt.alloc(), OF_A_NAME).is_none());
-}
+pub(super) const STORIES: &[Story] = &[("tickets of a name go as they came", OF_A_NAME)];

@@ -1,9 +1,6 @@
 //! Tickets that get a stronger or a weaker mode.
-//!
-//! `rt try --test --fail-alloc N` refuses the allocation of that number to some of them. Then the act that needed it is done again.
 use crate::contexts::acts::{Act, Lock, Reply};
-use crate::contexts::deadlocks::first_lost;
-use crate::contexts::rows::{NOT_HELD, NOT_UPGRADABLE, Row, WAITS, first_wrong};
+use crate::contexts::rows::{NOT_HELD, NOT_UPGRADABLE, Row, Story, WAITS};
 use mdl_context::Resume;
 use mdl_key::{Duration, Mode};
 use mdl_space::Settled;
@@ -149,30 +146,15 @@ const REFUSED: &[Row] = &[
     (1, Act::Mark, Reply::Stands(0, 2)),
 ];
 
-const STORIES: &[(&str, &[Row])] = &[
+pub(super) const STORIES: &[Story] = &[
     ("an upgrade that waited is merged", MERGED),
     ("a lost upgrade leaves the ticket", LOST),
     ("a granted upgrade can not be given up", LATE),
     ("not each mode becomes each other", REFUSED),
 ];
 
-#[test]
-fn upgrades_go_as_told(rt: HostRuntime) {
-    for (what, rows) in STORIES {
-        let wrong = first_wrong(rt.alloc(), rows);
-        assert!(rt; wrong.is_none(), "{what}: {wrong:?}");
-    }
-}
-
-const STORIES_OF_TWO: &[(&str, &[Row])] = &[
+/// Memory may be refused once to these.
+pub(super) const STORIES_OF_TWO: &[Story] = &[
     ("of two upgrades one is the victim", CROSSED),
     ("own tickets do not block an upgrade", AT_ONCE),
 ];
-
-#[test]
-fn upgrades_of_two_sessions_go_as_told(rt: HostRuntime) {
-    for (what, rows) in STORIES_OF_TWO {
-        let wrong = first_lost(rt.alloc(), rows);
-        assert!(rt; wrong.is_none(), "{what}: {wrong:?}");
-    }
-}

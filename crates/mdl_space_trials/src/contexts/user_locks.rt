@@ -1,10 +1,9 @@
 //! User-level locks, and locks that aren't waited for.
 use crate::contexts::acts::{Act, Lock, Reply};
-use crate::contexts::rows::{BAD_MODE, NO_PLACE, NO_WAIT, NOT_HELD, Row, WAITS, first_wrong};
+use crate::contexts::rows::{BAD_MODE, NO_PLACE, NO_WAIT, NOT_HELD, Row, Story, WAITS};
 use mdl_context::Resume;
 use mdl_key::{Duration, Mode};
 use mdl_space::Settled;
-use std::alloc::Global;
 
 const TRY: Act = Act::TryAcquire(Lock::User, Mode::X, Duration::Explicit);
 
@@ -142,27 +141,32 @@ const LASTING: &[Row] = &[
     (2, TRY, Reply::Acquired(1)),
 ];
 
-// Where the first wrong row is, if one is, where the second session waits for a user-level lock, and the first closes the circle.
-fn first_wrong_beside(alloc: Global, act: Act, first: Reply, second: Reply) -> Option<usize> {
-    let rows = [
-        (1, GET, Reply::Acquired(1)),
-        (2, WRITE_A, Reply::Acquired(1)),
-        (2, GET, Reply::MustWait(1)),
-        (1, act, Reply::MustWait(1)),
-        (1, Act::Resume, first),
-        (2, Act::Resume, second),
-    ];
-    first_wrong(alloc, &rows)
-}
+// A wait for a user-level lock weighs more than a weak one, and less than a strong one: the second session waits for a user-level
+// lock, and the first closes the circle.
+const BESIDE_A_READ: &[Row] = &[
+    (1, GET, Reply::Acquired(1)),
+    (2, WRITE_A, Reply::Acquired(1)),
+    (2, GET, Reply::MustWait(1)),
+    (1, READ_A, Reply::MustWait(1)),
+    (1, Act::Resume, VICTIM),
+    (2, Act::Resume, STILL_WAITING),
+];
 
-#[test]
-fn a_wait_for_a_user_level_lock_weighs_between(rt: HostRuntime) {
-    let beside_a_read = first_wrong_beside(rt.alloc(), READ_A, VICTIM, STILL_WAITING);
-    let beside_a_write = first_wrong_beside(rt.alloc(), WRITE_A, STILL_WAITING, VICTIM);
-    assert!(rt; beside_a_read.is_none() && beside_a_write.is_none());
-}
+const BESIDE_A_WRITE: &[Row] = &[
+    (1, GET, Reply::Acquired(1)),
+    (2, WRITE_A, Reply::Acquired(1)),
+    (2, GET, Reply::MustWait(1)),
+    (1, WRITE_A, Reply::MustWait(1)),
+    (1, Act::Resume, STILL_WAITING),
+    (2, Act::Resume, VICTIM),
+];
 
-const STORIES: &[(&str, &[Row])] = &[
+pub(super) const STORIES: &[Story] = &[
+    ("a wait for a user level lock beside a read", BESIDE_A_READ),
+    (
+        "a wait for a user level lock beside a write",
+        BESIDE_A_WRITE,
+    ),
     ("what would be waited for is not had", TRIED),
     ("a try is refused as a wish is", REFUSED),
     (
@@ -172,11 +176,3 @@ const STORIES: &[(&str, &[Row])] = &[
     ("a wait for a user level lock is told", AWAITED),
     ("user level locks outlast transactions", LASTING),
 ];
-
-#[test]
-fn user_level_locks_go_as_told(rt: HostRuntime) {
-    for (what, rows) in STORIES {
-        let wrong = first_wrong(rt.alloc(), rows);
-        assert!(rt; wrong.is_none(), "{what}: {wrong:?}");
-    }
-}

@@ -1,12 +1,9 @@
 //! Waits, and what is refused meanwhile.
 use crate::contexts::acts::{Act, Lock, Reply};
-use crate::contexts::rows::{
-    BAD_MODE, NO_PLACE, NO_WAIT, NOT_HELD, Row, STALE, WAITS, first_wrong,
-};
+use crate::contexts::rows::{BAD_MODE, NO_PLACE, NO_WAIT, NOT_HELD, Row, STALE, Story, WAITS};
 use mdl_context::Resume;
 use mdl_key::{Duration, Mode};
 use mdl_space::Settled;
-use std::alloc::Global;
 
 const STILL_WAITING: Reply = Reply::Resumed(Resume::Waiting);
 
@@ -56,28 +53,7 @@ const MEANWHILE: &[Row] = &[
     (1, Act::GoBack(0, 1), STALE),
     (1, Act::Release(2), NOT_HELD),
     (1, Act::Mark, Reply::Stands(1, 0)),
-];
-
-// The same once the wait is settled.
-const SETTLED: &[Row] = &[
-    (
-        1,
-        Act::Acquire(Lock::B, Mode::SR, Duration::Statement),
-        WAITS,
-    ),
-    (1, Act::Release(1), WAITS),
-    (1, Act::Release(2), NOT_HELD),
-    (1, Act::ReleaseName(Lock::A), WAITS),
-    (1, Act::GoBack(0, 0), WAITS),
-    (1, Act::EndStatement, WAITS),
-    (1, Act::EndTransaction, WAITS),
-    (1, Act::MakeExplicit, WAITS),
-    (1, Act::MakeTransactional, WAITS),
-    (1, Act::Mark, Reply::Stands(1, 0)),
-];
-
-// Nothing of it has changed a thing.
-const GIVEN_UP: &[Row] = &[
+    // Nothing of it has changed a thing.
     (1, Act::Resume, STILL_WAITING),
     (1, Act::GiveUp, TIMED_OUT),
     (1, Act::GiveUp, NO_WAIT),
@@ -92,25 +68,40 @@ const GIVEN_UP: &[Row] = &[
 ];
 
 // A settled wait is one as well, until it is ended.
-const KILLED_MEANWHILE: &[Row] = &[(3, Act::Kill(1, 1), Reply::Killed(true))];
-
-const GRANTED_MEANWHILE: &[Row] = &[(2, Act::EndStatement, Reply::Done)];
-
-// Whether these rows come to what is wanted, behind those of a wait.
-fn are_right(alloc: Global, second: &[Row], third: &[Row]) -> bool {
-    let mut rows = Vec::new(alloc);
-    rows.extend_from_slice(MEANWHILE).is_ok()
-        && rows.extend_from_slice(second).is_ok()
-        && rows.extend_from_slice(third).is_ok()
-        && first_wrong(alloc, &rows).is_none()
-}
-
-#[test]
-fn who_waits_does_nothing_else(rt: HostRuntime) {
-    assert!(rt; are_right(rt.alloc(), &[], GIVEN_UP));
-    assert!(rt; are_right(rt.alloc(), KILLED_MEANWHILE, SETTLED));
-    assert!(rt; are_right(rt.alloc(), GRANTED_MEANWHILE, SETTLED));
-}
+const SETTLED: &[Row] = &[
+    (
+        1,
+        Act::Acquire(Lock::B, Mode::SR, Duration::Statement),
+        Reply::Acquired(1),
+    ),
+    (
+        2,
+        Act::Acquire(Lock::A, Mode::SW, Duration::Statement),
+        Reply::Acquired(1),
+    ),
+    (
+        1,
+        Act::Acquire(Lock::A, Mode::X, Duration::Transaction),
+        Reply::MustWait(1),
+    ),
+    (3, Act::Kill(1, 1), Reply::Killed(true)),
+    (
+        1,
+        Act::Acquire(Lock::B, Mode::SR, Duration::Statement),
+        WAITS,
+    ),
+    (1, Act::Release(1), WAITS),
+    (1, Act::Release(2), NOT_HELD),
+    (1, Act::ReleaseName(Lock::A), WAITS),
+    (1, Act::GoBack(0, 0), WAITS),
+    (1, Act::EndStatement, WAITS),
+    (1, Act::EndTransaction, WAITS),
+    (1, Act::MakeExplicit, WAITS),
+    (1, Act::MakeTransactional, WAITS),
+    (1, Act::Mark, Reply::Stands(1, 0)),
+    (1, Act::Resume, KILLED),
+    (1, Act::EndTransaction, Reply::Done),
+];
 
 const ENDS: &[Row] = &[
     (1, Act::Resume, NO_WAIT),
@@ -332,7 +323,9 @@ const REFUSED_BY_THE_SPACE: &[Row] = &[
     (1, Act::EndTransaction, Reply::Done),
 ];
 
-const STORIES: &[(&str, &[Row])] = &[
+pub(super) const STORIES: &[Story] = &[
+    ("who waits does nothing else", MEANWHILE),
+    ("who has a settled wait does nothing else", SETTLED),
     ("waits end as they are settled", ENDS),
     ("a lost wait stands in the way", LOST_IN_THE_WAY),
     ("a granted wait stands in the way", GRANTED_IN_THE_WAY),
@@ -340,11 +333,3 @@ const STORIES: &[(&str, &[Row])] = &[
     ("a weak ticket doesn't serve", WEAK),
     ("what the space refuses is refused", REFUSED_BY_THE_SPACE),
 ];
-
-#[test]
-fn waits_go_as_told(rt: HostRuntime) {
-    for (what, rows) in STORIES {
-        let wrong = first_wrong(rt.alloc(), rows);
-        assert!(rt; wrong.is_none(), "{what}: {wrong:?}");
-    }
-}

@@ -1,8 +1,8 @@
 //! What the contexts of the plain program's sessions do, each told by the number of its session.
 use super::{Plain, Ticket};
-use mdl_context::{Acquire, ContextError, Mark, Resume, Tried};
+use mdl_context::{Acquire, ContextError, Mark, Resume};
 use mdl_key::{Duration, Key, Mode, Namespace, at_least};
-use mdl_space::{Attempt, Begun, Ended, Place, Search, Settled, SpaceError, TicketId, Upgrade};
+use mdl_space::{Begun, Ended, Place, Search, Settled, SpaceError, TicketId};
 
 impl Plain {
     /// A lock is had by a ticket that is used again, by a clone, by a new ticket, or not yet.
@@ -29,64 +29,6 @@ impl Plain {
                 Ok(Acquire::MustWait(number))
             }
             Err(cause) => Err(ContextError::Space(cause)),
-        }
-    }
-
-    /// A lock is had likewise, or not at all.
-    pub(crate) fn try_acquire(
-        &mut self,
-        who: u16,
-        key: &Key,
-        mode: Mode,
-        duration: Duration,
-    ) -> Result<Tried, ContextError> {
-        self.check_idle(who)?;
-        if let Some(ticket) = self.first_that_serves(who, key, mode, Some(duration)) {
-            self.seen.reused = self.seen.reused.wrapping_add(1);
-            return Ok(Tried::Acquired(ticket.number));
-        }
-        match self.ask_once(who, key, mode) {
-            Ok(Attempt::Granted(id)) => {
-                self.keep_newest(who, duration);
-                Ok(Tried::Acquired(id))
-            }
-            Ok(Attempt::WouldWait) => {
-                self.seen.not_had = self.seen.not_had.wrapping_add(1);
-                Ok(Tried::WouldWait)
-            }
-            Err(cause) => Err(ContextError::Space(cause)),
-        }
-    }
-
-    // A clone, or a new ticket if it can be had now.
-    fn ask_once(&mut self, who: u16, key: &Key, mode: Mode) -> Result<Attempt, SpaceError> {
-        if let Some(ticket) = self.first_that_serves(who, key, mode, None) {
-            return Ok(Attempt::Granted(self.clone_ticket(who, ticket.number, mode)?));
-        }
-        let place = self.resolve(key)?;
-        self.try_now(who, place, mode)
-    }
-
-    /// The number of the last held ticket of a key.
-    pub(crate) fn last_ticket(&self, who: u16, key: &Key) -> Option<TicketId> {
-        let place = self.place_of(key);
-        let mut last = None;
-        for ticket in &self.tickets {
-            if self.is_held(ticket, who) && ticket.place == place {
-                last = Some(ticket.number);
-            }
-        }
-        last
-    }
-
-    /// Whether a session waits for a user-level lock.
-    pub(crate) fn waits_for_user_lock(&self, who: u16) -> bool {
-        let Some(wait) = self.wait(who) else {
-            return false;
-        };
-        match self.ticket(who, wait.ticket) {
-            Some(ticket) => is_user_lock(&self.keys, ticket.place),
-            None => false,
         }
     }
 
@@ -265,73 +207,10 @@ impl Plain {
         Ok(())
     }
 
-    /// A held ticket has a stronger mode at once, or waits for a second one, in that mode.
-    pub(crate) fn upgrade(
-        &mut self,
-        who: u16,
-        id: TicketId,
-        mode: Mode,
-    ) -> Result<Acquire, ContextError> {
-        let Some(held) = self.held_ticket(who, id) else {
-            return Err(ContextError::NotHeld);
-        };
-        self.check_idle(who)?;
-        match self.upgrade_now(who, id, mode) {
-            Ok(Upgrade::Upgraded) => return Ok(Acquire::Acquired(id)),
-            Ok(Upgrade::WouldWait) => {}
-            Err(cause) => return Err(ContextError::Space(cause)),
-        }
-        match self.begin_wait(who, held.place, mode) {
-            Ok(Begun::Granted(new)) => self.take_in(who, id, new).map(Acquire::Acquired),
-            Ok(Begun::Waiting(number)) => {
-                self.wait_to_upgrade(who, id);
-                self.end_deadlocks(who);
-                Ok(Acquire::MustWait(number))
-            }
-            Err(cause) => Err(ContextError::Space(cause)),
-        }
-    }
-
-    // A session's wait is for a ticket that is merged into this one.
-    fn wait_to_upgrade(&mut self, who: u16, id: TicketId) {
-        for wait in &mut self.waits {
-            if wait.session == who {
-                wait.upgrades = Some(id);
-            }
-        }
-    }
-
-    // A new ticket is merged into the one that is upgraded.
-    fn take_in(&mut self, who: u16, id: TicketId, new: TicketId) -> Result<TicketId, ContextError> {
-        match self.merge(who, id, new) {
-            Ok(()) => Ok(id),
-            Err(cause) => Err(ContextError::Space(cause)),
-        }
-    }
-
-    /// A held ticket has a weaker mode.
-    pub(crate) fn fall(&mut self, who: u16, id: TicketId, mode: Mode) -> Result<(), ContextError> {
-        if self.held_ticket(who, id).is_none() {
-            return Err(ContextError::NotHeld);
-        }
-        self.check_idle(who)?;
-        match self.downgrade(who, id, mode) {
-            Ok(()) => Ok(()),
-            Err(cause) => Err(ContextError::Space(cause)),
-        }
-    }
-
-    /// How the session's wait stands. A settled one is ended, and if it is granted and for an upgrade, the ticket is merged.
+    /// How the session's wait stands. A settled one is ended.
     pub(crate) fn resume(&mut self, who: u16) -> Result<Resume, ContextError> {
-        let upgrades = match self.wait(who) {
-            Some(wait) => wait.upgrades,
-            None => None,
-        };
         match self.end_wait(who) {
-            Ok(Ended::Granted(new)) => match upgrades {
-                Some(id) => self.take_in(who, id, new).map(Resume::Acquired),
-                None => Ok(Resume::Acquired(new)),
-            },
+            Ok(Ended::Granted(new)) => Ok(Resume::Acquired(new)),
             Ok(Ended::Victim) => Ok(Resume::Lost(Settled::Victim)),
             Ok(Ended::Timeout) => Ok(Resume::Lost(Settled::Timeout)),
             Ok(Ended::Killed) => Ok(Resume::Lost(Settled::Killed)),

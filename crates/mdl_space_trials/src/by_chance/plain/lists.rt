@@ -98,24 +98,6 @@ impl Plain {
         }
     }
 
-    /// The mode of a held ticket.
-    pub(crate) fn mode_of(&self, who: u16, number: TicketId) -> Option<Mode> {
-        match self.held_ticket(who, number) {
-            Some(ticket) => Some(ticket.mode),
-            None => None,
-        }
-    }
-
-    /// The number of a session's first held ticket in one of these modes.
-    pub(crate) fn first_in(&self, who: u16, modes: &[Mode]) -> Option<TicketId> {
-        for ticket in &self.tickets {
-            if self.is_held(ticket, who) && modes.contains(&ticket.mode) {
-                return Some(ticket.number);
-            }
-        }
-        None
-    }
-
     // Whether a session holds a ticket.
     pub(super) fn is_held(&self, ticket: &Ticket, who: u16) -> bool {
         let is_awaited = match self.wait(who) {
@@ -167,7 +149,6 @@ impl Plain {
             session: who,
             number,
             ticket,
-            upgrades: None,
             settled: None,
         };
         match self.waits.push(wait) {

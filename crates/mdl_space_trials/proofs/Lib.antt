@@ -1,3 +1,0 @@
-pub mod CauseLemmas
-pub mod LoneModes
-pub mod LoneRedefinitions

@@ -1,0 +1,127 @@
+//! A lock space with the contexts of all its sessions.
+ghost use Rattle.std.specs.Prelude.{◌≡◌, ℕ, ◌≤◌, length, IfOk};
+ghost use Rattle.mdl_core.specs.Words.{empty_core, SpeaksFor};
+ghost use Rattle.mdl_space_trials.specs.contexts.Halls.{AreServed};
+
+use crate::by_chance::contexts::{Trial, acts_alike};
+use crate::by_chance::plain::Plain;
+use crate::contexts::acts::{Act, Reply, make};
+use mdl_context::Context;
+use mdl_space::{CoreSpace, LockSpace, NewError};
+use std::alloc::Global;
+use std::marker::Model;
+
+/// The sessions are numbered from 1 up to this.
+pub(crate) const SESSIONS: u16 = 5;
+
+/// A space, at the second try where memory was refused to the first.
+pub(crate) fn new_space(alloc: Global, places: u16, sessions: u16) -> Result<CoreSpace, NewError>
+    ensures made { IfOk result (λ space. space ≡ empty_core places sessions) }
+    ensures speaks { IfOk result (λ space. (who : ℕ) → 1 ≤ who → who ≤ sessions → SpeaksFor space who) }
+{
+    match CoreSpace::new(alloc, places, sessions) {
+        Err(NewError::OutOfMemory) => CoreSpace::new(alloc, places, sessions),
+        outcome => outcome,
+    }
+}
+
+/// The space speaks for each of these sessions, and keeps what its context does.
+#[derive(Drop)]
+pub(crate) struct Hall {
+    alloc: Global,
+    space: CoreSpace,
+    contexts: [Context<CoreSpace>; 5],
+}
+
+impl Model for Hall {
+    ghost use Rattle.mdl_space_trials.specs.contexts.Halls.{AreServed};
+
+    ghost Value = { Unit };
+
+    ghost view = { λ _. tt };
+
+    ghost invariant = { λ hall. AreServed hall.space 1 hall.contexts };
+}
+
+impl Hall {
+    /// Nobody has asked for anything. Memory may be refused once.
+    pub(crate) fn new(alloc: Global, places: u16) -> Result<Hall, NewError> {
+        let space = new_space(alloc, places, SESSIONS)?;
+        Ok(Hall {
+            alloc,
+            space,
+            contexts: [
+                Context::new(alloc, 1),
+                Context::new(alloc, 2),
+                Context::new(alloc, 3),
+                Context::new(alloc, 4),
+                Context::new(alloc, 5),
+            ],
+        })
+    }
+
+    /// What an act of a session comes to, unless no memory is found, or there is no such session.
+    pub(crate) fn make(&mut self, who: u16, act: Act) -> Option<Reply> {
+        if who == 0 || who > SESSIONS {
+            return None;
+        }
+        make_among(self.alloc, &mut self.space, &mut self.contexts, who, act)
+    }
+
+    /// Some context makes some call: whether it answers as the plain one, and then all stand alike.
+    pub(crate) fn acts_alike(&mut self, trial: &mut Trial) -> bool {
+        let who = trial.chance.draw(SESSIONS) + 1;
+        one_acts(&mut self.space, &mut self.contexts, trial, who)
+            && hold_the_same(&self.space, &self.contexts, &trial.plain)
+    }
+}
+
+// What an act of a session comes to, unless no memory is found.
+fn make_among(
+    alloc: Global,
+    space: &mut CoreSpace,
+    contexts: &mut [Context<CoreSpace>],
+    who: u16,
+    act: Act,
+) -> Option<Reply>
+    requires served { AreServed space.old 1 contexts.old }
+    requires least { 1 ≤ who }
+    requires most { who ≤ length contexts.old }
+    ensures served { AreServed space.new 1 contexts.new }
+{
+    let context = &mut contexts[usize::from(who) - 1];
+    make(alloc, space, context, act)
+}
+
+// The context of a session makes some call.
+fn one_acts(
+    space: &mut CoreSpace,
+    contexts: &mut [Context<CoreSpace>],
+    trial: &mut Trial,
+    who: u16,
+) -> bool
+    requires served { AreServed space.old 1 contexts.old }
+    requires least { 1 ≤ who }
+    requires most { who ≤ length contexts.old }
+    ensures served { AreServed space.new 1 contexts.new }
+{
+    let context = &mut contexts[usize::from(who) - 1];
+    acts_alike(space, context, trial, who)
+}
+
+// Whether each session holds in the space what the plain program has, and keeps as many of each duration in its context.
+fn hold_the_same(space: &CoreSpace, contexts: &[Context<CoreSpace>], plain: &Plain) -> bool
+    requires served { AreServed space.now 1 contexts.now }
+    requires all { length contexts.now ≡ 5 }
+{
+    for who in 1..SESSIONS + 1 {
+        let context = &contexts[usize::from(who) - 1];
+        let (Ok(held), Ok(wanted)) = (space.held(who), plain.held(who)) else {
+            return false;
+        };
+        if held.as_slice() != wanted.as_slice() || context.savepoint() != plain.mark_of(who) {
+            return false;
+        }
+    }
+    true
+}
