@@ -1,5 +1,6 @@
-"""Gives mdlsim words, and looks what it does: which run they ask for, and what it tells of words that ask for none. Gives it lines that it has to
-refuse, and streams that fail. Looks whether the completions of the shells have the words that its help lists.
+"""Gives mdlsim words, and looks what it does: which run they ask for, and what it tells of words that ask for none. Gives it worked scripts, scripts
+as large as may be, lines that it has to refuse, and streams that fail. Looks whether the completions of the shells have the words that its help
+lists.
 
 Usage, at the top of the repository: python3 commands/check.py [PROGRAM]    the program that was built last, or another one
 """
@@ -10,7 +11,9 @@ import subprocess
 import sys
 
 from devices import wrong_devices
+from limits import wrong_limits
 from lines import wrong_lines
+from worked import wrong_scripts
 
 PROGRAM = "crates/mdlsim/out/mdlsim"
 HERE = pathlib.Path(__file__).resolve().parent
@@ -105,11 +108,13 @@ def wrong_completions(program):
 def main(words):
     """Looks at all rows, and returns the status to end with."""
     program = words[0] if words else PROGRAM
-    wrong = [*wrong_rows(program), *wrong_completions(program), *wrong_lines(program), *wrong_devices(program)]
+    parts = (wrong_rows, wrong_completions, wrong_scripts, wrong_limits, wrong_lines, wrong_devices)
+    wrong = [found for part in parts for found in part(program)]
     for given, found in wrong:
         print(f"mdlsim {given}: {found}".replace("mdlsim mdlsim", "mdlsim"), file=sys.stderr)
     if not wrong:
-        print("mdlsim does what its words ask for, tells what it can't do, by bad lines and bad streams too, and has its words in the completions")
+        print("mdlsim does what its words ask for, answers each worked script, tells what it can't do, by bad lines and bad streams too, and has its words")
+        print("in the completions")
     return 1 if wrong else 0
 
 

@@ -1,4 +1,4 @@
-"""Scripts of one line that mdlsim refuses, with the kind of refusal, and one of the longest line that it takes."""
+"""Scripts of one line that mdlsim refuses, with the kind of refusal; lines that end in several ways, and those as long as a line may be."""
 
 import subprocess
 
@@ -41,6 +41,31 @@ ENDS = [b"\n", b"", b"\r\n", b"\n1 BEGIN\n\x80\n"]
 NOTHING = {"lock": b"", "lock --scoped": b"", "replay": b"", "run": b"FINAL SCHEMA test@1\n"}
 
 
+# Scripts whose lines end in several ways, or are about as long as a line may be, each with its answers or its refusal. A line has at most 4,096
+# bytes, and one carriage return before its line feed isn't part of it.
+ROWS = [
+    ("replay", b"", ""),
+    ("replay", b"\n", ""),
+    ("replay", b"1 BEGIN\n1 COMMIT", "1 1 OK\n2 1 OK\n"),
+    ("replay", b"\r\n1 BEGIN\r\n1 COMMIT\r", "2 1 OK\n3 1 OK\n"),
+    ("replay", b"1 SELECT \x80".ljust(4097, b"x") + b"\n", "line 1: LongLine\n"),
+    ("replay", b"1 SELECT ".ljust(4096, b"x") + b"\x80\r\n", "line 1: LongLine\n"),
+    ("replay", b"1 SELECT \x80".ljust(4096, b"x") + b"\n", "line 1: NotAscii\n"),
+    ("replay", b"1 BEGIN\n1 SELECT \x80\n", "line 2: NotAscii\n"),
+    ("replay", b"#".ljust(4096, b"x") + b"\r\n1 BEGIN", "2 1 OK\n"),
+    ("replay", b"#".ljust(4097, b"x") + b"\r\n1 BEGIN", "line 1: LongLine\n"),
+    ("replay", b"1 BEGIN".ljust(4096) + b"\r\n", "1 1 OK\n"),
+    ("replay", b"1 SELECT ".ljust(74, b"x") + b"\n", "line 1: BadName\n"),
+    ("replay", b"1 SELECT ".ljust(73, b"x") + b"\n", "1 1 ERR 1146\n"),
+    ("lock", b"", ""),
+    *(("lock", it, "1 GRANTED SR\n2 WAITS X\n") for it in (b"1 SR\n2 X\n", b"1 SR\n2 X", b"1 SR\r\n2 X\r\n", b"\n1 SR\r\n\r\n2 X\r")),
+    ("lock", b"# 1 X\n\n1 S\n#2 X\n\t\n\t 2 \t  SW \t\n", "1 GRANTED S\n2 GRANTED SW\n"),
+    ("lock", b"1 SR\n" + b"#" * 4096 + b"\r\n", "1 GRANTED SR\n"),
+    ("lock", b"1 SR\n" + b"#" * 4096 + b"\x80", "line 2: LongLine\n"),
+    ("lock", "#\u00e9\n".encode(), "line 1: NotAscii\n"),
+]
+
+
 def run(program, subcommand, script):
     """Runs the program on a script, and returns its status, and what it wrote and told."""
     ran = subprocess.run([program, *subcommand.split(" ")], input=script, capture_output=True)
@@ -49,6 +74,10 @@ def run(program, subcommand, script):
 
 def wrong_lines(program):
     """Returns the scripts that go otherwise, with what the program did."""
+    for subcommand, script, answers in ROWS:
+        found = run(program, subcommand, script)
+        if found != ((1, b"", answers.encode()) if answers.startswith("line ") else (0, answers.encode(), b"")):
+            yield f"{subcommand} < {script[:60]}, {len(script)} bytes", found
     for subcommand, own in SUBCOMMANDS.items():
         for line, kind in [*REFUSED, *own]:
             for end in ENDS:

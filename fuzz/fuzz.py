@@ -6,13 +6,16 @@ have to be those of plain programs, and `replay` has to print the same twice. `r
 does; its last lines have to follow from the changes that were made. With too little memory a run reports only that.
 
 The same seed gives the same scripts. A script that fails is kept in fuzz/out/, named by the seed and its number; `--only NUMBER` runs it again.
+With `--scripts COUNT` so many are played, however long that takes, and two with 100,000 lines of eight sessions on threads, and each kind of answer
+has to be among those to `replay`: the gate does that.
 
-Usage, at the top of the repository: python3 fuzz/fuzz.py [--seconds 60] [--seed N] [--only NUMBER] [PROGRAM]
+Usage, at the top of the repository: python3 fuzz/fuzz.py [--seconds 60 | --scripts COUNT] [--seed N] [--only NUMBER] [PROGRAM]
 The program is the one that was built last, MDLSIM, or the one that is named.
 """
 
 import argparse
 import dataclasses
+import math
 import os
 import pathlib
 import random
@@ -34,6 +37,16 @@ SUBCOMMANDS = {"lock": "object", "lock --scoped": "scoped", "replay": "statement
 ENDINGS = {"lock": "lock", "lock --scoped": "scoped.lock", "replay": "replay", "run": "run"}
 
 MEGABYTE = 2**20
+
+# The numbers of the two scripts of many lines begin here.
+CROWDS = 10**9
+
+# What the answers of `replay` have in them: each of many scripts is answered by some of these. Errors 9003 and 9005 take more lines than these have.
+ANSWERS = [
+    *(b" OK", b" BUSY", b" OK test.", b" OK 0", b" OK 1", b" OK NULL", b"END ", b" WAIT GLOBAL ", b" WAIT SCHEMA ", b" WAIT TABLE ", b" WAIT COMMIT "),
+    *(b" WAIT USER ", b" ERR 1007", b" ERR 1049", b" ERR 1050", b" ERR 1060", b" ERR 1091", b" ERR 1099", b" ERR 1100", b" ERR 1146", b" ERR 1192"),
+    *(b" ERR 1205", b" ERR 1213", b" ERR 1223", b" ERR 1305", b" ERR 1317", b" ERR 3058", b" ERR 9001", b" ERR 9004"),
+]
 
 
 @dataclasses.dataclass(frozen=True)
@@ -111,8 +124,8 @@ def wrong_answers(runner, case, lines, seen, matrices):
     return runs.wrong_in_lone_run(lines, replayed.written, seen.written)
 
 
-def wrong(runner, case, matrices):
-    """Runs a case, and tells what is wrong with it."""
+def wrong(runner, case, matrices, answers):
+    """Runs a case, and tells what is wrong with it. Which of the answers it was given is noted."""
     seen = play(runner, case)
     found = wrong_end(case, seen)
     if found or seen.status == 3:
@@ -120,7 +133,11 @@ def wrong(runner, case, matrices):
     lines, refusal = language.read(case.script, SUBCOMMANDS[case.subcommand])
     if (seen.status, seen.told) != ((1, refusal) if refusal else (0, b"")):
         return f"has status {seen.status}, tells {seen.told[:100]}, and ought to tell {refusal}"
-    return None if refusal else wrong_answers(runner, case, lines, seen, matrices)
+    if refusal:
+        return None
+    if case.subcommand == "replay":
+        answers.update(it for it in ANSWERS if it in seen.written)
+    return wrong_answers(runner, case, lines, seen, matrices)
 
 
 # ---- cases by chance
@@ -148,6 +165,15 @@ def case_of(seed, number, found, least, is_cached):
     return Case(subcommand, script, patience, options, memory)
 
 
+def crowd(seed, number):
+    """Returns a case of eight sessions on threads that make many statements in little time: of all kinds, or without those that drop a schema with
+    its tables, so that the versions at the end can be counted."""
+    script = scripts.by_chance(random.Random(f"{seed} {number}"), "statements", 100_000, 8)
+    if number > CROWDS:
+        script = b"".join(it for it in script.splitlines(keepends=True) if b" DROP SCHEMA " not in it)
+    return Case("run", script, 100, ("--cache", "1"), None)
+
+
 def keep(seed, number, case):
     """Keeps a script, and returns the file."""
     OUT.mkdir(exist_ok=True)
@@ -156,32 +182,53 @@ def keep(seed, number, case):
     return file.relative_to(scripts.TOP)
 
 
+@dataclasses.dataclass
+class Tally:
+    """How many scripts were played, how many of them failed, and which answers of `replay` were seen."""
+
+    count: int = 0
+    failures: int = 0
+    seen: set = dataclasses.field(default_factory=set)
+
+    def missing(self):
+        """Returns the answers that no script was given."""
+        return [it.decode().strip() for it in ANSWERS if it not in self.seen]
+
+
 def look_at(runner, seed, numbers, most_seconds):
-    """Runs cases until the time is over, tells of those that are wrong, and returns how many were run, and how many of these are wrong."""
+    """Runs cases until the time is over, and tells of those that are wrong."""
     until = time.monotonic() + most_seconds
     found, least, is_cached, matrices = scripts.seeds(), least_memory(runner), has_cache(runner), locks.matrices_of(runner.program)
-    count = failures = 0
+    tally = Tally()
     for number in numbers:
         if time.monotonic() > until:
             break
-        case = case_of(seed, number, found, least, is_cached)
-        told = wrong(runner, case, matrices)
-        count += 1
+        case = crowd(seed, number) if number >= CROWDS else case_of(seed, number, found, least, is_cached)
+        told = wrong(runner, case, matrices, tally.seen)
+        tally.count += 1
         if told:
-            failures += 1
+            tally.failures += 1
             limit = f", with {case.memory} bytes of memory" if case.memory else ""
             print(f"{keep(seed, number, case)}: mdlsim {' '.join(case.words())}{limit} {told}", file=sys.stderr, flush=True)
-    return count, failures
+    return tally
 
 
 def read_words():
     """Returns what the command line asks for."""
     parser = argparse.ArgumentParser()
     parser.add_argument("--seconds", type=float, default=60)
+    parser.add_argument("--scripts", type=int)
     parser.add_argument("--seed", type=int, default=random.randrange(10**6))
     parser.add_argument("--only", type=int)
     parser.add_argument("program", nargs="?", default=os.environ.get("MDLSIM") or "crates/mdlsim/out/mdlsim")
     return parser.parse_args()
+
+
+def numbers_of(asked):
+    """Returns the numbers of the cases that are asked for."""
+    if asked.only is not None:
+        return [asked.only]
+    return [*range(asked.scripts), CROWDS, CROWDS + 1] if asked.scripts else range(CROWDS)
 
 
 def main():
@@ -191,11 +238,13 @@ def main():
         print(f"{asked.program} isn't there: make build, or MDLSIM=PATH", file=sys.stderr)
         return 1
     print(f"seed {asked.seed}", flush=True)
-    numbers = range(10**9) if asked.only is None else [asked.only]
     with Runner(os.path.abspath(asked.program)) as runner:
-        count, failures = look_at(runner, asked.seed, numbers, asked.seconds)
-    print(f"{count} scripts were played, and {failures} of them failed")
-    return 1 if failures or not count else 0
+        tally = look_at(runner, asked.seed, numbers_of(asked), math.inf if asked.scripts else asked.seconds)
+    print(f"{tally.count} scripts were played, and {tally.failures} of them failed")
+    missing = tally.missing() if asked.scripts else []
+    if missing:
+        print(f"no script was answered {missing}", file=sys.stderr)
+    return 1 if tally.failures or missing or not tally.count else 0
 
 
 if __name__ == "__main__":

@@ -1,4 +1,4 @@
-"""Scripts to be given to `mdlsim`: those of the examples and of the trials, changed by chance, and others that are made by chance."""
+"""Scripts to be given to `mdlsim`: those of the examples and the worked ones, changed by chance, and others that are made by chance."""
 
 import pathlib
 import re
@@ -18,23 +18,21 @@ HOSTILE_WORDS = [
 ]
 LINE_ENDS = [b"\n", b"\r\n", b"\r\r\n", b"\r", b"\n\n", b" \t\n", b"\x00\n", b"\n#\n", b""]
 
-# Statements by the words that they need: a table, several, a column, a name, a session.
+# Statements by the words that they need: a table, several, columns, a name, a schema, a user-level lock, a session, and how an ALTER is done.
 FORMS = [
     *["SELECT {t}", "SELECT {ts}", "INSERT {t}", "UPDATE LOW_PRIORITY {t}", "BEGIN", "COMMIT", "DROP TABLE {ts}", "CREATE TABLE {t} {c}"] * 3,
-    *["ROLLBACK", "SAVEPOINT {n}", "ROLLBACK TO {n}", "ALTER TABLE {t} ADD {c} COPY", "ALTER TABLE {t} DROP {c} INPLACE", "TIMEOUT"] * 2,
-    *("RENAME TABLE {t} TO {u}", "CREATE SCHEMA {n}", "DROP SCHEMA {n}", "LOCK TABLES {t} READ", "LOCK TABLES {t} WRITE {u} READ"),
-    *("UNLOCK TABLES", "FLUSH TABLES WITH READ LOCK", "KILL QUERY {k}", "START TRANSACTION", "DELETE {t}"),
-    *("GET_LOCK {n}", "GET_LOCK {n}", "RELEASE_LOCK {n}"),
+    *["ROLLBACK", "SAVEPOINT {n}", "ROLLBACK TO {n}", "ALTER TABLE {t} ADD {c} {how}", "ALTER TABLE {t} DROP {c} {how}", "TIMEOUT"] * 2,
+    *["RENAME TABLE {t} TO {u}", "LOCK TABLES {t} READ", "LOCK TABLES {t} WRITE {u} READ", "KILL QUERY {k}"] * 2,
+    *("CREATE SCHEMA {s}", "DROP SCHEMA {s}", "UNLOCK TABLES", "FLUSH TABLES WITH READ LOCK", "START TRANSACTION", "CREATE TABLE {t} {c} {d}"),
+    *("INSERT LOW_PRIORITY {t}", "UPDATE {t}", "DELETE {t}", "DELETE LOW_PRIORITY {t}"),
+    *["GET_LOCK {w}", "GET_LOCK {w}", "RELEASE_LOCK {w}"] * 2,
 ]
 
 
-def rows_of(text):
-    """Returns the scripts of the rows of a file of trials, each with whether it is one of a scoped lock."""
-    for table in re.findall(r'const ROWS: &str = "\\\n(.*?)";', text, re.DOTALL):
-        for row in re.sub(r"\\\n\s*", "", table).split("\n"):
-            script = re.sub(r"\\u\{(\w+)\}", lambda it: chr(int(it[1], 16)), row.partition(" => ")[0]).replace("\\t", "\t")
-            text = "".join(f"{line}\n" for line in script.removeprefix("* ").split(" / "))
-            yield text.encode(), script.startswith("* ")
+def scripts_in(file):
+    """Returns the scripts of a file of worked ones. Their answers stand four spaces to the right, and an empty line ends a script."""
+    for case in file.read_text().split("\n\n"):
+        yield "".join(f"{it}\n" for it in case.splitlines() if not it.startswith("    ")).encode()
 
 
 def seeds():
@@ -44,10 +42,8 @@ def seeds():
         language = {".lock": "scoped" if ".scoped." in file.name else "object", ".replay": "statements", ".run": "statements"}.get(file.suffix)
         if language:
             found[language].append(file.read_bytes())
-    for crate in ("mdl_lock_trials", "mdl_script_trials", "mdl_syntax_trials"):
-        text = TOP.joinpath("crates", crate, "src/scripts.rt").read_text()
-        for script, is_scoped in rows_of(text):
-            found["statements" if crate != "mdl_lock_trials" else "scoped" if is_scoped else "object"].append(script)
+    for language, name in (("object", "lock"), ("scoped", "lock_scoped"), ("statements", "replay")):
+        found[language] += scripts_in(TOP / "commands/scripts" / name)
     return found
 
 
@@ -133,16 +129,23 @@ def changed(chance, scripts):
 # ---- scripts by chance
 
 
-def by_chance(chance, language, count=None):
+def opening(chance, sessions, names):
+    """Returns the lines that make a schema and tables, and let most sessions begin a transaction."""
+    tables = [f"1 CREATE TABLE {it} x y" for it in names]
+    return ["1 CREATE SCHEMA s", *tables, *(f"{it} BEGIN" for it in sessions if chance.random() < 0.6)]
+
+
+def by_chance(chance, language, count=None, sessions=None):
     """Returns a script of lines that are read, of few sessions and few names, so that these meet."""
-    sessions = range(1, 1 + chance.choice([1, 2, 3, 3, 5, 64]))
+    sessions = range(1, 1 + (sessions or chance.choice([1, 1, 2, 3, 3, 4, 5, 8, 64])))
     names = [*"abcdefghijkl"[: chance.choice([2, 3, 4, 12])], *chance.choice([[], ["s.a", "s.b"]])]
     words = [*MODES[language].split(" "), "RELEASE", "RELEASE", "TIMEOUT"] if language in MODES else FORMS
-    lines = ["1 CREATE SCHEMA s", *(f"1 CREATE TABLE {it} x y" for it in names)] if language not in MODES else []
+    lines = opening(chance, sessions, names) if language not in MODES else []
     for _ in range(count or chance.choice([5, 20, 60, 200])):
         t, u, *_ = chance.sample(names, 2)
         ts = " ".join(chance.sample(names, min(len(names), chance.randrange(1, 4))))
-        chosen = {"t": t, "u": u, "ts": ts, "c": chance.choice("xyz"), "n": chance.choice("pqs"), "k": chance.choice(sessions)}
+        chosen = {"t": t, "u": u, "ts": ts, "c": chance.choice("xyz"), "d": chance.choice("xyz"), "how": chance.choice(["COPY", "INPLACE"])}
+        chosen |= {"n": chance.choice("pq"), "s": chance.choice(["r", "s", "s", "test"]), "w": chance.choice("abs"), "k": chance.choice(sessions)}
         lines.append(f"{chance.choice(sessions)} {chance.choice(words)}".format(**chosen))
     return "".join(f"{it}\n" for it in lines).encode()
 
@@ -183,9 +186,9 @@ def script_of(chance, language, scripts):
         return raw(chance)
     if way < 0.08:
         return large(chance, language)
-    if way < 0.40:
+    if way < 0.55:
         return by_chance(chance, language)
-    if way < 0.45:
+    if way < 0.60:
         return changed(chance, [by_chance(chance, language)])
     other = language if chance.random() < 0.9 else chance.choice(sorted(scripts))
     return changed(chance, scripts[other])

@@ -1,6 +1,7 @@
 #!/bin/sh
 # The gate: proves everything from nothing and runs all tests, tries the wrong bodies over what was proved, compares with what the proved
-# program answers to the examples and does by its words, refuses every twenty-third growth, and runs the programs of C. At the end it says how much processor time that took.
+# program answers to the examples and does by its words, plays 8,000 random scripts, refuses every twenty-third growth, and runs the programs of C.
+# At the end it says how much processor time that took.
 # Usage: sh make/gate.sh, at the top of the repository.
 spent=$(mktemp)
 trap 'rm -f "$spent"' EXIT
@@ -10,8 +11,8 @@ trap 'rm -f "$spent"' EXIT
 RT_JOBS=$(awk -v most="$(nproc)" '/^MemAvailable:/ { fit = int($2 / 4.5e6); print fit < 1 ? 1 : fit < most ? fit : most }' /proc/meminfo)
 export RT_JOBS
 
-rt ci && python3 make/wrong_bodies.py --gate && MDLSIM=$PWD/crates/mdlsim/out/mdlsim sh examples/check.sh && python3 commands/check.py && python3 commands/check_view.py \
-    && sh growths/check.sh 23 && sh make/c.sh
+rt ci && python3 make/wrong_bodies.py --gate && MDLSIM=$PWD/crates/mdlsim/out/mdlsim sh examples/check.sh && python3 commands/check.py \
+    && python3 fuzz/fuzz.py --scripts 8000 --seed 1 && python3 commands/check_view.py && sh growths/check.sh 23 && sh make/c.sh
 status=$?
 # (the second line has the children's time: of the user, and of the system)
 times > "$spent"

@@ -1,98 +1,130 @@
-//! Readers and writers that move a few bytes at a call, and fail once.
-ghost use Rattle.std.specs.Prelude.{◌≤◌, IfOk};
-
+//! Readers that fail behind each number of bytes, writers that do, and slow ones that are interrupted there.
+use crate::fakes::{Habit, SOUND, Slip};
+use crate::matrices::MATRICES;
+use crate::runs::Words::{Lock, Matrix, OnThreads, Replay};
+use crate::runs::{Words, goes_so};
 use std::alloc::Global;
-use std::io;
-use std::io::{ErrorKind, Read, Write};
+use std::io::ErrorKind;
+use std::sync::Wait;
+use std::thread::Threads;
 
-// At most so many bytes are moved at a call.
-const STEP: usize = 7;
+// What is run, with its script and what is answered.
+type Talk = (Words, &'static str, &'static str);
 
-/// How far it is to the one failure of a device, and of which kind that is.
-#[derive(Clone, Copy)]
-pub(crate) struct Failure {
-    after: usize,
-    kind: ErrorKind,
-    is_over: bool,
+// Two readers and two that wait; a deadlock, a change of definitions and a wait that is left; one session on its thread.
+const TALKS: &[Talk] = &[
+    (
+        Lock,
+        "1 SR\n2 SW\n3 X\n4 S\n1 RELEASE\n2 RELEASE\n3 RELEASE\n",
+        "1 GRANTED SR\n2 GRANTED SW\n3 WAITS X\n4 WAITS S\n1 RELEASED SR\n2 RELEASED SW\n\
+        3 GRANTED X\n3 RELEASED X\n4 GRANTED S\n",
+    ),
+    (
+        Replay,
+        "1 CREATE TABLE a x\n1 CREATE TABLE t x y\n1 BEGIN\n1 SELECT t\n2 DROP TABLE t a\n\
+        1 SELECT a\n3 BEGIN\n3 SELECT u\n1 CREATE TABLE u z\n",
+        "1 1 OK\n2 1 OK\n3 1 OK\n4 1 OK test.t@1(x,y)\n5 2 WAIT TABLE test.t X\n\
+        6 1 WAIT TABLE test.a SR\n6 1 ERR 1213\n5 2 OK\n7 3 OK\n8 3 ERR 1146\n\
+        9 1 WAIT TABLE test.u X\nEND 1 WAIT\n",
+    ),
+    (
+        OnThreads,
+        "1 CREATE TABLE t x\n1 SELECT t\n",
+        "1 1 OK\n2 1 OK test.t@1(x)\nFINAL SCHEMA test@1\nFINAL TABLE test.t@1(x)\n",
+    ),
+    (Matrix, "", MATRICES),
+];
+
+// It moves 7 bytes at a call, and slips so after so many.
+fn slipping(bytes: usize, slip: Slip) -> Habit {
+    Habit::steps_of(7).slips_after(bytes, slip)
 }
 
-impl Failure {
-    /// It comes behind so many bytes.
-    pub(crate) fn after(after: usize, kind: ErrorKind) -> Failure {
-        Failure {
-            after,
-            kind,
-            is_over: false,
+// Whether a read that fails so after so many bytes is told by this line, and nothing is written.
+fn is_told<T: Threads + Wait + Sync>(
+    rt: &T,
+    alloc: Global,
+    talk: Talk,
+    bytes: usize,
+    (kind, line): (ErrorKind, &str),
+) -> bool {
+    let input = slipping(bytes, Slip::Fails(kind));
+    goes_so(rt, alloc, (talk.0, talk.1, input, SOUND, 3, "", line))
+}
+
+// Failures of a read, and what is told of each.
+const FAILURES: &[(ErrorKind, &str)] = &[
+    (ErrorKind::ConnectionReset, "fault: device\n"),
+    (ErrorKind::OutOfMemory, "fault: memory\n"),
+];
+
+#[test]
+fn a_read_that_fails_is_told(rt: HostRuntime) {
+    for talk in TALKS {
+        if talk.1.is_empty() {
+            continue;
         }
-    }
-
-    // How many of these bytes the next call moves.
-    fn next(&mut self, bytes: usize) -> io::Result<usize>
-        ensures { IfOk result (λ count. count ≤ bytes) }
-    {
-        let count = bytes.min(STEP);
-        if self.is_over {
-            return Ok(count);
-        }
-        if self.after == 0 {
-            self.is_over = true;
-            return Err(io::Error::from(self.kind));
-        }
-        let count = count.min(self.after);
-        self.after -= count;
-        Ok(count)
-    }
-}
-
-/// A reader of a text.
-#[derive(Drop)]
-pub(crate) struct Source<'a> {
-    text: &'a [u8],
-    failure: Failure,
-}
-
-impl<'a> Source<'a> {
-    pub(crate) fn new(text: &'a [u8], failure: Failure) -> Source<'a> {
-        Source { text, failure }
-    }
-}
-
-impl Read for Source<'_> {
-    fn read(&mut self, buf: &mut [u8]) -> io::Result<usize> {
-        let count = self.failure.next(buf.len().min(self.text.len()))?;
-        let (given, rest) = self.text.split_at(count);
-        buf[..count].copy_from_slice(given);
-        self.text = rest;
-        Ok(count)
-    }
-}
-
-/// A writer that keeps what it took.
-#[derive(Drop)]
-pub(crate) struct Target {
-    pub(crate) taken: Vec<u8>,
-    failure: Failure,
-}
-
-impl Target {
-    pub(crate) fn new(alloc: Global, failure: Failure) -> Target {
-        Target {
-            taken: Vec::new(alloc),
-            failure,
+        for bytes in 0..=talk.1.len() {
+            for failure in FAILURES {
+                let is_so = is_told(&rt, rt.alloc(), *talk, bytes, *failure);
+                assert!(rt; is_so, "{} after {bytes}: {}", talk.1, failure.1);
+            }
         }
     }
 }
 
-impl Write for Target {
-    fn write(&mut self, buf: &[u8]) -> io::Result<usize> {
-        let count = self.failure.next(buf.len())?;
-        match self.taken.extend_from_slice(&buf[..count]) {
-            Ok(()) => Ok(count),
-            Err(_) => Err(io::Error::from(ErrorKind::OutOfMemory)),
+// Whether a writer that slips so after so many bytes of the answers is left with just these bytes.
+fn is_cut_off<T: Threads + Wait + Sync>(
+    rt: &T,
+    alloc: Global,
+    talk: Talk,
+    bytes: usize,
+    slip: Slip,
+) -> bool {
+    let (words, script, answers) = talk;
+    let output = slipping(bytes, slip);
+    let Some(left) = answers.get(..bytes) else {
+        return false;
+    };
+    goes_so(
+        rt,
+        alloc,
+        (words, script, SOUND, output, 3, left, "fault: device\n"),
+    )
+}
+
+#[test]
+fn a_write_that_fails_leaves_a_beginning(rt: HostRuntime) {
+    let broken = Slip::Fails(ErrorKind::BrokenPipe);
+    for talk in TALKS {
+        for bytes in 0..talk.2.len() {
+            let is_so = is_cut_off(&rt, rt.alloc(), *talk, bytes, broken)
+                && is_cut_off(&rt, rt.alloc(), *talk, bytes, Slip::MovesNothing);
+            assert!(rt; is_so, "{} after {bytes}", talk.2);
         }
     }
+}
 
-    fn flush(&mut self) -> io::Result<()> {
-        Ok(())
+// Whether all is read and written where both devices move so many bytes at a call, and are interrupted after so many.
+fn is_served<T: Threads + Wait + Sync>(
+    rt: &T,
+    alloc: Global,
+    talk: Talk,
+    bytes: usize,
+    step: usize,
+) -> bool {
+    let (words, script, answers) = talk;
+    let slow = Habit::steps_of(step).slips_after(bytes, Slip::Fails(ErrorKind::Interrupted));
+    goes_so(rt, alloc, (words, script, slow, slow, 0, answers, ""))
+}
+
+#[test]
+fn slow_and_interrupted_devices_serve(rt: HostRuntime) {
+    for talk in TALKS {
+        for bytes in 0..=talk.1.len() {
+            let is_so = is_served(&rt, rt.alloc(), *talk, bytes, 1)
+                && is_served(&rt, rt.alloc(), *talk, bytes, usize::MAX);
+            assert!(rt; is_so, "{} after {bytes}", talk.1);
+        }
     }
 }

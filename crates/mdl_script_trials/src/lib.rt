@@ -1,28 +1,26 @@
-//! Trials of scripts of statements: a plain interpreter of them, worked scripts, and scripts by chance.
+//! Trials of scripts over readers and writers of every habit, and of what a program answers and tells.
 //!
-//! Everything here is for tests. `plain` runs a script as slowly and as obviously as can be written: one list of
-//! tickets and one of places, read from end to end, and deadlocks found by listing paths. It shares the reading of
-//! lines and the matrices of modes with the product, and nothing that runs a statement. `scripts` has scripts beside
-//! their answers, and `limits` those of many sessions, tables, columns, savepoints and lines; `chance` makes as many
-//! others as are asked for, the same in each run. `plays` plays scripts line by line. `faults` replays a script over `devices` that move a few bytes at a
-//! call and fail once.
+//! Everything here is for tests. `fakes` has readers and writers that work in small steps and slip once: they fail, they move
+//! nothing, or they are interrupted. `runs` runs what a command line asks for over them; `devices` lets them slip behind each
+//! number of bytes, and `statuses` has rows of what a program answers and where it tells what. `faults` has the lines of
+//! faults, `matrices` what is printed of all modes, and `plays` a script that is played line by line. `examples` are those of
+//! two crates. Worked scripts, long ones, and scripts by chance are played by the program itself: `commands/check.py` and
+//! `fuzz/fuzz.py`.
 #![tactic(auto)]
 
 #[cfg(test)]
-mod cases;
-#[cfg(test)]
-mod chance;
-#[cfg(test)]
 mod devices;
+#[cfg(test)]
+mod examples;
+#[cfg(test)]
+mod fakes;
 #[cfg(test)]
 mod faults;
 #[cfg(test)]
-mod limits;
-#[cfg(test)]
-mod one_lock;
-#[cfg(test)]
-mod plain;
+mod matrices;
 #[cfg(test)]
 mod plays;
 #[cfg(test)]
-mod scripts;
+mod runs;
+#[cfg(test)]
+mod statuses;

@@ -6,8 +6,8 @@ use std::io;
 use std::io::{ErrorKind, Read, Write};
 
 /// What a call does in place of its work.
-#[derive(Clone, Copy, Debug)]
-pub enum Slip {
+#[derive(Clone, Copy)]
+pub(crate) enum Slip {
     /// It fails with an error of this kind.
     Fails(ErrorKind),
     /// It says that it moved no byte.
@@ -26,33 +26,33 @@ impl Slip {
 }
 
 /// When a device slips, and how many bytes it moves at a call.
-#[derive(Clone, Copy, Debug)]
-pub struct Habit {
+#[derive(Clone, Copy)]
+pub(crate) struct Habit {
     step: usize,
     // The bytes to go until the slip.
     slip: Option<(usize, Slip)>,
 }
 
 /// It moves 7 bytes at a call, and never slips.
-pub const SOUND: Habit = Habit {
+pub(crate) const SOUND: Habit = Habit {
     step: 7,
     slip: None,
 };
 
-/// The same, but it breaks off after 9 bytes.
-pub const GONE: Habit = Habit {
+/// It breaks off at once.
+pub(crate) const GONE: Habit = Habit {
     step: 7,
-    slip: Some((9, Slip::Fails(ErrorKind::BrokenPipe))),
+    slip: Some((0, Slip::Fails(ErrorKind::BrokenPipe))),
 };
 
 impl Habit {
     /// It moves at most so many bytes at a call.
-    pub fn steps_of(step: usize) -> Habit {
+    pub(crate) fn steps_of(step: usize) -> Habit {
         Habit { step, slip: None }
     }
 
     /// It slips once, after so many bytes.
-    pub fn slips_after(self, bytes: usize, slip: Slip) -> Habit {
+    pub(crate) fn slips_after(self, bytes: usize, slip: Slip) -> Habit {
         Habit {
             step: self.step,
             slip: Some((bytes, slip)),
@@ -79,13 +79,13 @@ impl Habit {
 
 /// A reader of a text.
 #[derive(Drop)]
-pub struct Source<'a> {
+pub(crate) struct Source<'a> {
     text: &'a [u8],
     habit: Habit,
 }
 
 impl<'a> Source<'a> {
-    pub fn new(text: &'a [u8], habit: Habit) -> Source<'a> {
+    pub(crate) fn new(text: &'a [u8], habit: Habit) -> Source<'a> {
         Source { text, habit }
     }
 }
@@ -106,13 +106,13 @@ impl Read for Source<'_> {
 
 /// A writer that keeps what it took.
 #[derive(Drop)]
-pub struct Target {
-    pub taken: Vec<u8>,
+pub(crate) struct Target {
+    pub(crate) taken: Vec<u8>,
     habit: Habit,
 }
 
 impl Target {
-    pub fn new(alloc: Global, habit: Habit) -> Target {
+    pub(crate) fn new(alloc: Global, habit: Habit) -> Target {
         Target {
             taken: Vec::new(alloc),
             habit,

@@ -1,0 +1,135 @@
+"""Scripts of as many sessions, tables, columns, savepoints and lines as there may be, or of many. There is memory enough for all of them, so
+a program that tells of a lack of memory is wrong, and no contract would refuse it."""
+
+import itertools
+import subprocess
+
+OTHERS = range(2, 65)
+LONG_NAME = "abcdefghijklmnopqrstuvwxyz_abcdefghijklmnopqrstuvwxyz_12345"
+
+
+def text_of(*parts):
+    """Returns a text of lines, and of lists of lines."""
+    return "".join(f"{it}\n" for part in parts for it in ([part] if isinstance(part, str) else part))
+
+
+def by_others(words):
+    """Returns a line for each session but the first."""
+    return [f"{who} {words}" for who in OTHERS]
+
+
+# ---- of statements
+
+
+def waits():
+    """All sessions but the first wait for a table until the end; or the first of them drops it, and all others miss it."""
+    script = ["1 CREATE TABLE t x", "1 BEGIN", "1 SELECT t", *by_others("DROP TABLE t")]
+    answers = ["1 1 OK", "2 1 OK", "3 1 OK test.t@1(x)", *(f"{who + 2} {who} WAIT TABLE test.t X" for who in OTHERS)]
+    yield script, [*answers, *(f"END {it} WAIT" for it in OTHERS)]
+    yield [*script, "1 COMMIT"], [*answers, "67 1 OK", "4 2 OK", *(f"{who + 2} {who} ERR 1146" for who in OTHERS if who > 2)]
+
+
+def columns():
+    """A table has 64 columns, whose names may be as long as the line lets them be."""
+    for prefix in (f"{LONG_NAME}_", "c"):
+        names = [f"{prefix}{it}" for it in range(10, 74)]
+        yield [f"1 CREATE TABLE t {' '.join(names)}", "1 SELECT t"], ["1 1 OK", f"2 1 OK test.t@1({','.join(names)})"]
+
+
+def numbered(words, answer, first, last):
+    """Returns lines of session 1 that are alike but for their number, and their answers."""
+    return [f"1 {words}{it}" for it in range(first, last + 1)], [f"{it} 1 {answer}" for it in range(first, last + 1)]
+
+
+def savepoints():
+    """Three hundred savepoints stand."""
+    script, answers = numbered("SAVEPOINT p", "OK", 2, 301)
+    more = ["1 ROLLBACK TO p301", "1 ROLLBACK TO p2", "1 ROLLBACK TO p3"]
+    yield ["1 BEGIN", *script, *more], ["1 1 OK", *answers, "302 1 OK", "303 1 OK", "304 1 ERR 1305"]
+
+
+def places():
+    """There is room for 256 keys: that of the schema at the start, and those that were ever locked."""
+    script, answers = numbered("SELECT t", "ERR 1146", 1, 253)
+    more = ["1 CREATE TABLE t254 x", "1 SELECT t254", "1 CREATE TABLE t255 x"]
+    yield [*script, *more], [*answers, "254 1 OK", "255 1 OK test.t254@1(x)", "256 1 ERR 9004"]
+    script, answers = numbered("SELECT t", "ERR 1146", 1, 255)
+    more = ["1 SELECT t256", "1 SELECT t1", "1 INSERT t1"]
+    yield [*script, *more], [*answers, "256 1 ERR 9004", "257 1 ERR 1146", "258 1 ERR 9004"]
+    # Where the COMMIT lock finds no place, the lock of all writes that was had before it is given up again.
+    script, answers = numbered("SELECT t", "ERR 1146", 2, 255)
+    more = ["2 FLUSH TABLES WITH READ LOCK", "3 INSERT t2", "2 INSERT t2"]
+    yield ["1 BEGIN", *script, *more], ["1 1 OK", *answers, "256 2 ERR 9004", "257 3 ERR 1146", "258 2 ERR 1146"]
+    # A user-level lock that nobody holds takes its place by RELEASE_LOCK, too, and keeps it.
+    script, answers = numbered("RELEASE_LOCK n", "OK NULL", 1, 255)
+    more = ["1 RELEASE_LOCK n256", "1 GET_LOCK n256", "1 GET_LOCK n255", "2 RELEASE_LOCK n255"]
+    yield [*script, *more], [*answers, "256 1 ERR 9004", "257 1 ERR 9004", "258 1 OK 1", "259 2 OK 0"]
+
+
+def versions():
+    """A table comes and goes, and its version tells how often."""
+    script = [("1 DROP TABLE t", "1 CREATE TABLE t x")[it % 2] for it in range(1, 3001)]
+    answers = [f"{it} 1 OK" for it in range(1, 3001)]
+    yield [*script, "1 CREATE TABLE t y", "1 SELECT t"], [*answers, "3001 1 OK", "3002 1 OK test.t@3001(y)"]
+
+
+def rounds():
+    """However many lines there are, all are answered: a session reads, another one waits for it, and goes on when it is done."""
+    script, answers = ["1 CREATE TABLE t x"], ["1 1 OK"]
+    for line in range(1, 500_000, 4):
+        script += ["1 BEGIN", "1 SELECT t", "2 CREATE TABLE t x", "1 COMMIT"]
+        answers += [f"{line + 1} 1 OK", f"{line + 2} 1 OK test.t@1(x)", f"{line + 3} 2 WAIT TABLE test.t X"]
+        answers += [f"{line + 4} 1 OK", f"{line + 3} 2 ERR 1050"]
+    yield script, answers
+
+
+# ---- of one lock
+
+
+def all_sessions():
+    """63 sessions wait for the first, are granted, and so is the first beside them; 63 wait again, and give up."""
+    script = ["1 X", *by_others("SR"), "1 RELEASE", "1 SR", "1 RELEASE", *by_others("RELEASE"), "1 X", *by_others("X"), *by_others("TIMEOUT")]
+    answers = ["1 GRANTED X", *by_others("WAITS SR"), "1 RELEASED X", *by_others("GRANTED SR"), "1 GRANTED SR", "1 RELEASED SR"]
+    yield script, [*answers, *by_others("RELEASED SR"), "1 GRANTED X", *by_others("WAITS X"), *by_others("TIMEDOUT X")]
+
+
+def long_scripts():
+    """However many lines there are, all are answered."""
+    yield ["1 TIMEOUT"] * 5_000, ["1 REFUSED"] * 5_000
+
+
+def lengths():
+    """A writer that takes all is never said to have refused something, however long the output is: it has lines of 10 and of 11 bytes."""
+    for short, longer in itertools.product(range(120), range(10)):
+        yield ["10 TIMEOUT"] * longer + ["1 TIMEOUT"] * short, ["10 REFUSED"] * longer + ["1 REFUSED"] * short
+
+
+TAKEN = {
+    "replay": (waits, columns, savepoints, places, versions, rounds),
+    "lock": (all_sessions, long_scripts, lengths),
+}
+
+# How many lines are taken before one is refused, and such lines.
+FAR_DOWN = [0, 1, 9, 99, 100, 101, 999, 20_000]
+REFUSED = {"lock": ("1 TIMEOUT", "1 GO"), "replay": ("1 COMMIT", f"1 CREATE TABLE t {' '.join(f'c{it}' for it in range(65))}")}
+
+
+def run(program, subcommand, script):
+    """Runs the program on a script, and returns its status, and what it wrote and told."""
+    ran = subprocess.run([program, subcommand], input=script, capture_output=True, text=True)
+    return ran.returncode, ran.stdout, ran.stderr
+
+
+def wrong_limits(program):
+    """Returns the scripts that go otherwise, with what the program did: its status, and how its answers end."""
+    for subcommand, kinds in TAKEN.items():
+        for kind in kinds:
+            for script, answers in kind():
+                status, written, told = run(program, subcommand, text_of(script))
+                if (status, written, told) != (0, text_of(answers), ""):
+                    yield f"{subcommand}, {kind.__name__}, {len(script)} lines", (status, written[-100:], told)
+    for subcommand, (taken, refused) in REFUSED.items():
+        for count in FAR_DOWN:
+            found = run(program, subcommand, text_of([taken] * count, refused))
+            if found != (1, "", f"line {count + 1}: BadWord\n"):
+                yield f"{subcommand}, a line that is refused behind {count} others", found

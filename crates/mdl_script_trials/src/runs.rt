@@ -1,0 +1,71 @@
+//! What a command line asks for is run over fakes.
+ghost use Rattle.std.specs.Prelude.{IfOk};
+ghost use Rattle.mdl_program.specs.Runs.{IsRun};
+
+use crate::fakes::{Habit, Source, Target};
+use mdl_key::Kind;
+use mdl_program::{Run, run_asked};
+use std::alloc::Global;
+use std::sync::Wait;
+use std::thread::Threads;
+
+/// Words of a command line, read or refused.
+#[derive(Clone, Copy)]
+pub(crate) enum Words {
+    Lock,
+    Scoped,
+    Matrix,
+    Replay,
+    OnThreads,
+    Refused,
+}
+
+// What the words ask for, or what is said of words that ask for nothing.
+fn asked_by(words: Words) -> Result<Run, &'static str>
+    ensures { IfOk result IsRun }
+{
+    match words {
+        Words::Lock => Ok(Run::Lock(Kind::Object)),
+        Words::Scoped => Ok(Run::Lock(Kind::Scoped)),
+        Words::Matrix => Ok(Run::Matrix),
+        Words::Replay => Ok(Run::Replay),
+        Words::OnThreads => Ok(Run::Threads(5, 1)),
+        Words::Refused => Err("requires a subcommand\n"),
+    }
+}
+
+// What is seen of a run: its status, what it wrote, and what it told.
+#[derive(Drop)]
+struct Seen {
+    status: u8,
+    written: Vec<u8>,
+    told: Vec<u8>,
+}
+
+/// Words, a script, the habits of the devices that it is read from and answered to, and then the status, what is written, and
+/// what is told.
+pub(crate) type Row<'a> = (Words, &'a str, Habit, Habit, u8, &'a str, &'a str);
+
+// Runs what a row asks for without what is promised of it: the tests look at what it does.
+fn look_at<T: Threads + Wait + Sync>(rt: &T, alloc: Global, row: Row<'_>) -> Seen {
+    let (words, script, input, output, ..) = row;
+    let mut source = Source::new(script.as_bytes(), input);
+    let mut target = Target::new(alloc, output);
+    let mut told = Vec::new(alloc);
+    let asked = asked_by(words);
+    let status = run_asked(rt, alloc, &asked, &mut source, &mut target, &mut told);
+    Seen {
+        status,
+        written: target.taken,
+        told,
+    }
+}
+
+/// Whether a run goes as its row says.
+pub(crate) fn goes_so<T: Threads + Wait + Sync>(rt: &T, alloc: Global, row: Row<'_>) -> bool {
+    let seen = look_at(rt, alloc, row);
+    let (.., status, written, told) = row;
+    seen.status == status
+        && seen.written.as_slice() == written.as_bytes()
+        && seen.told.as_slice() == told.as_bytes()
+}
