@@ -10,10 +10,10 @@
 //! use mdl_calls::SpaceError;
 //! use mdl_defs::{ChangeError, DefError};
 //!
-//! // A table that exists can't be created, and the call that was to create it is refused for that.
+//! // A table that exists can't be created, and the call
+//! // that was to create it is refused for that.
 //! let cause = SpaceError::from(ChangeError::Def(DefError::Exists));
-//! assert_eq!(rt; cause, SpaceError::Def(DefError::Exists));
-//! assert_eq!(rt; cause.to_string(rt.alloc())?.as_str(), "already exists");
+//! assert!(rt; cause == SpaceError::Def(DefError::Exists));
 //! ```
 #![tactic(auto)]
 

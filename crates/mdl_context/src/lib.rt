@@ -7,19 +7,19 @@
 //! use mdl_key::{Duration, Key, Mode};
 //! use mdl_space::CoreSpace;
 //!
-//! let alloc = rt.alloc();
-//! let mut space = CoreSpace::new(alloc, 256, 64)?; // places and sessions
-//! let mut context = Context::new(alloc, 1); // of session 1
+//! let orders = Key::table(rt.alloc(), "test", "orders")?;
+//! let mut space = CoreSpace::new(rt.alloc(), 256, 64)?; // places and sessions
+//! let mut context = Context::new(rt.alloc(), 1); // of session 1
 //! let savepoint = context.savepoint();
 //! let request = Request {
-//!     key: &Key::table(alloc, "test", "orders")?,
+//!     key: &orders,
 //!     mode: Mode::SR,
 //!     duration: Duration::Transaction,
 //! };
-//! assert_eq!(rt; context.acquire(&mut space, request)?, Acquire::Acquired(1));
-//! assert_eq!(rt; context.kept().len(), 1);
+//! assert!(rt; context.acquire(&mut space, request) == Ok(Acquire::Acquired(1)));
+//! assert!(rt; context.kept().len() == 1);
 //! // What was gained since the savepoint is given up.
-//! context.rollback_to(&mut space, savepoint)?;
+//! assert!(rt; context.rollback_to(&mut space, savepoint).is_ok());
 //! assert!(rt; context.kept().is_empty());
 //! ```
 #![tactic(auto)]

@@ -22,10 +22,10 @@
 //!     CoreSpace::new(alloc, places, 1)
 //! }
 //!
-//! assert_eq!(rt;
-//!     lone_space(rt.alloc(), 257).err(),
-//!     Some(NewError::BadPlaces)
-//! );
+//! // There are 1 to 256 places in a space.
+//! // One more is refused.
+//! let refused = lone_space(rt.alloc(), 257).err();
+//! assert!(rt; refused == Some(NewError::BadPlaces));
 //! ```
 #![tactic(auto)]
 

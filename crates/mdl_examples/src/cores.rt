@@ -16,8 +16,8 @@ fn lone_space(alloc: Global, places: u16) -> Result<CoreSpace, NewError>
 
 #[test]
 fn a_space_has_its_limits(rt: HostRuntime) {
-    assert_eq!(rt;
-        lone_space(rt.alloc(), 257).err(),
-        Some(NewError::BadPlaces)
-    );
+    // There are 1 to 256 places in a space.
+    // One more is refused.
+    let refused = lone_space(rt.alloc(), 257).err();
+    assert!(rt; refused == Some(NewError::BadPlaces));
 }

@@ -1,33 +1,33 @@
 //! `mdl_graph`: a deadlock of two sessions, and its victim.
-use mdl_book::{Book, Sessions, Ticket};
+use mdl_book::{Book, BookError, Sessions, Ticket};
 use mdl_graph::{WaitGraph, victim};
 use mdl_key::{Key, Mode};
 use mdl_word::Word;
 use std::test::Fail;
 
+fn ticket(session: u16, number: u64, mode: Mode) -> Ticket {
+    Ticket {
+        session,
+        number,
+        mode,
+    }
+}
+
+/// One session reads a table, and another one waits to change it.
+fn fill(book: &mut Book, reader: u16, waiter: u16) -> Result<(), BookError> {
+    book.grant(ticket(reader, 1, Mode::SR), Word(0))?;
+    book.enqueue(ticket(waiter, 2, Mode::X))
+}
+
 #[test]
 fn two_sessions_wait_for_each_other(rt: HostRuntime) -> Result<(), Fail> {
-    let alloc = rt.alloc();
-    let mut graph = WaitGraph::new(alloc, Sessions::new()); // nobody's wait is settled
-    // Each session reads a table, and waits to change the other one.
-    for (table, reader, waiter) in [("customers", 1, 2), ("orders", 2, 1)] {
-        let mut book = Book::new(alloc, Key::table(alloc, "shop", table)?);
-        let read = Ticket {
-            session: reader,
-            number: 1,
-            mode: Mode::SR,
-        };
-        let change = Ticket {
-            session: waiter,
-            number: 2,
-            mode: Mode::X,
-        };
-        book.grant(read, Word(0))?;
-        book.enqueue(change)?;
-        graph.add(&book)?;
-    }
+    let table = Key::table(rt.alloc(), "shop", "customers")?;
+    let mut orders = Book::new(rt.alloc(), Key::table(rt.alloc(), "shop", "orders")?);
+    let mut customers = Book::new(rt.alloc(), table);
+    let mut graph = WaitGraph::new(rt.alloc(), Sessions::new()); // nobody's wait is settled
+    assert!(rt; fill(&mut customers, 1, 2).is_ok() && graph.add(&customers).is_ok());
+    assert!(rt; fill(&mut orders, 2, 1).is_ok() && graph.add(&orders).is_ok());
     // Their wishes weigh the same, and so the session of the greater number falls.
-    let falls = graph.find_cycle(1)?.map(|cycle| victim(&cycle));
-    assert_eq!(rt; falls, Some(2));
+    assert!(rt; matches!(&graph.find_cycle(1), Ok(Some(cycle)) if victim(cycle) == 2));
     Ok(())
 }

@@ -5,14 +5,14 @@ use std::test::Fail;
 
 #[test]
 fn a_change_waits_in_a_space(rt: HostRuntime) -> Result<(), Fail> {
-    let alloc = rt.alloc();
-    let mut space = CoreSpace::new(alloc, 256, 64)?; // places and sessions
-    let place = space.resolve(1, &Key::table(alloc, "test", "orders")?)?;
+    let orders = Key::table(rt.alloc(), "test", "orders")?;
+    let mut space = CoreSpace::new(rt.alloc(), 256, 64)?; // places and sessions
+    assert!(rt; space.resolve(1, &orders) == Ok(1)); // the place of the table
     // Session 1 reads the table, and session 2 waits to change it.
-    assert_eq!(rt; space.try_now(1, place, Mode::SR)?, Attempt::Granted(1));
-    assert_eq!(rt; space.begin_wait(2, place, Mode::X)?, Begun::Waiting(1));
+    assert!(rt; space.try_now(1, 1, Mode::SR) == Ok(Attempt::Granted(1)));
+    assert!(rt; space.begin_wait(2, 1, Mode::X) == Ok(Begun::Waiting(1)));
     // The reader goes, and the change has its turn.
-    space.release(1, 1)?;
-    assert_eq!(rt; space.end_wait(2)?, Ended::Granted(1));
+    assert!(rt; space.release(1, 1).is_ok());
+    assert!(rt; space.end_wait(2) == Ok(Ended::Granted(1)));
     Ok(())
 }

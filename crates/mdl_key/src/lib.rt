@@ -11,7 +11,7 @@
 //! use mdl_key::{Key, Kind, Mode, conflicts_granted, conflicts_waiting};
 //!
 //! let table = Key::table(rt.alloc(), "test", "orders")?;
-//! assert_eq!(rt; table.kind(), Kind::Object);
+//! assert!(rt; table.kind() == Kind::Object);
 //! // A reader stands in the way of a change, and who reads later waits behind that.
 //! assert!(rt; conflicts_granted(table.kind(), Mode::X, Mode::SR));
 //! assert!(rt; conflicts_waiting(table.kind(), Mode::SR, Mode::X));

@@ -7,10 +7,10 @@
 //!
 //! let reply = Reply::Error(ErrorNumber::NoSuchTable);
 //! let number = match &reply {
-//!     Reply::Error(error) => Some(error.number()),
-//!     _ => None,
+//!     Reply::Error(error) => error.number(),
+//!     _ => 0,
 //! };
-//! assert_eq!(rt; number, Some(1146));
+//! assert!(rt; number == 1146);
 //! ```
 #![tactic(auto)]
 

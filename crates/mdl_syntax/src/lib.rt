@@ -15,15 +15,15 @@
 //!     b"# who has ordered?\n1 SELECT orders shop.customers\n",
 //! )?;
 //! for line in script.lines() {
-//!     assert_eq!(rt; (line.number, line.session), (2, 1));
+//!     // The first line is a comment.
+//!     assert!(rt; line.number == 2);
+//!     assert!(rt; line.session == 1);
 //!     assert!(rt; matches!(line.statement, Statement::Select(_)));
 //! }
 //! // The first refused line refuses a script.
-//! let refused = parse(rt.alloc(), b"1 BEGIN\n65 BEGIN\n");
-//! assert_eq!(rt;
-//!     refused.err(),
-//!     Some(Fault::Refused(2, LineError::BadSession))
-//! );
+//! // There are 64 sessions at most.
+//! let refused = parse(rt.alloc(), b"1 BEGIN\n65 BEGIN\n").err();
+//! assert!(rt; refused == Some(Fault::Refused(2, LineError::BadSession)));
 //! ```
 #![tactic(auto)]
 

@@ -11,11 +11,11 @@
 //! use mdl_word::Word;
 //!
 //! // What one more reader adds to a table's word. A change is counted in none.
-//! assert_eq!(rt; Word::increment(Kind::Object, Mode::SR), Some(1 << 20));
-//! assert_eq!(rt; Word::increment(Kind::Object, Mode::X), None);
+//! assert!(rt; Word::increment(Kind::Object, Mode::SR) == Some(1 << 20));
+//! assert!(rt; Word::increment(Kind::Object, Mode::X).is_none());
 //! // Two readers stand in the way of a change, and of no writer.
 //! let word = Word(2 << 20);
-//! assert_eq!(rt; word.counts(), [0, 2, 0]);
+//! assert!(rt; word.counts() == [0, 2, 0]);
 //! assert!(rt; word.blocks(Kind::Object, Mode::X));
 //! assert!(rt; !word.blocks(Kind::Object, Mode::SW));
 //! ```

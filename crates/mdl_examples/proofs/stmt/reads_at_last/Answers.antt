@@ -4,7 +4,7 @@ use Rattle.mdl_core.specs.Words.{own_at}
 use Rattle.mdl_space.specs.CoreMembers.{core_space}
 use Rattle.mdl_stmt.proofs.AttendanceLemmas.{attends-empty}
 use Rattle.mdl_examples.proofs.SpaceLemmas.{attends-new}
-use Rattle.mdl_examples.proofs.stmt.last_progress.Goals as goal
+use Rattle.mdl_examples.proofs.stmt.reads_at_last.Goals as goal
 
 pub loop-line-init : goal.loop-line-init
 loop-line-init c =
