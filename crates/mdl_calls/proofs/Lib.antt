@@ -1,6 +1,5 @@
 pub mod CacheLemmas
 pub mod FaithfulLemmas
-pub mod LoneLemmas
 pub mod MappedLists
 pub mod OwnLemmas
 pub mod RunLemmas

@@ -8,6 +8,5 @@ pub mod Own
 pub mod Reads
 pub mod Runs
 pub mod Searches
-pub mod Tests
 pub mod Waits
 pub mod Words
