@@ -5,15 +5,15 @@
 # runs compiled alone: the kit's interpreter can't run a program that reads its words, and one step is enough for it to say so.
 # Then mdlsim plays an example on threads, behind more and more lines: to each run one allocation is refused, and it has to tell just that, unless a cache
 # alone lacks the memory.
-# Usage: sh growths/check.sh        each allocation, in some fifty minutes
+# Usage: sh growths/check.sh        each allocation, in some twenty minutes
 #        sh growths/check.sh 23     every twenty-third of them
 growths=$(cd "$(dirname "$0")" && pwd)
 sh "$growths/../make/needs.sh" rt python3 awk || exit 1
 made=$(mktemp -d)
 trap 'rm -rf "$made"' EXIT
 
-# The number of the allocation that is refused. It has to be more than a run makes: some 3,340, those that read the word included.
-refused=3500
+# The number of the allocation that is refused. It has to be more than a run makes: some 1,490, those that read the word included.
+refused=1600
 
 # The same of mdlsim, where it plays the example alone.
 refused_on_threads=400

@@ -1,41 +1,14 @@
 -- Two sessions over one lock space, of which one makes calls.
-use Rattle.std.proofs.Common.{◌≡◌, ◌≢◌, ℕ, [], None, refl, subst, ◌∙◌, arith}
+use Rattle.std.proofs.Common.{◌≡◌, ℕ, [], None, refl, ◌∙◌, arith}
 use Rattle.std.proofs.lemmas.List.Elements.{All-nil}
 use Rattle.mdl_defs.specs.Caches.{CacheView}
 use Rattle.mdl_calls.specs.declared.lock_space.LockSpace.{Ghosts}
 use Rattle.mdl_core.specs.Words.{Core, SpeaksFor, own_at}
 use Rattle.mdl_space.specs.CoreMembers.{core_space}
 use Rattle.mdl_context.specs.Contexts.{ContextView, Attends, LeavesOthers}
-use Rattle.mdl_context.proofs.AttendLemmas.{attends-same}
 use Rattle.mdl_stmt.specs.Attendance.{AttendsWith}
 use Rattle.mdl_stmt.proofs.AttendanceLemmas.{attends-besides, attends-empty}
-use Rattle.mdl_growth_trials.specs.Pairs.{AreRunners, AreTwo, IsRunner}
-
--- the other one has made a call
-still_attended : (before after : Core) (x : ContextView) (who : ℕ) → LeavesOthers core_space who before after → x.who ≢ who
-    → Attends core_space before x → Attends core_space after x
-still_attended before after x who by other attends =
-    let kept = by.0 x.who other attends.speaks in attends-same before after x attends kept.2 kept.0 kept.1
-
--- the first has made a call
-pub first_then : (before after : Core) (first second x : ContextView) → AreTwo before first second → x.who ≡ first.who
-    → Attends core_space after x → LeavesOthers core_space first.who before after → AreTwo after x second
-first_then before after first second x two who attends by = record {
-  one = who ∙ two.one;
-  two = two.two;
-  first_served = attends;
-  second_served = still_attended before after second first.who by (λ e. omega (arith, e, two.one, two.two)) two.second_served;
-}
-
--- the second has made a call
-pub second_then : (before after : Core) (first second x : ContextView) → AreTwo before first second → x.who ≡ second.who
-    → Attends core_space after x → LeavesOthers core_space second.who before after → AreTwo after first x
-second_then before after first second x two who attends by = record {
-  one = two.one;
-  two = who ∙ two.two;
-  first_served = still_attended before after first second.who by (λ e. omega (arith, e, two.one, two.two)) two.first_served;
-  second_served = attends;
-}
+use Rattle.mdl_growth_trials.specs.Pairs.{AreRunners}
 
 -- a new context of a session that has nothing
 pub fresh : {S : Type 0} (members : Ghosts S) (space : S) (who : ℕ) (x : ContextView) → x ≡ record { who = who; kept = []; known = []; wait = None }
@@ -43,20 +16,7 @@ pub fresh : {S : Type 0} (members : Ghosts S) (space : S) (who : ℕ) (x : Conte
 fresh members space who x new speaks nothing =
     rw new (record { speaks = speaks; serves = rw nothing (record { held = refl; wait = refl }); known = All-nil _; places = All-nil _; wish = tt })
 
--- two sessions that have nothing
-pub fresh_two : (space : Core) (first second : ContextView) → first ≡ record { who = 1; kept = []; known = []; wait = None }
-    → second ≡ record { who = 2; kept = []; known = []; wait = None } → SpeaksFor space 1 → SpeaksFor space 2
-    → own_at space 1 ≡ record { held = []; wait = None } → own_at space 2 ≡ record { held = []; wait = None } → AreTwo space first second
-fresh_two space first second is_first is_second speaks_first speaks_second first_own second_own = record {
-  one = rw is_first refl;
-  two = rw is_second refl;
-  first_served = fresh core_space space 1 first is_first speaks_first first_own;
-  second_served = fresh core_space space 2 second is_second speaks_second second_own;
-}
-
--- ---- sessions that make statements
-
--- the first has made one
+-- the first has made a statement
 pub first_runs : (before after : Core) (first second x : ContextView) (c d y : CacheView) → AreRunners before first c second d → x.who ≡ first.who
     → AttendsWith core_space after x y → LeavesOthers core_space first.who before after → AreRunners after x y second d
 first_runs before after first second x c d y two who attends by = record {
@@ -77,31 +37,12 @@ second_runs before after first second x c d y two who attends by = record {
 }
 
 -- neither has anything, and nothing is cached
-pub fresh_runners : (space : Core) (first second : ContextView) (c d : CacheView) → AreTwo space first second → c.kept ≡ [] → d.kept ≡ [] → AreRunners space first c second d
-fresh_runners space first second c d two none nothing = record {
-  one = two.one;
-  two = two.two;
-  first_served = attends-empty core_space space first c none two.first_served;
-  second_served = attends-empty core_space space second d nothing two.second_served;
-}
-
--- ---- a session that is a lock space for itself
-
--- one that has nothing, and a runner that has made no statement
-pub fresh_runner : {S : Type 0} (members : Ghosts S) (space : S) (who : ℕ) (x : ContextView) (c : CacheView)
-    → x ≡ record { who = who; kept = []; known = []; wait = None } → c.kept ≡ []
-    → members.speaks_for space who → members.own space who ≡ record { held = []; wait = None } → IsRunner members space who x c
-fresh_runner members space who x c new none speaks nothing = record {
-  numbered = rw new refl;
-  speaks = speaks;
-  served = attends-empty members space x c none (fresh members space who x new speaks nothing);
-}
-
--- it has made a statement
-pub runs_on : {S : Type 0} (members : Ghosts S) (space after : S) (who : ℕ) (x y : ContextView) (c d : CacheView) → IsRunner members space who x c → y.who ≡ x.who
-    → AttendsWith members after y d → IsRunner members after who y d
-runs_on members space after who x y c d is same attends = record {
-  numbered = same ∙ is.numbered;
-  speaks = subst (λ (w : ℕ). members.speaks_for after w) (same ∙ is.numbered) attends.attends.speaks;
-  served = attends;
+pub fresh_runners : (space : Core) (first second : ContextView) (c d : CacheView) → first ≡ record { who = 1; kept = []; known = []; wait = None }
+    → second ≡ record { who = 2; kept = []; known = []; wait = None } → c.kept ≡ [] → d.kept ≡ [] → SpeaksFor space 1 → SpeaksFor space 2
+    → own_at space 1 ≡ record { held = []; wait = None } → own_at space 2 ≡ record { held = []; wait = None } → AreRunners space first c second d
+fresh_runners space first second c d is_first is_second none nothing speaks_first speaks_second first_own second_own = record {
+  one = rw is_first refl;
+  two = rw is_second refl;
+  first_served = attends-empty core_space space first c none (fresh core_space space 1 first is_first speaks_first first_own);
+  second_served = attends-empty core_space space second d nothing (fresh core_space space 2 second is_second speaks_second second_own);
 }

@@ -1,18 +1,22 @@
-//! The contexts of two sessions over a space: tickets by duration, waits, a deadlock and stronger modes. Where a call is refused for want of
-//! memory, the session holds what it held and waits for nothing, and the call is made again. What gives up takes no memory.
-ghost use Rattle.std.specs.Prelude.{◌≡◌};
-ghost use Rattle.mdl_context.specs.Contexts.{Attends, LeavesOthers};
+//! The contexts of two sessions of a space that threads share, on one thread: tickets by duration, waits, a deadlock and stronger modes. Where a
+//! call is refused for want of memory, the session holds what it held and waits for nothing, and the call is made again. What gives up takes no
+//! memory.
+ghost use Rattle.std.specs.Prelude.{◌≡◌, [], None};
+ghost use Rattle.mdl_context.specs.Contexts.{Attends};
+ghost use Rattle.mdl_shared.specs.Passes.{pass_table, table_of};
 
-use crate::spaces::{new_space, table};
+use crate::passes::{closes, new_passes};
 use mdl_context::{Acquire, Context, ContextError, Kept, Mark, Request, Resume};
-use mdl_key::{Duration, Mode};
-use mdl_space::{CoreSpace, Held, LockSpace, Settled, SpaceError, TicketId};
+use mdl_key::{Duration, Key, Mode};
+use mdl_shared::{Manager, Pass, Session};
+use mdl_space::{Held, LockSpace, Settled, SpaceError, TicketId};
 use std::alloc::Global;
 use std::marker::Model;
+use std::sync::Wait;
 
 // A call of a session.
 #[derive(Clone, Copy)]
-pub(crate) enum Act {
+enum Act {
     Acquire(&'static str, Mode, Duration),
     // Of the ticket that it gained last.
     Upgrade(Mode),
@@ -29,16 +33,15 @@ pub(crate) enum Act {
 
 // What it answers.
 #[derive(Clone, Copy, PartialEq, Eq)]
-pub(crate) enum Reply {
+enum Reply {
     Acquired,
     MustWait,
     Waits,
     Lost(Settled),
     Done,
-    Refused(ContextError),
+    NoMemory,
+    Refused,
 }
-
-const NO_MEMORY: Reply = Reply::Refused(ContextError::Space(SpaceError::OutOfMemory));
 
 impl Act {
     // Whether it may take memory.
@@ -58,141 +61,89 @@ impl Act {
     }
 }
 
-// The two sessions.
-#[derive(Clone, Copy)]
-pub(crate) enum Who {
-    First,
-    Second,
+// A session that is a lock space for itself, and the context that keeps its tickets.
+struct Seat<S: LockSpace> {
+    session: S,
+    context: Context<S>,
 }
 
-/// Two sessions with their contexts.
-pub(crate) trait Two {
-    /// Makes a call of a session.
-    fn make(&mut self, who: Who, act: Act) -> Reply;
-
-    /// Whether a session's context keeps the tickets that it holds, and so many of them.
-    fn keeps(&self, who: Who, count: usize) -> bool;
-
-    /// How many tickets a session has of the statement, of the transaction and in all, and whether it waits.
-    fn stands(&self, who: Who) -> (Mark, usize, bool);
-}
-
-// A space with the contexts of its sessions 1 and 2.
-#[derive(Drop)]
-struct Pair {
-    alloc: Global,
-    space: CoreSpace,
-    first: Context<CoreSpace>,
-    second: Context<CoreSpace>,
-}
-
-impl Model for Pair {
-    ghost use Rattle.mdl_growth_trials.specs.Pairs.{AreTwo};
+impl<S: LockSpace> Model for Seat<S> {
+    ghost use Rattle.mdl_context.specs.Contexts.{Attends};
 
     ghost Value = { Unit };
 
     ghost view = { λ _. tt };
 
-    ghost invariant = { λ pair. AreTwo pair.space pair.first pair.second };
+    ghost invariant = { λ seat. Attends S.LockSpace seat.session seat.context };
 }
 
-impl Pair {
-    // Nobody has asked for anything.
-    fn new(alloc: Global) -> Option<Pair> {
-        let space = new_space(alloc, 2, 2)?;
-        Some(Pair {
-            alloc,
-            space,
-            first: Context::new(alloc, 1),
-            second: Context::new(alloc, 2),
-        })
-    }
-
-    // Makes a call of a session.
-    fn call(&mut self, who: Who, act: Act) -> Reply {
-        match who {
-            Who::First => make(self.alloc, &mut self.space, &mut self.first, act),
-            Who::Second => make(self.alloc, &mut self.space, &mut self.second, act),
-        }
-    }
-}
-
-impl Two for Pair {
-    fn make(&mut self, who: Who, act: Act) -> Reply {
-        self.call(who, act)
-    }
-
-    fn keeps(&self, who: Who, count: usize) -> bool {
-        match who {
-            Who::First => keeps(&self.space, &self.first, count),
-            Who::Second => keeps(&self.space, &self.second, count),
+impl<S: LockSpace> Seat<S> {
+    // A session of this number, which has nothing.
+    fn new(alloc: Global, session: S, who: u16) -> Seat<S>
+        requires speaks { S.speaks_for session who }
+        requires nothing { S.own session who ≡ record { held = []; wait = None } }
+    {
+        Seat {
+            session,
+            context: Context::new(alloc, who),
         }
     }
 
-    fn stands(&self, who: Who) -> (Mark, usize, bool) {
-        match who {
-            Who::First => stands(&self.first),
-            Who::Second => stands(&self.second),
+    // Makes a call.
+    fn make(&mut self, alloc: Global, act: Act) -> Reply {
+        make(alloc, &mut self.session, &mut self.context, act)
+    }
+
+    // Whether the context keeps the tickets that the session holds, and so many of them.
+    fn keeps(&self, count: usize) -> bool {
+        let context = &self.context;
+        let held = match self.session.held(context.who()) {
+            Err(SpaceError::OutOfMemory) => self.session.held(context.who()),
+            outcome => outcome,
+        };
+        match held {
+            Ok(held) => held.len() == count && are_kept(context.kept(), &held),
+            Err(_) => false,
         }
     }
-}
 
-/// How many tickets a context has of the statement, of the transaction and in all, and whether it waits.
-pub(crate) fn stands<S: LockSpace>(context: &Context<S>) -> (Mark, usize, bool) {
-    (
-        context.savepoint(),
-        context.kept().len(),
-        context.wish().is_some(),
-    )
-}
+    // How many tickets there are of the statement, of the transaction and in all, and whether the session waits.
+    fn stands(&self) -> (Mark, usize, bool) {
+        let context = &self.context;
+        (
+            context.savepoint(),
+            context.kept().len(),
+            context.wish().is_some(),
+        )
+    }
 
-/// Whether a context keeps the tickets that its session holds, and so many of them.
-pub(crate) fn keeps<S: LockSpace>(space: &S, context: &Context<S>, count: usize) -> bool
-    requires { Attends S.LockSpace space.now context.now }
-{
-    let who = context.who();
-    let held = match space.held(who) {
-        Err(SpaceError::OutOfMemory) => space.held(who),
-        outcome => outcome,
-    };
-    match held {
-        Ok(held) => held.len() == count && are_kept(context.kept(), &held),
-        Err(_) => false,
+    // The session, with what it has, and without its context.
+    fn into_session(self) -> S {
+        let Seat {
+            session,
+            context: _,
+        } = self;
+        session
     }
 }
 
 // Whether these tickets are kept.
 fn are_kept(kept: &[Kept], held: &[Held]) -> bool {
+    for (ticket, other) in kept.iter().zip(held) {
+        if ticket.id != other.id || ticket.place != other.place || ticket.mode != other.mode {
+            return false;
+        }
+    }
     kept.len() == held.len()
-        && kept.iter().zip(held).all(|(ticket, other)| ticket.id == other.id
-            && ticket.place == other.place
-            && ticket.mode == other.mode)
 }
 
-/// Makes a call.
-pub(crate) fn make<S: LockSpace>(
-    alloc: Global,
-    space: &mut S,
-    context: &mut Context<S>,
-    act: Act,
-) -> Reply
+// Makes a call.
+fn make<S: LockSpace>(alloc: Global, space: &mut S, context: &mut Context<S>, act: Act) -> Reply
     requires { Attends S.LockSpace space.old context.old }
-    ensures attends { Attends S.LockSpace space.new context.new }
-    ensures who { context.new.who ≡ context.old.who }
-    ensures others { LeavesOthers S.LockSpace context.old.who space.old space.new }
+    ensures { Attends S.LockSpace space.new context.new }
 {
     match act {
-        Act::Acquire(name, mode, duration) => {
-            let Ok(key) = table(alloc, name) else {
-                return Reply::Waits;
-            };
-            let request = Request {
-                key: &key,
-                mode,
-                duration,
-            };
-            acquired(context.acquire(space, request))
-        }
+        Act::Acquire(name, mode, duration) => acquire(alloc, space, context, name, mode, duration),
         Act::Upgrade(mode) => acquired(context.upgrade(space, last_ticket(context), mode)),
         Act::Downgrade(mode) => done(context.downgrade(space, last_ticket(context), mode)),
         Act::GoBack(statement, transaction) => {
@@ -209,6 +160,31 @@ pub(crate) fn make<S: LockSpace>(
     }
 }
 
+// A ticket at a table is wished for.
+fn acquire<S: LockSpace>(
+    alloc: Global,
+    space: &mut S,
+    context: &mut Context<S>,
+    name: &str,
+    mode: Mode,
+    duration: Duration,
+) -> Reply
+    requires { Attends S.LockSpace space.old context.old }
+    ensures { Attends S.LockSpace space.new context.new }
+{
+    match Key::table(alloc, "test", name) {
+        Ok(key) => {
+            let request = Request {
+                key: &key,
+                mode,
+                duration,
+            };
+            acquired(context.acquire(space, request))
+        }
+        Err(_) => Reply::NoMemory,
+    }
+}
+
 // The number of the ticket that a session gained last, or of none.
 fn last_ticket<S: LockSpace>(context: &Context<S>) -> TicketId {
     match context.kept().last() {
@@ -221,7 +197,7 @@ fn acquired(outcome: Result<Acquire, ContextError>) -> Reply {
     match outcome {
         Ok(Acquire::Acquired(_)) => Reply::Acquired,
         Ok(Acquire::MustWait(_)) => Reply::MustWait,
-        Err(error) => Reply::Refused(error),
+        Err(error) => refused(error),
     }
 }
 
@@ -230,19 +206,27 @@ fn resumed(outcome: Result<Resume, ContextError>) -> Reply {
         Ok(Resume::Waiting) => Reply::Waits,
         Ok(Resume::Acquired(_)) => Reply::Acquired,
         Ok(Resume::Lost(how)) => Reply::Lost(how),
-        Err(error) => Reply::Refused(error),
+        Err(error) => refused(error),
     }
 }
 
 fn done(outcome: Result<(), ContextError>) -> Reply {
     match outcome {
         Ok(()) => Reply::Done,
-        Err(error) => Reply::Refused(error),
+        Err(error) => refused(error),
     }
 }
 
-// A session's call, what it answers, and how many tickets the session has then.
-type Row = (Who, Act, Reply, usize);
+fn refused(error: ContextError) -> Reply {
+    if matches!(error, ContextError::Space(SpaceError::OutOfMemory)) {
+        Reply::NoMemory
+    } else {
+        Reply::Refused
+    }
+}
+
+// A session, its call, what it answers, and how many tickets the session has then.
+type Row = (u16, Act, Reply, usize);
 
 const STATEMENT: Duration = Duration::Statement;
 
@@ -250,129 +234,150 @@ const TRANSACTION: Duration = Duration::Transaction;
 
 const EXPLICIT: Duration = Duration::Explicit;
 
-const LIFE: &[Row] = &[
+const ROWS: &[Row] = &[
     (
-        Who::First,
+        1,
         Act::Acquire("a", Mode::SW, TRANSACTION),
         Reply::Acquired,
         1,
     ),
     (
-        Who::Second,
+        2,
         Act::Acquire("b", Mode::SU, TRANSACTION),
         Reply::Acquired,
         1,
     ),
     // It is used again, and cloned twice.
     (
-        Who::Second,
+        2,
         Act::Acquire("b", Mode::SR, TRANSACTION),
         Reply::Acquired,
         1,
     ),
     (
-        Who::Second,
+        2,
         Act::Acquire("b", Mode::SR, STATEMENT),
         Reply::Acquired,
         2,
     ),
+    (2, Act::Acquire("b", Mode::SR, EXPLICIT), Reply::Acquired, 3),
     (
-        Who::Second,
-        Act::Acquire("b", Mode::SR, EXPLICIT),
-        Reply::Acquired,
-        3,
-    ),
-    (
-        Who::First,
+        1,
         Act::Acquire("b", Mode::X, TRANSACTION),
         Reply::MustWait,
         1,
     ),
-    (Who::First, Act::Resume, Reply::Waits, 1),
+    (1, Act::Resume, Reply::Waits, 1),
     // A deadlock, in which the greater number falls.
     (
-        Who::Second,
+        2,
         Act::Acquire("a", Mode::X, TRANSACTION),
         Reply::MustWait,
         3,
     ),
-    (Who::Second, Act::Resume, Reply::Lost(Settled::Victim), 3),
-    (Who::Second, Act::GoBack(1, 0), Reply::Done, 2),
-    (Who::Second, Act::EndStatement, Reply::Done, 1),
-    (
-        Who::Second,
-        Act::Acquire("a", Mode::X, STATEMENT),
-        Reply::MustWait,
-        1,
-    ),
-    (Who::Second, Act::Resume, Reply::Lost(Settled::Victim), 1),
-    (Who::First, Act::GiveUp, Reply::Lost(Settled::Timeout), 1),
-    (
-        Who::Second,
-        Act::Acquire("a", Mode::X, STATEMENT),
-        Reply::MustWait,
-        1,
-    ),
-    (Who::First, Act::EndTransaction, Reply::Done, 0),
-    (Who::Second, Act::Resume, Reply::Acquired, 2),
-    (Who::Second, Act::EndTransaction, Reply::Done, 1),
+    (2, Act::Resume, Reply::Lost(Settled::Victim), 3),
+    (2, Act::GoBack(1, 0), Reply::Done, 2),
+    (2, Act::EndStatement, Reply::Done, 1),
+    (2, Act::Acquire("a", Mode::X, STATEMENT), Reply::MustWait, 1),
+    (2, Act::Resume, Reply::Lost(Settled::Victim), 1),
+    (1, Act::GiveUp, Reply::Lost(Settled::Timeout), 1),
+    (2, Act::Acquire("a", Mode::X, STATEMENT), Reply::MustWait, 1),
+    (1, Act::EndTransaction, Reply::Done, 0),
+    (2, Act::Resume, Reply::Acquired, 2),
+    (2, Act::EndTransaction, Reply::Done, 1),
     // A ticket gets a stronger mode at once, and then after a reader is done. Another time it doesn't wait so long.
     (
-        Who::First,
+        1,
         Act::Acquire("a", Mode::SU, TRANSACTION),
         Reply::Acquired,
         1,
     ),
-    (Who::First, Act::Upgrade(Mode::SNW), Reply::Acquired, 1),
+    (1, Act::Upgrade(Mode::SNW), Reply::Acquired, 1),
     (
-        Who::Second,
+        2,
         Act::Acquire("a", Mode::SR, TRANSACTION),
         Reply::Acquired,
         2,
     ),
-    (Who::First, Act::Upgrade(Mode::X), Reply::MustWait, 1),
-    (Who::First, Act::Resume, Reply::Waits, 1),
-    (Who::Second, Act::EndTransaction, Reply::Done, 1),
-    (Who::First, Act::Raise(Mode::X), Reply::Acquired, 1),
-    (Who::First, Act::Downgrade(Mode::SU), Reply::Done, 1),
+    (1, Act::Upgrade(Mode::X), Reply::MustWait, 1),
+    (1, Act::Resume, Reply::Waits, 1),
+    (2, Act::EndTransaction, Reply::Done, 1),
+    (1, Act::Raise(Mode::X), Reply::Acquired, 1),
+    (1, Act::Downgrade(Mode::SU), Reply::Done, 1),
     (
-        Who::Second,
+        2,
         Act::Acquire("a", Mode::SR, TRANSACTION),
         Reply::Acquired,
         2,
     ),
-    (Who::First, Act::Upgrade(Mode::X), Reply::MustWait, 1),
-    (Who::First, Act::GiveUp, Reply::Lost(Settled::Timeout), 1),
-    (Who::First, Act::EndTransaction, Reply::Done, 0),
+    (1, Act::Upgrade(Mode::X), Reply::MustWait, 1),
+    (1, Act::GiveUp, Reply::Lost(Settled::Timeout), 1),
+    (1, Act::EndTransaction, Reply::Done, 0),
 ];
 
-/// Whether contexts do what they should.
-pub fn calls_are_answered(alloc: Global) -> bool {
-    match Pair::new(alloc) {
-        Some(mut pair) => all_outlive(&mut pair),
-        None => false,
-    }
+// The sessions of a new space, of two places.
+fn open<'r, R: Wait>(
+    rt: &'r R,
+    alloc: Global,
+) -> Option<(Seat<Session<&'r R>>, Seat<Session<&'r R>>)> {
+    let Ok((manager, mut passes)) = new_passes(alloc, 2) else {
+        return None;
+    };
+    let second = open_seat(rt, alloc, &manager, passes.remove(1));
+    let first = open_seat(rt, alloc, &manager, passes.remove(0));
+    Some((first, second))
 }
 
-/// Whether all calls of a life are answered, by these two.
-pub(crate) fn all_outlive<T: Two>(pair: &mut T) -> bool {
-    for (who, act, want, count) in LIFE {
-        if !outlives(pair, *who, *act, *want) || !pair.keeps(*who, *count) {
+// The session of a pass.
+fn open_seat<'r, R: Wait>(
+    rt: &'r R,
+    alloc: Global,
+    manager: &Manager,
+    pass: Pass,
+) -> Seat<Session<&'r R>>
+    requires { pass_table pass ≡ table_of manager.now }
+{
+    let session = Session::open(rt, manager, pass);
+    let who = session.number();
+    Seat::new(alloc, session, who)
+}
+
+/// Whether contexts do what they should.
+pub(crate) fn calls_are_answered<R: Wait>(rt: &R, alloc: Global) -> bool {
+    let Some((mut first, mut second)) = open(rt, alloc) else {
+        return false;
+    };
+    let go_well = all_outlive(alloc, &mut first, &mut second);
+    let _first = closes(rt, first.into_session());
+    let _second = closes(rt, second.into_session());
+    go_well
+}
+
+fn all_outlive<S: LockSpace>(alloc: Global, first: &mut Seat<S>, second: &mut Seat<S>) -> bool {
+    for row in ROWS {
+        let goes_well = if row.0 == 1 {
+            outlives(alloc, first, *row)
+        } else {
+            outlives(alloc, second, *row)
+        };
+        if !goes_well {
             return false;
         }
     }
     true
 }
 
-// Whether a call has this answer: at once, or at the second try, where memory was refused to the first, after which the session
-// had the tickets that it had, and didn't wait.
-fn outlives<T: Two>(pair: &mut T, who: Who, act: Act, want: Reply) -> bool {
-    let (mark, count, _) = pair.stands(who);
-    let reply = pair.make(who, act);
-    if reply != NO_MEMORY || !act.takes_memory() {
-        return reply == want;
+// Whether this comes of a row: at once, or at the second try, where memory was refused to the first, after which the session had the tickets that it
+// had, and didn't wait.
+fn outlives<S: LockSpace>(alloc: Global, seat: &mut Seat<S>, row: Row) -> bool {
+    let (_, act, want, count) = row;
+    let (mark, had, _) = seat.stands();
+    let reply = seat.make(alloc, act);
+    if reply != Reply::NoMemory || !act.takes_memory() {
+        return reply == want && seat.keeps(count);
     }
-    pair.stands(who) == (mark, count, false)
-        && pair.keeps(who, count)
-        && pair.make(who, act.again()) == want
+    seat.stands() == (mark, had, false)
+        && seat.keeps(had)
+        && seat.make(alloc, act.again()) == want
+        && seat.keeps(count)
 }

@@ -6,35 +6,21 @@
 //! whole run comes so much the earlier in the lives.
 #![tactic(auto)]
 
-mod books;
+mod acts;
 mod contexts;
-mod definitions;
-mod desks;
 mod passes;
-mod replays;
 mod scenes;
 mod scripts;
-mod seats;
 mod server_rows;
 mod sessions;
-mod spaces;
-mod spots;
 mod statements;
-mod works;
 
 use std::alloc::Global;
 use std::process::ExitCode;
 use std::sync::Wait;
 
 fn main(rt: HostRuntime) -> ExitCode {
-    let lead = match lead_of(&rt) {
-        Ok(lead) => lead,
-        Err(error) => {
-            let _ = eprintln!(rt; "{error}");
-            return ExitCode::FAILURE;
-        }
-    };
-    spend(rt.alloc(), lead);
+    spend(rt.alloc(), lead_of(&rt));
     match first_wrong(&rt, rt.alloc()) {
         None => {
             let _ = println!(rt; "all went well");
@@ -48,13 +34,15 @@ fn main(rt: HostRuntime) -> ExitCode {
 }
 
 // The number on the command line, and 0 where there is none.
-fn lead_of(rt: &HostRuntime) -> std::io::Result<usize> {
-    let words = std::env::args(rt)?;
+fn lead_of(rt: &HostRuntime) -> usize {
+    let Ok(words) = std::env::args(rt) else {
+        return 0;
+    };
     let mut lead = 0;
     for word in words.skip(1) {
         lead = word.parse::<usize>().unwrap_or(0);
     }
-    Ok(lead)
+    lead
 }
 
 // Makes so many allocations, one of which may be refused.
@@ -67,54 +55,17 @@ fn spend(alloc: Global, count: usize) {
 
 // The first life that goes wrong.
 fn first_wrong<R: Wait>(rt: &R, alloc: Global) -> Option<&'static str> {
-    if !books::rings_are_found(alloc) {
-        return Some("a ring of locks");
-    }
-    if !definitions::changes_are_made(alloc) {
-        return Some("a table's definition");
-    }
-    if !spaces::calls_are_answered(alloc) {
-        return Some("a space");
-    }
-    if !contexts::calls_are_answered(alloc) {
-        return Some("two contexts");
-    }
-    if let Some(scene) = scenes::first_wrong(alloc) {
-        return Some(scene);
-    }
-    if let Some(life) = first_wrong_shared(rt, alloc) {
-        return Some(life);
-    }
-    first_wrong_script(alloc)
-}
-
-// The first of the lives over a space that threads share that goes wrong.
-fn first_wrong_shared<R: Wait>(rt: &R, alloc: Global) -> Option<&'static str> {
     if !sessions::calls_are_answered(rt, alloc) {
         return Some("three sessions");
     }
-    if !seats::calls_are_answered(rt, alloc) {
-        return Some("two contexts over sessions");
-    }
-    scenes::first_wrong_shared(rt, alloc)
-}
-
-// The first of the lives of scripts that goes wrong.
-fn first_wrong_script(alloc: Global) -> Option<&'static str> {
-    if !scripts::statements_are_read(alloc) {
-        return Some("a script of statements");
+    if !contexts::calls_are_answered(rt, alloc) {
+        return Some("two contexts");
     }
     if !server_rows::rows_are_read(alloc) {
         return Some("the rows of a server");
     }
-    if !scripts::locks_are_driven(alloc) {
-        return Some("a lock's script");
+    match scripts::first_wrong(alloc) {
+        Some(script) => Some(script),
+        None => scenes::first_wrong(alloc),
     }
-    if !replays::scripts_are_replayed(alloc) {
-        return Some("a replayed script");
-    }
-    if !works::lines_are_worked_off(alloc) {
-        return Some("a session at work");
-    }
-    None
 }

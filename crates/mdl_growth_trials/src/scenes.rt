@@ -1,8 +1,6 @@
 //! Scenes of statements: transactions and changes of tables, of schemas, what sessions lock as a whole, and user-level locks.
-use crate::desks;
-use crate::statements::{self, Outcome, Row, Scene};
+use crate::statements::{Outcome, Row, Scene, goes_well};
 use std::alloc::Global;
-use std::sync::Wait;
 
 // Transactions with savepoints, of which one is waited for, and tables that are dropped and renamed.
 const TRANSACTIONS: &[Row<'static>] = &[
@@ -192,20 +190,10 @@ const SCENES: &[(&str, Scene<'static>)] = &[
     ),
 ];
 
-/// The first scene that goes wrong over a space of one thread.
+/// The first scene that goes wrong.
 pub(crate) fn first_wrong(alloc: Global) -> Option<&'static str> {
     for (name, scene) in SCENES {
-        if !statements::goes_well(alloc, *scene) {
-            return Some(*name);
-        }
-    }
-    None
-}
-
-/// The first scene that goes wrong over sessions of a space that threads share.
-pub(crate) fn first_wrong_shared<R: Wait>(rt: &R, alloc: Global) -> Option<&'static str> {
-    for (name, scene) in SCENES {
-        if !desks::goes_well(rt, alloc, *scene) {
+        if !goes_well(alloc, *scene) {
             return Some(*name);
         }
     }

@@ -1,61 +1,89 @@
-//! Scripts, which are read, and by which a lock is driven. Where memory is refused, that is what is told.
+//! Scripts, by which a lock is driven and which are replayed. Where memory is refused, that is what is told, and nothing is written.
 use mdl_key::Kind;
 use mdl_lines::Fault;
 use mdl_lock::lock_run;
-use mdl_syntax::{Script, parse};
+use mdl_script::replay;
 use std::alloc::Global;
 
-const STATEMENTS: &[u8] =
-    b"1 BEGIN\n2 CREATE TABLE t x y\n\n1 SELECT t s.u v\n3 SAVEPOINT p\n3 DROP TABLE t s.t\n";
+// A script, and its answers.
+#[derive(Clone, Copy)]
+enum Play {
+    OfLock(&'static [u8], &'static [u8]),
+    OfStatements(&'static [u8], &'static [u8]),
+}
 
-// The numbers of the lines that ask for something, and their sessions.
-const ASKED: &[(u64, u16)] = &[(1, 1), (2, 2), (4, 1), (5, 3), (6, 3)];
+// How a run ends.
+#[derive(Clone, Copy)]
+enum End {
+    // All answers are written.
+    Whole,
+    // Memory is refused, and nothing is written.
+    Starved,
+    Wrong,
+}
 
-/// Whether a script of statements is read, at the second try, where memory was refused to the first.
-pub fn statements_are_read(alloc: Global) -> bool {
-    match parse(alloc, STATEMENTS) {
-        Err(Fault::Memory) => is_read(&parse(alloc, STATEMENTS)),
-        outcome => is_read(&outcome),
+const LOCK: Play = Play::OfLock(
+    b"1 X\n2 SR\n3 SW\n1 RELEASE\n",
+    b"1 GRANTED X\n2 WAITS SR\n3 WAITS SW\n1 RELEASED X\n2 GRANTED SR\n3 GRANTED SW\n",
+);
+
+// Waits that are granted and one that is a victim, a savepoint, changes of definitions, and a wait that is left.
+const STATEMENTS: Play = Play::OfStatements(
+    b"1 CREATE TABLE a x\n1 CREATE TABLE t x y\n1 BEGIN\n1 SAVEPOINT p\n1 SELECT t\n2 DROP TABLE t a\n3 INSERT t\n\
+    1 SELECT a\n3 CREATE TABLE t z\n1 BEGIN\n1 SELECT t\n4 DROP TABLE t\n",
+    b"1 1 OK\n2 1 OK\n3 1 OK\n4 1 OK\n5 1 OK test.t@1(x,y)\n6 2 WAIT TABLE test.t X\n7 3 WAIT TABLE test.t SW\n\
+    8 1 WAIT TABLE test.a SR\n8 1 ERR 1213\n6 2 OK\n7 3 ERR 1146\n9 3 OK\n10 1 OK\n11 1 OK test.t@3(z)\n\
+    12 4 WAIT TABLE test.t X\nEND 4 WAIT\n",
+);
+
+// Room for the longest answers, and more than a byte besides.
+const ROOM: usize = 1_000;
+
+/// The first script that goes wrong.
+pub(crate) fn first_wrong(alloc: Global) -> Option<&'static str> {
+    if !goes_well(alloc, LOCK) {
+        return Some("a lock's script");
+    }
+    if !goes_well(alloc, STATEMENTS) {
+        return Some("a replayed script");
+    }
+    None
+}
+
+// Whether a script has its answers, at the second run, where memory was refused to the first.
+fn goes_well(alloc: Global, play: Play) -> bool {
+    match end_of_run(alloc, play) {
+        End::Whole => true,
+        End::Starved => matches!(end_of_run(alloc, play), End::Whole),
+        End::Wrong => false,
     }
 }
 
-fn is_read(outcome: &Result<Script, Fault>) -> bool {
-    match outcome {
-        Ok(script) => asks_all(script),
-        Err(_) => false,
-    }
-}
-
-fn asks_all(script: &Script) -> bool {
-    let lines = script.lines();
-    lines.len() == ASKED.len()
-        && lines.iter().zip(ASKED).all(|(line, (number, session))| line.number == *number
-            && line.session == *session)
-}
-
-const SCRIPT: &[u8] = b"1 X\n2 SR\n3 SW\n1 RELEASE\n";
-
-const ANSWERS: &[u8] =
-    b"1 GRANTED X\n2 WAITS SR\n3 WAITS SW\n1 RELEASED X\n2 GRANTED SR\n3 GRANTED SW\n";
-
-/// Whether a lock answers a script, at the second run, where memory was refused to the first, which wrote nothing then.
-pub fn locks_are_driven(alloc: Global) -> bool {
-    match end_of_run(alloc) {
-        Some(Err(Fault::Memory)) => end_of_run(alloc) == Some(Ok(())),
-        end => end == Some(Ok(())),
-    }
-}
-
-// How a run ends, unless it wrote something else than that end has.
-fn end_of_run(alloc: Global) -> Option<Result<(), Fault>> {
-    let mut reader = SCRIPT;
-    let mut room = [0u8; 100];
+fn end_of_run(alloc: Global, play: Play) -> End {
+    let mut room = [0u8; ROOM];
     let mut writer = room.as_mut_slice();
-    let end = lock_run(alloc, Kind::Object, &mut reader, &mut writer);
-    let written = if end == Ok(()) { ANSWERS.len() } else { 0 };
-    if room.get(..written) == ANSWERS.get(..written) && room.get(written) == Some(&0) {
-        Some(end)
-    } else {
-        None
+    match play {
+        Play::OfLock(mut script, answers) => {
+            let end = lock_run(alloc, Kind::Object, &mut script, &mut writer);
+            end_of(end, &room, answers)
+        }
+        Play::OfStatements(mut script, answers) => {
+            let end = replay(alloc, &mut script, &mut writer);
+            end_of(end, &room, answers)
+        }
     }
+}
+
+// How a run ended that wrote into this room, which was all zeros.
+fn end_of(end: Result<(), Fault>, room: &[u8], answers: &[u8]) -> End {
+    match end {
+        Ok(()) if begins_so(room, answers) => End::Whole,
+        Err(Fault::Memory) if begins_so(room, b"") => End::Starved,
+        _ => End::Wrong,
+    }
+}
+
+// Whether just this is written.
+fn begins_so(room: &[u8], written: &[u8]) -> bool {
+    room.get(..written.len()) == Some(written) && room.get(written.len()) == Some(&0)
 }

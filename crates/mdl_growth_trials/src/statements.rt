@@ -1,17 +1,19 @@
 //! The statements of two sessions over a space, in scenes. Where a statement finds no memory, it has ended, and all stands as it did before:
 //! what the sessions hold, and what is told of the tables. A second pair of sessions, which is led as far and to which no memory is refused,
 //! shows how that is. Then the statement is made again.
-ghost use Rattle.std.specs.Prelude.{◌≡◌, IfSome, [], None};
+ghost use Rattle.std.specs.Prelude.{◌≡◌, ℕ, ◌≤◌, IfSome, [], None};
 ghost use Rattle.mdl_context.specs.Contexts.{LeavesOthers};
+ghost use Rattle.mdl_core.specs.Words.{SpeaksFor, empty_core};
+ghost use Rattle.mdl_space.specs.CoreMembers.{core_space};
 ghost use Rattle.mdl_stmt.specs.Attendance.{AttendsWith};
 
-use crate::spaces::new_space;
 use mdl_lines::Fault;
-use mdl_space::{CoreSpace, Held, LockSpace};
+use mdl_space::{CoreSpace, Held, LockSpace, NewError};
 use mdl_stmt::{OutOfMemory, Progress, Reply, Runner};
 use mdl_syntax::{Line, Script, Statement, parse};
 use std::alloc::{AllocError, Global};
 use std::marker::Model;
+use std::mem::drop;
 
 /// What comes of a statement.
 #[derive(Clone, Copy, PartialEq, Eq)]
@@ -41,29 +43,11 @@ pub(crate) struct Scene<'a> {
     pub(crate) looks: &'a [&'a str],
 }
 
-/// The places of a space: those of the names in the longest scene, and some more.
-pub(crate) const PLACES: u16 = 12;
+// The places of a space: those of the names in the longest scene, and some more.
+const PLACES: u16 = 12;
 
 // How many definitions the cache of a session keeps.
 const CACHE: u16 = 64;
-
-/// The sessions 1 and 2 of a space.
-pub(crate) trait Two<'s>: Sized {
-    /// Two others, of a new space, in which nobody has asked for anything.
-    fn others(&self, alloc: Global) -> Option<Self>;
-
-    /// Starts a statement of a session, or goes on with the one that waits.
-    fn play(&mut self, who: u16, statement: &'s Statement) -> Outcome;
-
-    /// Whether a session waits.
-    fn waits(&self, who: u16) -> bool;
-
-    /// What a session holds.
-    fn held(&self, who: u16) -> Option<Vec<Held>>;
-
-    /// Both sessions end.
-    fn end(self);
-}
 
 // A space, and its sessions 1 and 2.
 #[derive(Drop)]
@@ -97,24 +81,15 @@ impl<'s> Pair<'s> {
     }
 
     // Starts a statement of a session, or goes on with the one that waits.
-    fn run(&mut self, who: u16, statement: &'s Statement) -> Outcome {
+    fn play(&mut self, who: u16, statement: &'s Statement) -> Outcome {
         if who == 1 {
             play(&mut self.space, &mut self.first, statement)
         } else {
             play(&mut self.space, &mut self.second, statement)
         }
     }
-}
 
-impl<'s> Two<'s> for Pair<'s> {
-    fn others(&self, alloc: Global) -> Option<Pair<'s>> {
-        Pair::new(alloc)
-    }
-
-    fn play(&mut self, who: u16, statement: &'s Statement) -> Outcome {
-        self.run(who, statement)
-    }
-
+    // Whether a session waits.
     fn waits(&self, who: u16) -> bool {
         if who == 1 {
             self.first.is_waiting()
@@ -123,19 +98,47 @@ impl<'s> Two<'s> for Pair<'s> {
         }
     }
 
+    // What a session holds.
     fn held(&self, who: u16) -> Option<Vec<Held>> {
-        if who == 1 {
-            held(&self.space, 1)
+        let held = if who == 1 {
+            self.space.held(1)
         } else {
-            held(&self.space, 2)
+            self.space.held(2)
+        };
+        held.ok()
+    }
+
+    // Whether a session has the same in another pair.
+    fn has_the_same(&self, other: &Pair<'s>, who: u16) -> bool {
+        match (self.held(who), other.held(who)) {
+            (Some(here), Some(there)) => here == there && self.waits(who) == other.waits(who),
+            _ => false,
         }
     }
 
-    fn end(self) {}
+    // What a look tells, unless its session waits.
+    fn look(&mut self, line: &'s Line) -> Option<Outcome> {
+        if self.waits(line.session) {
+            return None;
+        }
+        Some(self.play(line.session, &line.statement))
+    }
 }
 
-/// A session that has made no statement, at the second try, where memory was refused to the first.
-pub(crate) fn new_runner<'s, S: LockSpace>(alloc: Global, who: u16) -> Option<Runner<'s, S>>
+// A space of so many places and sessions, at the second try, where memory was refused to the first.
+fn new_space(alloc: Global, places: u16, sessions: u16) -> Option<CoreSpace>
+    ensures made { IfSome result (λ space. space ≡ empty_core places sessions) }
+    ensures speaks { IfSome result (λ space. (who : ℕ) → 1 ≤ who → who ≤ sessions → SpeaksFor space who) }
+{
+    match CoreSpace::new(alloc, places, sessions) {
+        Ok(space) => Some(space),
+        Err(NewError::OutOfMemory) => CoreSpace::new(alloc, places, sessions).ok(),
+        Err(_) => None,
+    }
+}
+
+// A session that has made no statement, at the second try, where memory was refused to the first.
+fn new_runner<'s>(alloc: Global, who: u16) -> Option<Runner<'s, CoreSpace>>
     ensures context { IfSome result (λ runner. runner.context ≡ record { who = who; kept = []; known = []; wait = None }) }
     ensures cache { IfSome result (λ runner. runner.cache.kept ≡ []) }
 {
@@ -145,16 +148,16 @@ pub(crate) fn new_runner<'s, S: LockSpace>(alloc: Global, who: u16) -> Option<Ru
     }
 }
 
-/// Starts a statement, or goes on with the one that waits.
-pub(crate) fn play<'s, S: LockSpace>(
-    space: &mut S,
-    runner: &mut Runner<'s, S>,
+// Starts a statement, or goes on with the one that waits.
+fn play<'s>(
+    space: &mut CoreSpace,
+    runner: &mut Runner<'s, CoreSpace>,
     statement: &'s Statement,
 ) -> Outcome
-    requires { AttendsWith S.LockSpace space.old runner.old.context runner.old.cache }
-    ensures attends { AttendsWith S.LockSpace space.new runner.new.context runner.new.cache }
+    requires { AttendsWith core_space space.old runner.old.context runner.old.cache }
+    ensures attends { AttendsWith core_space space.new runner.new.context runner.new.cache }
     ensures who { runner.new.context.who ≡ runner.old.context.who }
-    ensures others { LeavesOthers S.LockSpace runner.old.context.who space.old space.new }
+    ensures others { LeavesOthers core_space runner.old.context.who space.old space.new }
 {
     if runner.is_waiting() {
         return outcome_of(runner.go_on(space));
@@ -162,38 +165,19 @@ pub(crate) fn play<'s, S: LockSpace>(
     outcome_of(runner.start(space, statement))
 }
 
-/// What a session holds.
-pub(crate) fn held<S: LockSpace>(space: &S, who: u16) -> Option<Vec<Held>>
-    requires { S.speaks_for space.now who }
-{
-    space.held(who).ok()
-}
-
-// Whether a session has the same in two pairs.
-fn has_the_same<'s, T: Two<'s>>(one: &T, other: &T, who: u16) -> bool {
-    let held = one.held(who);
-    held.is_some() && held == other.held(who) && one.waits(who) == other.waits(who)
-}
-
-// What a look tells, unless its session waits.
-fn look<'s, T: Two<'s>>(pair: &mut T, line: &'s Line) -> Option<Outcome> {
-    if pair.waits(line.session) {
-        return None;
-    }
-    Some(pair.play(line.session, &line.statement))
-}
-
 fn outcome_of(progress: Result<Progress, OutOfMemory>) -> Outcome {
-    match progress {
-        Ok(Progress::Done(reply)) => outcome_of_reply(&reply),
+    let outcome = match &progress {
+        Ok(Progress::Done(reply)) => outcome_of_reply(reply),
         Ok(Progress::Waiting(_, _)) => Outcome::Waits,
         Ok(Progress::Pending) => Outcome::Pending,
         Err(_) => Outcome::NoMemory,
-    }
+    };
+    drop(progress);
+    outcome
 }
 
-/// What comes of a statement that is answered so.
-pub(crate) fn outcome_of_reply(reply: &Reply) -> Outcome {
+// What comes of a statement that is answered so.
+fn outcome_of_reply(reply: &Reply) -> Outcome {
     match reply {
         Reply::Ok => Outcome::Done,
         Reply::Error(error) => Outcome::Fails(error.number()),
@@ -209,9 +193,9 @@ pub(crate) fn outcome_of_reply(reply: &Reply) -> Outcome {
 // By these a session commits, or gives up the tables that it has locked and nothing else.
 const ENDS: &[&str] = &["1 COMMIT", "1 BEGIN", "1 ROLLBACK"];
 
-/// A scene whose lines are read.
+// A scene whose lines are read.
 #[derive(Clone, Copy)]
-pub(crate) struct Staged<'s> {
+struct Staged<'s> {
     alloc: Global,
     rows: &'s [Row<'s>],
     lines: &'s [Line],
@@ -220,8 +204,8 @@ pub(crate) struct Staged<'s> {
 }
 
 impl<'s> Staged<'s> {
-    /// A scene, and its lines, its looks, and the ends behind them.
-    pub(crate) fn new(alloc: Global, scene: Scene<'s>, lines: &'s [Line]) -> Option<Staged<'s>> {
+    // A scene, and its lines, its looks, and the ends behind them.
+    fn new(alloc: Global, scene: Scene<'s>, lines: &'s [Line]) -> Option<Staged<'s>> {
         let (lines, rest) = lines.split_at_checked(scene.rows.len())?;
         let (looks, ends) = rest.split_at_checked(scene.looks.len())?;
         Some(Staged {
@@ -233,8 +217,8 @@ impl<'s> Staged<'s> {
         })
     }
 
-    /// Whether it goes as it should, played by these two, also where memory is refused once.
-    pub(crate) fn goes_well<T: Two<'s>>(self, pair: &mut T) -> bool {
+    // Whether it goes as it should, played by these two, also where memory is refused once.
+    fn goes_well(self, pair: &mut Pair<'s>) -> bool {
         for (at, (line, (_, want))) in self.lines.iter().zip(self.rows).enumerate() {
             if !self.outlives(pair, at, line, *want) {
                 return false;
@@ -244,7 +228,7 @@ impl<'s> Staged<'s> {
     }
 
     // Whether this comes of a line: at once, or at the second try, where memory was refused to the first.
-    fn outlives<T: Two<'s>>(self, pair: &mut T, at: usize, line: &'s Line, want: Outcome) -> bool {
+    fn outlives(self, pair: &mut Pair<'s>, at: usize, line: &'s Line, want: Outcome) -> bool {
         let outcome = pair.play(line.session, &line.statement);
         if outcome != Outcome::NoMemory || !takes_memory(&line.statement) {
             return outcome == want;
@@ -253,25 +237,25 @@ impl<'s> Staged<'s> {
     }
 
     // Whether all stands as with two others, who are led up to a line, but for the statement with which its session waits.
-    fn nothing_is_lost<T: Two<'s>>(self, pair: &mut T, at: usize, line: &Line) -> bool {
-        let Some(mut others) = pair.others(self.alloc) else {
+    fn nothing_is_lost(self, pair: &mut Pair<'s>, at: usize, line: &Line) -> bool {
+        let Some(mut others) = Pair::new(self.alloc) else {
             return false;
         };
         let ended = self.last_end(at, line.session);
         let is_so = self.leads_up_to(&mut others, at, line.session, ended)
             && self.is_as_before(pair, &mut others, line);
-        others.end();
+        drop(others);
         is_so
     }
 
     // Whether all stands as before a line's statement, or as behind what the statement ends first.
-    fn is_as_before<T: Two<'s>>(self, pair: &mut T, others: &mut T, line: &Line) -> bool {
+    fn is_as_before(self, pair: &mut Pair<'s>, others: &mut Pair<'s>, line: &Line) -> bool {
         self.are_alike(pair, others)
             || (self.ends_first(others, line) && self.are_alike(pair, others))
     }
 
     // Plays the lines before one, but those of a session that come after its last end. Whether what should come of them does.
-    fn leads_up_to<T: Two<'s>>(self, pair: &mut T, at: usize, who: u16, ended: usize) -> bool {
+    fn leads_up_to(self, pair: &mut Pair<'s>, at: usize, who: u16, ended: usize) -> bool {
         for (index, (line, (_, want))) in self.lines.iter().zip(self.rows).take(at).enumerate() {
             let is_left_out = line.session == who && index >= ended;
             if !is_left_out && pair.play(line.session, &line.statement) != *want {
@@ -293,12 +277,12 @@ impl<'s> Staged<'s> {
     }
 
     // Whether both sessions have the same in two pairs, and are told the same.
-    fn are_alike<T: Two<'s>>(self, one: &mut T, other: &mut T) -> bool {
-        if !has_the_same(one, other, 1) || !has_the_same(one, other, 2) {
+    fn are_alike(self, one: &mut Pair<'s>, other: &mut Pair<'s>) -> bool {
+        if !one.has_the_same(other, 1) || !one.has_the_same(other, 2) {
             return false;
         }
         for line in self.looks {
-            if look(one, line) != look(other, line) {
+            if one.look(line) != other.look(line) {
                 return false;
             }
         }
@@ -306,7 +290,7 @@ impl<'s> Staged<'s> {
     }
 
     // Makes what a statement does before its first lock, if it does anything.
-    fn ends_first<T: Two<'s>>(self, pair: &mut T, line: &Line) -> bool {
+    fn ends_first(self, pair: &mut Pair<'s>, line: &Line) -> bool {
         let [commit, begin, rollback] = self.ends else {
             return false;
         };
@@ -334,27 +318,29 @@ fn takes_memory(statement: &Statement) -> bool {
     )
 }
 
-/// Whether a scene goes as it should over a space of one thread, also where memory is refused once.
+/// Whether a scene goes as it should, also where memory is refused once.
 pub(crate) fn goes_well(alloc: Global, scene: Scene<'_>) -> bool {
     match read(alloc, scene) {
-        Some(script) => match Staged::new(alloc, scene, script.lines()) {
-            Some(staged) => is_played_well(alloc, staged),
-            None => false,
-        },
+        Some(script) => is_played_well(alloc, scene, script.lines()),
         None => false,
     }
 }
 
 // Whether it goes as it should, played by the sessions of a new space.
-fn is_played_well<'s>(alloc: Global, staged: Staged<'s>) -> bool {
-    match Pair::new(alloc) {
-        Some(mut pair) => staged.goes_well(&mut pair),
-        None => false,
-    }
+fn is_played_well<'s>(alloc: Global, scene: Scene<'s>, lines: &'s [Line]) -> bool {
+    let Some(staged) = Staged::new(alloc, scene, lines) else {
+        return false;
+    };
+    let Some(mut pair) = Pair::new(alloc) else {
+        return false;
+    };
+    let goes_well = staged.goes_well(&mut pair);
+    drop(pair);
+    goes_well
 }
 
-/// The lines of a scene, at the second try, where memory was refused to the first.
-pub(crate) fn read(alloc: Global, scene: Scene<'_>) -> Option<Script> {
+// The lines of a scene, at the second try, where memory was refused to the first. Nothing else than that is told then.
+fn read(alloc: Global, scene: Scene<'_>) -> Option<Script> {
     match script_of(alloc, scene) {
         Err(Fault::Memory) => script_of(alloc, scene).ok(),
         outcome => outcome.ok(),

@@ -1,7 +1,7 @@
 -- A new space serves both sessions.
 use Rattle.std.proofs.Common.{ap, arith}
 use Rattle.mdl_core.specs.Words.{own_at}
-use Rattle.mdl_growth_trials.proofs.PairLemmas.{fresh_runners, fresh_two}
+use Rattle.mdl_growth_trials.proofs.PairLemmas.{fresh_runners}
 use Rattle.mdl_growth_trials.proofs.statements.Pair.new.Goals as goal
 
 pub invariant_of-result : goal.invariant_of-result
@@ -10,7 +10,5 @@ invariant_of-result c =
     let made = c.in_ok-space.ensures.made in
     let first = c.in_ok-first.ensures in
     let second = c.in_ok-second.ensures in
-    fresh_runners c.in_ok-space.space _ _ _ _
-    (fresh_two c.in_ok-space.space _ _ first.context second.context
-    (speaks 1 (omega arith) (omega arith)) (speaks 2 (omega arith) (omega arith)) (ap (λ s. own_at s 1) made) (ap (λ s. own_at s 2) made))
-    first.cache second.cache
+    fresh_runners c.in_ok-space.space _ _ _ _ first.context second.context first.cache second.cache
+    (speaks 1 (omega arith) (omega arith)) (speaks 2 (omega arith) (omega arith)) (ap (λ s. own_at s 1) made) (ap (λ s. own_at s 2) made)

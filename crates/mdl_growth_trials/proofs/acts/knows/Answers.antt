@@ -1,7 +1,7 @@
 -- A place whose key the session tells is one that it knows.
 use Rattle.std.proofs.Common.{◌∙◌, ap, is_some}
 use Rattle.mdl_session_laws.specs.SessionSpaces.{is_known}
-use Rattle.mdl_growth_trials.proofs.sessions.knows.Goals as goal
+use Rattle.mdl_growth_trials.proofs.acts.knows.Goals as goal
 
 pub returns-in-Ok : goal.returns-in-Ok
 returns-in-Ok g c = λ _.

@@ -1,6 +1,6 @@
 -- One session goes on, and the other one is served as before.
 use Rattle.mdl_growth_trials.proofs.PairLemmas.{first_runs, second_runs}
-use Rattle.mdl_growth_trials.proofs.statements.Pair.run.Goals as goal
+use Rattle.mdl_growth_trials.proofs.statements.Pair.play.Goals as goal
 
 pub invariant_of-self : goal.invariant_of-self
 invariant_of-self c = first_runs _ _ _ _ _ _ _ _ c.self.invariant c.play.ensures.who c.play.ensures.attends c.play.ensures.others

@@ -2,7 +2,7 @@
 use Rattle.std.proofs.Common.{◌≡◌, true}
 use Rattle.mdl_session_laws.specs.SessionSpaces.{is_known}
 use Rattle.mdl_shared.specs.SessionViews.{space_of}
-use Rattle.mdl_growth_trials.proofs.sessions.try_fast.Given as goal
+use Rattle.mdl_growth_trials.proofs.acts.try_fast.Given as goal
 
 abbrev pub invariant-loop : goal.invariant-loop
 invariant-loop g l = is_known l.place (space_of l.session).known ≡ true

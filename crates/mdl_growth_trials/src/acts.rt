@@ -1,0 +1,236 @@
+//! Calls of a session of a space that threads share, and what they answer.
+ghost use Rattle.std.specs.Prelude.{◌≡◌, true};
+ghost use Rattle.mdl_session_laws.specs.SessionSpaces.{is_known};
+ghost use Rattle.mdl_shared.specs.SessionViews.{space_of};
+
+use mdl_defs::{Change, Column, Columns, Definition};
+use mdl_key::{Key, Mode};
+use mdl_shared::{Fast, Session};
+use mdl_space::{Attempt, Begun, Ended, Place, Search, Settled, SpaceError, TicketId, Upgrade};
+use std::alloc::Global;
+use std::mem::drop;
+use std::sync::Wait;
+
+/// A call of a session.
+#[derive(Clone, Copy)]
+pub(crate) enum Act {
+    Resolve(&'static str),
+    TryNow(Place, Mode),
+    BeginWait(Place, Mode),
+    Search,
+    EndWait,
+    Clone(TicketId, Mode),
+    Upgrade(TicketId, Mode),
+    Merge(TicketId, TicketId),
+    Downgrade(TicketId, Mode),
+    /// Under the first ticket, a table of one column is created, or gains another one.
+    Create,
+    AddColumn,
+    /// Room for so many tickets.
+    Reserve(usize),
+    /// So many fast tickets, for which there is room.
+    TryFast(Place, Mode, usize),
+    /// The tickets from one number to another are given up.
+    Release(TicketId, TicketId),
+    /// Its fast tickets become slow ones.
+    Materialise,
+}
+
+/// What it answers. Where memory is refused to a key or a change that is to be made for it, the call isn't made, and that is its answer, too.
+#[derive(Clone, Copy, PartialEq, Eq)]
+pub(crate) enum Reply {
+    At(Place),
+    Granted(TicketId),
+    WouldWait,
+    Waiting(u64),
+    Victim(u16),
+    NoCycle,
+    Lost(Settled),
+    Changed(u64),
+    Done,
+    NoMemory,
+    Refused,
+}
+
+impl Act {
+    /// Whether it never takes memory.
+    pub(crate) fn takes_none(self) -> bool {
+        matches!(
+            self,
+            Act::Release(_, _) | Act::Downgrade(_, _) | Act::EndWait | Act::TryFast(_, _, _)
+        )
+    }
+}
+
+/// Makes a call.
+pub(crate) fn make<R: Wait>(session: &mut Session<R>, alloc: Global, act: Act) -> Reply {
+    match act {
+        Act::Resolve(name) => resolve(session, alloc, name),
+        Act::TryNow(place, mode) => attempted(session.try_now(place, mode)),
+        Act::BeginWait(place, mode) => begun(session.begin_wait(place, mode)),
+        Act::Search => searched(session.search_deadlock()),
+        Act::EndWait => ended(session.end_wait()),
+        Act::Clone(id, mode) => cloned(session.clone_ticket(id, mode)),
+        Act::Upgrade(id, mode) => upgraded(session.upgrade_now(id, mode)),
+        Act::Merge(old, new) => done(session.merge(old, new)),
+        Act::Downgrade(id, mode) => done(session.downgrade(id, mode)),
+        Act::Create => create(session, alloc),
+        Act::AddColumn => add_column(session, alloc),
+        Act::Reserve(count) => done(session.reserve_tickets(count)),
+        Act::TryFast(place, mode, count) => try_fast(session, place, mode, count),
+        Act::Release(first, last) => release_all(session, first, last),
+        Act::Materialise => done(session.materialise()),
+    }
+}
+
+// The place of a table.
+fn resolve<R: Wait>(session: &mut Session<R>, alloc: Global, name: &str) -> Reply {
+    let Ok(key) = Key::table(alloc, "test", name) else {
+        return Reply::NoMemory;
+    };
+    match session.resolve(&key) {
+        Ok(place) => Reply::At(place),
+        Err(error) => refused(error),
+    }
+}
+
+fn create<R: Wait>(session: &mut Session<R>, alloc: Global) -> Reply {
+    match one_column(alloc) {
+        Some(columns) => redefine(session, Change::Create(Definition::Table(columns))),
+        None => Reply::NoMemory,
+    }
+}
+
+fn one_column(alloc: Global) -> Option<Columns> {
+    let column = Column::new(alloc, "x").ok()?;
+    let mut columns = Columns::new(alloc);
+    match columns.push(column) {
+        Ok(()) => Some(columns),
+        Err(_) => None,
+    }
+}
+
+fn add_column<R: Wait>(session: &mut Session<R>, alloc: Global) -> Reply {
+    match Column::new(alloc, "y") {
+        Ok(column) => redefine(session, Change::AddColumn(column)),
+        Err(_) => Reply::NoMemory,
+    }
+}
+
+// Changes what stands under the key of the first ticket.
+fn redefine<R: Wait>(session: &mut Session<R>, change: Change) -> Reply {
+    let outcome = session.change_definition(1, &change);
+    drop(change);
+    match outcome {
+        Ok(version) => Reply::Changed(version),
+        Err(error) => refused(error),
+    }
+}
+
+// Tries for so many fast tickets, as long as they are granted. What comes of the last try.
+fn try_fast<R>(session: &mut Session<R>, place: Place, mode: Mode, count: usize) -> Reply {
+    if !knows(session, place) {
+        return Reply::Refused;
+    }
+    let mut reply = Reply::WouldWait;
+    for _ in 0..count {
+        reply = tried(session.try_fast(place, mode));
+        if !matches!(reply, Reply::Granted(_)) {
+            return reply;
+        }
+    }
+    reply
+}
+
+/// Whether a session knows the key of a place. Memory may be refused once.
+pub(crate) fn knows<R>(session: &mut Session<R>, place: Place) -> bool
+    ensures { result ≡ true → is_known place (space_of session.new).known ≡ true }
+{
+    match session.key_of(place) {
+        Ok(_key) => true,
+        Err(SpaceError::OutOfMemory) => session.key_of(place).is_ok(),
+        Err(_) => false,
+    }
+}
+
+// Gives up the tickets from one number to another. What comes of the last one.
+fn release_all<R: Wait>(session: &mut Session<R>, first: TicketId, last: TicketId) -> Reply {
+    for id in first..=last {
+        if session.release(id).is_err() {
+            return Reply::Refused;
+        }
+    }
+    Reply::Done
+}
+
+fn refused(error: SpaceError) -> Reply {
+    if matches!(error, SpaceError::OutOfMemory) {
+        Reply::NoMemory
+    } else {
+        Reply::Refused
+    }
+}
+
+fn attempted(outcome: Result<Attempt, SpaceError>) -> Reply {
+    match outcome {
+        Ok(Attempt::Granted(id)) => Reply::Granted(id),
+        Ok(Attempt::WouldWait) => Reply::WouldWait,
+        Err(error) => refused(error),
+    }
+}
+
+fn begun(outcome: Result<Begun, SpaceError>) -> Reply {
+    match outcome {
+        Ok(Begun::Granted(id)) => Reply::Granted(id),
+        Ok(Begun::Waiting(number)) => Reply::Waiting(number),
+        Err(error) => refused(error),
+    }
+}
+
+fn searched(outcome: Result<Search, SpaceError>) -> Reply {
+    match outcome {
+        Ok(Search::NoCycle) => Reply::NoCycle,
+        Ok(Search::Victim(session)) => Reply::Victim(session),
+        Err(error) => refused(error),
+    }
+}
+
+fn ended(outcome: Result<Ended, SpaceError>) -> Reply {
+    match outcome {
+        Ok(Ended::Granted(id)) => Reply::Granted(id),
+        Ok(Ended::Victim) => Reply::Lost(Settled::Victim),
+        Ok(Ended::Timeout) => Reply::Lost(Settled::Timeout),
+        Ok(Ended::Killed) => Reply::Lost(Settled::Killed),
+        Err(error) => refused(error),
+    }
+}
+
+fn cloned(outcome: Result<TicketId, SpaceError>) -> Reply {
+    match outcome {
+        Ok(id) => Reply::Granted(id),
+        Err(error) => refused(error),
+    }
+}
+
+fn upgraded(outcome: Result<Upgrade, SpaceError>) -> Reply {
+    match outcome {
+        Ok(Upgrade::Upgraded) => Reply::Done,
+        Ok(Upgrade::WouldWait) => Reply::WouldWait,
+        Err(error) => refused(error),
+    }
+}
+
+fn tried(outcome: Result<Fast, SpaceError>) -> Reply {
+    match outcome {
+        Ok(Fast::Granted(id)) => Reply::Granted(id),
+        Ok(_) => Reply::WouldWait,
+        Err(error) => refused(error),
+    }
+}
+
+fn done(outcome: Result<(), SpaceError>) -> Reply {
+    match outcome {
+        Ok(()) => Reply::Done,
+        Err(error) => refused(error),
+    }
+}
