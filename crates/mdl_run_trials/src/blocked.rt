@@ -103,7 +103,8 @@ fn a_table_that_is_not_free_is_missed(rt: HostRuntime) -> Result<(), Fail> {
     let outcome = played_beside(&rt, alloc, &manager, passes, &mut own);
     close(&rt, own);
     let (text, standing) = outcome?;
-    assert_eq!(rt; text.as_str(), lines(alloc, TEXT)?.as_str());
+    let wanted = lines(alloc, TEXT)?;
+    assert!(rt; text == wanted, "{text}");
     assert!(rt; standing.is_some_and(|standing| is_new_table(&standing)));
     Ok(())
 }

@@ -1,5 +1,6 @@
 //! Gates are told of each statement of a session, before and after it.
-use crate::room::{Told, answers_so, new_space};
+use crate::outcomes::Outcome;
+use crate::room::{Answers, answers_so, new_space};
 use mdl_work::Gate;
 use std::alloc::Global;
 use std::cell::Cell;
@@ -28,7 +29,7 @@ impl Gate for Notes {
 }
 
 // What a gate has noted as session 1 has worked off its lines.
-fn noted(alloc: Global, text: &[u8], want: &[(u64, Told)]) -> Option<u64> {
+fn noted(alloc: Global, text: &[u8], want: Answers<'_>) -> Option<u64> {
     let mut space = new_space(alloc).ok()?;
     let notes = Notes {
         digits: Cell::new(0),
@@ -43,6 +44,6 @@ fn noted(alloc: Global, text: &[u8], want: &[(u64, Told)]) -> Option<u64> {
 #[test]
 fn a_gate_is_told_of_each_statement(rt: HostRuntime) {
     let text = b"1 BEGIN\n2 BEGIN\n1 COMMIT\n";
-    let want = [(1, Told::Done), (3, Told::Done)];
-    assert_eq!(rt; noted(rt.alloc(), text, &want), Some(2040));
+    let want = [(1, Outcome::Done), (3, Outcome::Done)];
+    assert!(rt; noted(rt.alloc(), text, &want) == Some(2040));
 }

@@ -84,6 +84,7 @@ fn sessions_read_at_the_same_time(rt: HostRuntime) -> Result<(), Fail> {
     let script = lines(alloc, SCRIPT)?;
     let played = played(&rt, alloc, script.as_str(), 0, &gate)?;
     assert!(rt; !gate.missed.is_raised(), "the sessions did not meet");
-    assert_eq!(rt; played.as_str(), lines(alloc, TEXT)?.as_str());
+    let text = lines(alloc, TEXT)?;
+    assert!(rt; played == text, "{played}");
     Ok(())
 }

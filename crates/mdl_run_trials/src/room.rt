@@ -2,36 +2,15 @@
 ghost use Rattle.std.specs.Prelude.{IfOk};
 ghost use Rattle.mdl_run_trials.specs.Rooms.{IsFree, LeavesFree};
 
+use crate::outcomes::Outcome;
 use mdl_space::{CoreSpace, NewError};
 use mdl_stmt::{Progress, Reply, Runner};
 use mdl_syntax::parse;
 use mdl_work::{Gate, work};
 use std::alloc::Global;
 
-/// What a statement answers.
-#[derive(Clone, Copy, Debug, PartialEq, Eq)]
-pub(crate) enum Told {
-    Done,
-    /// So many tables.
-    Shows(usize),
-    /// A truth value.
-    Says(bool),
-    /// NULL.
-    Null,
-    Fails(u16),
-}
-
-impl Told {
-    fn of(reply: &Reply) -> Told {
-        match reply {
-            Reply::Ok => Told::Done,
-            Reply::Columns(tables) => Told::Shows(tables.as_slice().len()),
-            Reply::Number(yes) => Told::Says(*yes),
-            Reply::Null => Told::Null,
-            Reply::Error(error) => Told::Fails(error.number()),
-        }
-    }
-}
+/// The lines that are answered, and what comes of their statements.
+pub(crate) type Answers<'a> = &'a [(u64, Outcome)];
 
 // Places for the keys of a script, and two sessions.
 const PLACES: u16 = 16;
@@ -57,7 +36,7 @@ pub(crate) fn answers_so<G: Gate>(
     text: &[u8],
     patience: u32,
     gate: &G,
-    want: &[(u64, Told)],
+    want: Answers<'_>,
 ) -> bool
     requires { IsFree space.old who }
     ensures free { IsFree space.new who }
@@ -73,10 +52,12 @@ pub(crate) fn answers_so<G: Gate>(
 }
 
 // Whether answers are these.
-fn are_told(answers: &[(u64, Reply)], want: &[(u64, Told)]) -> bool {
-    answers.len() == want.len()
-        && answers.iter().zip(want).all(|(answer, want)| answer.0 == want.0
-            && Told::of(&answer.1) == want.1)
+fn are_told(answers: &[(u64, Reply)], want: Answers<'_>) -> bool {
+    let mut are_so = answers.len() == want.len();
+    for (answer, want) in answers.iter().zip(want) {
+        are_so &= answer.0 == want.0 && Outcome::of(&answer.1) == want.1;
+    }
+    are_so
 }
 
 /// Whether session 2 makes a statement at once. It keeps what it locks.

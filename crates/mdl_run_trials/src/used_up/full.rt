@@ -1,8 +1,9 @@
 //! Locks that have as many tickets as a lock can have: 9005. The other session has all of them, which the sessions of a script never come
 //! to, since none of them has more than a few of one lock. As soon as one of them goes, the statement is done.
-use crate::used_up::room::{Lock, Outcome};
+use crate::outcomes::Outcome;
+use crate::used_up::room::Lock;
 use crate::used_up::rows::Row::{Crowds, Leaves, Says};
-use crate::used_up::rows::{Row, first_wrong};
+use crate::used_up::rows::{Row, Story};
 use mdl_key::Mode;
 
 const DONE: Outcome = Outcome::Done;
@@ -50,11 +51,6 @@ const OF_A_TABLE: &[Row] = &[
     Says("SELECT a", FIRST, 0),
 ];
 
-#[test]
-fn the_lock_of_a_table_is_full(rt: HostRuntime) {
-    assert_eq!(rt; first_wrong(rt.alloc(), PLACES, OF_A_TABLE), None);
-}
-
 // Others look at a table, which is locked to be written.
 const OF_A_LOCKED_TABLE: &[Row] = &[
     Says("CREATE SCHEMA test", DONE, 0),
@@ -70,11 +66,6 @@ const OF_A_LOCKED_TABLE: &[Row] = &[
     Says("INSERT a", DONE, 3),
     Says("UNLOCK TABLES", DONE, 0),
 ];
-
-#[test]
-fn the_lock_of_a_locked_table_is_full(rt: HostRuntime) {
-    assert_eq!(rt; first_wrong(rt.alloc(), PLACES, OF_A_LOCKED_TABLE), None);
-}
 
 // Others change what is in a schema.
 const OF_THE_SCHEMA: &[Row] = &[
@@ -98,11 +89,6 @@ const OF_THE_SCHEMA: &[Row] = &[
     Says("CREATE TABLE b x", DONE, 0),
     Says("DROP TABLE a", DONE, 0),
 ];
-
-#[test]
-fn the_lock_of_the_schema_is_full(rt: HostRuntime) {
-    assert_eq!(rt; first_wrong(rt.alloc(), PLACES, OF_THE_SCHEMA), None);
-}
 
 // Others write.
 const OF_ALL_WRITES: &[Row] = &[
@@ -129,11 +115,6 @@ const OF_ALL_WRITES: &[Row] = &[
     Says("INSERT a", DONE, 0),
     Says("DROP TABLE a", DONE, 0),
 ];
-
-#[test]
-fn the_lock_of_all_writes_is_full(rt: HostRuntime) {
-    assert_eq!(rt; first_wrong(rt.alloc(), PLACES, OF_ALL_WRITES), None);
-}
 
 // Others commit.
 const OF_COMMITS: &[Row] = &[
@@ -167,11 +148,6 @@ const OF_COMMITS: &[Row] = &[
     Says("INSERT a", DONE, 0),
 ];
 
-#[test]
-fn the_lock_of_commits_is_full(rt: HostRuntime) {
-    assert_eq!(rt; first_wrong(rt.alloc(), PLACES, OF_COMMITS), None);
-}
-
 // Another session has a user-level lock as often as can be. That it has the lock is told before there is no room for a wait.
 const OF_A_USER_LOCK: &[Row] = &[
     Crowds(Lock::User("a"), Mode::X, MOST_TICKETS),
@@ -185,7 +161,16 @@ const OF_A_USER_LOCK: &[Row] = &[
     Says("GET_LOCK a", Outcome::Waits, 1),
 ];
 
-#[test]
-fn a_user_lock_is_full(rt: HostRuntime) {
-    assert_eq!(rt; first_wrong(rt.alloc(), PLACES, OF_A_USER_LOCK), None);
-}
+/// All of them.
+pub(crate) const STORIES: &[Story] = &[
+    ("the lock of a table is full", PLACES, OF_A_TABLE),
+    (
+        "the lock of a locked table is full",
+        PLACES,
+        OF_A_LOCKED_TABLE,
+    ),
+    ("the lock of the schema is full", PLACES, OF_THE_SCHEMA),
+    ("the lock of all writes is full", PLACES, OF_ALL_WRITES),
+    ("the lock of commits is full", PLACES, OF_COMMITS),
+    ("a user lock is full", PLACES, OF_A_USER_LOCK),
+];

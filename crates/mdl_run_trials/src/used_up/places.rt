@@ -1,8 +1,8 @@
 //! Spaces that have no place for one more key: 9004, at each lock that a statement asks for first of its key. The locks that it had before
 //! are given up again, and an open transaction keeps what it had.
-use crate::used_up::room::Outcome;
+use crate::outcomes::Outcome;
 use crate::used_up::rows::Row::Says;
-use crate::used_up::rows::{Row, first_wrong};
+use crate::used_up::rows::{Row, Story};
 
 const DONE: Outcome = Outcome::Done;
 
@@ -44,11 +44,6 @@ const OF_ALL_WRITES: &[Row] = &[
     Says("ROLLBACK", DONE, 0),
 ];
 
-#[test]
-fn the_lock_of_all_writes_has_no_place(rt: HostRuntime) {
-    assert_eq!(rt; first_wrong(rt.alloc(), 2, OF_ALL_WRITES), None);
-}
-
 // All writes and a table have the places, and the schema none.
 const OF_THE_SCHEMA: &[Row] = &[
     Says("INSERT a", NO_SUCH_TABLE, 0),
@@ -61,11 +56,6 @@ const OF_THE_SCHEMA: &[Row] = &[
     Says("LOCK TABLES a WRITE", NO_PLACE, 0),
     Says("INSERT a", NO_SUCH_TABLE, 0),
 ];
-
-#[test]
-fn the_schema_has_no_place(rt: HostRuntime) {
-    assert_eq!(rt; first_wrong(rt.alloc(), 2, OF_THE_SCHEMA), None);
-}
 
 // All writes and the schema have the places, and no table has one.
 const OF_A_TABLE: &[Row] = &[
@@ -85,11 +75,6 @@ const OF_A_TABLE: &[Row] = &[
     Says("DROP SCHEMA test", DONE, 0),
     Says("CREATE SCHEMA test", DONE, 0),
 ];
-
-#[test]
-fn a_table_has_no_place(rt: HostRuntime) {
-    assert_eq!(rt; first_wrong(rt.alloc(), 2, OF_A_TABLE), None);
-}
 
 // All writes, a schema and a table have the places. What names another one besides gets neither.
 const OF_ANOTHER: &[Row] = &[
@@ -118,11 +103,6 @@ const OF_ANOTHER: &[Row] = &[
     Says("ALTER TABLE a ADD y COPY", DONE, 0),
     Says("DROP SCHEMA test", DONE, 0),
 ];
-
-#[test]
-fn another_table_has_no_place(rt: HostRuntime) {
-    assert_eq!(rt; first_wrong(rt.alloc(), 3, OF_ANOTHER), None);
-}
 
 // All writes, a schema and a table have the places, and the lock of commits has none.
 const OF_COMMITS: &[Row] = &[
@@ -157,11 +137,6 @@ const OF_COMMITS: &[Row] = &[
     Says("COMMIT", DONE, 0),
 ];
 
-#[test]
-fn the_lock_of_commits_has_no_place(rt: HostRuntime) {
-    assert_eq!(rt; first_wrong(rt.alloc(), 3, OF_COMMITS), None);
-}
-
 // With one place more a commit has it, and keeps it. Nor is that of a dropped table given to another one.
 const OF_ALL_BUT_ONE: &[Row] = &[
     Says("CREATE SCHEMA test", DONE, 0),
@@ -175,11 +150,6 @@ const OF_ALL_BUT_ONE: &[Row] = &[
     Says("CREATE TABLE a x", DONE, 0),
     Says("SELECT a", Outcome::Reads(3), 0),
 ];
-
-#[test]
-fn a_place_is_kept(rt: HostRuntime) {
-    assert_eq!(rt; first_wrong(rt.alloc(), 4, OF_ALL_BUT_ONE), None);
-}
 
 // A table and a user-level lock have the places. The lock keeps its place when nobody has it.
 const OF_A_USER_LOCK: &[Row] = &[
@@ -200,7 +170,13 @@ const OF_A_USER_LOCK: &[Row] = &[
     Says("GET_LOCK t", NO_PLACE, 0),
 ];
 
-#[test]
-fn a_user_lock_has_no_place(rt: HostRuntime) {
-    assert_eq!(rt; first_wrong(rt.alloc(), 2, OF_A_USER_LOCK), None);
-}
+/// All of them.
+pub(crate) const STORIES: &[Story] = &[
+    ("the lock of all writes has no place", 2, OF_ALL_WRITES),
+    ("the schema has no place", 2, OF_THE_SCHEMA),
+    ("a table has no place", 2, OF_A_TABLE),
+    ("another table has no place", 3, OF_ANOTHER),
+    ("the lock of commits has no place", 3, OF_COMMITS),
+    ("a place is kept", 4, OF_ALL_BUT_ONE),
+    ("a user lock has no place", 2, OF_A_USER_LOCK),
+];

@@ -4,27 +4,13 @@ ghost use Rattle.mdl_space.specs.CoreMembers.{core_space};
 ghost use Rattle.mdl_context.specs.Contexts.{LeavesOthers};
 ghost use Rattle.mdl_stmt.specs.Attendance.{AttendsWith};
 
+use crate::outcomes::Outcome;
 use mdl_defs::Change;
 use mdl_key::{Key, KeyError, Mode};
 use mdl_space::{Attempt, CoreSpace, LockSpace, NewError, Place, SpaceError, TicketId};
-use mdl_stmt::{OutOfMemory, Progress, Reply, Runner, Statement};
+use mdl_stmt::{OutOfMemory, OwnedRunner, Statement};
 use std::alloc::Global;
 use std::marker::Model;
-
-/// What comes of a statement.
-#[derive(Clone, Copy, PartialEq, Eq)]
-pub(crate) enum Outcome {
-    Done,
-    /// The version of the last table that it read.
-    Reads(u64),
-    /// A truth value.
-    Says(bool),
-    /// NULL.
-    Null,
-    Fails(u16),
-    Waits,
-    NoMemory,
-}
 
 /// What the other session locks.
 #[derive(Clone, Copy)]
@@ -39,8 +25,8 @@ pub(crate) enum Lock {
 }
 
 impl Lock {
-    /// Its key.
-    pub(crate) fn key(self, alloc: Global) -> Result<Key, KeyError> {
+    // Its key.
+    fn key(self, alloc: Global) -> Result<Key, KeyError> {
         match self {
             Lock::Global => Ok(Key::global(alloc)),
             Lock::Commit => Ok(Key::commit(alloc)),
@@ -51,21 +37,21 @@ impl Lock {
     }
 }
 
-/// How many definitions a session's cache keeps.
-pub(crate) const CACHE: u16 = 64;
+// How many definitions a session's cache keeps.
+const CACHE: u16 = 64;
 
-/// The session that has locks.
-pub(crate) const OTHER: u16 = 2;
+// The session that has locks.
+const OTHER: u16 = 2;
 
-/// A space and the statements of its session 1. Its session 2 has locks.
+/// A space and the statements of its session 1, none of which is kept. Its session 2 has locks.
 #[derive(Drop)]
-pub(crate) struct Room<'s> {
-    alloc: Global,
+pub(crate) struct Room {
+    pub(crate) alloc: Global,
     space: CoreSpace,
-    runner: Runner<'s, CoreSpace>,
+    runner: OwnedRunner<CoreSpace>,
 }
 
-impl<'s> Model for Room<'s> {
+impl Model for Room {
     ghost use Rattle.mdl_run_trials.specs.used_up.Rooms.{ServesBoth};
 
     ghost Value = { Unit };
@@ -75,11 +61,11 @@ impl<'s> Model for Room<'s> {
     ghost invariant = { λ room. ServesBoth room.space room.runner.context room.runner.cache };
 }
 
-impl<'s> Room<'s> {
+impl Room {
     /// Nobody has asked for anything.
-    pub(crate) fn new(alloc: Global, places: u16) -> Result<Room<'s>, NewError> {
+    pub(crate) fn new(alloc: Global, places: u16) -> Result<Room, NewError> {
         let space = CoreSpace::new(alloc, places, OTHER)?;
-        match Runner::new(alloc, 1, CACHE) {
+        match OwnedRunner::new(alloc, 1, CACHE) {
             Ok(runner) => Ok(Room {
                 alloc,
                 space,
@@ -90,13 +76,29 @@ impl<'s> Room<'s> {
     }
 
     /// What comes of a statement.
-    pub(crate) fn say(&mut self, statement: &'s Statement) -> Outcome {
-        say(&mut self.space, &mut self.runner, statement)
+    pub(crate) fn start(&mut self, statement: &Statement) -> Outcome {
+        start(&mut self.space, &mut self.runner, statement)
+    }
+
+    /// What comes of the statement that waits, if one does.
+    pub(crate) fn go_on(&mut self) -> Option<Outcome> {
+        go_on(&mut self.space, &mut self.runner)
     }
 
     /// How many tickets the session has whose statements these are.
     pub(crate) fn held(&self) -> Option<usize> {
         held(&self.space, 1)
+    }
+
+    /// How many it has once it has ended.
+    pub(crate) fn held_after_the_end(self) -> Option<usize> {
+        let Room {
+            mut space,
+            runner,
+            ..
+        } = self;
+        runner.leave(&mut space);
+        held(&space, 1)
     }
 
     /// The place of a lock.
@@ -126,10 +128,10 @@ impl<'s> Room<'s> {
     }
 }
 
-fn say<'s>(
+fn start(
     space: &mut CoreSpace,
-    runner: &mut Runner<'s, CoreSpace>,
-    statement: &'s Statement,
+    runner: &mut OwnedRunner<CoreSpace>,
+    statement: &Statement,
 ) -> Outcome
     requires { AttendsWith core_space space.old runner.old.context runner.old.cache }
     ensures attends { AttendsWith core_space space.new runner.new.context runner.new.cache }
@@ -139,38 +141,29 @@ fn say<'s>(
     if runner.is_waiting() {
         return Outcome::Waits;
     }
-    outcome_of(runner.start(space, statement))
+    Outcome::at(&runner.start(space, statement))
 }
 
-pub(crate) fn outcome_of(progress: Result<Progress, OutOfMemory>) -> Outcome {
-    match progress {
-        Ok(Progress::Done(reply)) => outcome_of_reply(&reply),
-        Ok(Progress::Waiting(_, _)) | Ok(Progress::Pending) => Outcome::Waits,
-        Err(_) => Outcome::NoMemory,
+fn go_on(space: &mut CoreSpace, runner: &mut OwnedRunner<CoreSpace>) -> Option<Outcome>
+    requires { AttendsWith core_space space.old runner.old.context runner.old.cache }
+    ensures attends { AttendsWith core_space space.new runner.new.context runner.new.cache }
+    ensures who { runner.new.context.who ≡ runner.old.context.who }
+    ensures others { LeavesOthers core_space runner.old.context.who space.old space.new }
+{
+    if !runner.is_waiting() {
+        return None;
     }
+    Some(Outcome::at(&runner.go_on(space)))
 }
 
-fn outcome_of_reply(reply: &Reply) -> Outcome {
-    match reply {
-        Reply::Ok => Outcome::Done,
-        Reply::Error(error) => Outcome::Fails(error.number()),
-        Reply::Columns(tables) => match tables.as_slice().last() {
-            Some(table) => Outcome::Reads(table.version),
-            None => Outcome::Reads(0),
-        },
-        Reply::Number(yes) => Outcome::Says(*yes),
-        Reply::Null => Outcome::Null,
-    }
-}
-
-pub(crate) fn held<S: LockSpace>(space: &S, who: u16) -> Option<usize>
+fn held<S: LockSpace>(space: &S, who: u16) -> Option<usize>
     requires { S.speaks_for space.now who }
 {
     let tickets = space.held(who).ok()?;
     Some(tickets.len())
 }
 
-pub(crate) fn place<S: LockSpace>(space: &mut S, who: u16, key: &Key) -> Option<Place>
+fn place<S: LockSpace>(space: &mut S, who: u16, key: &Key) -> Option<Place>
     requires { S.speaks_for space.old who }
     ensures speaks { S.speaks_for space.new who }
     ensures others { LeavesOthers S.LockSpace who space.old space.new }
@@ -178,12 +171,7 @@ pub(crate) fn place<S: LockSpace>(space: &mut S, who: u16, key: &Key) -> Option<
     space.resolve(who, key).ok()
 }
 
-pub(crate) fn take<S: LockSpace>(
-    space: &mut S,
-    who: u16,
-    place: Place,
-    mode: Mode,
-) -> Option<TicketId>
+fn take<S: LockSpace>(space: &mut S, who: u16, place: Place, mode: Mode) -> Option<TicketId>
     requires { S.speaks_for space.old who }
     ensures speaks { S.speaks_for space.new who }
     ensures others { LeavesOthers S.LockSpace who space.old space.new }
@@ -214,7 +202,7 @@ fn changed<S: LockSpace>(space: &mut S, who: u16, id: TicketId, change: &Change)
     space.change_definition(who, id, change).ok()
 }
 
-pub(crate) fn leave<S: LockSpace>(space: &mut S, who: u16, id: TicketId) -> bool
+fn leave<S: LockSpace>(space: &mut S, who: u16, id: TicketId) -> bool
     requires { S.speaks_for space.old who }
     ensures speaks { S.speaks_for space.new who }
     ensures others { LeavesOthers S.LockSpace who space.old space.new }

@@ -1,17 +1,20 @@
 //! Statements one after another, and what has to come of them.
-use crate::used_up::room::{Lock, Outcome, Room};
+use crate::outcomes::Outcome;
+use crate::used_up::room::{Lock, Room};
 use mdl_defs::{Change, Column, Columns, Definition};
 use mdl_key::Mode;
-use mdl_lines::Fault;
 use mdl_space::TicketId;
 use mdl_syntax::{Line, Script, parse};
-use std::alloc::{AllocError, Global};
+use std::alloc::Global;
+use std::mem::drop;
 
 /// What is done next.
 #[derive(Clone, Copy)]
 pub(crate) enum Row {
     /// A statement, what comes of it, and how many tickets its session holds then.
     Says(&'static str, Outcome, usize),
+    /// The other session has a lock, for which a statement waits, until it gives it up: what comes of the statement then.
+    Waits(&'static str, Lock, Mode, Outcome),
     /// The other session lets a schema, or a table with a column `x`, come and go, until it has had so many versions and stands.
     Renews(Lock, u32),
     /// It comes by so many tickets of a lock, and keeps them.
@@ -20,67 +23,93 @@ pub(crate) enum Row {
     Leaves,
 }
 
-/// Where nobody has asked for anything, and there are so many places: the first row that goes otherwise.
-pub(crate) fn first_wrong(alloc: Global, places: u16, rows: &[Row]) -> Option<usize> {
-    let Ok(script) = script_of(alloc, rows) else {
-        return Some(rows.len());
-    };
+/// A name, how many places there are, and what is done, where nobody has asked for anything before.
+pub(crate) type Story = (&'static str, u16, &'static [Row]);
+
+/// The first row of a story that goes otherwise, counted from 0. The one behind the last is that its session leaves nothing as it ends.
+pub(crate) fn first_wrong(alloc: Global, (_, places, rows): Story) -> Option<usize> {
     let Ok(room) = Room::new(alloc, places) else {
         return Some(rows.len());
     };
-    let mut play = Play {
-        alloc,
-        room,
-        lines: script.lines(),
-        newest: 0,
-    };
+    let mut play = Play { room, newest: 0 };
+    let mut wrong = None;
     for (index, row) in rows.iter().enumerate() {
-        if !play.goes_so(*row) {
-            return Some(index);
+        if wrong.is_none() && !play.goes_so(*row) {
+            wrong = Some(index);
         }
     }
-    None
+    if play.room.held_after_the_end() == Some(0) {
+        wrong
+    } else {
+        wrong.or(Some(rows.len()))
+    }
 }
 
-// A room, the lines that are still to be said there, and the ticket that the other session gained last.
+// A room, and the ticket that the other session gained last.
 #[derive(Drop)]
-struct Play<'s> {
-    alloc: Global,
-    room: Room<'s>,
-    lines: &'s [Line],
+struct Play {
+    room: Room,
     newest: TicketId,
 }
 
-impl<'s> Play<'s> {
+impl Play {
     // Whether all goes as a row says.
     fn goes_so(&mut self, row: Row) -> bool {
         match row {
-            Row::Says(_, want, held) => self.says() == Some(want) && self.room.held() == Some(held),
+            Row::Says(text, want, held) => {
+                self.says(text) == Some(want) && self.room.held() == Some(held)
+            }
+            Row::Waits(text, lock, mode, want) => self.waits(text, lock, mode) == Some(want),
             Row::Renews(lock, count) => self.renews(lock, count) == Some(true),
             Row::Crowds(lock, mode, count) => self.crowds(lock, mode, count).is_some(),
             Row::Leaves => self.room.leave(self.newest),
         }
     }
 
-    // What comes of the next statement.
-    fn says(&mut self) -> Option<Outcome> {
-        let (line, rest) = self.lines.split_first()?;
-        self.lines = rest;
-        Some(self.room.say(&line.statement))
+    // What comes of a statement, which is dropped as soon as it has started.
+    fn says(&mut self, text: &str) -> Option<Outcome> {
+        let script = script_of(self.room.alloc, text)?;
+        let outcome = self.starts(script.lines());
+        drop(script);
+        outcome
+    }
+
+    // What comes of the first of these lines.
+    fn starts(&mut self, lines: &[Line]) -> Option<Outcome> {
+        let line = lines.first()?;
+        Some(self.room.start(&line.statement))
+    }
+
+    // What comes of a statement that waits, once the other session has given its lock up.
+    fn waits(&mut self, text: &str, lock: Lock, mode: Mode) -> Option<Outcome> {
+        let ticket = self.crowds(lock, mode, 1)?;
+        let waits = self.says(text) == Some(Outcome::Waits)
+            && self.room.go_on() == Some(Outcome::Waits)
+            && self.room.leave(ticket);
+        let outcome = self.room.go_on();
+        if waits && self.room.go_on().is_none() {
+            outcome
+        } else {
+            None
+        }
     }
 
     // Whether the other session gives up the lock under which it made so many versions.
     fn renews(&mut self, lock: Lock, count: u32) -> Option<bool> {
-        let put = Change::Put(definition_of(self.alloc, lock)?);
+        let put = Change::Put(definition_of(self.room.alloc, lock)?);
+        let left = self.changes(lock, count, &put);
+        drop(put);
+        left
+    }
+
+    // The same by changes that put this there, and others that drop it.
+    fn changes(&mut self, lock: Lock, count: u32, put: &Change) -> Option<bool> {
         let place = self.room.place(lock)?;
         let ticket = self.room.take(place, Mode::X)?;
-        self.room.change(ticket, &put)?;
+        self.room.change(ticket, put)?;
         for left in (1..count).rev() {
-            if left % 2 == 1 {
-                self.room.change(ticket, &put)?;
-            } else {
-                self.room.change(ticket, &Change::Drop)?;
-            }
+            let change = if left % 2 == 1 { put } else { &Change::Drop };
+            self.room.change(ticket, change)?;
         }
         Some(self.room.leave(ticket))
     }
@@ -97,6 +126,12 @@ impl<'s> Play<'s> {
     }
 }
 
+// A statement, as a script of session 1.
+fn script_of(alloc: Global, text: &str) -> Option<Script> {
+    let line = format!(in alloc; "1 {text}").ok()?;
+    parse(alloc, line.as_bytes()).ok()
+}
+
 // What can stand under the key of a lock, if anything can.
 fn definition_of(alloc: Global, lock: Lock) -> Option<Definition> {
     match lock {
@@ -108,22 +143,4 @@ fn definition_of(alloc: Global, lock: Lock) -> Option<Definition> {
         }
         Lock::Global | Lock::Commit | Lock::User(_) => None,
     }
-}
-
-// The statements of rows, as a script of session 1.
-fn script_of(alloc: Global, rows: &[Row]) -> Result<Script, Fault> {
-    match text_of(alloc, rows) {
-        Ok(text) => parse(alloc, text.as_bytes()),
-        Err(AllocError) => Err(Fault::Memory),
-    }
-}
-
-fn text_of(alloc: Global, rows: &[Row]) -> Result<String, AllocError> {
-    let mut text = String::new(alloc);
-    for row in rows {
-        if let Row::Says(statement, _, _) = row {
-            writeln!(text, "1 {statement}")?;
-        }
-    }
-    Ok(text)
 }

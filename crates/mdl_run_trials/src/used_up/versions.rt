@@ -1,7 +1,8 @@
 //! Tables and schemas that have had all their versions: 9003. It is told before the first change, so whoever fails has changed nothing.
-use crate::used_up::room::{Lock, Outcome};
+use crate::outcomes::Outcome;
+use crate::used_up::room::Lock;
 use crate::used_up::rows::Row::{Renews, Says};
-use crate::used_up::rows::{Row, first_wrong};
+use crate::used_up::rows::{Row, Story};
 
 const DONE: Outcome = Outcome::Done;
 
@@ -35,11 +36,6 @@ const OF_A_DROPPED_TABLE: &[Row] = &[
     Says("RENAME TABLE c TO d", DONE, 0),
     Says("DROP SCHEMA test", DONE, 0),
 ];
-
-#[test]
-fn a_dropped_table_had_its_last_version(rt: HostRuntime) {
-    assert_eq!(rt; first_wrong(rt.alloc(), PLACES, OF_A_DROPPED_TABLE), None);
-}
 
 // One that stands with its last version stands for good.
 const OF_A_TABLE: &[Row] = &[
@@ -81,11 +77,6 @@ const OF_A_TABLE: &[Row] = &[
     Says("DROP TABLE c", DONE, 0),
 ];
 
-#[test]
-fn a_table_has_a_last_version(rt: HostRuntime) {
-    assert_eq!(rt; first_wrong(rt.alloc(), PLACES, OF_A_TABLE), None);
-}
-
 // Likewise of schemas. By statements alone none ever stands with its last version, which is an even one.
 const OF_SCHEMAS: &[Row] = &[
     Renews(Lock::Schema("r"), MOST_VERSIONS - 1),
@@ -108,7 +99,13 @@ const OF_SCHEMAS: &[Row] = &[
     Says("DROP TABLE s.t", DONE, 0),
 ];
 
-#[test]
-fn a_schema_has_a_last_version(rt: HostRuntime) {
-    assert_eq!(rt; first_wrong(rt.alloc(), PLACES, OF_SCHEMAS), None);
-}
+/// All of them.
+pub(crate) const STORIES: &[Story] = &[
+    (
+        "a dropped table had its last version",
+        PLACES,
+        OF_A_DROPPED_TABLE,
+    ),
+    ("a table has a last version", PLACES, OF_A_TABLE),
+    ("a schema has a last version", PLACES, OF_SCHEMAS),
+];

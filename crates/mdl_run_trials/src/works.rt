@@ -1,0 +1,113 @@
+//! Sessions work off their own lines, wait for what the other one has locked until they have no more patience, and leave nothing at their end.
+use crate::outcomes::Outcome;
+use crate::room::{Answers, answers_so, holds, new_space};
+use mdl_work::OpenGate;
+use std::alloc::Global;
+
+const DONE: Outcome = Outcome::Done;
+
+const YES: Outcome = Outcome::Says(true);
+
+// A script, and what the one session answers, and then the other.
+type Talk = (&'static [u8], Answers<'static>, Answers<'static>);
+
+const TALKS: &[Talk] = &[
+    // Each answers its own lines.
+    (
+        b"1 CREATE SCHEMA shop\n2 SELECT shop.orders\n# what is sold\n\
+        1 CREATE TABLE shop.orders id\n1 CREATE TABLE shop.parts id\n\
+        2 SELECT shop.orders shop.parts\n1 SELECT shop.buyers\n",
+        &[(1, DONE), (4, DONE), (5, DONE), (7, Outcome::Fails(1146))],
+        &[(2, Outcome::Reads(1)), (6, Outcome::Reads(1))],
+    ),
+    // What the first session has locked, and its transaction, it has given up at its end.
+    (
+        b"1 CREATE SCHEMA shop\n1 CREATE TABLE shop.orders id\n1 BEGIN\n1 INSERT shop.orders\n\
+        2 DROP TABLE shop.orders\n2 CREATE TABLE shop.orders id\n2 LOCK TABLES shop.orders WRITE\n",
+        &[(1, DONE), (2, DONE), (3, DONE), (4, DONE)],
+        &[(5, DONE), (6, DONE), (7, DONE)],
+    ),
+    // And its user-level locks, which no COMMIT does.
+    (
+        b"1 GET_LOCK job\n1 GET_LOCK job\n1 BEGIN\n1 COMMIT\n1 RELEASE_LOCK job\n\
+        2 RELEASE_LOCK job\n2 GET_LOCK job\n2 RELEASE_LOCK job\n",
+        &[(1, YES), (2, YES), (3, DONE), (4, DONE), (5, YES)],
+        &[(6, Outcome::Null), (7, YES), (8, YES)],
+    ),
+    // Whoever has no lines answers nothing.
+    (b"2 COMMIT\n", &[], &[(1, DONE)]),
+];
+
+// Whether the sessions answer so, first the one and then the other.
+fn go_so(alloc: Global, (text, one, two): Talk) -> bool {
+    let Ok(mut space) = new_space(alloc) else {
+        return false;
+    };
+    answers_so(alloc, &mut space, 1, text, 0, &OpenGate, one)
+        && answers_so(alloc, &mut space, 2, text, 0, &OpenGate, two)
+}
+
+#[test]
+fn sessions_work_off_their_lines(rt: HostRuntime) {
+    for (place, talk) in TALKS.iter().enumerate() {
+        assert!(rt; go_so(rt.alloc(), *talk), "script {place}");
+    }
+}
+
+const TABLES: &[u8] = b"1 CREATE SCHEMA shop\n1 CREATE TABLE shop.orders id\n";
+
+const TIMED_OUT: Outcome = Outcome::Fails(1205);
+
+// What session 2 locks, the lines of session 1, its patience, and what it answers.
+type Wait = (&'static [u8], &'static [u8], u32, Answers<'static>);
+
+const WRITTEN: &[u8] = b"2 LOCK TABLES shop.orders WRITE\n";
+
+const LINES: &[u8] =
+    b"1 SELECT shop.orders\n1 BEGIN\n1 INSERT shop.orders\n1 ROLLBACK\n1 DROP SCHEMA shop\n1 COMMIT\n";
+
+// The lock never comes free, so each wait times out, and its session goes on.
+const ANSWERS: Answers<'static> = &[
+    (1, TIMED_OUT),
+    (2, DONE),
+    (3, TIMED_OUT),
+    (4, DONE),
+    (5, TIMED_OUT),
+    (6, DONE),
+];
+
+const WAITS: &[Wait] = &[
+    (WRITTEN, LINES, 0, ANSWERS),
+    (WRITTEN, LINES, 3, ANSWERS),
+    // A user-level lock that isn't had in time is an answer, and the transaction goes on.
+    (
+        b"2 GET_LOCK job\n",
+        b"1 BEGIN\n1 SAVEPOINT p\n1 GET_LOCK job\n1 RELEASE_LOCK job\n1 ROLLBACK TO p\n",
+        3,
+        &[
+            (1, DONE),
+            (2, DONE),
+            (3, Outcome::Says(false)),
+            (4, Outcome::Says(false)),
+            (5, DONE),
+        ],
+    ),
+];
+
+// Whether session 1 answers so where session 2 has made a statement that locks something.
+fn waits_so(alloc: Global, (lock, text, patience, want): Wait) -> bool {
+    let Ok(mut space) = new_space(alloc) else {
+        return false;
+    };
+    let made = &[(1, DONE), (2, DONE)];
+    answers_so(alloc, &mut space, 1, TABLES, 0, &OpenGate, made)
+        && holds(alloc, &mut space, lock)
+        && answers_so(alloc, &mut space, 1, text, patience, &OpenGate, want)
+}
+
+#[test]
+fn waits_end_with_patience(rt: HostRuntime) {
+    for (place, wait) in WAITS.iter().enumerate() {
+        assert!(rt; waits_so(rt.alloc(), *wait), "wait {place}");
+    }
+}
