@@ -27,7 +27,6 @@ SECONDS = 60
 FIRST_RUN = crates/mdlsim/out/first_run
 
 BENCH = crates/mdl_bench/out/mdl_bench
-FAST_BENCH = crates/mdl_fast_bench/out/mdl_fast_bench
 
 .PHONY: help run try script test layout docs bench examples commands c fuzz growths wrong build view install dist dist-check dist-libraries \
     dist-libraries-check clean kit
@@ -87,17 +86,14 @@ docs: kit
 	@sh make/check_examples.sh
 	@sh make/check_version.sh
 
-# Lines a second and peak memory of scripts of three sizes, of one lock and of statements; what calls cost on books of four sizes, chains
-# of grants, and sessions on one thread and on four; and the rows of the fast path, each beside what it is held against, what instructions it
-# takes, and what the locks of C and Rust take.
+# Lines a second and peak memory of scripts of three sizes, of one lock and of statements; what calls cost, on one thread and on four, each beside
+# what it is held against; what instructions a pair takes; and what the locks of C and Rust take.
 bench: build
 	@sh bench/lock.sh $(PROGRAM)
 	@sh bench/replay.sh $(PROGRAM)
 	@sh make/build.sh mdl_bench quick
 	@$(BENCH)
-	@sh make/build.sh mdl_fast_bench quick
-	@$(FAST_BENCH)
-	@sh bench/instructions.sh $(FAST_BENCH)
+	@sh bench/instructions.sh $(BENCH)
 	@sh bench/peers.sh
 
 # Each example gives the answers that lie beside it.

@@ -2,7 +2,7 @@
 # Counts the instructions of a pair of calls, `try_fast` and `release_fast`, of a session that knows and holds little, and of one that knows and
 # holds much; and the instructions and the allocations of a read that is lent by a cache of one table, and of many.
 # Usage: sh bench/instructions.sh PROGRAM
-# PROGRAM is mdl_fast_bench. A count is the difference of two runs, so what is done once isn't in it. It needs valgrind; where that isn't there, a
+# PROGRAM is mdl_bench. A count is the difference of two runs, so what is done once isn't in it. It needs valgrind; where that isn't there, a
 # line says so.
 program=$1
 few=10000

@@ -1,15 +1,14 @@
 //! What can end a measurement.
 use mdl_book::BookError;
-use mdl_context::ContextError;
+use mdl_calls::{NewError, SpaceError};
 use mdl_key::KeyError;
-use mdl_space::{NewError, SpaceError};
 use std::alloc::AllocError;
 use std::io;
 
 /// What can end a measurement.
 #[derive(Clone, Copy)]
 pub enum Failure {
-    /// A key, or a space, that can't be made.
+    /// A key, or a table, that can't be made.
     Unmade,
     /// A call that is refused.
     Refused,
@@ -25,7 +24,7 @@ impl Failure {
     /// What the program says of it.
     pub fn text(self) -> &'static str {
         match self {
-            Failure::Unmade => "a key or a space can't be made",
+            Failure::Unmade => "a key or a table can't be made",
             Failure::Refused => "a call is refused",
             Failure::Unexpected => "a call has an answer that it should not have",
             Failure::Memory => "out of memory",
@@ -54,12 +53,6 @@ impl From<BookError> for Failure {
 
 impl From<SpaceError> for Failure {
     fn from(_error: SpaceError) -> Failure {
-        Failure::Refused
-    }
-}
-
-impl From<ContextError> for Failure {
-    fn from(_error: ContextError) -> Failure {
         Failure::Refused
     }
 }

@@ -1,198 +1,240 @@
-//! A session that keeps many tickets, by its context.
-ghost use Rattle.mdl_context.specs.Contexts.{Attends};
+//! What a session of the table that threads share does over and over, while no other session asks for anything.
+ghost use Rattle.std.specs.Prelude.{◌≡◌, true};
+ghost use Rattle.mdl_session_laws.specs.SessionSpaces.{is_known};
+ghost use Rattle.mdl_shared.specs.SessionViews.{space_of};
 
 use crate::failure::Failure;
-use crate::figure::Work;
-use mdl_context::{Acquire, Context, Request};
-use mdl_key::{Duration, Key, MOST_PLACES, Mode};
-use mdl_space::{CoreSpace, LockSpace, TicketId};
+use crate::lap::{Lap, Race, Start};
+use crate::places::{Places, look_all_up, look_table_up};
+use crate::seat::{gain, give_up};
+use crate::table::table;
+use mdl_calls::{Attempt, Place, TicketId, Upgrade};
+use mdl_key::{Key, Mode};
+use mdl_shared::Session;
 use std::alloc::Global;
-use std::marker::Model;
+use std::sync::Wait;
+use std::time::{Clock, CpuClock};
 
-// The tables that are locked one after another, and then given up at once.
-const LOCKED: u16 = 100;
-
-/// What is done by a context.
+/// How many places a session knows, and at how many of them, the last ones, it holds a ticket.
 #[derive(Clone, Copy)]
-pub enum Job {
-    /// A table is locked and given up.
-    Keep,
-    /// A hundred tables are locked, and the session goes back to where it stood.
-    GoBack,
+pub struct Stock {
+    pub known: u16,
+    pub held: u16,
 }
 
-/// A space with as many tables as it has places, and the context of its one session, which the space speaks for.
-#[derive(Drop)]
-pub struct Session {
-    keys: Vec<Key>,
-    space: CoreSpace,
-    context: Context<CoreSpace>,
-    job: Job,
-}
-
-impl Model for Session {
-    ghost use Rattle.mdl_space.specs.CoreMembers.{core_space};
-    ghost use Rattle.mdl_context.specs.Contexts.{Attends};
-
-    ghost Value = { Unit };
-
-    ghost view = { λ _. tt };
-
-    ghost invariant = { λ session. Attends core_space session.space session.context };
-}
-
-impl Session {
-    /// The session keeps so many tickets, spread over all tables but the last.
-    pub fn new(alloc: Global, job: Job, tickets: u16) -> Result<Session, Failure> {
-        match tables(alloc) {
-            Ok(keys) => Session::open(alloc, keys, job, tickets),
-            Err(error) => Err(error),
-        }
-    }
-
-    // Likewise, of these tables.
-    fn open(alloc: Global, keys: Vec<Key>, job: Job, tickets: u16) -> Result<Session, Failure> {
-        match CoreSpace::new(alloc, MOST_PLACES, 1) {
-            Ok(space) => Session {
-                keys,
-                space,
-                context: Context::new(alloc, 1),
-                job,
-            }
-            .filled(tickets),
-            Err(_) => Err(Failure::Unmade),
-        }
-    }
-
-    // Likewise, where nothing is kept yet.
-    fn filled(mut self, tickets: u16) -> Result<Session, Failure> {
-        match self.fill(tickets) {
-            Ok(()) => Ok(self),
-            Err(error) => Err(error),
-        }
-    }
-
-    // Likewise.
-    fn fill(&mut self, tickets: u16) -> Result<(), Failure> {
-        for index in 0..tickets {
-            self.acquire(index % (MOST_PLACES - 1), Duration::Explicit)?;
-        }
-        Ok(())
-    }
-
-    // Comes by the lock of a table in SR.
-    fn acquire(&mut self, table: u16, duration: Duration) -> Result<TicketId, Failure> {
-        match self.keys.get(usize::from(table)) {
-            Some(key) => acquire(&mut self.space, &mut self.context, key, duration),
-            None => Err(Failure::Unexpected),
-        }
-    }
-
-    // Locks the last table and gives it up.
-    fn take_and_release(&mut self) -> Result<(), Failure> {
-        let id = self.acquire(MOST_PLACES - 1, Duration::Transaction)?;
-        self.context.release(&mut self.space, id)?;
-        Ok(())
-    }
-
-    // Locks a hundred tables and goes back to where it stood.
-    fn go_back(&mut self) -> Result<(), Failure> {
-        let mark = self.context.savepoint();
-        for table in 0..LOCKED {
-            self.acquire(table, Duration::Transaction)?;
-        }
-        self.context.rollback_to(&mut self.space, mark)?;
-        Ok(())
-    }
-
-    // So many times: how often.
-    fn take_often(&mut self, turns: u32) -> Result<u64, Failure> {
-        let mut taken = 0u64;
-        for _turn in 0..turns {
-            self.take_and_release()?;
-            taken = taken.wrapping_add(1);
-        }
-        Ok(taken)
-    }
-
-    // So many times: how often.
-    fn go_back_often(&mut self, turns: u32) -> Result<u64, Failure> {
-        let mut gone = 0u64;
-        for _turn in 0..turns {
-            self.go_back()?;
-            gone = gone.wrapping_add(1);
-        }
-        Ok(gone)
-    }
-
-    // Looks so many keys up: how many are of tables.
-    fn look_often(&self, turns: u32, tables: u16) -> Result<u64, Failure> {
-        let mut found = 0u64;
-        for _turn in 0..turns {
-            for table in 0..tables {
-                match self
-                    .keys
-                    .get(usize::from(MOST_PLACES - 1 - table % MOST_PLACES))
-                {
-                    Some(key) => found = found.wrapping_add(u64::from(
-                        key.kind().has_mode(Mode::SR),
-                    )),
-                    None => return Err(Failure::Unexpected),
-                }
-            }
-        }
-        Ok(found)
+impl Stock {
+    // The table that is learnt last.
+    fn last(self) -> u16 {
+        self.known.saturating_sub(1)
     }
 }
 
-// The keys of as many tables as a space has places.
-fn tables(alloc: Global) -> Result<Vec<Key>, Failure> {
-    let mut keys = Vec::new(alloc);
-    for index in 0..MOST_PLACES {
-        let name = format!(in alloc; "t{index}")?;
-        let key = Key::table(alloc, "test", name.as_str())?;
-        if keys.push(key).is_err() {
-            return Err(Failure::Memory);
-        }
-    }
-    Ok(keys)
+/// A call, or two, at the place that was learnt last.
+#[derive(Clone, Copy)]
+pub enum Call {
+    /// The lock is taken in X and given up. The session's own ticket doesn't stand in the way.
+    Exclusive,
+    /// The place of the key is asked for, which the session knows.
+    Resolve,
+    /// The key of the place is asked for.
+    KeyOf,
+    /// What stands there is read.
+    Read,
+    /// The ticket there gets a stronger mode, and its own again.
+    Alter,
 }
 
-// Comes by a lock in SR.
-fn acquire<S: LockSpace>(
-    space: &mut S,
-    context: &mut Context<S>,
-    key: &Key,
-    duration: Duration,
-) -> Result<TicketId, Failure>
-    requires { Attends S.LockSpace space.old context.old }
-    ensures { Attends S.LockSpace space.new context.new }
+// The place that was learnt last, and the ticket there, if any.
+#[derive(Clone, Copy)]
+struct Last {
+    place: Place,
+    id: TicketId,
+}
+
+/// How long a session takes for fast tickets to read, which it gains and gives up at the place that it learnt last.
+pub fn time_pairs<R: Wait + Clock + CpuClock>(
+    rt: &R,
+    alloc: Global,
+    session: &mut Session<&R>,
+    stock: Stock,
+    race: &Race,
+) -> Result<Lap, Failure> {
+    stock_up(alloc, session, stock, Mode::SR)?;
+    let place = look_table_up(alloc, session, stock.last(), 1)?;
+    let start = Start::of(rt, race)?;
+    let made = make_pairs(session, place, race.turns);
+    start.lap(rt, race, made)
+}
+
+// So many pairs: how many went well.
+fn make_pairs<R>(session: &mut Session<R>, place: Place, turns: u32) -> u32
+    requires known { is_known place (space_of session.old).known ≡ true }
 {
-    let request = Request {
-        key,
-        mode: Mode::SR,
-        duration,
-    };
-    match context.acquire(space, request) {
-        Ok(Acquire::Acquired(id)) => Ok(id),
-        Ok(Acquire::MustWait(_)) => Err(Failure::Unexpected),
-        Err(_) => Err(Failure::Refused),
+    let mut made = 0u32;
+    for _turn in 0..turns {
+        let Some(id) = gain(session, place, Mode::SR) else {
+            break;
+        };
+        if give_up(session, id) {
+            made = made.wrapping_add(1);
+        }
+    }
+    made
+}
+
+// The session learns its places, and takes its tickets in a mode: what it learnt last.
+fn stock_up<R: Wait>(
+    alloc: Global,
+    session: &mut Session<R>,
+    stock: Stock,
+    mode: Mode,
+) -> Result<Last, Failure> {
+    let mut last = Last { place: 0, id: 0 };
+    for index in 0..stock.known {
+        last.place = look_table_up(alloc, session, index, 0)?;
+        if index.saturating_add(stock.held) >= stock.known {
+            last.id = take(session, last.place, mode)?;
+        }
+    }
+    Ok(last)
+}
+
+/// Takes a lock that is free.
+pub fn take<R: Wait>(
+    session: &mut Session<R>,
+    place: Place,
+    mode: Mode,
+) -> Result<TicketId, Failure> {
+    match session.try_now(place, mode)? {
+        Attempt::Granted(id) => Ok(id),
+        Attempt::WouldWait => Err(Failure::Unexpected),
     }
 }
 
-impl Work for Session {
-    fn run(&mut self, turns: u32) -> Result<u64, Failure> {
-        match self.job {
-            Job::Keep => self.take_often(turns),
-            Job::GoBack => self.go_back_often(turns),
-        }
-    }
+/// How long a session takes for calls.
+pub fn time_calls<R: Wait + Clock + CpuClock>(
+    rt: &R,
+    alloc: Global,
+    session: &mut Session<&R>,
+    call: &Call,
+    stock: Stock,
+    race: &Race,
+) -> Result<Lap, Failure> {
+    let last = stock_up(alloc, session, stock, Mode::SU)?;
+    let key = table(alloc, stock.last())?;
+    let start = Start::of(rt, race)?;
+    let made = call_often(session, call, &key, last, race.turns);
+    start.lap(rt, race, made)
+}
 
-    // The keys alone are looked up.
-    fn idle(&mut self, turns: u32) -> Result<u64, Failure> {
-        match self.job {
-            Job::Keep => self.look_often(turns, 1),
-            Job::GoBack => self.look_often(turns, LOCKED),
+// So many calls: how many had the answer that they should have.
+fn call_often<R: Wait>(
+    session: &mut Session<R>,
+    call: &Call,
+    key: &Key,
+    last: Last,
+    turns: u32,
+) -> u32 {
+    let mut made = 0u32;
+    for _turn in 0..turns {
+        let well = match call {
+            Call::Exclusive => takes(session, last.place),
+            Call::Resolve => has_place(session, key, last.place),
+            Call::KeyOf => has_key(session, key, last.place),
+            Call::Read => finds_nothing(session, last.id),
+            Call::Alter => alters(session, last.id),
+        };
+        made = made.wrapping_add(u32::from(well));
+    }
+    made
+}
+
+fn takes<R: Wait>(session: &mut Session<R>, place: Place) -> bool {
+    match session.try_now(place, Mode::X) {
+        Ok(Attempt::Granted(id)) => session.release(id).is_ok(),
+        _ => false,
+    }
+}
+
+fn has_place<R: Wait>(session: &mut Session<R>, key: &Key, place: Place) -> bool {
+    match session.resolve(key) {
+        Ok(found) => found == place,
+        Err(_) => false,
+    }
+}
+
+fn has_key<R>(session: &mut Session<R>, key: &Key, place: Place) -> bool {
+    match session.key_of(place) {
+        Ok(found) => found == *key,
+        Err(_) => false,
+    }
+}
+
+fn finds_nothing<R: Wait>(session: &mut Session<R>, id: TicketId) -> bool {
+    match session.read_definition(id) {
+        Ok(standing) => standing.definition.is_none(),
+        Err(_) => false,
+    }
+}
+
+fn alters<R: Wait>(session: &mut Session<R>, id: TicketId) -> bool {
+    match session.upgrade_now(id, Mode::X) {
+        Ok(Upgrade::Upgraded) => session.downgrade(id, Mode::SU).is_ok(),
+        _ => false,
+    }
+}
+
+/// How long a session takes for transactions: fast tickets of GLOBAL in IX and of three tables in SW, which it gains and gives up.
+pub fn time_transactions<R: Wait + Clock + CpuClock>(
+    rt: &R,
+    alloc: Global,
+    session: &mut Session<&R>,
+    race: &Race,
+) -> Result<Lap, Failure> {
+    let places = look_all_up(alloc, session, 0)?;
+    let start = Start::of(rt, race)?;
+    let made = transact_often(session, places, race.turns);
+    start.lap(rt, race, made)
+}
+
+// So many transactions: how many went well.
+fn transact_often<R>(session: &mut Session<R>, places: Places, turns: u32) -> u32
+    requires global { is_known places.global (space_of session.old).known ≡ true }
+    requires first { is_known places.first (space_of session.old).known ≡ true }
+    requires second { is_known places.second (space_of session.old).known ≡ true }
+    requires third { is_known places.third (space_of session.old).known ≡ true }
+{
+    let mut made = 0u32;
+    for _turn in 0..turns {
+        if transacts(session, places) {
+            made = made.wrapping_add(1);
         }
     }
+    made
+}
+
+// Gains the fast tickets and gives them up, the last one first, as MySQL ends a transaction. Whether all went well.
+fn transacts<R>(session: &mut Session<R>, places: Places) -> bool
+    requires global { is_known places.global (space_of session.old).known ≡ true }
+    requires first { is_known places.first (space_of session.old).known ≡ true }
+    requires second { is_known places.second (space_of session.old).known ≡ true }
+    requires third { is_known places.third (space_of session.old).known ≡ true }
+    ensures known { (space_of session.new).known ≡ (space_of session.old).known }
+{
+    let Some(global) = gain(session, places.global, Mode::IX) else {
+        return false;
+    };
+    let Some(first) = gain(session, places.first, Mode::SW) else {
+        return false;
+    };
+    let Some(second) = gain(session, places.second, Mode::SW) else {
+        return false;
+    };
+    let Some(third) = gain(session, places.third, Mode::SW) else {
+        return false;
+    };
+    give_up(session, third)
+        && give_up(session, second)
+        && give_up(session, first)
+        && give_up(session, global)
 }

@@ -1,0 +1,120 @@
+//! What a session does over and over on a thread of its own, beside other sessions.
+ghost use Rattle.std.specs.Prelude.{◌≡◌, true};
+ghost use Rattle.mdl_session_laws.specs.SessionSpaces.{is_known};
+ghost use Rattle.mdl_shared.specs.SessionViews.{space_of};
+
+use crate::failure::Failure;
+use crate::lap::{Lap, Race, Start};
+use crate::patient::{gain, give_up, take};
+use crate::places::{Places, look_all_up};
+use mdl_key::Mode;
+use mdl_shared::Session;
+use std::alloc::Global;
+use std::sync::Wait;
+use std::time::{Clock, CpuClock, Duration, Instant};
+
+/// What is done in a turn.
+#[derive(Clone, Copy)]
+pub enum Part {
+    /// A fast ticket to read is gained at the last table, and given up.
+    Pair,
+    /// Tickets of GLOBAL in IX and of three tables in SW are gained, and all are given up.
+    Transaction,
+    /// The same. Before every ten thousandth an ALTER locks the last table for itself, and gives it up.
+    TransactionOrAlter,
+}
+
+/// How many turns there are to an ALTER.
+pub const TURNS_AN_ALTER: u32 = 10_000;
+
+/// How long a session takes for its turns, once all are there. It has tables of its own, or all have the same.
+pub fn time_part<R: Wait + Clock + CpuClock>(
+    rt: &R,
+    alloc: Global,
+    session: &mut Session<&R>,
+    part: &Part,
+    own: bool,
+    race: &Race,
+) -> Result<Lap, Failure> {
+    let from = if own {
+        session.number().saturating_mul(3)
+    } else {
+        0
+    };
+    let places = look_all_up(alloc, session, from)?;
+    let start = Start::of(rt, race)?;
+    let alters = turn_often(rt, session, places, part, race.turns)?;
+    let lap = start.lap(rt, race, race.turns)?;
+    Ok(Lap { alters, ..lap })
+}
+
+// So many turns: how long all ALTERs among them took.
+fn turn_often<R: Wait + Clock>(
+    rt: &R,
+    session: &mut Session<&R>,
+    places: Places,
+    part: &Part,
+    turns: u32,
+) -> Result<Duration, Failure>
+    requires global { is_known places.global (space_of session.old).known ≡ true }
+    requires first { is_known places.first (space_of session.old).known ≡ true }
+    requires second { is_known places.second (space_of session.old).known ≡ true }
+    requires third { is_known places.third (space_of session.old).known ≡ true }
+{
+    let mut alters = Duration::ZERO;
+    for turn in 0..turns {
+        match part {
+            Part::Pair => pair(rt, session, places)?,
+            Part::Transaction => transaction(rt, session, places)?,
+            Part::TransactionOrAlter => {
+                if turn % TURNS_AN_ALTER == 0 {
+                    alters = alters.saturating_add(alter(rt, session, places)?);
+                }
+                transaction(rt, session, places)?;
+            }
+        }
+    }
+    Ok(alters)
+}
+
+// A fast ticket is gained at the last table, and given up.
+fn pair<R: Wait>(rt: &R, session: &mut Session<&R>, places: Places) -> Result<(), Failure>
+    requires third { is_known places.third (space_of session.old).known ≡ true }
+    ensures known { (space_of session.new).known ≡ (space_of session.old).known }
+{
+    let id = gain(rt, session, places.third, Mode::SR)?;
+    give_up(session, places.third, id)
+}
+
+// Tickets of all four are gained, in this order, in which nobody waits for one who waits for him. Then they are given up.
+fn transaction<R: Wait>(rt: &R, session: &mut Session<&R>, places: Places) -> Result<(), Failure>
+    requires global { is_known places.global (space_of session.old).known ≡ true }
+    requires first { is_known places.first (space_of session.old).known ≡ true }
+    requires second { is_known places.second (space_of session.old).known ≡ true }
+    requires third { is_known places.third (space_of session.old).known ≡ true }
+    ensures known { (space_of session.new).known ≡ (space_of session.old).known }
+{
+    let a = gain(rt, session, places.global, Mode::IX)?;
+    let b = gain(rt, session, places.first, Mode::SW)?;
+    let c = gain(rt, session, places.second, Mode::SW)?;
+    let d = gain(rt, session, places.third, Mode::SW)?;
+    give_up(session, places.third, d)?;
+    give_up(session, places.second, c)?;
+    give_up(session, places.first, b)?;
+    give_up(session, places.global, a)
+}
+
+// The last table is locked for the session itself, and given up: how long that took.
+fn alter<R: Wait + Clock>(
+    rt: &R,
+    session: &mut Session<&R>,
+    places: Places,
+) -> Result<Duration, Failure>
+    requires third { is_known places.third (space_of session.old).known ≡ true }
+    ensures known { (space_of session.new).known ≡ (space_of session.old).known }
+{
+    let began = Instant::now(rt)?;
+    let id = take(rt, session, places.third, Mode::X)?;
+    give_up(session, places.third, id)?;
+    Ok(began.elapsed(rt)?)
+}

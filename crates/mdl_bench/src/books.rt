@@ -1,0 +1,254 @@
+//! The calls of one lock's book, and searches for deadlocks among many.
+use crate::failure::Failure;
+use crate::lap::spent_since;
+use crate::table::table;
+use mdl_book::{Book, Sessions, Ticket};
+use mdl_graph::{WaitGraph, victim};
+use mdl_key::Mode;
+use mdl_word::Word;
+use std::alloc::{AllocError, Global};
+use std::time::{Clock, Duration, Instant};
+
+// The word of a lock without fast tickets.
+const NO_FAST_TICKETS: Word = Word(0);
+
+// How many sessions hold the lock that many tickets are of, and one that doesn't, and waits.
+const HOLDERS: u16 = 1000;
+
+const NEWCOMER: u16 = 1001;
+
+// The modes that are wished for: X and SNRW, the last two, are all that readers stand in the way of.
+const MODES: [Mode; 8] = [
+    Mode::S,
+    Mode::SR,
+    Mode::SW,
+    Mode::SWLP,
+    Mode::SNW,
+    Mode::SU,
+    Mode::X,
+    Mode::SNRW,
+];
+
+/// What is asked of a book with many tickets.
+pub enum Asked {
+    /// Whether varying wishes of varying sessions can be granted.
+    CanGrant,
+    /// Who can be granted next, where either every session's wait is unsettled or nobody's.
+    NextGrantable,
+}
+
+/// How long so many calls took of a book of which so many tickets are granted in SR, and for which one session waits.
+pub fn time_asking<R: Clock>(
+    rt: &R,
+    alloc: Global,
+    asked: &Asked,
+    tickets: u16,
+    turns: u32,
+) -> Result<Duration, Failure> {
+    let mut book = Book::new(alloc, table(alloc, 0)?);
+    let gathered = gather(&mut book, tickets);
+    let began = Instant::now(rt)?;
+    let made = match asked {
+        Asked::CanGrant => wish_often(&book, turns),
+        Asked::NextGrantable => look_often(&book, turns),
+    };
+    let spent = spent_since(rt, began, made, turns);
+    match gathered {
+        Ok(()) => spent,
+        Err(why) => Err(why),
+    }
+}
+
+// So many hold the lock, and the newcomer waits for it.
+fn gather(book: &mut Book, tickets: u16) -> Result<(), Failure> {
+    for number in 0..tickets {
+        let ticket = ticket(1 + number % HOLDERS, u64::from(number), Mode::SR);
+        book.grant(ticket, NO_FAST_TICKETS)?;
+    }
+    book.enqueue(ticket(NEWCOMER, 1, Mode::SU))?;
+    Ok(())
+}
+
+// A ticket of a session.
+fn ticket(session: u16, number: u64, mode: Mode) -> Ticket {
+    Ticket {
+        session,
+        number,
+        mode,
+    }
+}
+
+// So many wishes: of how many the answer was right.
+fn wish_often(book: &Book, turns: u32) -> u32 {
+    let mut right = 0u32;
+    for turn in 0..turns {
+        let wish = (turn % 8) as usize;
+        let answer = book.can_grant((turn % 1024) as u16 + 1, MODES[wish], NO_FAST_TICKETS);
+        right = right.wrapping_add(u32::from(answer == (wish < 6)));
+    }
+    right
+}
+
+// So many looks for a waiter: how often it was the newcomer where it can be, and else nobody.
+fn look_often(book: &Book, turns: u32) -> u32 {
+    let unsettled = [Sessions::new(), Sessions::all()];
+    let mut right = 0u32;
+    for turn in 0..turns {
+        let which = (turn % 2) as usize;
+        let waiter = book.next_grantable(NO_FAST_TICKETS, &unsettled[which]);
+        right = right.wrapping_add(u32::from(waiter.is_some() == (which == 1)));
+    }
+    right
+}
+
+/// How long it took so many times to grant so many waiters one after another, once the lock is given up, without the clock's own time.
+pub fn time_grants<R: Clock>(
+    rt: &R,
+    alloc: Global,
+    waiters: u16,
+    turns: u32,
+) -> Result<Duration, Failure> {
+    let mut spent = Duration::ZERO;
+    for _turn in 0..turns {
+        let mut book = Book::new(alloc, table(alloc, 0)?);
+        let grants = time_book(rt, &mut book, waiters);
+        drop(book);
+        spent = spent.saturating_add(grants?);
+    }
+    Ok(spent)
+}
+
+// The same once, of a book where nobody has asked for anything.
+fn time_book<R: Clock>(rt: &R, book: &mut Book, waiters: u16) -> Result<Duration, Failure> {
+    let last = waiters.saturating_add(1);
+    contest(book, Mode::X, (1, 1), Mode::SR, (2, last))?;
+    let idle = Instant::now(rt)?.elapsed(rt)?;
+    let began = Instant::now(rt)?;
+    let granted = grant_all(book)?;
+    let spent = spent_since(rt, began, u32::from(granted), u32::from(waiters))?;
+    Ok(spent.saturating_sub(idle))
+}
+
+// The first session gives up the lock, and each waiter is granted as the next that can be: how many there were.
+fn grant_all(book: &mut Book) -> Result<u16, Failure> {
+    let everyone = Sessions::all();
+    book.remove(1, 1)?;
+    let mut granted = 0u16;
+    for _ in 0..u16::MAX {
+        let Some((session, number)) = book.next_grantable(NO_FAST_TICKETS, &everyone) else {
+            break;
+        };
+        book.admit(session, number)?;
+        granted = granted.wrapping_add(1);
+    }
+    Ok(granted)
+}
+
+// The sessions from one number to another have the lock in a mode, and others wait for it in another.
+fn contest(
+    book: &mut Book,
+    had: Mode,
+    holders: (u16, u16),
+    wished: Mode,
+    waiters: (u16, u16),
+) -> Result<(), Failure> {
+    for session in holders.0..holders.1.saturating_add(1) {
+        book.grant(ticket(session, 1, had), NO_FAST_TICKETS)?;
+    }
+    for session in waiters.0..waiters.1.saturating_add(1) {
+        book.enqueue(ticket(session, 2, wished))?;
+    }
+    Ok(())
+}
+
+/// How sessions wait for one another.
+pub enum Shape {
+    /// Each for the next, and the last for nobody.
+    Chain,
+    /// Each for the next, and the last for the first.
+    Ring,
+    /// Each for all others.
+    Dense,
+}
+
+/// How long so many searches took for a deadlock of the last of so many sessions, for which all others wait, directly or not. Who has to give
+/// way is the last one, as all wishes weigh the same.
+pub fn time_searches<R: Clock>(
+    rt: &R,
+    alloc: Global,
+    shape: &Shape,
+    sessions: u16,
+    turns: u32,
+) -> Result<Duration, Failure> {
+    let mut books = Vec::new(alloc);
+    let tied = tie(alloc, &mut books, shape, sessions);
+    let wanted = match shape {
+        Shape::Chain => 0,
+        Shape::Ring | Shape::Dense => sessions,
+    };
+    let began = Instant::now(rt)?;
+    let made = search_often(alloc, &books, sessions, wanted, turns);
+    let spent = spent_since(rt, began, made, turns);
+    match tied {
+        Ok(()) => spent,
+        Err(why) => Err(why),
+    }
+}
+
+// The books of the locks that make a shape.
+fn tie(alloc: Global, books: &mut Vec<Book>, shape: &Shape, sessions: u16) -> Result<(), Failure> {
+    let from = match shape {
+        Shape::Chain => 2,
+        Shape::Ring => 1,
+        Shape::Dense => sessions,
+    };
+    for holder in from..sessions.saturating_add(1) {
+        let before = if holder == 1 { sessions } else { holder - 1 };
+        let (holders, waiters) = match shape {
+            Shape::Dense => ((1, sessions), (1, sessions)),
+            _ => ((holder, holder), (before, before)),
+        };
+        shelve(alloc, books, holders, waiters)?;
+    }
+    Ok(())
+}
+
+// One book more, of a lock that some hold and others wait for.
+fn shelve(
+    alloc: Global,
+    books: &mut Vec<Book>,
+    holders: (u16, u16),
+    waiters: (u16, u16),
+) -> Result<(), Failure> {
+    let mut book = Book::new(alloc, table(alloc, 0)?);
+    let contested = contest(&mut book, Mode::SR, holders, Mode::X, waiters);
+    match books.push(book) {
+        Ok(()) => contested,
+        Err(_) => Err(Failure::Memory),
+    }
+}
+
+// So many searches: how many found the victim that they should.
+fn search_often(alloc: Global, books: &[Book], who: u16, wanted: u16, turns: u32) -> u32 {
+    let mut right = 0u32;
+    for _turn in 0..turns {
+        let mut graph = WaitGraph::new(alloc, Sessions::new());
+        let found = search(&mut graph, books, who);
+        drop(graph);
+        if found == Ok(wanted) {
+            right = right.wrapping_add(1);
+        }
+    }
+    right
+}
+
+// Builds the graph of all waits, and looks for a deadlock: who has to give way, or 0.
+fn search(graph: &mut WaitGraph, books: &[Book], who: u16) -> Result<u16, AllocError> {
+    for book in books {
+        graph.add(book)?;
+    }
+    match graph.find_cycle(who)? {
+        Some(cycle) => Ok(victim(&cycle)),
+        None => Ok(0),
+    }
+}

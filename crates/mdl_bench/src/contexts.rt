@@ -1,0 +1,266 @@
+//! A session's calls through its context: in the table that threads share, and in a space of one thread.
+ghost use Rattle.std.specs.Prelude.{◌≡◌};
+ghost use Rattle.mdl_context.specs.Contexts.{Attends};
+ghost use Rattle.mdl_shared.specs.Passes.{table_of, pass_table};
+
+use crate::failure::Failure;
+use crate::lap::spent_since;
+use crate::seat::close;
+use crate::table::table;
+use mdl_calls::{LockSpace, TicketId};
+use mdl_context::{Acquire, Context, Request};
+use mdl_key::{Duration, Key, MOST_PLACES, MOST_SESSIONS, Mode};
+use mdl_shared::{Manager, Pass, Session};
+use mdl_space::CoreSpace;
+use std::alloc::Global;
+use std::sync::Wait;
+use std::time;
+use std::time::{Clock, Instant};
+
+// The tables over which a session's other tickets are spread.
+const SPREAD: u16 = 250;
+
+// The tables that are locked after a savepoint.
+const LOCKED: u16 = 100;
+
+/// What is done in a turn through a context that knows the keys.
+pub enum Wish {
+    /// A table's lock is acquired to read, and released.
+    Request,
+    /// GLOBAL is acquired in IX and three tables in SW, and the transaction ends.
+    Transact,
+    /// A lock that is held already is acquired again.
+    AskAgain,
+    /// A hundred tables are locked, and the session goes back to where it stood.
+    GoBack,
+}
+
+/// How long so many turns took, by a session of a new table that holds so many tickets.
+pub fn time_shared<R: Wait + Clock>(
+    rt: &R,
+    alloc: Global,
+    wish: &Wish,
+    tickets: u16,
+    turns: u32,
+) -> Result<time::Duration, Failure> {
+    let (manager, mut passes) = Manager::new(alloc, MOST_PLACES, MOST_SESSIONS)?;
+    let pass = passes.remove(0);
+    time_pass(rt, rt, alloc, &manager, pass, wish, tickets, turns)
+}
+
+// The same by the session of a pass, which waits by a handle of its own.
+fn time_pass<R: Wait + Clock, W: Wait + Drop>(
+    rt: &R,
+    wait: W,
+    alloc: Global,
+    manager: &Manager,
+    pass: Pass,
+    wish: &Wish,
+    tickets: u16,
+    turns: u32,
+) -> Result<time::Duration, Failure>
+    requires { pass_table pass ≡ table_of manager.now }
+{
+    let mut session = Session::open(wait, manager, pass);
+    let mut context = Context::new(alloc, session.number());
+    let spent = timed(rt, alloc, &mut session, &mut context, wish, tickets, turns);
+    close(rt, session);
+    spent
+}
+
+/// The same by the one session of a new space of one thread.
+pub fn time_alone<R: Clock>(
+    rt: &R,
+    alloc: Global,
+    wish: &Wish,
+    tickets: u16,
+    turns: u32,
+) -> Result<time::Duration, Failure> {
+    let Ok(mut space) = CoreSpace::new(alloc, MOST_PLACES, 1) else {
+        return Err(Failure::Unmade);
+    };
+    let mut context = Context::new(alloc, 1);
+    timed(rt, alloc, &mut space, &mut context, wish, tickets, turns)
+}
+
+// The same by a session that has nothing yet. The first turn isn't timed: the context looks the keys up then.
+fn timed<R: Clock, S: LockSpace>(
+    rt: &R,
+    alloc: Global,
+    space: &mut S,
+    context: &mut Context<S>,
+    wish: &Wish,
+    tickets: u16,
+    turns: u32,
+) -> Result<time::Duration, Failure>
+    requires { Attends S.LockSpace space.old context.old }
+{
+    stock_up(alloc, space, context, tickets)?;
+    let keys = keys_of(alloc, wish)?;
+    let next = u64::from(tickets).wrapping_add(1);
+    if wish_often(space, context, wish, &keys, next, 1) == 0 {
+        return Err(Failure::Unexpected);
+    }
+    let began = Instant::now(rt)?;
+    let made = wish_often(space, context, wish, &keys, next, turns);
+    spent_since(rt, began, made, turns)
+}
+
+// Acquires so many explicit tickets, spread over tables.
+fn stock_up<S: LockSpace>(
+    alloc: Global,
+    space: &mut S,
+    context: &mut Context<S>,
+    tickets: u16,
+) -> Result<(), Failure>
+    requires { Attends S.LockSpace space.old context.old }
+    ensures { Attends S.LockSpace space.new context.new }
+{
+    for index in 0..tickets {
+        let key = table(alloc, index % SPREAD)?;
+        if acquire(space, context, &key, Mode::SR, Duration::Explicit).is_none() {
+            return Err(Failure::Unexpected);
+        }
+    }
+    Ok(())
+}
+
+// The keys of a wish.
+fn keys_of(alloc: Global, wish: &Wish) -> Result<Vec<Key>, Failure> {
+    let mut keys = Vec::new(alloc);
+    let listed = match wish {
+        Wish::Request | Wish::AskAgain => list_tables(alloc, &mut keys, SPREAD, 1),
+        Wish::Transact => match keys.push(Key::global(alloc)) {
+            Ok(()) => list_tables(alloc, &mut keys, 0, 3),
+            Err(_) => Err(Failure::Memory),
+        },
+        Wish::GoBack => list_tables(alloc, &mut keys, 0, LOCKED),
+    };
+    match listed {
+        Ok(()) => Ok(keys),
+        Err(why) => Err(why),
+    }
+}
+
+// The keys of so many tables from one on.
+fn list_tables(alloc: Global, keys: &mut Vec<Key>, from: u16, count: u16) -> Result<(), Failure> {
+    for index in 0..count {
+        if keys
+            .push(table(alloc, from.saturating_add(index))?)
+            .is_err()
+        {
+            return Err(Failure::Memory);
+        }
+    }
+    Ok(())
+}
+
+// So many turns: how many went well. The ticket of the first one has the number that is next.
+fn wish_often<S: LockSpace>(
+    space: &mut S,
+    context: &mut Context<S>,
+    wish: &Wish,
+    keys: &[Key],
+    next: TicketId,
+    turns: u32,
+) -> u32
+    requires { Attends S.LockSpace space.old context.old }
+    ensures { Attends S.LockSpace space.new context.new }
+{
+    let Some((first, others)) = keys.split_first() else {
+        return 0;
+    };
+    let mut made = 0u32;
+    for _turn in 0..turns {
+        let well = match wish {
+            Wish::Request => requests(space, context, first),
+            Wish::Transact => transacts(space, context, first, others),
+            Wish::AskAgain => asks_again(space, context, first, next),
+            Wish::GoBack => goes_back(space, context, keys),
+        };
+        made = made.wrapping_add(u32::from(well));
+    }
+    made
+}
+
+// Acquires a lock to read and releases it. Whether that went well.
+fn requests<S: LockSpace>(space: &mut S, context: &mut Context<S>, key: &Key) -> bool
+    requires { Attends S.LockSpace space.old context.old }
+    ensures { Attends S.LockSpace space.new context.new }
+{
+    match acquire(space, context, key, Mode::SR, Duration::Transaction) {
+        Some(id) => context.release(space, id).is_ok(),
+        None => false,
+    }
+}
+
+// Acquires all locks and ends the transaction. Whether that went well.
+fn transacts<S: LockSpace>(
+    space: &mut S,
+    context: &mut Context<S>,
+    global: &Key,
+    tables: &[Key],
+) -> bool
+    requires { Attends S.LockSpace space.old context.old }
+    ensures { Attends S.LockSpace space.new context.new }
+{
+    acquire(space, context, global, Mode::IX, Duration::Transaction).is_some()
+        && acquires(space, context, tables, Mode::SW)
+        && context.end_transaction(space).is_ok()
+}
+
+// Acquires a lock that is held by a ticket. Whether that was used again.
+fn asks_again<S: LockSpace>(
+    space: &mut S,
+    context: &mut Context<S>,
+    key: &Key,
+    id: TicketId,
+) -> bool
+    requires { Attends S.LockSpace space.old context.old }
+    ensures { Attends S.LockSpace space.new context.new }
+{
+    acquire(space, context, key, Mode::SR, Duration::Transaction) == Some(id)
+}
+
+// Locks all tables and goes back to where the session stood. Whether that went well.
+fn goes_back<S: LockSpace>(space: &mut S, context: &mut Context<S>, tables: &[Key]) -> bool
+    requires { Attends S.LockSpace space.old context.old }
+    ensures { Attends S.LockSpace space.new context.new }
+{
+    let mark = context.savepoint();
+    acquires(space, context, tables, Mode::SR) && context.rollback_to(space, mark).is_ok()
+}
+
+// Acquires each lock in a mode, for the transaction. Whether that went well.
+fn acquires<S: LockSpace>(space: &mut S, context: &mut Context<S>, keys: &[Key], mode: Mode) -> bool
+    requires { Attends S.LockSpace space.old context.old }
+    ensures { Attends S.LockSpace space.new context.new }
+{
+    let mut all = true;
+    for key in keys {
+        all &= acquire(space, context, key, mode, Duration::Transaction).is_some();
+    }
+    all
+}
+
+// Acquires a lock, unless it has to wait or is refused.
+fn acquire<S: LockSpace>(
+    space: &mut S,
+    context: &mut Context<S>,
+    key: &Key,
+    mode: Mode,
+    duration: Duration,
+) -> Option<TicketId>
+    requires { Attends S.LockSpace space.old context.old }
+    ensures { Attends S.LockSpace space.new context.new }
+{
+    let request = Request {
+        key,
+        mode,
+        duration,
+    };
+    match context.acquire(space, request) {
+        Ok(Acquire::Acquired(id)) => Some(id),
+        _ => None,
+    }
+}

@@ -1,0 +1,59 @@
+//! What a transaction locks: GLOBAL and three tables.
+ghost use Rattle.std.specs.Prelude.{◌≡◌, ℕ, true, IfOk};
+ghost use Rattle.mdl_session_laws.specs.SessionSpaces.{is_known};
+ghost use Rattle.mdl_shared.specs.SessionViews.{space_of};
+
+use crate::failure::Failure;
+use crate::seat::look_up;
+use crate::table::table;
+use mdl_calls::Place;
+use mdl_key::Key;
+use mdl_shared::Session;
+use std::alloc::Global;
+use std::sync::Wait;
+
+/// The places of these locks.
+#[derive(Clone, Copy)]
+pub struct Places {
+    pub global: Place,
+    pub first: Place,
+    pub second: Place,
+    pub third: Place,
+}
+
+/// A session looks the keys up, of the tables from a number on, and makes room for a ticket of each.
+pub fn look_all_up<R: Wait>(
+    alloc: Global,
+    session: &mut Session<R>,
+    from: u16,
+) -> Result<Places, Failure>
+    ensures global { IfOk result (λ places. is_known places.global (space_of session.new).known ≡ true) }
+    ensures first { IfOk result (λ places. is_known places.first (space_of session.new).known ≡ true) }
+    ensures second { IfOk result (λ places. is_known places.second (space_of session.new).known ≡ true) }
+    ensures third { IfOk result (λ places. is_known places.third (space_of session.new).known ≡ true) }
+{
+    let global = look_up(session, &Key::global(alloc), 1)?;
+    let first = look_table_up(alloc, session, from, 2)?;
+    let second = look_table_up(alloc, session, from.saturating_add(1), 3)?;
+    let third = look_table_up(alloc, session, from.saturating_add(2), 4)?;
+    Ok(Places {
+        global,
+        first,
+        second,
+        third,
+    })
+}
+
+/// The place of one of many tables, which the session knows from then on, beside what it knew. There is room for so many tickets more.
+pub fn look_table_up<R: Wait>(
+    alloc: Global,
+    session: &mut Session<R>,
+    index: u16,
+    tickets: usize,
+) -> Result<Place, Failure>
+    ensures known { IfOk result (λ place. is_known place (space_of session.new).known ≡ true) }
+    ensures kept { (place : ℕ) → is_known place (space_of session.old).known ≡ true → is_known place (space_of session.new).known ≡ true }
+{
+    let key = table(alloc, index)?;
+    look_up(session, &key, tickets)
+}

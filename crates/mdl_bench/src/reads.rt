@@ -1,0 +1,240 @@
+//! A session reads a table's definition under a fast ticket, with its cache or under the latch of the place.
+ghost use Rattle.std.specs.Prelude.{◌≡◌};
+ghost use Rattle.mdl_calls.specs.Words.{AreMet};
+ghost use Rattle.mdl_session_laws.specs.SessionSpaces.{HasMet};
+ghost use Rattle.mdl_shared.specs.SessionViews.{space_of};
+
+use crate::failure::Failure;
+use crate::lap::{Lap, Race, Start};
+use crate::patient::gain;
+use crate::places::look_table_up;
+use crate::session::take;
+use mdl_calls::{Place, SpaceError, TicketId};
+use mdl_defs::{Change, Column, Columns, DefCache, Definition};
+use mdl_key::Mode;
+use mdl_shared::{Cached, Session, read_cached};
+use std::alloc::Global;
+use std::sync::Wait;
+use std::time::{Clock, CpuClock};
+
+/// How a session reads.
+#[derive(Clone, Copy)]
+pub enum Reading {
+    /// It is lent what its cache keeps, without the latch.
+    Cached,
+    /// It copies what its cache keeps, without the latch.
+    Kept,
+    /// It copies what stands, under the latch.
+    Latched,
+}
+
+/// How long a session reads the last of so many tables, all of which it holds, and its cache keeps.
+pub fn time_reads<R: Wait + Clock + CpuClock>(
+    rt: &R,
+    alloc: Global,
+    session: &mut Session<&R>,
+    reading: &Reading,
+    tables: u16,
+    race: &Race,
+) -> Result<Lap, Failure> {
+    let ids = hold_each(rt, alloc, session, tables)?;
+    let Ok(mut cache) = DefCache::new(alloc, tables) else {
+        return Err(Failure::Memory);
+    };
+    read_last(rt, session, &ids, &mut cache, reading, race)
+}
+
+// A fast ticket of each table.
+fn hold_each<R: Wait>(
+    rt: &R,
+    alloc: Global,
+    session: &mut Session<&R>,
+    tables: u16,
+) -> Result<Vec<TicketId>, Failure> {
+    let mut ids = Vec::new(alloc);
+    for index in 0..tables {
+        let place = look_table_up(alloc, session, index, 1)?;
+        let id = gain(rt, session, place, Mode::SR)?;
+        if ids.push(id).is_err() {
+            return Err(Failure::Memory);
+        }
+    }
+    Ok(ids)
+}
+
+// Keeps all tables, and then reads under the last ticket, once all sessions are there.
+fn read_last<R: Wait + Clock + CpuClock>(
+    rt: &R,
+    session: &mut Session<&R>,
+    ids: &[TicketId],
+    cache: &mut DefCache,
+    reading: &Reading,
+    race: &Race,
+) -> Result<Lap, Failure>
+    requires met { AreMet (HasMet (space_of session.old) session.old.me.0.number) cache.old.kept }
+{
+    let Some(last) = ids.last().copied() else {
+        return Err(Failure::Unexpected);
+    };
+    if !keep_all(session, ids, cache) {
+        return Err(Failure::Unexpected);
+    }
+    let start = Start::of(rt, race)?;
+    let found = match reading {
+        Reading::Cached => look_often(session, last, cache, race.turns),
+        Reading::Kept => copy_often(session, last, cache, race.turns),
+        Reading::Latched => read_often(session, last, race.turns),
+    };
+    start.lap(rt, race, found)
+}
+
+// Reads under each ticket, and keeps the tables. Whether all are there.
+fn keep_all<R: Wait>(session: &mut Session<R>, ids: &[TicketId], cache: &mut DefCache) -> bool
+    requires met { AreMet (HasMet (space_of session.old) session.old.me.0.number) cache.old.kept }
+    ensures met { AreMet (HasMet (space_of session.new) session.new.me.0.number) cache.new.kept }
+{
+    let mut all = true;
+    for id in ids {
+        all &= keeps(session, *id, cache);
+    }
+    all
+}
+
+// Is lent a definition so many times: how often the cache kept it.
+fn look_often<R>(session: &mut Session<R>, id: TicketId, cache: &mut DefCache, turns: u32) -> u32
+    requires met { AreMet (HasMet (space_of session.old) session.old.me.0.number) cache.old.kept }
+{
+    let mut found = 0u32;
+    for _turn in 0..turns {
+        if looks(session, id, cache) {
+            found = found.wrapping_add(1);
+        }
+    }
+    found
+}
+
+// Whether the cache keeps the table that stands there.
+fn looks<R>(session: &mut Session<R>, id: TicketId, cache: &mut DefCache) -> bool
+    requires met { AreMet (HasMet (space_of session.old) session.old.me.0.number) cache.old.kept }
+    ensures met { AreMet (HasMet (space_of session.new) session.new.me.0.number) cache.new.kept }
+{
+    is_hit(read_cached(cache, session, id))
+}
+
+// Whether a table was found.
+fn is_hit(found: Result<Cached<'_>, SpaceError>) -> bool {
+    match found {
+        Ok(Cached::Hit(Definition::Table(_))) => true,
+        _ => false,
+    }
+}
+
+// Copies what the cache keeps so many times: how often it was a table.
+fn copy_often<R: Wait>(
+    session: &mut Session<R>,
+    id: TicketId,
+    cache: &mut DefCache,
+    turns: u32,
+) -> u32
+    requires met { AreMet (HasMet (space_of session.old) session.old.me.0.number) cache.old.kept }
+{
+    let mut found = 0u32;
+    for _turn in 0..turns {
+        if keeps(session, id, cache) {
+            found = found.wrapping_add(1);
+        }
+    }
+    found
+}
+
+// Copies a table from the cache, or reads and keeps it. Whether it is there.
+fn keeps<R: Wait>(session: &mut Session<R>, id: TicketId, cache: &mut DefCache) -> bool
+    requires met { AreMet (HasMet (space_of session.old) session.old.me.0.number) cache.old.kept }
+    ensures met { AreMet (HasMet (space_of session.new) session.new.me.0.number) cache.new.kept }
+{
+    match session.read_kept(id, cache) {
+        Ok(standing) => is_table(&standing.definition),
+        Err(_) => false,
+    }
+}
+
+fn is_table(definition: &Option<Definition>) -> bool {
+    match definition {
+        Some(Definition::Table(_)) => true,
+        _ => false,
+    }
+}
+
+// Copies what stands so many times: how often it was a table.
+fn read_often<R: Wait>(session: &mut Session<R>, id: TicketId, turns: u32) -> u32 {
+    let mut found = 0u32;
+    for _turn in 0..turns {
+        if reads(session, id) {
+            found = found.wrapping_add(1);
+        }
+    }
+    found
+}
+
+// Copies what stands under the latch. Whether it is a table.
+fn reads<R: Wait>(session: &mut Session<R>, id: TicketId) -> bool {
+    match session.read_definition(id) {
+        Ok(standing) => is_table(&standing.definition),
+        Err(_) => false,
+    }
+}
+
+/// A session lets so many tables stand, each of so many columns.
+pub fn create_all<R: Wait>(
+    alloc: Global,
+    session: &mut Session<R>,
+    tables: u16,
+    columns: u16,
+) -> Result<(), Failure> {
+    for index in 0..tables {
+        let place = look_table_up(alloc, session, index, 0)?;
+        create(alloc, session, place, columns)?;
+    }
+    Ok(())
+}
+
+// A table of so many columns, under a key that has none.
+fn create<R: Wait>(
+    alloc: Global,
+    session: &mut Session<R>,
+    place: Place,
+    columns: u16,
+) -> Result<(), Failure> {
+    let columns = columns_of(alloc, columns)?;
+    let change = Change::Create(Definition::Table(columns));
+    change_at(session, place, &change)
+}
+
+// So many columns.
+fn columns_of(alloc: Global, count: u16) -> Result<Columns, Failure> {
+    let mut columns = Columns::new(alloc);
+    match name_columns(alloc, &mut columns, count) {
+        Ok(()) => Ok(columns),
+        Err(why) => Err(why),
+    }
+}
+
+fn name_columns(alloc: Global, columns: &mut Columns, count: u16) -> Result<(), Failure> {
+    for index in 0..count {
+        let name = format!(in alloc; "column_{index}")?;
+        columns.push(Column::new(alloc, name.as_str())?)?;
+    }
+    Ok(())
+}
+
+// The session locks a table for itself, and changes what stands there.
+fn change_at<R: Wait>(
+    session: &mut Session<R>,
+    place: Place,
+    change: &Change,
+) -> Result<(), Failure> {
+    let id = take(session, place, Mode::X)?;
+    session.change_definition(id, change)?;
+    session.release(id)?;
+    Ok(())
+}

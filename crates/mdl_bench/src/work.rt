@@ -1,0 +1,81 @@
+//! What is done for a figure.
+use crate::beside::TURNS_AN_ALTER;
+use crate::books::{Asked, Shape, time_asking, time_grants, time_searches};
+use crate::contexts::{Wish, time_alone, time_shared};
+use crate::failure::Failure;
+use crate::guests::{Crowd, time_crowd};
+use crate::lap::Lap;
+use crate::play::{Task, time_task};
+use crate::probes::{time_key_probes, time_version_probes};
+use crate::space::time_taking;
+use std::alloc::Global;
+use std::sync::Wait;
+use std::thread::Threads;
+use std::time::{Clock, CpuClock, Duration};
+
+/// What is done for a figure.
+pub enum Work {
+    /// Sessions of the table that threads share, as many as there are threads: how long by the clock.
+    Plays(Task),
+    /// How long by the processor's time of a thread.
+    Processors(Task),
+    /// How long if each turn took what an ALTER took.
+    Alters(Task),
+    /// Many sessions of that table on one thread.
+    Crowds(Crowd),
+    /// A context of a session of that table that holds so many tickets.
+    Shared(Wish, u16),
+    /// A context of a session of a space of one thread.
+    Alone(Wish, u16),
+    /// A session of a space of one thread that holds so many tickets, without a context.
+    Takes(u16),
+    /// A book of so many tickets.
+    Asks(Asked, u16),
+    /// A book of so many waiters, which are granted one after another.
+    Grants(u16),
+    /// Books of so many sessions, searched for a deadlock.
+    Searches(Shape, u16),
+    /// A map of so many keys.
+    Keys(u16),
+    /// A map of so many places and versions.
+    Versions(u16),
+}
+
+impl Work {
+    /// How long so many turns took, for which all is made anew. Each answer was what it ought to be.
+    pub fn round<R: Threads + Wait + Sync + Clock + CpuClock>(
+        &self,
+        rt: &R,
+        alloc: Global,
+        threads: u16,
+        turns: u32,
+    ) -> Result<Duration, Failure> {
+        match self {
+            Work::Plays(task) => Ok(time_task(rt, alloc, task, threads, turns)?.clock),
+            Work::Processors(task) => Ok(time_task(rt, alloc, task, threads, turns)?.processor),
+            Work::Alters(task) => Ok(of_alters(
+                time_task(rt, alloc, task, threads, turns)?,
+                threads,
+                turns,
+            )),
+            Work::Crowds(crowd) => time_crowd(rt, alloc, crowd, turns),
+            Work::Shared(wish, tickets) => time_shared(rt, alloc, wish, *tickets, turns),
+            Work::Alone(wish, tickets) => time_alone(rt, alloc, wish, *tickets, turns),
+            Work::Takes(tickets) => time_taking(rt, alloc, *tickets, turns),
+            Work::Asks(asked, tickets) => time_asking(rt, alloc, asked, *tickets, turns),
+            Work::Grants(waiters) => time_grants(rt, alloc, *waiters, turns),
+            Work::Searches(shape, sessions) => time_searches(rt, alloc, shape, *sessions, turns),
+            Work::Keys(keys) => time_key_probes(rt, alloc, *keys, turns),
+            Work::Versions(places) => time_version_probes(rt, alloc, *places, turns),
+        }
+    }
+}
+
+// How long if each turn took what an ALTER took, of which there is one before the first turn of each thread, and then at times.
+fn of_alters(lap: Lap, threads: u16, turns: u32) -> Duration {
+    let each = u64::from(turns.div_ceil(TURNS_AN_ALTER));
+    let alters = each.saturating_mul(u64::from(threads));
+    let nanoseconds = u64::try_from(lap.alters.as_nanos()).unwrap_or(u64::MAX);
+    let one = nanoseconds.checked_div(alters).unwrap_or(u64::MAX);
+    Duration::from_nanos(one.saturating_mul(u64::from(turns)))
+}

@@ -1,6 +1,0 @@
--- The space attends to the session.
-use Rattle.mdl_context.specs.Contexts.{Attends}
-use Rattle.mdl_fast_bench.proofs.contexts.transact_often.Given as goal
-
-abbrev pub invariant-loop-turn : goal.invariant-loop-turn
-invariant-loop-turn g l = Attends g.S.LockSpace l.space l.context

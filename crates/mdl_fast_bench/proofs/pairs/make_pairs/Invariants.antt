@@ -1,8 +1,0 @@
--- The session knows the place.
-use Rattle.std.proofs.Common.{◌≡◌, true}
-use Rattle.mdl_session_laws.specs.SessionSpaces.{is_known}
-use Rattle.mdl_shared.specs.SessionViews.{space_of}
-use Rattle.mdl_fast_bench.proofs.pairs.make_pairs.Given as goal
-
-abbrev pub invariant-loop-turn : goal.invariant-loop-turn
-invariant-loop-turn g l = is_known l.place (space_of l.session).known ≡ true

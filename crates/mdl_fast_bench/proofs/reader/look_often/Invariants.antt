@@ -1,8 +1,0 @@
--- Each definition in the cache was met.
-use Rattle.mdl_calls.specs.Words.{AreMet}
-use Rattle.mdl_session_laws.specs.SessionSpaces.{HasMet}
-use Rattle.mdl_shared.specs.SessionViews.{space_of}
-use Rattle.mdl_fast_bench.proofs.reader.look_often.Given as goal
-
-abbrev pub invariant-loop-turn : goal.invariant-loop-turn
-invariant-loop-turn g l = AreMet (HasMet (space_of l.session) l.session.me.0.number) l.cache.kept
