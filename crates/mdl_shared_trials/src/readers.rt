@@ -5,12 +5,11 @@ ghost use Rattle.mdl_shared.specs.SessionSpaces.{HasMet};
 ghost use Rattle.mdl_shared.specs.SessionViews.{space_of};
 
 use crate::acts::{Act, Lock, Reply, make};
-use crate::rows::{Pair, open_two};
-use crate::sessions::closed;
+use crate::rows::{Three, open_three};
 use mdl_calls::{Attempt, LockSpace, Place, SpaceError, TicketId};
 use mdl_defs::{Column, DefCache, Definition, Standing};
 use mdl_key::{Key, Mode};
-use mdl_shared::{Cached, Fast, Session, read_cached};
+use mdl_shared::{Cached, Fast, Session};
 use std::alloc::Global;
 use std::process::Abort;
 use std::sync::Wait;
@@ -82,8 +81,8 @@ fn standing_there(standing: &Standing, names: Names) -> (u64, Found) {
     }
 }
 
-/// What a look in a cache comes to.
-pub(crate) fn looked(outcome: Result<Cached<'_>, SpaceError>, names: Names) -> Found {
+// What a look in a cache comes to.
+fn looked(outcome: Result<Cached<'_>, SpaceError>, names: Names) -> Found {
     match outcome {
         Ok(Cached::Hit(definition)) => compared(definition, names),
         Ok(Cached::Stale) => Found::Stale,
@@ -102,7 +101,7 @@ fn look<R>(cache: &mut DefCache, session: &mut Session<R>, id: TicketId, names: 
     requires met { AreMet (HasMet (space_of session.old) session.old.me.0.number) cache.old.kept }
     ensures met { AreMet (HasMet (space_of session.new) session.new.me.0.number) cache.new.kept }
 {
-    looked(read_cached(cache, session, id), names)
+    looked(session.read_cached(id, cache), names)
 }
 
 // Reads under a ticket.
@@ -202,11 +201,11 @@ fn does_beside<R: Wait>(alloc: Global, other: &mut Session<R>, step: Step) -> bo
     }
 }
 
-/// Which step comes to something else, if there is one. The cache keeps nothing before the first.
-pub(crate) fn first_wrong<R: Wait>(
+// Which step comes to something else, if there is one. The cache keeps nothing before the first.
+fn first_wrong<R: Wait>(
     alloc: Global,
     cache: &mut DefCache,
-    sessions: &mut Pair<R>,
+    sessions: &mut Three<R>,
     steps: &[Step],
 ) -> Option<usize>
     requires nothing { cache.old.kept ≡ [] }
@@ -228,15 +227,14 @@ pub(crate) fn first_wrong<R: Wait>(
 /// The steps are right of two sessions that have done nothing yet, the first of which has a cache for so many definitions.
 pub(crate) fn are_right<R: Wait + Abort + AllocGlobal>(
     rt: &R,
+    shown: &str,
     capacity: u16,
     steps: &[Step],
 ) -> Result<(), Fail> {
     let mut cache = DefCache::new(rt.alloc(), capacity)?;
-    let mut sessions = open_two(rt, 4)?;
-    assert_eq!(rt;
-        first_wrong(rt.alloc(), &mut cache, &mut sessions, steps),
-        None
-    );
+    let mut sessions = open_three(rt, 4)?;
+    let wrong = first_wrong(rt.alloc(), &mut cache, &mut sessions, steps);
+    assert!(rt; wrong.is_none(), "{shown}: step {wrong:?}");
     sessions.close(rt);
     Ok(())
 }
