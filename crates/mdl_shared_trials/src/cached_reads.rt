@@ -1,7 +1,7 @@
 //! A session reads what stands under its keys with a cache of its own, and looks in it without the latch, while another session makes changes. All is
 //! done on one thread.
 use crate::acts::{Act, Edit, Lock, Reply};
-use crate::readers::{Found, Step, are_right};
+use crate::readers::{Found, Step, Story, are_right};
 use mdl_key::Mode;
 use std::test::Fail;
 
@@ -28,7 +28,6 @@ const WHILE_IT_STANDS: &[Step] = &[
     Step::Take(1, 3),
     Step::Read(3, &["x", "y"], 2, Found::Named),
     Step::Keeps(2),
-    Step::GiveUp(3),
 ];
 
 // What was read under a ticket is found by each look under it. A look under a ticket that isn't held is refused.
@@ -44,7 +43,6 @@ const LOOKS: &[Step] = &[
     Step::Look(2, &["x"], Found::Refused),
     Step::Look(1, &["x"], Found::Named),
     Step::Look(1, &["x"], Found::Named),
-    Step::GiveUp(1),
 ];
 
 // After each change a look finds nothing that is current, a read finds what stands now, and a look finds that.
@@ -66,7 +64,6 @@ const ANEW: &[Step] = &[
     Step::Look(2, &["x", "y"], Found::Stale),
     Step::Read(2, &["x", "y"], 2, Found::Named),
     Step::Look(2, &["x", "y"], Found::Named),
-    Step::GiveUp(2),
     Step::Keeps(2),
 ];
 
@@ -96,27 +93,34 @@ const THREE_TABLES: &[Step] = &[
     Step::Read(3, &["z"], 1, Found::Named),
     Step::Look(2, &["y"], Found::Stale),
     Step::Look(1, &["x"], Found::Named),
-    Step::GiveUp(1),
-    Step::GiveUp(2),
-    Step::GiveUp(3),
 ];
 
-// What steps show, how many definitions the cache keeps, and the steps.
-const STORIES: &[(&str, u16, &[Step])] = &[
+const STORIES: &[Story] = &[
     (
         "what is kept is read while its version stands",
         2,
         WHILE_IT_STANDS,
+        (3, &["x", "y"]),
     ),
-    ("a look needs what was read", 1, LOOKS),
-    ("a change is read once and found from then on", 2, ANEW),
-    ("what a look finds stays longer", 2, THREE_TABLES),
+    ("a look needs what was read", 1, LOOKS, (1, &["x"])),
+    (
+        "a change is read once and found from then on",
+        2,
+        ANEW,
+        (2, &["x", "y"]),
+    ),
+    (
+        "what a look finds stays longer",
+        2,
+        THREE_TABLES,
+        (1, &["x"]),
+    ),
 ];
 
 #[test]
 fn sessions_read_with_caches(rt: HostRuntime) -> Result<(), Fail> {
-    for (shown, capacity, steps) in STORIES {
-        are_right(&rt, shown, *capacity, steps)?;
+    for story in STORIES {
+        are_right(&rt, *story)?;
     }
     Ok(())
 }

@@ -4,12 +4,12 @@ ghost use Rattle.mdl_calls.specs.Words.{AreMet};
 ghost use Rattle.mdl_shared.specs.SessionSpaces.{HasMet};
 ghost use Rattle.mdl_shared.specs.SessionViews.{space_of};
 
-use crate::acts::{Act, Lock, Reply, make};
+use crate::acts::{Act, Lock, NO_MEMORY, Reply, make};
 use crate::rows::{Three, open_three};
 use mdl_calls::{Attempt, LockSpace, Place, SpaceError, TicketId};
 use mdl_defs::{Column, DefCache, Definition, Standing};
 use mdl_key::{Key, Mode};
-use mdl_shared::{Cached, Fast, Session};
+use mdl_shared::{Cached, Fast, Session, read_cached};
 use std::alloc::Global;
 use std::process::Abort;
 use std::sync::Wait;
@@ -53,6 +53,9 @@ pub(crate) enum Step {
     /// So many definitions are in its cache.
     Keeps(usize),
 }
+
+/// What steps show, how many definitions the cache keeps, the steps, and what a last look finds: the ticket, and the names of the columns.
+pub(crate) type Story = (&'static str, u16, &'static [Step], (TicketId, Names));
 
 fn compared(definition: &Definition, names: Names) -> Found {
     match definition {
@@ -101,7 +104,7 @@ fn look<R>(cache: &mut DefCache, session: &mut Session<R>, id: TicketId, names: 
     requires met { AreMet (HasMet (space_of session.old) session.old.me.0.number) cache.old.kept }
     ensures met { AreMet (HasMet (space_of session.new) session.new.me.0.number) cache.new.kept }
 {
-    looked(session.read_cached(id, cache), names)
+    looked(read_cached(cache, session, id), names)
 }
 
 // Reads under a ticket.
@@ -224,16 +227,33 @@ fn first_wrong<R: Wait>(
     None
 }
 
-/// The steps are right of two sessions that have done nothing yet, the first of which has a cache for so many definitions.
-pub(crate) fn are_right<R: Wait + Abort + AllocGlobal>(
-    rt: &R,
-    shown: &str,
-    capacity: u16,
+// Which step comes to something else, if there is one. Behind them all the reader's own call has to find a definition that has these columns, before it
+// gives its tickets up.
+fn first_wrong_at_last<R: Wait>(
+    alloc: Global,
+    cache: &mut DefCache,
+    sessions: &mut Three<R>,
     steps: &[Step],
-) -> Result<(), Fail> {
+    last: (TicketId, Names),
+) -> Option<usize>
+    requires nothing { cache.old.kept ≡ [] }
+{
+    let wrong = first_wrong(alloc, cache, sessions, steps);
+    let (id, names) = last;
+    let found = looked(sessions.one.read_cached(id, cache), names);
+    let gone = make(alloc, &mut sessions.one, Act::ReleaseAll);
+    if wrong.is_none() && (found != Found::Named || gone == NO_MEMORY) {
+        return Some(steps.len());
+    }
+    wrong
+}
+
+/// The steps are right of two sessions that have done nothing yet, the first of which has a cache for so many definitions, and so is a last look.
+pub(crate) fn are_right<R: Wait + Abort + AllocGlobal>(rt: &R, story: Story) -> Result<(), Fail> {
+    let (shown, capacity, steps, last) = story;
     let mut cache = DefCache::new(rt.alloc(), capacity)?;
     let mut sessions = open_three(rt, 4)?;
-    let wrong = first_wrong(rt.alloc(), &mut cache, &mut sessions, steps);
+    let wrong = first_wrong_at_last(rt.alloc(), &mut cache, &mut sessions, steps, last);
     assert!(rt; wrong.is_none(), "{shown}: step {wrong:?}");
     sessions.close(rt);
     Ok(())
