@@ -1,3 +1,2 @@
-pub mod HoldersKnow
 pub mod MetAfter
 pub mod VainTries

@@ -1,3 +1,1 @@
 pub mod contexts
-pub mod Holders
-pub mod VersionReads

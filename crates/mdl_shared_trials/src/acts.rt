@@ -77,6 +77,10 @@ pub(crate) enum Act {
     Merge(TicketId, TicketId),
     Release(TicketId),
     ReleaseFast(TicketId),
+    // It tries for a fast ticket as often, and tells what comes of the last time.
+    TryFastOften(Place, Mode, u32),
+    // It gives all its tickets up, and counts them.
+    ReleaseAll,
     // Its fast tickets become slow ones.
     Materialise,
     // It makes room for so many tickets.
@@ -156,6 +160,8 @@ pub(crate) fn make<R: Wait>(alloc: Global, session: &mut Session<R>, act: Act) -
         Act::Merge(old, new) => done(session.merge(old, new)),
         Act::Release(id) => done(session.release(id)),
         Act::ReleaseFast(id) => released(session.release_fast(id)),
+        Act::TryFastOften(place, mode, times) => try_fast_often(session, place, mode, times),
+        Act::ReleaseAll => release_all(session),
         Act::Materialise => done(session.materialise()),
         Act::Reserve(count) => done(session.reserve_tickets(count)),
         Act::Read(id) => read(session, id),
@@ -179,7 +185,7 @@ pub(crate) fn make<R: Wait>(alloc: Global, session: &mut Session<R>, act: Act) -
 }
 
 /// Whether memory may be refused to acts.
-#[derive(Clone, Copy, PartialEq, Eq)]
+#[derive(Clone, Copy)]
 pub(crate) enum Memory {
     Ample,
     /// Once: the act is made again then, if it may take some.
@@ -194,10 +200,9 @@ pub(crate) fn make_at_last<R: Wait>(
     memory: Memory,
 ) -> Reply {
     let reply = make(alloc, session, act);
-    if memory == Memory::Scarce && reply == NO_MEMORY && may_take_memory(act) {
-        make(alloc, session, act)
-    } else {
-        reply
+    match memory {
+        Memory::Scarce if reply == NO_MEMORY && may_take_memory(act) => make(alloc, session, act),
+        _ => reply,
     }
 }
 
@@ -221,6 +226,8 @@ fn may_take_memory(act: Act) -> bool {
         | Act::Audit(_)
         | Act::Begin(_, _)
         | Act::TryFast(_, _)
+        | Act::TryFastOften(_, _, _)
+        | Act::ReleaseAll
         | Act::Reschedule(_)
         | Act::Version(_)
         | Act::Materialise
@@ -313,6 +320,18 @@ fn released(outcome: Result<Released, SpaceError>) -> Reply {
     }
 }
 
+fn release_all<R: Wait>(session: &mut Session<R>) -> Reply {
+    let Ok(held) = session.held() else {
+        return NO_MEMORY;
+    };
+    for ticket in &held {
+        if let Err(why) = session.release(ticket.id) {
+            return Reply::Refused(why);
+        }
+    }
+    Reply::Count(held.len())
+}
+
 fn reschedule<R: Wait>(session: &mut Session<R>, place: Place) -> Reply {
     match session.key_of(place) {
         Ok(_key) => {
@@ -335,6 +354,14 @@ fn try_fast<R>(session: &mut Session<R>, place: Place, mode: Mode) -> Reply {
         Ok(_key) => tried_fast(session.try_fast(place, mode)),
         Err(why) => Reply::Refused(why),
     }
+}
+
+fn try_fast_often<R>(session: &mut Session<R>, place: Place, mode: Mode, times: u32) -> Reply {
+    let mut last = Reply::Done;
+    for _ in 0..times {
+        last = try_fast(session, place, mode);
+    }
+    last
 }
 
 fn tried_fast(outcome: Result<Fast, SpaceError>) -> Reply {

@@ -1,12 +1,10 @@
-//! An audit tells the books of all places that have a key.
-use crate::acts::{Act, Lock, Memory, Reply};
-use crate::rows::{NumberedCase, NumberedRow, are_right_of_three};
+//! What an audit tells: the books of all places that have a key.
+use crate::acts::{Lock, Reply};
 use mdl_calls::{Place, SpaceError};
 use mdl_defs::Standing;
 use mdl_key::{Key, Mode};
 use mdl_shared::Audited;
 use std::alloc::Global;
-use std::test::Fail;
 
 /// A book in which nobody waits, and under whose key nothing was ever defined.
 #[derive(Clone, Copy)]
@@ -53,48 +51,4 @@ fn are_granted(book: &Audited, granted: &[(u16, u64, Mode)]) -> bool {
         }
     }
     true
-}
-
-const BOOKS: &[Shown] = &[
-    Shown {
-        place: 1,
-        lock: Lock::Shop,
-        granted: &[],
-    },
-    Shown {
-        place: 2,
-        lock: Lock::Sales,
-        granted: &[(2, 1, Mode::SNW)],
-    },
-];
-
-const FREE_BOOKS: &[Shown] = &[
-    Shown {
-        place: 1,
-        lock: Lock::Shop,
-        granted: &[],
-    },
-    Shown {
-        place: 2,
-        lock: Lock::Sales,
-        granted: &[],
-    },
-];
-
-// A place whose key nobody has looked up isn't told. Of the others each book is, in the order of the places, and it may be told again.
-const AUDITS: &[NumberedRow] = &[
-    (1, Act::Audit(&[]), Reply::Is(true)),
-    (1, Act::Resolve(Lock::Shop), Reply::Place(1)),
-    (2, Act::Resolve(Lock::Sales), Reply::Place(2)),
-    (2, Act::Try(2, Mode::SNW), Reply::Granted(1)),
-    (1, Act::Audit(BOOKS), Reply::Is(true)),
-    (2, Act::Release(1), Reply::Done),
-    (2, Act::Audit(FREE_BOOKS), Reply::Is(true)),
-];
-
-const CASES_OF_THREE: &[NumberedCase] = &[("an audit tells each book", 3, AUDITS)];
-
-#[test]
-fn an_audit_tells_books(rt: HostRuntime) -> Result<(), Fail> {
-    are_right_of_three(&rt, Memory::Ample, CASES_OF_THREE)
 }

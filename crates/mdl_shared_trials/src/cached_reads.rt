@@ -1,11 +1,51 @@
-//! A session looks in its cache without the latch, reads what isn't kept there, and finds it at the next look, while another session makes changes. All
-//! is done on one thread.
-use crate::acts::{Act, Edit, Lock, Memory, Reply};
-use crate::readers::{Found, Step, are_right};
-use crate::rows::{NumberedRow, are_right_of_three};
+//! A session reads what stands under its keys with a cache of its own, and looks in it without the latch, while another session makes changes. All is
+//! done on one thread.
+use crate::acts::{Act, Edit, Lock, Reply};
+use crate::readers::{Found, Step, Story, are_right};
 use mdl_key::Mode;
 use std::test::Fail;
 
+// What is kept is read as long as its version stands; another version is read anew, and kept, too. Nothing is kept of what has no definition.
+const WHILE_IT_STANDS: &[Step] = &[
+    Step::LookUp(Lock::Orders, 1),
+    Step::Beside(Act::Resolve(Lock::Orders), Reply::Place(1)),
+    Step::Take(1, 1),
+    Step::Read(1, &[], 0, Found::Nothing),
+    Step::Read(9, &[], 0, Found::Refused),
+    Step::Keeps(0),
+    Step::GiveUp(1),
+    Step::Beside(Act::Try(1, Mode::X), Reply::Granted(1)),
+    Step::Beside(Act::Change(1, Edit::CreateTable("x")), Reply::Version(1)),
+    Step::Beside(Act::Release(1), Reply::Done),
+    Step::Take(1, 2),
+    Step::Read(2, &["x"], 1, Found::Named),
+    Step::Read(2, &["x"], 1, Found::Named),
+    Step::Keeps(1),
+    Step::GiveUp(2),
+    Step::Beside(Act::Try(1, Mode::X), Reply::Granted(2)),
+    Step::Beside(Act::Change(2, Edit::AddColumn("y")), Reply::Version(2)),
+    Step::Beside(Act::Release(2), Reply::Done),
+    Step::Take(1, 3),
+    Step::Read(3, &["x", "y"], 2, Found::Named),
+    Step::Keeps(2),
+];
+
+// What was read under a ticket is found by each look under it. A look under a ticket that isn't held is refused.
+const LOOKS: &[Step] = &[
+    Step::LookUp(Lock::Orders, 1),
+    Step::Beside(Act::Resolve(Lock::Orders), Reply::Place(1)),
+    Step::Beside(Act::Try(1, Mode::X), Reply::Granted(1)),
+    Step::Beside(Act::Change(1, Edit::CreateTable("x")), Reply::Version(1)),
+    Step::Beside(Act::Release(1), Reply::Done),
+    Step::Take(1, 1),
+    Step::Read(1, &["x"], 1, Found::Named),
+    Step::Look(1, &["x"], Found::Named),
+    Step::Look(2, &["x"], Found::Refused),
+    Step::Look(1, &["x"], Found::Named),
+    Step::Look(1, &["x"], Found::Named),
+];
+
+// After each change a look finds nothing that is current, a read finds what stands now, and a look finds that.
 const ANEW: &[Step] = &[
     Step::Beside(Act::Resolve(Lock::Orders), Reply::Place(1)),
     Step::LookUp(Lock::Orders, 1),
@@ -24,16 +64,10 @@ const ANEW: &[Step] = &[
     Step::Look(2, &["x", "y"], Found::Stale),
     Step::Read(2, &["x", "y"], 2, Found::Named),
     Step::Look(2, &["x", "y"], Found::Named),
-    Step::GiveUp(2),
     Step::Keeps(2),
 ];
 
-// With one cache: after each change a look finds nothing that is current, a read finds what stands now, and a look finds that.
-#[test]
-fn a_change_is_read_once_and_found_from_then_on(rt: HostRuntime) -> Result<(), Fail> {
-    are_right(&rt, 2, ANEW)
-}
-
+// A cache of two drops what was used last of all: a look that finds a definition counts as a use.
 const THREE_TABLES: &[Step] = &[
     Step::Beside(Act::Resolve(Lock::Orders), Reply::Place(1)),
     Step::Beside(Act::Resolve(Lock::Sales), Reply::Place(2)),
@@ -59,42 +93,34 @@ const THREE_TABLES: &[Step] = &[
     Step::Read(3, &["z"], 1, Found::Named),
     Step::Look(2, &["y"], Found::Stale),
     Step::Look(1, &["x"], Found::Named),
-    Step::GiveUp(1),
-    Step::GiveUp(2),
-    Step::GiveUp(3),
 ];
 
-// A cache of two drops what was used last of all: a look that finds a definition counts as a use.
-#[test]
-fn what_a_look_finds_stays_longer(rt: HostRuntime) -> Result<(), Fail> {
-    are_right(&rt, 2, THREE_TABLES)
-}
-
-const VERSIONS: &[NumberedRow] = &[
-    (1, Act::Resolve(Lock::Orders), Reply::Place(1)),
-    (1, Act::Version(1), Reply::Version(0)),
-    (1, Act::Try(1, Mode::SR), Reply::Granted(1)),
-    (1, Act::Version(1), Reply::Version(0)),
-    (1, Act::Release(1), Reply::Done),
-    (2, Act::Resolve(Lock::Orders), Reply::Place(1)),
-    (2, Act::Try(1, Mode::X), Reply::Granted(1)),
-    (2, Act::Change(1, Edit::CreateTable("x")), Reply::Version(1)),
-    (2, Act::Release(1), Reply::Done),
-    (1, Act::Version(1), Reply::Version(1)),
-    (1, Act::Try(1, Mode::SR), Reply::Granted(2)),
-    (1, Act::Version(1), Reply::Version(1)),
-    (1, Act::Release(2), Reply::Done),
-    (2, Act::Try(1, Mode::X), Reply::Granted(2)),
-    (2, Act::Change(2, Edit::AddColumn("y")), Reply::Version(2)),
-    (2, Act::Release(2), Reply::Done),
-    (1, Act::Version(1), Reply::Version(2)),
-    (1, Act::Try(1, Mode::SR), Reply::Granted(3)),
-    (1, Act::Version(1), Reply::Version(2)),
-    (1, Act::Release(3), Reply::Done),
+const STORIES: &[Story] = &[
+    (
+        "what is kept is read while its version stands",
+        2,
+        WHILE_IT_STANDS,
+        (3, &["x", "y"]),
+    ),
+    ("a look needs what was read", 1, LOOKS, (1, &["x"])),
+    (
+        "a change is read once and found from then on",
+        2,
+        ANEW,
+        (2, &["x", "y"]),
+    ),
+    (
+        "what a look finds stays longer",
+        2,
+        THREE_TABLES,
+        (1, &["x"]),
+    ),
 ];
 
-// The version counts the changes of another session, whether or not a ticket is held.
 #[test]
-fn a_version_is_read_without_a_ticket(rt: HostRuntime) -> Result<(), Fail> {
-    are_right_of_three(&rt, Memory::Ample, &[("versions are read", 4, VERSIONS)])
+fn sessions_read_with_caches(rt: HostRuntime) -> Result<(), Fail> {
+    for story in STORIES {
+        are_right(&rt, *story)?;
+    }
+    Ok(())
 }

@@ -1,33 +1,23 @@
-//! Sessions try for fast tickets, give them up and make slow ones of them, on one thread.
-use crate::acts::{Act, Lock, Memory, Reply, make};
+//! Sessions try for fast tickets, give them up and make slow ones of them.
+use crate::acts::{Act, Lock, Reply};
 use crate::audits::Shown;
-use crate::rows::{
-    Case, NumberedCase, NumberedRow, Row, are_right, are_right_of_three, open_three,
-};
+use crate::rows::{Case, Row};
 use mdl_calls::{Ended, Held, Settled, SpaceError};
 use mdl_key::Mode;
-use mdl_shared::Session;
 use mdl_word::Word;
-use std::alloc::Global;
-use std::sync::Wait;
-use std::test::Fail;
 
 const NOT_HELD: Reply = Reply::Refused(SpaceError::NotHeld);
 
 const BAD_MODE: Reply = Reply::Refused(SpaceError::BadMode);
 
-// How many fast tickets a session may have at a place.
-const MOST_FAST: u64 = 1023;
-
-const ROOM: &[NumberedRow] = &[
+// A session has 1,023 fast tickets at a place and no more, but more elsewhere. The lock's word counts each of them.
+const MOST: &[Row] = &[
     (1, Act::Resolve(Lock::Sales), Reply::Place(1)),
     (1, Act::Resolve(Lock::Orders), Reply::Place(2)),
     (2, Act::Resolve(Lock::Sales), Reply::Place(1)),
     (3, Act::Resolve(Lock::Sales), Reply::Place(1)),
     (1, Act::Reserve(1024), Reply::Done),
-];
-
-const ONE_MORE: &[NumberedRow] = &[
+    (1, Act::TryFastOften(1, Mode::S, 1023), Reply::Granted(1023)),
     (1, Act::TryFast(1, Mode::S), Reply::Limit),
     (1, Act::TryFast(1, Mode::SR), Reply::Limit),
     (1, Act::TryFast(2, Mode::S), Reply::Granted(1024)),
@@ -40,45 +30,11 @@ const ONE_MORE: &[NumberedRow] = &[
     ),
     (2, Act::TimeOut, Reply::Done),
     (2, Act::End, Reply::Ended(Ended::Timeout)),
+    (1, Act::ReleaseAll, Reply::Count(1023)),
 ];
 
-// Tries for as many fast tickets as there may be: how many are granted, with the numbers from 1 on.
-fn gained<R: Wait>(alloc: Global, session: &mut Session<R>) -> u64 {
-    let mut right = 0u64;
-    for id in 1..MOST_FAST + 1 {
-        let granted = make(alloc, session, Act::TryFast(1, Mode::S)) == Reply::Granted(id);
-        right = right.wrapping_add(u64::from(granted));
-    }
-    right
-}
-
-// Gives them up: how many owe nothing.
-fn given_up<R: Wait>(alloc: Global, session: &mut Session<R>) -> u64 {
-    let mut right = 0u64;
-    for id in 1..MOST_FAST + 1 {
-        let free = make(alloc, session, Act::ReleaseFast(id)) == Reply::Owes(false);
-        right = right.wrapping_add(u64::from(free));
-    }
-    right
-}
-
-// There it gains no more, but it does elsewhere. The lock's word counts each of them.
-#[test]
-fn a_session_gains_1023_fast_tickets_at_a_place(rt: HostRuntime) -> Result<(), Fail> {
-    let alloc = rt.alloc();
-    let mut sessions = open_three(&rt, 2)?;
-    let room = sessions.first_wrong(alloc, ROOM, Memory::Ample);
-    let gained = gained(alloc, sessions.session(1));
-    let more = sessions.first_wrong(alloc, ONE_MORE, Memory::Ample);
-    let gone = given_up(alloc, sessions.session(1));
-    sessions.close(&rt);
-    assert!(rt; room.is_none() && more.is_none());
-    assert!(rt; gained == MOST_FAST && gone == MOST_FAST);
-    Ok(())
-}
-
 // A wait keeps new fast tickets away. It is granted once whoever gave the last one up reschedules the place.
-const OWED: &[NumberedRow] = &[
+const OWED: &[Row] = &[
     (1, Act::Resolve(Lock::Sales), Reply::Place(1)),
     (2, Act::Resolve(Lock::Sales), Reply::Place(1)),
     (3, Act::Resolve(Lock::Sales), Reply::Place(1)),
@@ -103,7 +59,7 @@ const OWED: &[NumberedRow] = &[
 ];
 
 // A wait that was killed isn't granted, and keeps nobody away once it has ended.
-const KILLED: &[NumberedRow] = &[
+const KILLED: &[Row] = &[
     (1, Act::Resolve(Lock::Sales), Reply::Place(1)),
     (2, Act::Resolve(Lock::Sales), Reply::Place(1)),
     (3, Act::Resolve(Lock::Sales), Reply::Place(1)),
@@ -151,24 +107,24 @@ const THREE: Shown = Shown {
 
 // Tickets that become slow ones stand in the books, and stay what they were.
 const MADE_SLOW: &[Row] = &[
-    (Act::Resolve(Lock::Sales), Reply::Place(1)),
-    (Act::TryFast(1, Mode::S), Reply::Granted(1)),
-    (Act::TryFast(1, Mode::S), Reply::Granted(2)),
-    (Act::TryFast(1, Mode::SR), Reply::Granted(3)),
-    (Act::Holds(TICKETS), Reply::Is(true)),
-    (Act::Audit(&[NOBODY]), Reply::Is(true)),
-    (Act::Materialise, Reply::Done),
-    (Act::Holds(TICKETS), Reply::Is(true)),
-    (Act::Audit(&[THREE]), Reply::Is(true)),
-    (Act::ReleaseFast(1), NOT_HELD),
-    (Act::Release(1), Reply::Done),
-    (Act::Release(2), Reply::Done),
-    (Act::Release(3), Reply::Done),
-    (Act::Materialise, Reply::Done),
+    (1, Act::Resolve(Lock::Sales), Reply::Place(1)),
+    (1, Act::TryFast(1, Mode::S), Reply::Granted(1)),
+    (1, Act::TryFast(1, Mode::S), Reply::Granted(2)),
+    (1, Act::TryFast(1, Mode::SR), Reply::Granted(3)),
+    (1, Act::Holds(TICKETS), Reply::Is(true)),
+    (1, Act::Audit(&[NOBODY]), Reply::Is(true)),
+    (1, Act::Materialise, Reply::Done),
+    (1, Act::Holds(TICKETS), Reply::Is(true)),
+    (1, Act::Audit(&[THREE]), Reply::Is(true)),
+    (1, Act::ReleaseFast(1), NOT_HELD),
+    (1, Act::Release(1), Reply::Done),
+    (1, Act::Release(2), Reply::Done),
+    (1, Act::Release(3), Reply::Done),
+    (1, Act::Materialise, Reply::Done),
 ];
 
 // An obtrusive ticket makes the fast tickets of its session slow, and closes the fast path to all until it is given up.
-const BESIDE_READ_ONLY: &[NumberedRow] = &[
+const BESIDE_READ_ONLY: &[Row] = &[
     (1, Act::Resolve(Lock::Sales), Reply::Place(1)),
     (2, Act::Resolve(Lock::Sales), Reply::Place(1)),
     (1, Act::TryFast(1, Mode::SW), Reply::Granted(1)),
@@ -192,7 +148,7 @@ const BESIDE_READ_ONLY: &[NumberedRow] = &[
 ];
 
 // Only modes that aren't obtrusive are tried for so, and only what was gained so is given up so.
-const REFUSED: &[NumberedRow] = &[
+const REFUSED: &[Row] = &[
     (
         1,
         Act::TryFast(1, Mode::S),
@@ -220,7 +176,7 @@ const REFUSED: &[NumberedRow] = &[
 
 // All calls that wish for an unobtrusive mode get a fast ticket, which the lock's word counts. Whoever gives up the last one that stands against a
 // wait grants that.
-const WAITED_FOR: &[NumberedRow] = &[
+const WAITED_FOR: &[Row] = &[
     (1, Act::Resolve(Lock::Sales), Reply::Place(1)),
     (2, Act::Resolve(Lock::Sales), Reply::Place(1)),
     (3, Act::Resolve(Lock::Sales), Reply::Place(1)),
@@ -281,36 +237,34 @@ const MERGED: Shown = Shown {
 // What goes by the latch of one place makes the session's fast tickets at all places slow first. An upgrade to a mode that the ticket has leaves
 // them.
 const ELSEWHERE: &[Row] = &[
-    (Act::Resolve(Lock::Sales), Reply::Place(1)),
-    (Act::Resolve(Lock::Orders), Reply::Place(2)),
-    (Act::Try(2, Mode::SU), Reply::Granted(1)),
-    (Act::Try(2, Mode::SU), Reply::Granted(2)),
-    (Act::TryFast(1, Mode::SR), Reply::Granted(3)),
-    (Act::Upgrade(2, Mode::SU), Reply::Upgraded),
-    (Act::Audit(&[NOBODY, UPGRADABLE]), Reply::Is(true)),
-    (Act::Upgrade(2, Mode::X), Reply::Upgraded),
-    (Act::ReleaseFast(3), NOT_HELD),
-    (Act::Audit(&[READER, CHANGER]), Reply::Is(true)),
-    (Act::Release(3), Reply::Done),
-    (Act::TryFast(1, Mode::SR), Reply::Granted(4)),
-    (Act::Merge(1, 2), Reply::Done),
-    (Act::ReleaseFast(4), NOT_HELD),
-    (Act::Release(4), Reply::Done),
-    (Act::Audit(&[NOBODY, MERGED]), Reply::Is(true)),
-    (Act::TryFast(1, Mode::SR), Reply::Granted(5)),
-    (Act::Clone(1, Mode::SU), Reply::Granted(6)),
-    (Act::ReleaseFast(5), NOT_HELD),
-    (Act::Release(1), Reply::Done),
-    (Act::Release(5), Reply::Done),
-    (Act::Release(6), Reply::Done),
+    (1, Act::Resolve(Lock::Sales), Reply::Place(1)),
+    (1, Act::Resolve(Lock::Orders), Reply::Place(2)),
+    (1, Act::Try(2, Mode::SU), Reply::Granted(1)),
+    (1, Act::Try(2, Mode::SU), Reply::Granted(2)),
+    (1, Act::TryFast(1, Mode::SR), Reply::Granted(3)),
+    (1, Act::Upgrade(2, Mode::SU), Reply::Upgraded),
+    (1, Act::Audit(&[NOBODY, UPGRADABLE]), Reply::Is(true)),
+    (1, Act::Upgrade(2, Mode::X), Reply::Upgraded),
+    (1, Act::ReleaseFast(3), NOT_HELD),
+    (1, Act::Audit(&[READER, CHANGER]), Reply::Is(true)),
+    (1, Act::Release(3), Reply::Done),
+    (1, Act::TryFast(1, Mode::SR), Reply::Granted(4)),
+    (1, Act::Merge(1, 2), Reply::Done),
+    (1, Act::ReleaseFast(4), NOT_HELD),
+    (1, Act::Release(4), Reply::Done),
+    (1, Act::Audit(&[NOBODY, MERGED]), Reply::Is(true)),
+    (1, Act::TryFast(1, Mode::SR), Reply::Granted(5)),
+    (1, Act::Clone(1, Mode::SU), Reply::Granted(6)),
+    (1, Act::ReleaseFast(5), NOT_HELD),
+    (1, Act::Release(1), Reply::Done),
+    (1, Act::Release(5), Reply::Done),
+    (1, Act::Release(6), Reply::Done),
 ];
 
-const CASES: &[Case] = &[
+pub(crate) const CASES: &[Case] = &[
+    ("a session has 1023 fast tickets at a place", 2, MOST),
     ("fast tickets become slow ones", 1, MADE_SLOW),
     ("fast tickets elsewhere become slow", 2, ELSEWHERE),
-];
-
-const CASES_OF_THREE: &[NumberedCase] = &[
     ("a fast release owes a reschedule", 1, OWED),
     ("a killed wait opens the fast path", 1, KILLED),
     (
@@ -321,9 +275,3 @@ const CASES_OF_THREE: &[NumberedCase] = &[
     ("what is not fast is refused", 1, REFUSED),
     ("unobtrusive wishes take the fast path", 1, WAITED_FOR),
 ];
-
-#[test]
-fn fast_tickets_come_and_go(rt: HostRuntime) -> Result<(), Fail> {
-    are_right(&rt, Memory::Ample, CASES)?;
-    are_right_of_three(&rt, Memory::Ample, CASES_OF_THREE)
-}

@@ -1,9 +1,9 @@
 //! Tests of the lock space that threads share.
 //!
-//! Everything here is for tests: spaces are made, and sessions open, look keys up, try for locks, with the latch and without, change, clone and
-//! merge tickets, change what stands under keys, give locks up and close, on one thread and on several. `steps` has tests of the steps below them,
-//! and `examples` are those of three crates. The tests stand over what `mdl_shared` and `mdl_steps` show to all, so that these have none themselves
-//! and are proved once.
+//! Everything here is for tests: spaces are made, and sessions open, look keys up, try for locks, with the latch and without, wait, change, clone and
+//! merge tickets, change what stands under keys, give locks up and close, on one thread and on several. `rows` plays the tables of calls that most modules
+//! are, `stress` lets sessions race, `steps` has tests of the steps below sessions, and `contexts` of statements over them; `examples` are those of three
+//! crates. The tests stand over what `mdl_shared` and `mdl_steps` show to all, so that these have none themselves and are proved once.
 #![tactic(auto)]
 
 #[cfg(test)]
@@ -19,13 +19,11 @@ mod changes;
 #[cfg(test)]
 mod clashes;
 #[cfg(test)]
+mod closing;
+#[cfg(test)]
 mod columns;
 #[cfg(test)]
 mod contexts;
-#[cfg(test)]
-mod counting;
-#[cfg(test)]
-mod ending;
 #[cfg(test)]
 mod examples;
 #[cfg(test)]
@@ -33,17 +31,11 @@ mod fast;
 #[cfg(test)]
 mod fast_counts;
 #[cfg(test)]
-mod kept_reads;
-#[cfg(test)]
 mod locks;
-#[cfg(test)]
-mod many;
 #[cfg(test)]
 mod memory;
 #[cfg(test)]
 mod modes;
-#[cfg(test)]
-mod own_lists;
 #[cfg(test)]
 mod passes;
 #[cfg(test)]
@@ -59,19 +51,10 @@ mod searches;
 #[cfg(test)]
 mod sessions;
 #[cfg(test)]
-mod spaces;
-#[cfg(test)]
 mod steps;
 #[cfg(test)]
 mod stress;
 #[cfg(test)]
-mod tables;
-mod taking;
-#[cfg(test)]
-mod threads;
-#[cfg(test)]
-mod upgrades;
+mod tally;
 #[cfg(test)]
 mod waits;
-
-pub use taking::{takings, takings_of_two};

@@ -1,19 +1,27 @@
-//! Sessions try for locks, and give them up, on one thread.
-use crate::acts::{Act, Lock, Memory, Reply};
-use crate::rows::{
-    Case, NumberedCase, NumberedRow, Row, are_right, are_right_of_three, led, open_one,
-};
-use crate::sessions::closed;
-use mdl_calls::SpaceError;
+//! Sessions look keys up, try for locks and give them up, and are told keys, tickets and books.
+use crate::acts::{Act, Lock, Reply};
+use crate::audits::Shown;
+use crate::rows::{Case, Row};
+use mdl_calls::{Held, SpaceError};
 use mdl_key::Mode;
-use mdl_shared::{HoldsTickets, Session};
-use std::process::Abort;
-use std::test::Fail;
+
+const NO_PLACE: Reply = Reply::Refused(SpaceError::NoPlace);
 
 const NOT_HELD: Reply = Reply::Refused(SpaceError::NotHeld);
 
+// One session gives two keys their places, and the other finds them there. A third key has none, as there are two.
+const PLACES: &[Row] = &[
+    (1, Act::Resolve(Lock::Shop), Reply::Place(1)),
+    (1, Act::Resolve(Lock::Sales), Reply::Place(2)),
+    (2, Act::Resolve(Lock::Sales), Reply::Place(2)),
+    (2, Act::Resolve(Lock::Shop), Reply::Place(1)),
+    (2, Act::Resolve(Lock::Global), NO_PLACE),
+    (1, Act::Resolve(Lock::Shop), Reply::Place(1)),
+    (1, Act::Resolve(Lock::Global), NO_PLACE),
+];
+
 // Two readers stand beside each other, and a writer beside nobody. Each session counts its own tickets.
-const WRITERS: &[NumberedRow] = &[
+const WRITERS: &[Row] = &[
     (1, Act::Resolve(Lock::Sales), Reply::Place(1)),
     (2, Act::Resolve(Lock::Sales), Reply::Place(1)),
     (1, Act::Try(1, Mode::S), Reply::Granted(1)),
@@ -30,7 +38,7 @@ const WRITERS: &[NumberedRow] = &[
 ];
 
 // A place counts only for the session that has looked its key up. A table has no intention mode.
-const REFUSED: &[NumberedRow] = &[
+const REFUSED: &[Row] = &[
     (1, Act::Resolve(Lock::Sales), Reply::Place(1)),
     (
         1,
@@ -45,57 +53,129 @@ const REFUSED: &[NumberedRow] = &[
     (1, Act::Release(1), NOT_HELD),
 ];
 
-const FIRST: &[Row] = &[
-    (Act::Resolve(Lock::Sales), Reply::Place(1)),
-    (Act::Try(1, Mode::S), Reply::Granted(1)),
-];
-
-const SECOND: &[Row] = &[
-    (Act::Try(1, Mode::SR), Reply::Granted(2)),
-    (Act::Release(1), Reply::Done),
-];
-
-const THIRD: &[Row] = &[(Act::Release(2), Reply::Done)];
-
-/// The session that wasn't closed.
-pub(crate) fn kept_open<R: Drop>(rt: &impl Abort, session: Session<R>) -> Session<R> {
-    match session.close() {
-        Ok(_) => panic!(rt; "the session holds a ticket"),
-        Err(HoldsTickets(session)) => session,
-    }
-}
-
-// The session that isn't closed comes back as it was, and goes on.
-#[test]
-fn a_session_with_a_ticket_stays_open(rt: HostRuntime) -> Result<(), Fail> {
-    let session = open_one(&rt, 1)?;
-    let session = kept_open(&rt, led(&rt, session, FIRST, Memory::Ample));
-    let session = kept_open(&rt, led(&rt, session, SECOND, Memory::Ample));
-    let pass = closed(&rt, led(&rt, session, THIRD, Memory::Ample));
-    assert!(rt; pass.number() == 1);
-    Ok(())
-}
-
 // Under a ticket a session reads what stands at its place, and under none nothing.
 const READS: &[Row] = &[
-    (Act::Resolve(Lock::Sales), Reply::Place(1)),
-    (Act::Read(1), NOT_HELD),
-    (Act::Try(1, Mode::SR), Reply::Granted(1)),
-    (Act::Read(1), Reply::New),
-    (Act::Read(2), NOT_HELD),
-    (Act::Release(1), Reply::Done),
-    (Act::Read(1), NOT_HELD),
+    (1, Act::Resolve(Lock::Sales), Reply::Place(1)),
+    (1, Act::Read(1), NOT_HELD),
+    (1, Act::Try(1, Mode::SR), Reply::Granted(1)),
+    (1, Act::Read(1), Reply::New),
+    (1, Act::Read(2), NOT_HELD),
+    (1, Act::Release(1), Reply::Done),
+    (1, Act::Read(1), NOT_HELD),
 ];
 
-const CASES: &[Case] = &[("a ticket lets its session read", 1, READS)];
+const FIRST: Held = Held {
+    id: 1,
+    place: 2,
+    mode: Mode::S,
+};
 
-const CASES_OF_THREE: &[NumberedCase] = &[
+const SECOND: Held = Held {
+    id: 2,
+    place: 1,
+    mode: Mode::IX,
+};
+
+// Tickets are told in the order in which they were gained. What wasn't granted isn't told, nor what was given up.
+const GAINS: &[Row] = &[
+    (1, Act::Resolve(Lock::Shop), Reply::Place(1)),
+    (1, Act::Resolve(Lock::Sales), Reply::Place(2)),
+    (1, Act::Try(2, Mode::S), Reply::Granted(1)),
+    (1, Act::Try(1, Mode::IX), Reply::Granted(2)),
+    (1, Act::Holds(&[FIRST, SECOND]), Reply::Is(true)),
+    (1, Act::Release(1), Reply::Done),
+    (1, Act::Holds(&[SECOND]), Reply::Is(true)),
+    (1, Act::Release(2), Reply::Done),
+    (1, Act::Holds(&[]), Reply::Is(true)),
+];
+
+// What others hold isn't told.
+const OF_OTHERS: &[Row] = &[
+    (1, Act::Resolve(Lock::Sales), Reply::Place(1)),
+    (2, Act::Resolve(Lock::Sales), Reply::Place(1)),
+    (1, Act::Try(1, Mode::SNW), Reply::Granted(1)),
+    (2, Act::Try(1, Mode::X), Reply::WouldWait),
+    (2, Act::Holds(&[]), Reply::Is(true)),
+    (1, Act::Release(1), Reply::Done),
+];
+
+// A key is told to the session that has looked it up, and to no other.
+const KEYS: &[Row] = &[
+    (1, Act::Names(1, Lock::Shop), NO_PLACE),
+    (1, Act::Resolve(Lock::Shop), Reply::Place(1)),
+    (1, Act::Resolve(Lock::Sales), Reply::Place(2)),
+    (2, Act::Resolve(Lock::Sales), Reply::Place(2)),
+    (2, Act::Names(1, Lock::Shop), NO_PLACE),
+    (2, Act::Names(0, Lock::Shop), NO_PLACE),
+    (2, Act::Names(3, Lock::Shop), NO_PLACE),
+    (1, Act::Names(1, Lock::Shop), Reply::Is(true)),
+    (1, Act::Names(2, Lock::Sales), Reply::Is(true)),
+    (2, Act::Names(2, Lock::Sales), Reply::Is(true)),
+];
+
+// Nothing is defined yet, and so no table is told. But whoever asks knows the schema's tables from then on, and no other key.
+const ASKED: &[Row] = &[
+    (2, Act::Tables, Reply::Count(0)),
+    (1, Act::Resolve(Lock::Shop), Reply::Place(1)),
+    (1, Act::Resolve(Lock::Sales), Reply::Place(2)),
+    (1, Act::Resolve(Lock::Games), Reply::Place(3)),
+    (1, Act::Resolve(Lock::Goods), Reply::Place(4)),
+    (2, Act::Try(2, Mode::S), NO_PLACE),
+    (2, Act::Tables, Reply::Count(0)),
+    (2, Act::Try(1, Mode::IX), NO_PLACE),
+    (2, Act::Try(2, Mode::S), Reply::Granted(1)),
+    (2, Act::Try(3, Mode::S), NO_PLACE),
+    (2, Act::Try(4, Mode::S), Reply::Granted(2)),
+    (2, Act::Tables, Reply::Count(0)),
+    (2, Act::Release(1), Reply::Done),
+    (2, Act::Release(2), Reply::Done),
+];
+
+const BOOKS: &[Shown] = &[
+    Shown {
+        place: 1,
+        lock: Lock::Shop,
+        granted: &[],
+    },
+    Shown {
+        place: 2,
+        lock: Lock::Sales,
+        granted: &[(2, 1, Mode::SNW)],
+    },
+];
+
+const FREE_BOOKS: &[Shown] = &[
+    Shown {
+        place: 1,
+        lock: Lock::Shop,
+        granted: &[],
+    },
+    Shown {
+        place: 2,
+        lock: Lock::Sales,
+        granted: &[],
+    },
+];
+
+// A place whose key nobody has looked up isn't told. Of the others each book is, in the order of the places, and it may be told again.
+const AUDITS: &[Row] = &[
+    (1, Act::Audit(&[]), Reply::Is(true)),
+    (1, Act::Resolve(Lock::Shop), Reply::Place(1)),
+    (2, Act::Resolve(Lock::Sales), Reply::Place(2)),
+    (2, Act::Try(2, Mode::SNW), Reply::Granted(1)),
+    (1, Act::Audit(BOOKS), Reply::Is(true)),
+    (2, Act::Release(1), Reply::Done),
+    (2, Act::Audit(FREE_BOOKS), Reply::Is(true)),
+];
+
+pub(crate) const CASES: &[Case] = &[
+    ("keys get places", 2, PLACES),
     ("a writer stands alone", 1, WRITERS),
     ("what cannot be tried is refused", 1, REFUSED),
+    ("a ticket lets its session read", 1, READS),
+    ("tickets are told in order of gain", 2, GAINS),
+    ("only tickets of its own are told", 1, OF_OTHERS),
+    ("a key is told to whom it is known", 2, KEYS),
+    ("who asks for tables knows them", 4, ASKED),
+    ("an audit tells each book", 3, AUDITS),
 ];
-
-#[test]
-fn sessions_try_for_locks(rt: HostRuntime) -> Result<(), Fail> {
-    are_right(&rt, Memory::Ample, CASES)?;
-    are_right_of_three(&rt, Memory::Ample, CASES_OF_THREE)
-}

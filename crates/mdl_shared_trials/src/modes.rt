@@ -1,9 +1,8 @@
-//! Tickets get weaker modes, are cloned and merged.
-use crate::acts::{Act, Lock, Memory, Reply};
-use crate::rows::{Case, NumberedCase, NumberedRow, Row, are_right, are_right_of_three};
+//! Tickets get weaker modes and stronger ones, are cloned and merged.
+use crate::acts::{Act, Lock, Reply};
+use crate::rows::{Case, Row};
 use mdl_calls::SpaceError;
 use mdl_key::Mode;
-use std::test::Fail;
 
 const NOT_HELD: Reply = Reply::Refused(SpaceError::NotHeld);
 
@@ -12,7 +11,7 @@ const NOT_UPGRADABLE: Reply = Reply::Refused(SpaceError::NotUpgradable);
 const BAD_MODE: Reply = Reply::Refused(SpaceError::BadMode);
 
 // What the weaker mode lets stand is had beside it at once.
-const DOWNGRADES: &[NumberedRow] = &[
+const DOWNGRADES: &[Row] = &[
     (1, Act::Resolve(Lock::Sales), Reply::Place(1)),
     (2, Act::Resolve(Lock::Sales), Reply::Place(1)),
     (1, Act::Try(1, Mode::X), Reply::Granted(1)),
@@ -30,21 +29,21 @@ const DOWNGRADES: &[NumberedRow] = &[
 
 // A schema's lock has none of the modes that X may become.
 const NO_DOWNGRADES: &[Row] = &[
-    (Act::Resolve(Lock::Sales), Reply::Place(1)),
-    (Act::Resolve(Lock::Shop), Reply::Place(2)),
-    (Act::Downgrade(1, Mode::SU), NOT_HELD),
-    (Act::Try(1, Mode::SNRW), Reply::Granted(1)),
-    (Act::Try(2, Mode::X), Reply::Granted(2)),
-    (Act::Downgrade(1, Mode::SNW), NOT_UPGRADABLE),
-    (Act::Downgrade(1, Mode::X), NOT_UPGRADABLE),
-    (Act::Downgrade(2, Mode::SU), NOT_UPGRADABLE),
-    (Act::Downgrade(3, Mode::SU), NOT_HELD),
-    (Act::Release(1), Reply::Done),
-    (Act::Release(2), Reply::Done),
+    (1, Act::Resolve(Lock::Sales), Reply::Place(1)),
+    (1, Act::Resolve(Lock::Shop), Reply::Place(2)),
+    (1, Act::Downgrade(1, Mode::SU), NOT_HELD),
+    (1, Act::Try(1, Mode::SNRW), Reply::Granted(1)),
+    (1, Act::Try(2, Mode::X), Reply::Granted(2)),
+    (1, Act::Downgrade(1, Mode::SNW), NOT_UPGRADABLE),
+    (1, Act::Downgrade(1, Mode::X), NOT_UPGRADABLE),
+    (1, Act::Downgrade(2, Mode::SU), NOT_UPGRADABLE),
+    (1, Act::Downgrade(3, Mode::SU), NOT_HELD),
+    (1, Act::Release(1), Reply::Done),
+    (1, Act::Release(2), Reply::Done),
 ];
 
 // A clone keeps the lock when the first ticket is gone. Where others hold weaker modes it is had still.
-const CLONES: &[NumberedRow] = &[
+const CLONES: &[Row] = &[
     (1, Act::Resolve(Lock::Sales), Reply::Place(1)),
     (2, Act::Resolve(Lock::Sales), Reply::Place(1)),
     (1, Act::Try(1, Mode::SNW), Reply::Granted(1)),
@@ -65,22 +64,22 @@ const CLONES: &[NumberedRow] = &[
 
 // A schema's lock has none of the modes of a table's, and a clone is no stronger than its ticket.
 const NO_CLONES: &[Row] = &[
-    (Act::Resolve(Lock::Sales), Reply::Place(1)),
-    (Act::Resolve(Lock::Shop), Reply::Place(2)),
-    (Act::Clone(1, Mode::S), NOT_HELD),
-    (Act::Try(1, Mode::SNW), Reply::Granted(1)),
-    (Act::Try(2, Mode::X), Reply::Granted(2)),
-    (Act::Clone(1, Mode::X), BAD_MODE),
-    (Act::Clone(1, Mode::IX), BAD_MODE),
-    (Act::Clone(2, Mode::SR), BAD_MODE),
-    (Act::Clone(2, Mode::IX), Reply::Granted(3)),
-    (Act::Release(1), Reply::Done),
-    (Act::Release(2), Reply::Done),
-    (Act::Release(3), Reply::Done),
+    (1, Act::Resolve(Lock::Sales), Reply::Place(1)),
+    (1, Act::Resolve(Lock::Shop), Reply::Place(2)),
+    (1, Act::Clone(1, Mode::S), NOT_HELD),
+    (1, Act::Try(1, Mode::SNW), Reply::Granted(1)),
+    (1, Act::Try(2, Mode::X), Reply::Granted(2)),
+    (1, Act::Clone(1, Mode::X), BAD_MODE),
+    (1, Act::Clone(1, Mode::IX), BAD_MODE),
+    (1, Act::Clone(2, Mode::SR), BAD_MODE),
+    (1, Act::Clone(2, Mode::IX), Reply::Granted(3)),
+    (1, Act::Release(1), Reply::Done),
+    (1, Act::Release(2), Reply::Done),
+    (1, Act::Release(3), Reply::Done),
 ];
 
 // The first ticket has the mode of the second then, and the second is gone.
-const MERGES: &[NumberedRow] = &[
+const MERGES: &[Row] = &[
     (1, Act::Resolve(Lock::Sales), Reply::Place(1)),
     (2, Act::Resolve(Lock::Sales), Reply::Place(1)),
     (1, Act::Try(1, Mode::SU), Reply::Granted(1)),
@@ -96,36 +95,69 @@ const MERGES: &[NumberedRow] = &[
 
 // Two tickets of one place are merged, into the mode of the stronger.
 const NO_MERGES: &[Row] = &[
-    (Act::Resolve(Lock::Sales), Reply::Place(1)),
-    (Act::Resolve(Lock::Orders), Reply::Place(2)),
-    (Act::Merge(1, 2), NOT_HELD),
-    (Act::Try(1, Mode::SU), Reply::Granted(1)),
-    (Act::Merge(1, 2), NOT_HELD),
-    (Act::Merge(2, 1), NOT_HELD),
-    (Act::Merge(1, 1), BAD_MODE),
-    (Act::Try(1, Mode::SR), Reply::Granted(2)),
-    (Act::Try(2, Mode::X), Reply::Granted(3)),
-    (Act::Merge(1, 2), BAD_MODE),
-    (Act::Merge(1, 3), BAD_MODE),
-    (Act::Release(1), Reply::Done),
-    (Act::Release(2), Reply::Done),
-    (Act::Release(3), Reply::Done),
+    (1, Act::Resolve(Lock::Sales), Reply::Place(1)),
+    (1, Act::Resolve(Lock::Orders), Reply::Place(2)),
+    (1, Act::Merge(1, 2), NOT_HELD),
+    (1, Act::Try(1, Mode::SU), Reply::Granted(1)),
+    (1, Act::Merge(1, 2), NOT_HELD),
+    (1, Act::Merge(2, 1), NOT_HELD),
+    (1, Act::Merge(1, 1), BAD_MODE),
+    (1, Act::Try(1, Mode::SR), Reply::Granted(2)),
+    (1, Act::Try(2, Mode::X), Reply::Granted(3)),
+    (1, Act::Merge(1, 2), BAD_MODE),
+    (1, Act::Merge(1, 3), BAD_MODE),
+    (1, Act::Release(1), Reply::Done),
+    (1, Act::Release(2), Reply::Done),
+    (1, Act::Release(3), Reply::Done),
 ];
 
-const CASES: &[Case] = &[
-    ("other modes are no downgrades", 2, NO_DOWNGRADES),
-    ("no clone is stronger", 2, NO_CLONES),
-    ("others are not merged", 2, NO_MERGES),
+// A stronger mode is had at once where no other session stands in the way, and then stands in theirs. Nobody stands in the way of
+// itself.
+const UPGRADES: &[Row] = &[
+    (1, Act::Resolve(Lock::Sales), Reply::Place(1)),
+    (2, Act::Resolve(Lock::Sales), Reply::Place(1)),
+    (1, Act::Try(1, Mode::SU), Reply::Granted(1)),
+    (1, Act::Try(1, Mode::SR), Reply::Granted(2)),
+    (2, Act::Try(1, Mode::SR), Reply::Granted(1)),
+    (1, Act::Upgrade(1, Mode::X), Reply::WouldWait),
+    (1, Act::Upgrade(1, Mode::SNW), Reply::Upgraded),
+    (2, Act::Try(1, Mode::SW), Reply::WouldWait),
+    (1, Act::Upgrade(1, Mode::SNRW), Reply::WouldWait),
+    (2, Act::Release(1), Reply::Done),
+    (1, Act::Upgrade(1, Mode::X), Reply::Upgraded),
+    (2, Act::Try(1, Mode::S), Reply::WouldWait),
+    (1, Act::Release(1), Reply::Done),
+    (2, Act::Try(1, Mode::S), Reply::Granted(2)),
+    (1, Act::Release(2), Reply::Done),
+    (2, Act::Release(2), Reply::Done),
 ];
 
-const CASES_OF_THREE: &[NumberedCase] = &[
+// A reader's ticket is for readers. What the held mode covers is there already.
+const NO_UPGRADES: &[Row] = &[
+    (1, Act::Resolve(Lock::Sales), Reply::Place(1)),
+    (1, Act::Upgrade(1, Mode::X), NOT_HELD),
+    (1, Act::Try(1, Mode::SR), Reply::Granted(1)),
+    (1, Act::Upgrade(1, Mode::X), NOT_UPGRADABLE),
+    (1, Act::Upgrade(1, Mode::S), Reply::Upgraded),
+    (1, Act::Try(1, Mode::X), Reply::Granted(2)),
+    (1, Act::Upgrade(2, Mode::SNW), Reply::Upgraded),
+    (1, Act::Upgrade(2, Mode::IX), NOT_UPGRADABLE),
+    (1, Act::Release(2), Reply::Done),
+    (1, Act::Upgrade(2, Mode::X), NOT_HELD),
+    (1, Act::Release(1), Reply::Done),
+];
+
+pub(crate) const CASES: &[Case] = &[
     ("a downgraded ticket lets others in", 1, DOWNGRADES),
+    ("other modes are no downgrades", 2, NO_DOWNGRADES),
     ("a clone outlives its ticket", 1, CLONES),
+    ("no clone is stronger", 2, NO_CLONES),
     ("merged tickets are one", 1, MERGES),
+    ("others are not merged", 2, NO_MERGES),
+    ("an upgrade is had at once or not at all", 1, UPGRADES),
+    (
+        "an upgrade that cannot be asked for is refused",
+        1,
+        NO_UPGRADES,
+    ),
 ];
-
-#[test]
-fn tickets_get_weaker_modes(rt: HostRuntime) -> Result<(), Fail> {
-    are_right(&rt, Memory::Ample, CASES)?;
-    are_right_of_three(&rt, Memory::Ample, CASES_OF_THREE)
-}

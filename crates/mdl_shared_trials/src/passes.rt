@@ -1,7 +1,6 @@
-//! How many places and sessions a space may have, and the passes of its sessions.
-use mdl_shared::{Manager, NewError, Pass};
+//! How many places and sessions a space may have.
+use mdl_shared::{Manager, NewError};
 use std::alloc::Global;
-use std::test::Fail;
 
 const LIMITS: &[(u16, u16, Option<NewError>)] = &[
     (0, 0, Some(NewError::BadPlaces)),
@@ -25,19 +24,4 @@ fn spaces_have_their_limits(rt: HostRuntime) {
             "{places} places, {sessions} sessions"
         );
     }
-}
-
-// Whether these are the passes of sessions 1, 2 and 3.
-fn are_in_turn(passes: &[Pass]) -> bool {
-    match passes {
-        [one, two, three] => one.number() == 1 && two.number() == 2 && three.number() == 3,
-        _ => false,
-    }
-}
-
-#[test]
-fn passes_have_the_numbers_from_1_on(rt: HostRuntime) -> Result<(), Fail> {
-    let (_manager, passes) = Manager::new(rt.alloc(), 2, 3)?;
-    assert!(rt; are_in_turn(&passes));
-    Ok(())
 }

@@ -1,23 +1,22 @@
-//! Sessions that make calls of every kind by chance for some seconds, over the locks of eight tables, wait with short patience, look for deadlocks
+//! Sessions that make calls of every kind by chance for some seconds, over the locks of some tables, wait with short patience, look for deadlocks
 //! and kill each other's waits. Another one looks at all books each tenth of a second meanwhile.
 use crate::acts::{Act, Edit, Reply, look_up, make};
 use crate::chance::Chance;
 use crate::clashes::{are_lawful, are_of};
-use mdl_calls::{Held, Place, SpaceError, TicketId};
-use mdl_key::Key;
+use crate::tally::Tally;
+use mdl_calls::{Ended, Held, Place, Settled, SpaceError, TicketId};
+use mdl_key::{Key, Mode};
 use mdl_shared::{Audited, Session};
 use std::alloc::Global;
 use std::sync::Wait;
+use std::sync::atomic::{AtomicBool, Ordering};
 use std::thread;
 use std::time::{Clock, Duration, Instant};
 
-// The tables.
+// The most tables that there are.
 const TABLES: &[&str] = &[
     "sales", "goods", "staff", "rooms", "bills", "tills", "desks", "doors",
 ];
-
-/// How many tables there are.
-pub(crate) const TABLE_COUNT: u16 = 8;
 
 // How many thousandths of a second the sessions make calls, and how many go by between two looks of the ninth.
 const SPAN: u64 = 3_000;
@@ -33,24 +32,33 @@ const UNWATCHED: u32 = 5_000;
 
 const MOST_HELD: usize = 4;
 
+// How many turns a session waits at most, and has the lock for itself.
+const PATIENCE: usize = 120;
+
+const TURNS: usize = 12;
+
 // How often a session tries for a fast ticket that it keeps.
 const KEPT: u32 = 40;
 
-/// A session's row of chances, and of each table how often it changed that, and the last version that it saw.
+/// A session's row of chances, how many tables there are, of each how often it changed that and the last version that it saw, and what waits came to.
 #[derive(Drop)]
 pub(crate) struct Player {
     alloc: Global,
     chance: Chance,
+    tables: u16,
+    pub(crate) tally: Tally,
     pub(crate) changes: [u64; 8],
     seen: [u64; 8],
 }
 
 impl Player {
     /// That of the session of a number.
-    pub(crate) fn new(alloc: Global, number: u16) -> Player {
+    pub(crate) fn new(alloc: Global, number: u16, tables: u16) -> Player {
         Player {
             alloc,
             chance: Chance::new(number),
+            tables,
+            tally: Tally::NOTHING,
             changes: [0; 8],
             seen: [0; 8],
         }
@@ -58,7 +66,7 @@ impl Player {
 
     // The place of one of the tables.
     fn draw(&mut self) -> Place {
-        let drawn = self.chance.below(usize::from(TABLE_COUNT));
+        let drawn = self.chance.below(usize::from(self.tables));
         u16::try_from(drawn).unwrap_or(0).saturating_add(1)
     }
 
@@ -95,7 +103,7 @@ pub(crate) fn was_answered(reply: Reply) -> bool {
 }
 
 // One call of any kind. Each that makes it tells whether all went well: nothing was refused that must not be, and what was seen can be so.
-fn make_call<R: Wait>(session: &mut Session<R>, player: &mut Player) -> bool {
+fn make_call<R: Wait>(session: &mut Session<R>, player: &mut Player, taken: &AtomicBool) -> bool {
     let Ok(held) = session.held() else {
         return false;
     };
@@ -103,53 +111,158 @@ fn make_call<R: Wait>(session: &mut Session<R>, player: &mut Player) -> bool {
         Some(ticket) if held.len() >= MOST_HELD || player.chance.below(3) > 0 => {
             use_ticket(session, player, ticket, &held)
         }
-        _ => ask(session, player),
+        _ => ask(session, player, taken),
     }
 }
 
 // A lock is asked for, or what is known of a table or of all.
-fn ask<R: Wait>(session: &mut Session<R>, player: &mut Player) -> bool {
+fn ask<R: Wait>(session: &mut Session<R>, player: &mut Player, taken: &AtomicBool) -> bool {
     let place = player.draw();
     let act = match player.chance.below(40) {
         0 => Act::KeyOf(place),
         1 => Act::Tables,
         2 => return kill(session, player),
-        3..=9 => return wait_for(session, player, place),
+        3..=7 => {
+            let mode = player.chance.mode();
+            return gain(session, player, place, mode).is_some();
+        }
+        8..=9 => return write(session, player, taken),
         10..=19 => Act::TryFast(place, player.chance.mode()),
         _ => Act::Try(place, player.chance.mode()),
     };
     was_answered(make(player.alloc, session, act))
 }
 
-// The wait of some session is killed, if it has one.
+// The wait of some session is killed, if it has one, or mostly none is by the number of the one before.
 fn kill<R: Wait>(session: &mut Session<R>, player: &mut Player) -> bool {
-    let target = u16::try_from(player.chance.below(9)).unwrap_or(0);
-    match make(player.alloc, session, Act::WaitOf(target)) {
-        Reply::Wait(Some(wait)) => {
-            was_answered(make(player.alloc, session, Act::Kill(target, wait)))
-        }
-        Reply::Wait(None) => true,
-        _ => false,
+    let target = u16::try_from(player.chance.below(17)).unwrap_or(0);
+    let wait = match make(player.alloc, session, Act::WaitOf(target)) {
+        Reply::Wait(Some(wait)) if player.chance.below(4) == 0 => wait.saturating_sub(1),
+        Reply::Wait(Some(wait)) => wait,
+        Reply::Wait(None) => return true,
+        _ => return false,
+    };
+    match make(player.alloc, session, Act::Kill(target, wait)) {
+        Reply::Is(true) => player.tally.kill(target, wait),
+        Reply::Is(false) => {}
+        _ => return false,
+    }
+    true
+}
+
+// A deadlock is looked for.
+fn search<R: Wait>(session: &mut Session<R>, player: &mut Player) -> bool {
+    match make(player.alloc, session, Act::Search) {
+        Reply::NoCycle => {}
+        Reply::Victim(victim) => player.tally.fell(victim),
+        _ => return false,
+    }
+    true
+}
+
+// Between two turns a deadlock is looked for, or some session's wait is killed. Mostly nothing is done.
+fn meddle<R: Wait>(session: &mut Session<R>, player: &mut Player) -> bool {
+    match player.chance.below(64) {
+        0..=1 => kill(session, player),
+        2..=9 => search(session, player),
+        _ => true,
     }
 }
 
-// A lock is asked for, and waited for with some patience, where it can't be had at once. A deadlock is looked for in half of all waits. Then the wait
-// is looked at until it is settled or patience is lost, and ended.
-fn wait_for<R: Wait>(session: &mut Session<R>, player: &mut Player, place: Place) -> bool {
-    let alloc = player.alloc;
-    let begun = make(alloc, session, Act::Begin(place, player.chance.mode()));
-    if !matches!(begun, Reply::Waiting(_)) {
-        return was_answered(begun);
+// The first lock is asked for as the session's own. It has it for some turns, as nobody else does meanwhile, and gives it up.
+fn write<R: Wait>(session: &mut Session<R>, player: &mut Player, taken: &AtomicBool) -> bool {
+    match gain(session, player, 1, Mode::X) {
+        Some(Some(own)) => {
+            let alone = !taken.swap(true, Ordering::SeqCst);
+            let mut well = true;
+            for _ in 0..player.chance.below(TURNS) {
+                well = meddle(session, player) && well;
+            }
+            taken.store(false, Ordering::SeqCst);
+            make(player.alloc, session, Act::Release(own)) == Reply::Done && alone && well
+        }
+        Some(None) => true,
+        None => false,
     }
-    let searched = player.chance.below(2) != 0 || was_answered(make(alloc, session, Act::Search));
-    for _ in 0..player.chance.below(100) {
-        if make(alloc, session, Act::Poll) != Reply::Pending {
-            break;
+}
+
+// A lock is asked for, and waited for with some patience, where it can't be had at once. Its ticket, if the session gets it, unless something goes wrong.
+fn gain<R: Wait>(
+    session: &mut Session<R>,
+    player: &mut Player,
+    place: Place,
+    mode: Mode,
+) -> Option<Option<TicketId>> {
+    match make(player.alloc, session, Act::Begin(place, mode)) {
+        Reply::Granted(id) => Some(Some(id)),
+        Reply::Waiting(wait) => wait_for(session, player, wait),
+        Reply::Refused(SpaceError::BadMode) => Some(None),
+        _ => None,
+    }
+}
+
+// The wait is looked at until it is settled or patience is lost, and ended.
+fn wait_for<R: Wait>(
+    session: &mut Session<R>,
+    player: &mut Player,
+    wait: u64,
+) -> Option<Option<TicketId>> {
+    if !player.tally.begin(wait) {
+        return None;
+    }
+    let looked = look_on(session, player)?;
+    let settled = settle(session, player, wait);
+    if looked != Reply::Pending && looked != settled {
+        return None;
+    }
+    let Reply::Ended(ended) = make(player.alloc, session, Act::End) else {
+        return None;
+    };
+    let how = settlement(ended);
+    player.tally.end(how, wait);
+    if settled != Reply::Settled(how) {
+        return None;
+    }
+    match ended {
+        Ended::Granted(id) => Some(Some(id)),
+        _ => Some(None),
+    }
+}
+
+// What a wait was settled by that ended so.
+fn settlement(ended: Ended) -> Settled {
+    match ended {
+        Ended::Granted(_) => Settled::Granted,
+        Ended::Victim => Settled::Victim,
+        Ended::Timeout => Settled::Timeout,
+        Ended::Killed => Settled::Killed,
+    }
+}
+
+// How its wait is settled, or that it still isn't after some turns, unless something goes wrong in between.
+fn look_on<R: Wait>(session: &mut Session<R>, player: &mut Player) -> Option<Reply> {
+    for _ in 0..player.chance.below(PATIENCE) {
+        let looked = make(player.alloc, session, Act::Poll);
+        if looked != Reply::Pending {
+            return Some(looked);
+        }
+        if !meddle(session, player) {
+            return None;
         }
     }
-    let settled = was_answered(make(alloc, session, Act::TimeOut));
-    let ended = make(alloc, session, Act::End);
-    searched && settled && matches!(ended, Reply::Ended(_))
+    Some(Reply::Pending)
+}
+
+// How its wait is settled, as a timeout if nobody has settled it yet. Then whoever has the lock gets a turn.
+fn settle<R: Wait>(session: &mut Session<R>, player: &mut Player, wait: u64) -> Reply {
+    match make(player.alloc, session, Act::TimeOut) {
+        Reply::Done => {
+            player.tally.lose_patience(wait);
+            thread::yield_now();
+            Reply::Settled(Settled::Timeout)
+        }
+        settled => settled,
+    }
 }
 
 // Something is done with a ticket.
@@ -225,19 +338,13 @@ fn audit<R: Wait>(alloc: Global, session: &mut Session<R>) -> bool {
 
 /// Looks at all books, and gives all its tickets up.
 pub(crate) fn leave<R: Wait>(alloc: Global, session: &mut Session<R>) -> bool {
-    let mut left = audit(alloc, session);
-    let Ok(held) = session.held() else {
-        return false;
-    };
-    for ticket in &held {
-        left = make(alloc, session, Act::Release(ticket.id)) == Reply::Done && left;
-    }
-    left
+    let audited = audit(alloc, session);
+    matches!(make(alloc, session, Act::ReleaseAll), Reply::Count(_)) && audited
 }
 
-/// Looks all tables up, which get the places from 1 on in this order.
-pub(crate) fn look_all_up<R: Wait>(alloc: Global, session: &mut Session<R>) -> bool {
-    for table in TABLES {
+/// Looks so many tables up, which get the places from 1 on in this order.
+pub(crate) fn look_all_up<R: Wait>(alloc: Global, session: &mut Session<R>, tables: u16) -> bool {
+    for (table, _) in TABLES.iter().zip(0..tables) {
         let Ok(key) = Key::table(alloc, "shop", table) else {
             return false;
         };
@@ -269,11 +376,12 @@ pub(crate) fn play<R: Wait + Clock>(
     rt: &R,
     session: &mut Session<&R>,
     player: &mut Player,
+    taken: &AtomicBool,
 ) -> bool {
     let Ok(start) = Instant::now(rt) else {
         return false;
     };
-    if !look_all_up(player.alloc, session) {
+    if !look_all_up(player.alloc, session, player.tables) {
         return false;
     }
     for call in 0..CALLS {
@@ -284,7 +392,7 @@ pub(crate) fn play<R: Wait + Clock>(
                 None => return false,
             }
         }
-        if !make_call(session, player) {
+        if !make_call(session, player, taken) {
             return false;
         }
         if call % UNWATCHED == 0 && !audit(player.alloc, session) {

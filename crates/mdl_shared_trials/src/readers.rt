@@ -4,9 +4,8 @@ ghost use Rattle.mdl_calls.specs.Words.{AreMet};
 ghost use Rattle.mdl_shared.specs.SessionSpaces.{HasMet};
 ghost use Rattle.mdl_shared.specs.SessionViews.{space_of};
 
-use crate::acts::{Act, Lock, Reply, make};
-use crate::rows::{Pair, open_two};
-use crate::sessions::closed;
+use crate::acts::{Act, Lock, NO_MEMORY, Reply, make};
+use crate::rows::{Three, open_three};
 use mdl_calls::{Attempt, LockSpace, Place, SpaceError, TicketId};
 use mdl_defs::{Column, DefCache, Definition, Standing};
 use mdl_key::{Key, Mode};
@@ -55,6 +54,9 @@ pub(crate) enum Step {
     Keeps(usize),
 }
 
+/// What steps show, how many definitions the cache keeps, the steps, and what a last look finds: the ticket, and the names of the columns.
+pub(crate) type Story = (&'static str, u16, &'static [Step], (TicketId, Names));
+
 fn compared(definition: &Definition, names: Names) -> Found {
     match definition {
         Definition::Table(columns) if are_named(columns.as_slice(), names) => Found::Named,
@@ -82,8 +84,8 @@ fn standing_there(standing: &Standing, names: Names) -> (u64, Found) {
     }
 }
 
-/// What a look in a cache comes to.
-pub(crate) fn looked(outcome: Result<Cached<'_>, SpaceError>, names: Names) -> Found {
+// What a look in a cache comes to.
+fn looked(outcome: Result<Cached<'_>, SpaceError>, names: Names) -> Found {
     match outcome {
         Ok(Cached::Hit(definition)) => compared(definition, names),
         Ok(Cached::Stale) => Found::Stale,
@@ -202,11 +204,11 @@ fn does_beside<R: Wait>(alloc: Global, other: &mut Session<R>, step: Step) -> bo
     }
 }
 
-/// Which step comes to something else, if there is one. The cache keeps nothing before the first.
-pub(crate) fn first_wrong<R: Wait>(
+// Which step comes to something else, if there is one. The cache keeps nothing before the first.
+fn first_wrong<R: Wait>(
     alloc: Global,
     cache: &mut DefCache,
-    sessions: &mut Pair<R>,
+    sessions: &mut Three<R>,
     steps: &[Step],
 ) -> Option<usize>
     requires nothing { cache.old.kept ≡ [] }
@@ -225,18 +227,34 @@ pub(crate) fn first_wrong<R: Wait>(
     None
 }
 
-/// The steps are right of two sessions that have done nothing yet, the first of which has a cache for so many definitions.
-pub(crate) fn are_right<R: Wait + Abort + AllocGlobal>(
-    rt: &R,
-    capacity: u16,
+// Which step comes to something else, if there is one. Behind them all the reader's own call has to find a definition that has these columns, before it
+// gives its tickets up.
+fn first_wrong_at_last<R: Wait>(
+    alloc: Global,
+    cache: &mut DefCache,
+    sessions: &mut Three<R>,
     steps: &[Step],
-) -> Result<(), Fail> {
+    last: (TicketId, Names),
+) -> Option<usize>
+    requires nothing { cache.old.kept ≡ [] }
+{
+    let wrong = first_wrong(alloc, cache, sessions, steps);
+    let (id, names) = last;
+    let found = looked(sessions.one.read_cached(id, cache), names);
+    let gone = make(alloc, &mut sessions.one, Act::ReleaseAll);
+    if wrong.is_none() && (found != Found::Named || gone == NO_MEMORY) {
+        return Some(steps.len());
+    }
+    wrong
+}
+
+/// The steps are right of two sessions that have done nothing yet, the first of which has a cache for so many definitions, and so is a last look.
+pub(crate) fn are_right<R: Wait + Abort + AllocGlobal>(rt: &R, story: Story) -> Result<(), Fail> {
+    let (shown, capacity, steps, last) = story;
     let mut cache = DefCache::new(rt.alloc(), capacity)?;
-    let mut sessions = open_two(rt, 4)?;
-    assert_eq!(rt;
-        first_wrong(rt.alloc(), &mut cache, &mut sessions, steps),
-        None
-    );
+    let mut sessions = open_three(rt, 4)?;
+    let wrong = first_wrong_at_last(rt.alloc(), &mut cache, &mut sessions, steps, last);
+    assert!(rt; wrong.is_none(), "{shown}: step {wrong:?}");
     sessions.close(rt);
     Ok(())
 }

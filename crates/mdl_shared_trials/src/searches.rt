@@ -1,13 +1,12 @@
 //! Sessions that wait for one another look for deadlocks.
-use crate::acts::{Act, Lock, Memory, Reply};
-use crate::rows::{NumberedCase, NumberedRow, are_right_of_three};
-use mdl_calls::{Ended, Settled};
+use crate::acts::{Act, Lock, Reply};
+use crate::rows::{Case, Row};
+use mdl_calls::{Ended, Held, Settled};
 use mdl_key::Mode;
-use std::test::Fail;
 
-// Two that wait for one another weigh as much, and so the one of the greater number falls. Its deadlock is gone then, and who waits alone, or not at
-// all, is in none.
-const A_CYCLE: &[NumberedRow] = &[
+/// Two that wait for one another weigh as much, and so the one of the greater number falls. Its deadlock is gone then, and who waits alone, or not at
+/// all, is in none.
+pub(crate) const A_CYCLE: &[Row] = &[
     (1, Act::Resolve(Lock::Sales), Reply::Place(1)),
     (2, Act::Resolve(Lock::Sales), Reply::Place(1)),
     (1, Act::Resolve(Lock::Orders), Reply::Place(2)),
@@ -32,7 +31,7 @@ const A_CYCLE: &[NumberedRow] = &[
 ];
 
 // A wish to read weighs less than one to change: the session that searches goes on to wait, and the other one falls.
-const THE_OTHER: &[NumberedRow] = &[
+const THE_OTHER: &[Row] = &[
     (1, Act::Resolve(Lock::Sales), Reply::Place(1)),
     (2, Act::Resolve(Lock::Sales), Reply::Place(1)),
     (1, Act::Resolve(Lock::Orders), Reply::Place(2)),
@@ -54,7 +53,7 @@ const THE_OTHER: &[NumberedRow] = &[
 ];
 
 // A wait that was lost before it is ended ties nobody.
-const SETTLED: &[NumberedRow] = &[
+const SETTLED: &[Row] = &[
     (1, Act::Resolve(Lock::Sales), Reply::Place(1)),
     (2, Act::Resolve(Lock::Sales), Reply::Place(1)),
     (1, Act::Resolve(Lock::Orders), Reply::Place(2)),
@@ -74,7 +73,7 @@ const SETTLED: &[NumberedRow] = &[
 ];
 
 // Of three that wait in a round the one falls whose wish weighs least.
-const A_ROUND: &[NumberedRow] = &[
+const A_ROUND: &[Row] = &[
     (1, Act::Resolve(Lock::Sales), Reply::Place(1)),
     (3, Act::Resolve(Lock::Sales), Reply::Place(1)),
     (1, Act::Resolve(Lock::Orders), Reply::Place(2)),
@@ -100,22 +99,49 @@ const A_ROUND: &[NumberedRow] = &[
     (1, Act::Release(2), Reply::Done),
 ];
 
-const CASES_OF_THREE: &[NumberedCase] = &[
+const BOTH_AS_BEFORE: &[Held] = &[
+    Held {
+        id: 1,
+        place: 2,
+        mode: Mode::SU,
+    },
+    Held {
+        id: 2,
+        place: 1,
+        mode: Mode::SR,
+    },
+];
+
+// Two upgrades stand in each other's way. The victim keeps both its tickets until it gives them up.
+const CROSSED: &[Row] = &[
+    (1, Act::Resolve(Lock::Sales), Reply::Place(1)),
+    (2, Act::Resolve(Lock::Sales), Reply::Place(1)),
+    (1, Act::Resolve(Lock::Orders), Reply::Place(2)),
+    (2, Act::Resolve(Lock::Orders), Reply::Place(2)),
+    (1, Act::Try(1, Mode::SU), Reply::Granted(1)),
+    (1, Act::Try(2, Mode::SR), Reply::Granted(2)),
+    (2, Act::Try(2, Mode::SU), Reply::Granted(1)),
+    (2, Act::Try(1, Mode::SR), Reply::Granted(2)),
+    (1, Act::Begin(1, Mode::X), Reply::Waiting(1)),
+    (1, Act::Search, Reply::NoCycle),
+    (2, Act::Begin(2, Mode::X), Reply::Waiting(1)),
+    (2, Act::Search, Reply::Victim(2)),
+    (2, Act::End, Reply::Ended(Ended::Victim)),
+    (2, Act::Holds(BOTH_AS_BEFORE), Reply::Is(true)),
+    (1, Act::Poll, Reply::Pending),
+    (2, Act::Release(2), Reply::Done),
+    (1, Act::Poll, Reply::Settled(Settled::Granted)),
+    (1, Act::End, Reply::Ended(Ended::Granted(3))),
+    (1, Act::Merge(1, 3), Reply::Done),
+    (1, Act::Release(1), Reply::Done),
+    (1, Act::Release(2), Reply::Done),
+    (2, Act::Release(1), Reply::Done),
+];
+
+pub(crate) const CASES: &[Case] = &[
     ("of two in a cycle one falls", 2, A_CYCLE),
     ("another falls than who searches", 2, THE_OTHER),
     ("a settled wait is in no cycle", 2, SETTLED),
     ("of three in a round one falls", 3, A_ROUND),
+    ("of two upgrades one falls", 2, CROSSED),
 ];
-
-const CASES_AT_LAST: &[NumberedCase] = &[("searches outlive want of memory", 2, A_CYCLE)];
-
-#[test]
-fn deadlocks_are_found(rt: HostRuntime) -> Result<(), Fail> {
-    are_right_of_three(&rt, Memory::Ample, CASES_OF_THREE)
-}
-
-// Each call does at the second try what it would have done at the first.
-#[test]
-fn searches_outlive_want_of_memory(rt: HostRuntime) -> Result<(), Fail> {
-    are_right_of_three(&rt, Memory::Scarce, CASES_AT_LAST)
-}

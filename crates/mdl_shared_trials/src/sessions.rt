@@ -1,4 +1,4 @@
-//! Sessions open and close, on one thread and on two.
+//! Sessions open and close, on two threads.
 ghost use Rattle.std.specs.Prelude.{◌≡◌};
 ghost use Rattle.mdl_shared.specs.Passes.{pass_table, pass_view, table_of};
 
@@ -35,17 +35,6 @@ fn reopened(manager: &Manager, mut pass: Pass, times: u32) -> u16
         pass = reopen(manager, pass);
     }
     pass.number()
-}
-
-#[test]
-fn a_session_has_its_number_each_time(rt: HostRuntime) -> Result<(), Fail> {
-    let (manager, passes) = Manager::new(rt.alloc(), 1, 3)?;
-    let mut numbers = Vec::new(rt.alloc());
-    for pass in passes {
-        numbers.push(reopened(&manager, pass, 3))?;
-    }
-    assert!(rt; numbers.as_slice() == [1, 2, 3].as_slice());
-    Ok(())
 }
 
 #[test]

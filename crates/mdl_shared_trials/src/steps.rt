@@ -1,16 +1,11 @@
-//! Tests of the shared lock table's steps: tables are made, sessions enrol, and latches are taken and put, by one thread and by two.
+//! Tests of the shared lock table's steps: tables are made, sessions enrol, and latches are taken and put, by one thread and by two. `rows` tell what
+//! `visitors` do at a place, and `fast_visitors`, and what its `words` are.
 mod fast_tickets;
 mod fast_visitors;
-mod holders;
 mod latches;
-mod lists;
-mod materialising;
 mod rows;
 mod seated;
 mod threads;
-mod version_visits;
-mod versions;
 mod visitors;
 mod visits;
-mod waits;
 mod words;

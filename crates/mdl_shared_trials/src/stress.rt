@@ -1,12 +1,14 @@
-//! Eight sessions play on eight threads, while a ninth one looks on. In the end each of the eight has some fast tickets, and the words of the locks
-//! count just these.
+//! Sessions play on threads of their own, while one more looks on: eight over eight tables, and sixteen that race for one. In the end each has some fast
+//! tickets, and the words of the locks count just these; each wait was settled once, as one of those says who settle; and as many versions are told as
+//! changes were made.
 ghost use Rattle.std.specs.Prelude.{◌≡◌, ◌+◌, ◌<◌, length};
 ghost use Rattle.mdl_shared.specs.Passes.{ArePasses, pass_table, table_of};
 
 use crate::acts::{Act, Reply, make};
 use crate::fast_counts::are_counted;
-use crate::players::{Player, TABLE_COUNT, leave, look_all_up, play, was_answered, watch};
+use crate::players::{Player, leave, look_all_up, play, was_answered, watch};
 use crate::sessions::closed;
+use crate::tally::Waits;
 use mdl_calls::{Held, Place};
 use mdl_key::Mode;
 use mdl_shared::{Audited, Manager, Pass, Session};
@@ -14,12 +16,16 @@ use mdl_word::Word;
 use std::alloc::{AllocError, Global};
 use std::process::Abort;
 use std::sync::Wait;
+use std::sync::atomic::AtomicBool;
 use std::test::Fail;
 use std::thread;
+use std::thread::Threads;
 use std::time::Clock;
 
-// How many sessions play. The next one looks on.
-const PLAYERS: u16 = 8;
+// A game: how many tables there are, and how many sessions play. The next one looks on.
+type Game = (u16, u16);
+
+const GAMES: &[Game] = &[(8, 8), (1, 16)];
 
 // A session with its part, and whether all has gone well.
 struct Part<R> {
@@ -30,10 +36,10 @@ struct Part<R> {
 
 impl<R> Part<R> {
     // That of the session of a pass, which has done nothing yet.
-    fn open(rt: R, alloc: Global, manager: &Manager, pass: Pass) -> Part<R>
+    fn open(rt: R, alloc: Global, manager: &Manager, pass: Pass, tables: u16) -> Part<R>
         requires { pass_table pass ≡ table_of manager.now }
     {
-        let player = Player::new(alloc, pass.number());
+        let player = Player::new(alloc, pass.number(), tables);
         let session = Session::open(rt, manager, pass);
         Part {
             session,
@@ -44,9 +50,9 @@ impl<R> Part<R> {
 }
 
 // Plays it, or looks on.
-fn act<R: Wait + Clock>(rt: &R, part: &mut Part<&R>) {
-    part.well = if part.session.number() <= PLAYERS {
-        play(rt, &mut part.session, &mut part.player)
+fn act<R: Wait + Clock>(rt: &R, part: &mut Part<&R>, players: u16, taken: &AtomicBool) {
+    part.well = if part.session.number() <= players {
+        play(rt, &mut part.session, &mut part.player, taken)
     } else {
         watch(rt, &mut part.session, &part.player)
     };
@@ -69,13 +75,14 @@ fn open_all<'a, R>(
     alloc: Global,
     manager: &Manager,
     mut passes: Vec<Pass>,
+    tables: u16,
 ) -> Result<Vec<Part<&'a R>>, AllocError>
     requires theirs { ArePasses (table_of manager.now) passes.items }
 {
     let mut parts = Vec::with_capacity(alloc, passes.len())?;
     while !passes.is_empty() {
         let pass = take_last(manager, &mut passes);
-        parts.push_reserved(Part::open(rt, alloc, manager, pass));
+        parts.push_reserved(Part::open(rt, alloc, manager, pass, tables));
     }
     Ok(parts)
 }
@@ -106,6 +113,31 @@ fn changes<R>(parts: &[Part<R>]) -> Option<[u64; 8]> {
     Some(sums)
 }
 
+// Whether each wait of a session was settled once, as one of all says.
+fn is_settled<R>(parts: &[Part<R>], part: &Part<R>) -> bool {
+    let (mut killed, mut victims) = (Waits::NONE, 0u64);
+    let session = part.session.number();
+    for settler in parts {
+        settler
+            .player
+            .tally
+            .tell(session, &mut killed, &mut victims);
+    }
+    part.player.tally.agrees(killed, victims)
+}
+
+// Whether that is so of each session, and some waited.
+fn are_settled<R>(parts: &[Part<R>]) -> bool {
+    let mut waits = 0u64;
+    for part in parts {
+        if !is_settled(parts, part) {
+            return false;
+        }
+        waits = waits.saturating_add(part.player.tally.waits());
+    }
+    waits > 0
+}
+
 // Adds all their tickets: whether there was memory.
 fn add_held<R>(parts: &[Part<R>], all: &mut Vec<Held>) -> bool {
     let mut added = true;
@@ -120,12 +152,11 @@ fn add_held<R>(parts: &[Part<R>], all: &mut Vec<Held>) -> bool {
 }
 
 fn leave_all<R: Wait>(alloc: Global, parts: &mut [Part<R>]) -> bool {
+    let mut all = true;
     for part in parts.iter_mut() {
-        if !leave(alloc, &mut part.session) {
-            return false;
-        }
+        all = leave(alloc, &mut part.session) && all;
     }
-    true
+    all
 }
 
 // The word of a place's lock, as a session is told it that tries for a fast ticket while another one asks for the lock for itself.
@@ -157,11 +188,15 @@ fn are_words_right<R: Wait>(
     asker: &mut Session<R>,
     reader: &mut Session<R>,
     held: &[Held],
+    tables: u16,
 ) -> bool {
-    if held.is_empty() || !look_all_up(alloc, asker) || !look_all_up(alloc, reader) {
+    if held.is_empty()
+        || !look_all_up(alloc, asker, tables)
+        || !look_all_up(alloc, reader, tables)
+    {
         return false;
     }
-    for place in 1..TABLE_COUNT + 1 {
+    for place in 1..=tables {
         match read_word(alloc, asker, reader, place) {
             Some(word) if are_counted(word, held, place) => {}
             _ => return false,
@@ -171,8 +206,8 @@ fn are_words_right<R: Wait>(
 }
 
 // What is left in the end: no ticket, and of each table as many versions as changes.
-fn is_left(books: &[Audited], changes: &[u64]) -> bool {
-    if books.len() != changes.len() {
+fn is_left(books: &[Audited], changes: &[u64], tables: u16) -> bool {
+    if books.len() != usize::from(tables) {
         return false;
     }
     for (book, changes) in books.iter().zip(changes) {
@@ -188,9 +223,9 @@ fn is_left(books: &[Audited], changes: &[u64]) -> bool {
 }
 
 // Whether an audit finds in the end that all have left.
-fn have_left<R: Wait>(session: &mut Session<R>, changes: &[u64]) -> bool {
+fn have_left<R: Wait>(session: &mut Session<R>, changes: &[u64], tables: u16) -> bool {
     match session.audit() {
-        Ok(books) => is_left(&books, changes),
+        Ok(books) => is_left(&books, changes, tables),
         Err(_) => false,
     }
 }
@@ -201,32 +236,57 @@ fn is_well<R: Wait>(
     parts: &mut [Part<R>],
     asker: &mut Session<R>,
     reader: &mut Session<R>,
+    tables: u16,
 ) -> bool {
-    let Some(changes) = changes(parts) else {
-        return false;
-    };
     let mut held = Vec::new(alloc);
-    add_held(parts, &mut held)
-        && are_words_right(alloc, asker, reader, &held)
-        && leave_all(alloc, parts)
-        && have_left(reader, &changes)
+    let words = add_held(parts, &mut held) && are_words_right(alloc, asker, reader, &held, tables);
+    let left = leave_all(alloc, parts);
+    match changes(parts) {
+        Some(changes) => {
+            are_settled(parts) && words && left && have_left(reader, &changes, tables)
+        }
+        None => false,
+    }
+}
+
+// Whether all goes well in a game.
+fn goes_well<R: Threads + Wait + Clock + Abort + AllocGlobal + Sync>(
+    rt: &R,
+    game: Game,
+) -> Result<bool, Fail> {
+    let (tables, players) = game;
+    let (alloc, taken) = (rt.alloc(), AtomicBool::new(false));
+    let (manager, mut passes) = Manager::new(alloc, tables, players.saturating_add(3))?;
+    let last = take_last(&manager, &mut passes);
+    let next = take_last(&manager, &mut passes);
+    let mut parts = open_all(rt, alloc, &manager, passes, tables)?;
+    let mut reader = Session::open(rt, &manager, last);
+    let mut asker = Session::open(rt, &manager, next);
+    let threads = parts.len().max(1);
+    thread::for_each_mut(
+        rt,
+        &mut parts,
+        threads,
+        &|_, part| {
+            act(rt, part, players, &taken);
+        },
+    );
+    let well = is_well(alloc, &mut parts, &mut asker, &mut reader, tables);
+    closed(rt, asker);
+    closed(rt, reader);
+    close_all(rt, parts);
+    Ok(well)
 }
 
 #[test]
-fn eight_threads_make_all_calls_beside_audits(rt: HostRuntime) -> Result<(), Fail> {
-    let alloc = rt.alloc();
-    let (manager, mut passes) = Manager::new(alloc, TABLE_COUNT, 11)?;
-    let eleven = take_last(&manager, &mut passes);
-    let ten = take_last(&manager, &mut passes);
-    let mut parts = open_all(&rt, alloc, &manager, passes)?;
-    let mut reader = Session::open(&rt, &manager, eleven);
-    let mut asker = Session::open(&rt, &manager, ten);
-    let threads = parts.len().max(1);
-    thread::for_each_mut(&rt, &mut parts, threads, &|_, part| act(&rt, part));
-    let well = is_well(alloc, &mut parts, &mut asker, &mut reader);
-    closed(&rt, asker);
-    closed(&rt, reader);
-    close_all(&rt, parts);
-    assert!(rt; well);
+fn threads_make_all_calls_beside_audits(rt: HostRuntime) -> Result<(), Fail> {
+    for game in GAMES {
+        assert!(rt;
+            goes_well(&rt, *game)?,
+            "{} tables, {} players",
+            game.0,
+            game.1
+        );
+    }
     Ok(())
 }

@@ -1,13 +1,8 @@
-//! Sessions wait for locks, are granted them, and lose their waits, on one thread.
-use crate::acts::{Act, Lock, Memory, Reply};
-use crate::locks::kept_open;
-use crate::rows::{
-    Case, NumberedCase, NumberedRow, Pair, Row, are_right, are_right_of_three, led, open_two,
-};
-use crate::sessions::closed;
+//! Sessions wait for locks, are granted them, and lose their waits.
+use crate::acts::{Act, Lock, Reply};
+use crate::rows::{Case, Row};
 use mdl_calls::{Ended, Settled, SpaceError};
 use mdl_key::Mode;
-use std::test::Fail;
 
 const NO_WAIT: Reply = Reply::Refused(SpaceError::NoWait);
 
@@ -16,7 +11,7 @@ const WAITS_ALREADY: Reply = Reply::Refused(SpaceError::AlreadyWaiting);
 const BAD_MODE: Reply = Reply::Refused(SpaceError::BadMode);
 
 // What cannot be had now is waited for, and all sessions see the wait's number.
-const CLASHING: &[NumberedRow] = &[
+const CLASHING: &[Row] = &[
     (1, Act::Resolve(Lock::Sales), Reply::Place(1)),
     (2, Act::Resolve(Lock::Sales), Reply::Place(1)),
     (1, Act::Try(1, Mode::X), Reply::Granted(1)),
@@ -32,7 +27,7 @@ const CLASHING: &[NumberedRow] = &[
 ];
 
 // Whoever gives a ticket up grants the wait that stood against it alone. A kill comes too late then.
-const MAKING_WAY: &[NumberedRow] = &[
+const MAKING_WAY: &[Row] = &[
     (1, Act::Resolve(Lock::Sales), Reply::Place(1)),
     (2, Act::Resolve(Lock::Sales), Reply::Place(1)),
     (1, Act::Try(1, Mode::SR), Reply::Granted(1)),
@@ -51,7 +46,7 @@ const MAKING_WAY: &[NumberedRow] = &[
 ];
 
 // So does whoever weakens one.
-const DOWNGRADED: &[NumberedRow] = &[
+const DOWNGRADED: &[Row] = &[
     (1, Act::Resolve(Lock::Sales), Reply::Place(1)),
     (2, Act::Resolve(Lock::Sales), Reply::Place(1)),
     (1, Act::Try(1, Mode::X), Reply::Granted(1)),
@@ -64,7 +59,7 @@ const DOWNGRADED: &[NumberedRow] = &[
 ];
 
 // A kill hits the wait of its number once, and its session learns of it. A wait that was killed isn't granted.
-const KILLED: &[NumberedRow] = &[
+const KILLED: &[Row] = &[
     (1, Act::Resolve(Lock::Sales), Reply::Place(1)),
     (2, Act::Resolve(Lock::Sales), Reply::Place(1)),
     (1, Act::Try(1, Mode::X), Reply::Granted(1)),
@@ -81,7 +76,7 @@ const KILLED: &[NumberedRow] = &[
 ];
 
 // A kill that comes late doesn't hit the session's next wait.
-const KILLED_LATE: &[NumberedRow] = &[
+const KILLED_LATE: &[Row] = &[
     (1, Act::Resolve(Lock::Sales), Reply::Place(1)),
     (2, Act::Resolve(Lock::Sales), Reply::Place(1)),
     (1, Act::Try(1, Mode::X), Reply::Granted(1)),
@@ -98,24 +93,28 @@ const KILLED_LATE: &[NumberedRow] = &[
 
 // What can be had now isn't waited for, and what isn't there is refused.
 const ALONE: &[Row] = &[
-    (Act::Begin(1, Mode::S), Reply::Refused(SpaceError::NoPlace)),
-    (Act::Reschedule(1), Reply::Refused(SpaceError::NoPlace)),
-    (Act::Resolve(Lock::Sales), Reply::Place(1)),
-    (Act::Begin(1, Mode::S), Reply::Granted(1)),
-    (Act::Poll, NO_WAIT),
-    (Act::TimeOut, NO_WAIT),
-    (Act::End, NO_WAIT),
-    (Act::Begin(1, Mode::IX), BAD_MODE),
-    (Act::Kill(0, 1), Reply::Is(false)),
-    (Act::Kill(1, 1), Reply::Is(false)),
-    (Act::Kill(1, u64::MAX), Reply::Is(false)),
-    (Act::Kill(2, 1), Reply::Is(false)),
-    (Act::WaitOf(2), Reply::Wait(None)),
-    (Act::Release(1), Reply::Done),
+    (
+        1,
+        Act::Begin(1, Mode::S),
+        Reply::Refused(SpaceError::NoPlace),
+    ),
+    (1, Act::Reschedule(1), Reply::Refused(SpaceError::NoPlace)),
+    (1, Act::Resolve(Lock::Sales), Reply::Place(1)),
+    (1, Act::Begin(1, Mode::S), Reply::Granted(1)),
+    (1, Act::Poll, NO_WAIT),
+    (1, Act::TimeOut, NO_WAIT),
+    (1, Act::End, NO_WAIT),
+    (1, Act::Begin(1, Mode::IX), BAD_MODE),
+    (1, Act::Kill(0, 1), Reply::Is(false)),
+    (1, Act::Kill(1, 1), Reply::Is(false)),
+    (1, Act::Kill(1, u64::MAX), Reply::Is(false)),
+    (1, Act::Kill(4, 1), Reply::Is(false)),
+    (1, Act::WaitOf(4), Reply::Wait(None)),
+    (1, Act::Release(1), Reply::Done),
 ];
 
 // A session that waits asks for nothing more, but keeps its tickets, and may give them up. A cause of a lesser number is told first.
-const ASKING_MORE: &[NumberedRow] = &[
+const ASKING_MORE: &[Row] = &[
     (1, Act::Resolve(Lock::Sales), Reply::Place(1)),
     (2, Act::Resolve(Lock::Sales), Reply::Place(1)),
     (1, Act::Try(1, Mode::S), Reply::Granted(1)),
@@ -138,47 +137,30 @@ const ASKING_MORE: &[NumberedRow] = &[
     (1, Act::Release(1), Reply::Done),
 ];
 
-const HOLDS: &[Row] = &[
-    (Act::Resolve(Lock::Sales), Reply::Place(1)),
-    (Act::Try(1, Mode::X), Reply::Granted(1)),
+// A reader that waits behind a lost wish to write gets its lock as that wait ends.
+const BEHIND: &[Row] = &[
+    (1, Act::Resolve(Lock::Sales), Reply::Place(1)),
+    (1, Act::Try(1, Mode::SR), Reply::Granted(1)),
+    (2, Act::Resolve(Lock::Sales), Reply::Place(1)),
+    (2, Act::Begin(1, Mode::X), Reply::Waiting(1)),
+    (3, Act::Resolve(Lock::Sales), Reply::Place(1)),
+    (3, Act::Begin(1, Mode::SR), Reply::Waiting(1)),
+    (3, Act::Poll, Reply::Pending),
+    (2, Act::TimeOut, Reply::Done),
+    (2, Act::End, Reply::Ended(Ended::Timeout)),
+    (3, Act::Poll, Reply::Settled(Settled::Granted)),
+    (3, Act::End, Reply::Ended(Ended::Granted(1))),
+    (1, Act::Release(1), Reply::Done),
+    (3, Act::Release(1), Reply::Done),
 ];
 
-const WAITS: &[Row] = &[
-    (Act::Resolve(Lock::Sales), Reply::Place(1)),
-    (Act::Begin(1, Mode::S), Reply::Waiting(1)),
-];
-
-const GIVES_UP: &[Row] = &[
-    (Act::TimeOut, Reply::Done),
-    (Act::End, Reply::Ended(Ended::Timeout)),
-];
-
-const RELEASES: &[Row] = &[(Act::Release(1), Reply::Done)];
-
-// A session that waits isn't closed.
-#[test]
-fn a_session_that_waits_stays_open(rt: HostRuntime) -> Result<(), Fail> {
-    let Pair { one, two } = open_two(&rt, 1)?;
-    let one = led(&rt, one, HOLDS, Memory::Ample);
-    let two = kept_open(&rt, led(&rt, two, WAITS, Memory::Ample));
-    closed(&rt, led(&rt, two, GIVES_UP, Memory::Ample));
-    closed(&rt, led(&rt, one, RELEASES, Memory::Ample));
-    Ok(())
-}
-
-const CASES: &[Case] = &[("a wish that clashes with nothing is granted", 1, ALONE)];
-
-const CASES_OF_THREE: &[NumberedCase] = &[
+pub(crate) const CASES: &[Case] = &[
+    ("a wish that clashes with nothing is granted", 1, ALONE),
     ("a wish that clashes waits", 1, CLASHING),
     ("a release grants who waits", 1, MAKING_WAY),
     ("a downgrade grants who waits", 1, DOWNGRADED),
     ("a kill settles a wait", 1, KILLED),
     ("a late kill misses", 1, KILLED_LATE),
     ("a session that waits has its tickets", 1, ASKING_MORE),
+    ("a lost wait that ends makes way", 1, BEHIND),
 ];
-
-#[test]
-fn sessions_wait(rt: HostRuntime) -> Result<(), Fail> {
-    are_right(&rt, Memory::Ample, CASES)?;
-    are_right_of_three(&rt, Memory::Ample, CASES_OF_THREE)
-}

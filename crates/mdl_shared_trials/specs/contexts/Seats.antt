@@ -1,8 +1,7 @@
--- Sessions of a space that threads share, each with a context of its own.
+-- Sessions of a space that threads share, which run statements.
 use Rattle.mdl_session_laws.specs.SessionJoins.{Joins}
 use Rattle.mdl_session_laws.specs.SessionSpaces.{SpeaksFor, own_of, numbers_of, Knows, IsSettledAs, HasMet, HasRead, HasSeen, Pins, Owes}
 use Rattle.mdl_calls.specs.declared.lock_space.LockSpace.{Ghosts}
-use Rattle.mdl_context.specs.Contexts.{ContextView, Attends}
 use Rattle.mdl_shared.specs.SessionViews.{SessionView, space_of}
 use Rattle.mdl_shared.specs.Showings.{Shows}
 
@@ -21,7 +20,3 @@ session_space = record {
   owes = λ s. Owes (space_of s);
   joins = λ s call answer t. Joins (space_of s) call answer (space_of t) × Shows call answer s t;
 }
-
--- the session attends to the context
-abbrev pub AttendsTo : SessionView → ContextView → Type 0
-AttendsTo session context = Attends session_space session context

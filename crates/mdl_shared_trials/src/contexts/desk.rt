@@ -2,8 +2,8 @@
 ghost use Rattle.std.specs.Prelude.{◌≡◌};
 ghost use Rattle.mdl_shared.specs.Passes.{table_of, pass_table};
 
-use crate::contexts::closing::closed;
 use crate::contexts::statements::{CACHE, Outcome, go_on, say};
+use crate::sessions::closed;
 use mdl_shared::{Manager, Pass, Session};
 use mdl_stmt::{OutOfMemory, Runner, Statement};
 use std::alloc::Global;
@@ -59,13 +59,13 @@ impl<'s, R: Wait> Desk<'s, R> {
 }
 
 impl<'s, R: Wait + Drop> Desk<'s, R> {
-    /// Ends the session, wherever it stands. Its pass.
-    pub(crate) fn close(self, rt: &impl Abort) -> Pass {
+    /// Ends the session, wherever it stands.
+    pub(crate) fn close(self, rt: &impl Abort) {
         let Desk {
             mut session,
             runner,
         } = self;
         runner.leave(&mut session);
-        closed(rt, session)
+        closed(rt, session);
     }
 }

@@ -1,7 +1,7 @@
 //! What comes of the statements of a session, in any lock space.
 ghost use Rattle.mdl_stmt.specs.Attendance.{AttendsWith};
 
-use mdl_space::LockSpace;
+use mdl_calls::LockSpace;
 use mdl_stmt::{OutOfMemory, Progress, Reply, Runner, Statement};
 
 /// How many definitions the cache of a session keeps.

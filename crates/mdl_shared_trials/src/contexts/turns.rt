@@ -1,19 +1,19 @@
-//! Statements of two sessions of one space, which wait for each other.
+//! Statements of one session, and of two of one space, which wait for each other.
 use crate::contexts::desk::Desk;
 use crate::contexts::statements::Outcome;
-use crate::contexts::statements::Outcome::{Done, Fails, OutOfTurn, Pending, Reads, Waits};
-use crate::contexts::turns::Turn::{GoesOn, Says};
+use crate::contexts::statements::Outcome::{
+    Done, Fails, Null, OutOfTurn, Pending, Reads, Says, Waits,
+};
 use mdl_shared::{Manager, Session};
 use mdl_syntax::{Line, parse};
 use std::process::Abort;
 use std::sync::Wait;
 
-// What session 1 or 2 does next, and what is to come of it.
-#[derive(Clone, Copy)]
-enum Turn {
-    Says(u16, &'static str, Outcome),
-    GoesOn(u16, Outcome),
-}
+// The session's number, 1 or 2, its next statement, and what is to come of that.
+type Turn = (u16, &'static str, Outcome);
+
+// It goes on with the statement that waits.
+const GOES_ON: &str = "";
 
 // Places for the keys of the turns.
 const PLACES: u16 = 8;
@@ -27,15 +27,13 @@ struct Two<'s, R: Wait> {
 
 impl<'s, R: Wait> Two<'s, R> {
     // What comes of a turn, unless no statement is left.
-    fn take(&mut self, turn: Turn) -> Option<Outcome> {
-        match turn {
-            Says(number, _, _) => {
-                let (line, rest) = self.lines.split_first()?;
-                self.lines = rest;
-                Some(self.desk(number).say(&line.statement))
-            }
-            GoesOn(number, _) => Some(self.desk(number).go_on()),
+    fn take(&mut self, number: u16, statement: &str) -> Option<Outcome> {
+        if statement == GOES_ON {
+            return Some(self.desk(number).go_on());
         }
+        let (line, rest) = self.lines.split_first()?;
+        self.lines = rest;
+        Some(self.desk(number).say(&line.statement))
     }
 
     // The session of a number.
@@ -48,8 +46,8 @@ impl<'s, R: Wait> Two<'s, R> {
 
     // Which turn comes to something else, if there is one.
     fn first_wrong(&mut self, turns: &[Turn]) -> Option<usize> {
-        for (at, turn) in turns.iter().enumerate() {
-            if self.take(*turn) != Some(turn.wanted()) {
+        for (at, (number, statement, wanted)) in turns.iter().enumerate() {
+            if self.take(*number, statement) != Some(*wanted) {
                 return Some(at);
             }
         }
@@ -65,22 +63,11 @@ impl<'s, R: Wait + Drop> Two<'s, R> {
     }
 }
 
-impl Turn {
-    fn wanted(self) -> Outcome {
-        match self {
-            Says(_, _, wanted) => wanted,
-            GoesOn(_, wanted) => wanted,
-        }
-    }
-}
-
 // Adds the statements of turns, as lines of a script: whether there was memory for them.
 fn add_lines(text: &mut String, turns: &[Turn]) -> bool {
-    for turn in turns {
-        if let Says(number, statement, _) = turn {
-            if writeln!(text, "{number} {statement}").is_err() {
-                return false;
-            }
+    for (number, statement, _) in turns {
+        if *statement != GOES_ON && writeln!(text, "{number} {statement}").is_err() {
+            return false;
         }
     }
     true
@@ -126,90 +113,183 @@ fn first_wrong_of_lines<R: Wait + Abort + AllocGlobal>(
     wrong
 }
 
+// Tables come, change and go.
+const TABLES: &[Turn] = &[
+    (1, "SELECT a", Fails(1146)),
+    (1, "CREATE TABLE a x", Fails(1049)),
+    (1, "CREATE SCHEMA test", Done),
+    (1, "CREATE SCHEMA test", Fails(1007)),
+    (1, "CREATE TABLE a x", Done),
+    (1, "CREATE TABLE a x", Fails(1050)),
+    (1, "SELECT a", Reads(1, 1)),
+    (1, "INSERT a", Done),
+    (1, "ALTER TABLE a ADD y COPY", Done),
+    (1, "SELECT a", Reads(2, 2)),
+    (1, "ALTER TABLE a ADD z INPLACE", Done),
+    (1, "SELECT a", Reads(3, 3)),
+    (1, "ALTER TABLE a DROP y COPY", Done),
+    (1, "SELECT a", Reads(4, 2)),
+    (1, "RENAME TABLE a TO b", Done),
+    (1, "SELECT a", Fails(1146)),
+    (1, "SELECT b", Reads(1, 2)),
+    (1, "DROP TABLE b", Done),
+    (1, "DROP TABLE b", Fails(1146)),
+    (1, "CREATE TABLE a x y", Done),
+    (1, "SELECT a", Reads(6, 2)),
+    (1, "DROP SCHEMA test", Done),
+    (1, "SELECT a", Fails(1146)),
+];
+
+// Tables are locked, and all writes are.
+const LOCKS: &[Turn] = &[
+    (1, "CREATE SCHEMA test", Done),
+    (1, "CREATE TABLE a x", Done),
+    (1, "CREATE TABLE b x", Done),
+    (1, "LOCK TABLES a WRITE b READ", Done),
+    (1, "INSERT a", Done),
+    (1, "INSERT b", Fails(1099)),
+    (1, "ALTER TABLE a ADD y COPY", Done),
+    (1, "ALTER TABLE a ADD z INPLACE", Done),
+    (1, "SELECT a", Reads(3, 3)),
+    (1, "UNLOCK TABLES", Done),
+    (1, "FLUSH TABLES WITH READ LOCK", Done),
+    (1, "INSERT a", Fails(1223)),
+    (1, "SELECT b", Reads(1, 1)),
+    (1, "UNLOCK TABLES", Done),
+    (1, "INSERT a", Done),
+];
+
+// Transactions begin, go back and end. The last one is open as the session ends.
+const TRANSACTIONS: &[Turn] = &[
+    (1, "CREATE SCHEMA test", Done),
+    (1, "CREATE TABLE a x", Done),
+    (1, "CREATE TABLE b x", Done),
+    (1, "BEGIN", Done),
+    (1, "SELECT a", Reads(1, 1)),
+    (1, "SAVEPOINT p", Done),
+    (1, "INSERT b", Done),
+    (1, "ROLLBACK TO p", Done),
+    (1, "ROLLBACK TO q", Fails(1305)),
+    (1, "COMMIT", Done),
+    (1, "BEGIN", Done),
+    (1, "SELECT b", Reads(1, 1)),
+    (1, "ROLLBACK", Done),
+    (1, "BEGIN", Done),
+    (1, "SELECT a b", Reads(1, 1)),
+    // It commits before.
+    (1, "DROP TABLE a b", Done),
+    (1, "SELECT b", Fails(1146)),
+    (1, "BEGIN", Done),
+    (1, "SELECT b", Fails(1146)),
+];
+
+// User-level locks are got and released. One of them is held as the session ends.
+const USER_LOCKS: &[Turn] = &[
+    (1, "RELEASE_LOCK a", Null),
+    (1, "GET_LOCK a", Says(true)),
+    (1, "BEGIN", Done),
+    (1, "GET_LOCK a", Says(true)),
+    (1, "SAVEPOINT p", Done),
+    (1, "GET_LOCK b", Says(true)),
+    (1, "ROLLBACK TO p", Done),
+    (1, "COMMIT", Done),
+    (1, "RELEASE_LOCK b", Says(true)),
+    (1, "RELEASE_LOCK b", Null),
+    (1, "UNLOCK TABLES", Done),
+    (1, "RELEASE_LOCK a", Says(true)),
+    (1, "RELEASE_LOCK a", Says(true)),
+    (1, "RELEASE_LOCK a", Null),
+    (1, "GET_LOCK a", Says(true)),
+];
+
 // A change of a table waits for the transaction that reads it, and goes on once that ends.
 const ALTERED: &[Turn] = &[
-    Says(1, "CREATE SCHEMA test", Done),
-    Says(1, "CREATE TABLE t x", Done),
-    Says(1, "BEGIN", Done),
-    Says(1, "SELECT t", Reads(1, 1)),
-    Says(2, "ALTER TABLE t ADD y COPY", Waits),
-    GoesOn(2, Pending),
+    (1, "CREATE SCHEMA test", Done),
+    (1, "CREATE TABLE t x", Done),
+    (1, "BEGIN", Done),
+    (1, "SELECT t", Reads(1, 1)),
+    (2, "ALTER TABLE t ADD y COPY", Waits),
+    (2, GOES_ON, Pending),
     // Who waits says nothing else, and who doesn't has nothing to go on with.
-    GoesOn(1, OutOfTurn),
-    Says(2, "COMMIT", OutOfTurn),
-    Says(1, "SELECT t", Reads(1, 1)),
-    Says(1, "COMMIT", Done),
-    GoesOn(2, Done),
-    Says(1, "SELECT t", Reads(2, 2)),
-    Says(1, "BEGIN", Done),
-    Says(1, "SELECT t", Reads(2, 2)),
-    Says(2, "ALTER TABLE t DROP x INPLACE", Waits),
-    Says(1, "COMMIT", Done),
-    GoesOn(2, Done),
-    Says(1, "SELECT t", Reads(3, 1)),
+    (1, GOES_ON, OutOfTurn),
+    (2, "COMMIT", OutOfTurn),
+    (1, "SELECT t", Reads(1, 1)),
+    (1, "COMMIT", Done),
+    (2, GOES_ON, Done),
+    (1, "SELECT t", Reads(2, 2)),
+    (1, "BEGIN", Done),
+    (1, "SELECT t", Reads(2, 2)),
+    (2, "ALTER TABLE t DROP x INPLACE", Waits),
+    (1, "COMMIT", Done),
+    (2, GOES_ON, Done),
+    (1, "SELECT t", Reads(3, 1)),
 ];
 
 // Each waits for the other, and reading weighs less than dropping. The victim's transaction is gone, and the drop goes on.
 const CROSSED: &[Turn] = &[
-    Says(1, "CREATE SCHEMA test", Done),
-    Says(1, "CREATE TABLE a x", Done),
-    Says(1, "CREATE TABLE b x", Done),
-    Says(1, "BEGIN", Done),
-    Says(1, "SELECT b", Reads(1, 1)),
-    Says(2, "DROP TABLE a b", Waits),
-    Says(1, "SELECT a", Waits),
-    GoesOn(1, Fails(1213)),
-    GoesOn(2, Done),
-    Says(1, "SELECT a", Fails(1146)),
+    (1, "CREATE SCHEMA test", Done),
+    (1, "CREATE TABLE a x", Done),
+    (1, "CREATE TABLE b x", Done),
+    (1, "BEGIN", Done),
+    (1, "SELECT b", Reads(1, 1)),
+    (2, "DROP TABLE a b", Waits),
+    (1, "SELECT a", Waits),
+    (1, GOES_ON, Fails(1213)),
+    (2, GOES_ON, Done),
+    (1, "SELECT a", Fails(1146)),
 ];
 
 // A statement is killed as it waits, and does nothing.
 const KILLED: &[Turn] = &[
-    Says(1, "CREATE SCHEMA test", Done),
-    Says(1, "CREATE TABLE t x", Done),
+    (1, "CREATE SCHEMA test", Done),
+    (1, "CREATE TABLE t x", Done),
     // Nothing of session 2 waits.
-    Says(1, "KILL QUERY 2", Done),
-    Says(1, "BEGIN", Done),
-    Says(1, "SELECT t", Reads(1, 1)),
-    Says(2, "DROP TABLE t", Waits),
-    Says(1, "KILL QUERY 2", Done),
-    GoesOn(2, Fails(1317)),
-    Says(2, "SELECT t", Reads(1, 1)),
-    Says(1, "COMMIT", Done),
-    Says(2, "DROP TABLE t", Done),
+    (1, "KILL QUERY 2", Done),
+    (1, "BEGIN", Done),
+    (1, "SELECT t", Reads(1, 1)),
+    (2, "DROP TABLE t", Waits),
+    (1, "KILL QUERY 2", Done),
+    (2, GOES_ON, Fails(1317)),
+    (2, "SELECT t", Reads(1, 1)),
+    (1, "COMMIT", Done),
+    (2, "DROP TABLE t", Done),
 ];
 
 // Both sessions are ended, one in a transaction and one as it waits. All that they have is given up.
 const LEFT: &[Turn] = &[
-    Says(1, "CREATE SCHEMA test", Done),
-    Says(1, "CREATE TABLE t x", Done),
-    Says(1, "BEGIN", Done),
-    Says(1, "SELECT t", Reads(1, 1)),
-    Says(2, "DROP TABLE t", Waits),
+    (1, "CREATE SCHEMA test", Done),
+    (1, "CREATE TABLE t x", Done),
+    (1, "BEGIN", Done),
+    (1, "SELECT t", Reads(1, 1)),
+    (2, "DROP TABLE t", Waits),
 ];
 
 // Each waits for a user-level lock of the other, and they weigh the same. The victim keeps its locks and its transaction, as does
 // a session whose wait is killed.
 const NAMES_CROSSED: &[Turn] = &[
-    Says(1, "GET_LOCK a", Outcome::Says(true)),
-    Says(2, "GET_LOCK b", Outcome::Says(true)),
-    Says(2, "BEGIN", Done),
-    Says(2, "SAVEPOINT p", Done),
-    Says(1, "GET_LOCK b", Waits),
-    Says(2, "GET_LOCK a", Waits),
-    GoesOn(2, Fails(3058)),
-    Says(2, "ROLLBACK TO p", Done),
-    Says(2, "RELEASE_LOCK a", Outcome::Says(false)),
-    GoesOn(1, Pending),
-    Says(2, "RELEASE_LOCK b", Outcome::Says(true)),
-    GoesOn(1, Outcome::Says(true)),
-    Says(2, "GET_LOCK a", Waits),
-    Says(1, "KILL QUERY 2", Done),
-    GoesOn(2, Fails(1317)),
-    Says(2, "ROLLBACK TO p", Done),
+    (1, "GET_LOCK a", Says(true)),
+    (2, "GET_LOCK b", Says(true)),
+    (2, "BEGIN", Done),
+    (2, "SAVEPOINT p", Done),
+    (1, "GET_LOCK b", Waits),
+    (2, "GET_LOCK a", Waits),
+    (2, GOES_ON, Fails(3058)),
+    (2, "ROLLBACK TO p", Done),
+    (2, "RELEASE_LOCK a", Says(false)),
+    (1, GOES_ON, Pending),
+    (2, "RELEASE_LOCK b", Says(true)),
+    (1, GOES_ON, Says(true)),
+    (2, "GET_LOCK a", Waits),
+    (1, "KILL QUERY 2", Done),
+    (2, GOES_ON, Fails(1317)),
+    (2, "ROLLBACK TO p", Done),
 ];
 
 const STORIES: &[(&str, &[Turn])] = &[
+    ("tables come and go", TABLES),
+    ("tables are locked", LOCKS),
+    ("transactions end", TRANSACTIONS),
+    ("user locks are got", USER_LOCKS),
     ("a change waits for a reader", ALTERED),
     ("a deadlock has its victim", CROSSED),
     ("a statement is killed", KILLED),

@@ -1,34 +1,12 @@
 //! What the word of a lock is as fast tickets are granted and released.
-use crate::steps::fast_visitors::{FastVisitor, MOST_FAST};
-use crate::steps::rows::{Answer, Case, Deed, Row, are_right_of_fast};
+use crate::steps::fast_visitors::FastVisitor;
+use crate::steps::rows::{Answer, Case, Deed, Row};
 use crate::steps::seated::{Seated, come_three};
 use mdl_key::Mode;
 use mdl_steps::{Loss, WaitWord};
 use mdl_visits::FastTried;
 use mdl_word::Word;
 use std::test::Fail;
-
-// How many of so many tries for a fast ticket are granted.
-fn gained(one: &mut FastVisitor, tries: usize) -> usize {
-    let mut granted = 0usize;
-    for _ in 0..tries {
-        let gained = one.try_fast(Mode::S) == Some(FastTried::Granted);
-        granted = granted.saturating_add(usize::from(gained));
-    }
-    granted
-}
-
-// The word counts each ticket of the one session.
-#[test]
-fn a_session_has_1023_fast_tickets_at_a_place(rt: HostRuntime) -> Result<(), Fail> {
-    let (one, _two, _three) = come_three(&rt, rt.alloc())?;
-    let mut one = FastVisitor::new(one);
-    let granted = gained(&mut one, MOST_FAST);
-    let (word, more) = (one.lock_word(), one.try_fast(Mode::S));
-    assert!(rt; granted == MOST_FAST && more.is_none());
-    assert!(rt; word == Word(0x0000_0000_0000_03ff));
-    Ok(())
-}
 
 const FREE: Answer = Answer::Lock(Word(0));
 
@@ -119,7 +97,7 @@ const BESIDE_LISTED: &[Row] = &[
     (1, Deed::LockWord, Answer::Lock(Word(0x1000_0000_0000_0000))),
 ];
 
-const CASES_OF_FAST: &[Case] = &[
+pub(crate) const CASES: &[Case] = &[
     ("a wait is granted after the last fast ticket", WAITED_FOR),
     (
         "a killed wait is not granted after the last fast ticket",
@@ -131,8 +109,3 @@ const CASES_OF_FAST: &[Case] = &[
         BESIDE_LISTED,
     ),
 ];
-
-#[test]
-fn words_count_fast_tickets(rt: HostRuntime) -> Result<(), Fail> {
-    are_right_of_fast(&rt, CASES_OF_FAST)
-}

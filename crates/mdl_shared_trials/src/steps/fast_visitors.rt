@@ -13,8 +13,8 @@ use mdl_visits::{FastTried, release_fast, reschedule, try_fast};
 use mdl_word::Word;
 use std::sync::Wait;
 
-/// How many fast tickets a session has at a place at most.
-pub(crate) const MOST_FAST: usize = 1023;
+// How many fast tickets a session has at a place at most.
+const MOST_FAST: usize = 1023;
 
 // The greatest number of a ticket.
 const MOST_NUMBERS: u64 = (1 << 60) - 1;

@@ -1,7 +1,8 @@
 //! Rows of what sessions do at the place of one key, and what comes of it.
 use crate::steps::fast_visitors::FastVisitor;
-use crate::steps::seated::come_three;
+use crate::steps::seated::{Seated, come_three};
 use crate::steps::visitors::Visitor;
+use crate::steps::{fast_tickets, words};
 use mdl_key::Mode;
 use mdl_steps::{Loss, WaitWord};
 use mdl_visits::FastTried;
@@ -123,6 +124,15 @@ enum Guest {
 }
 
 impl Guest {
+    // It has done nothing yet.
+    fn of(seated: Seated, fast: bool) -> Guest {
+        if fast {
+            Guest::Fast(FastVisitor::new(seated))
+        } else {
+            Guest::Slow(Visitor::new(seated))
+        }
+    }
+
     // Does it.
     fn act<R: Wait>(&mut self, rt: &R, deed: Deed) -> Answer {
         match self {
@@ -161,45 +171,33 @@ impl Guests {
     }
 }
 
-// All three take the latch.
-fn come_slow<R: Wait + Abort + AllocGlobal>(rt: &R) -> Result<Guests, Fail> {
+// The second takes the latch. So do the others, or they have fast tickets alone.
+fn come<R: Wait + Abort + AllocGlobal>(rt: &R, fast: bool) -> Result<Guests, Fail> {
     let (one, two, three) = come_three(rt, rt.alloc())?;
     Ok(Guests {
-        one: Guest::Slow(Visitor::new(one)),
-        two: Guest::Slow(Visitor::new(two)),
-        three: Guest::Slow(Visitor::new(three)),
+        one: Guest::of(one, fast),
+        two: Guest::of(two, false),
+        three: Guest::of(three, fast),
     })
 }
 
-// The second takes the latch, and the others have fast tickets alone.
-fn come_fast<R: Wait + Abort + AllocGlobal>(rt: &R) -> Result<Guests, Fail> {
-    let (one, two, three) = come_three(rt, rt.alloc())?;
-    Ok(Guests {
-        one: Guest::Fast(FastVisitor::new(one)),
-        two: Guest::Slow(Visitor::new(two)),
-        three: Guest::Fast(FastVisitor::new(three)),
-    })
-}
-
-/// The rows of each case are right of three sessions that take the latch.
-pub(crate) fn are_right<R: Wait + Abort + AllocGlobal>(rt: &R, cases: &[Case]) -> Result<(), Fail> {
-    for (shown, rows) in cases {
-        let mut guests = come_slow(rt)?;
-        let wrong = guests.first_wrong(rt, rows);
-        assert!(rt; wrong.is_none(), "{shown}: row {wrong:?}");
-    }
-    Ok(())
-}
-
-/// The rows of each case are right where the first and the third session have fast tickets alone.
-pub(crate) fn are_right_of_fast<R: Wait + Abort + AllocGlobal>(
+// The rows of each case are right of three sessions.
+fn are_right<R: Wait + Abort + AllocGlobal>(
     rt: &R,
+    fast: bool,
     cases: &[Case],
 ) -> Result<(), Fail> {
     for (shown, rows) in cases {
-        let mut guests = come_fast(rt)?;
+        let mut guests = come(rt, fast)?;
         let wrong = guests.first_wrong(rt, rows);
+        drop(guests);
         assert!(rt; wrong.is_none(), "{shown}: row {wrong:?}");
     }
     Ok(())
+}
+
+#[test]
+fn words_tell_of_tickets_and_waits(rt: HostRuntime) -> Result<(), Fail> {
+    are_right(&rt, false, words::CASES)?;
+    are_right(&rt, true, fast_tickets::CASES)
 }

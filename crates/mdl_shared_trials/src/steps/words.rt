@@ -1,9 +1,8 @@
 //! What the words of a lock and of a wait are, from one visit to the next.
-use crate::steps::rows::{Answer, Case, Deed, Row, are_right};
+use crate::steps::rows::{Answer, Case, Deed, Row};
 use mdl_key::Mode;
 use mdl_steps::{Loss, WaitWord};
 use mdl_word::Word;
-use std::test::Fail;
 
 const FREE: Answer = Answer::Lock(Word(0));
 
@@ -90,13 +89,20 @@ const LOST: &[Row] = &[
     (3, Deed::TryNow(Mode::SR), Answer::Granted),
 ];
 
-const CASES: &[Case] = &[
+const IDLE: Answer = Answer::Wait(WaitWord(0));
+
+// The word of a session that never waited is 0, to itself and to others, and nothing settles the wait that it may open next.
+const NEVER_WAITED: &[Row] = &[
+    (1, Deed::WaitWord(1), IDLE),
+    (2, Deed::WaitWord(1), IDLE),
+    (1, Deed::WaitWord(2), IDLE),
+    (2, Deed::Settle(1, 1, Loss::Killed), IDLE),
+    (1, Deed::WaitWord(1), IDLE),
+];
+
+pub(crate) const CASES: &[Case] = &[
+    ("who never waited is idle", NEVER_WAITED),
     ("the words tell of a wait that is granted", GRANTED),
     ("the words tell of a wait that is killed", KILLED),
     ("the words tell of a lost wait until it is ended", LOST),
 ];
-
-#[test]
-fn words_tell_of_waits(rt: HostRuntime) -> Result<(), Fail> {
-    are_right(&rt, CASES)
-}

@@ -1,0 +1,106 @@
+//! A session that has a ticket or a wait isn't closed: it comes back as it was, and goes on.
+use crate::acts::{Act, Lock, Memory, Reply};
+use crate::rows::{Row, open_three};
+use mdl_calls::{Ended, Settled};
+use mdl_key::Mode;
+use std::test::Fail;
+
+// What rows show, the rows before session 2 isn't closed, and those after that.
+type Story = (&'static str, &'static [Row], &'static [Row]);
+
+const HOLDS: &[Row] = &[
+    (1, Act::Resolve(Lock::Sales), Reply::Place(1)),
+    (2, Act::Resolve(Lock::Sales), Reply::Place(1)),
+    (1, Act::Try(1, Mode::SR), Reply::Granted(1)),
+    (2, Act::Try(1, Mode::X), Reply::WouldWait),
+    (2, Act::Try(1, Mode::SR), Reply::Granted(1)),
+];
+
+const GOES_ON: &[Row] = &[
+    (2, Act::Try(1, Mode::SU), Reply::Granted(2)),
+    (2, Act::Release(1), Reply::Done),
+    (2, Act::Release(2), Reply::Done),
+    (1, Act::Release(1), Reply::Done),
+];
+
+const WAITS: &[Row] = &[
+    (1, Act::Resolve(Lock::Sales), Reply::Place(1)),
+    (2, Act::Resolve(Lock::Sales), Reply::Place(1)),
+    (1, Act::Try(1, Mode::X), Reply::Granted(1)),
+    (2, Act::Begin(1, Mode::S), Reply::Waiting(1)),
+];
+
+const GIVES_UP: &[Row] = &[
+    (2, Act::TimeOut, Reply::Done),
+    (2, Act::End, Reply::Ended(Ended::Timeout)),
+    (1, Act::Release(1), Reply::Done),
+];
+
+const KILLED: &[Row] = &[
+    (1, Act::Resolve(Lock::Sales), Reply::Place(1)),
+    (2, Act::Resolve(Lock::Sales), Reply::Place(1)),
+    (1, Act::Try(1, Mode::X), Reply::Granted(1)),
+    (2, Act::Begin(1, Mode::SR), Reply::Waiting(1)),
+    (1, Act::Kill(2, 1), Reply::Is(true)),
+    (1, Act::Release(1), Reply::Done),
+    (2, Act::Poll, Reply::Settled(Settled::Killed)),
+];
+
+// The session's next wait isn't hit by the old number, nor by its own once it is granted.
+const KILLED_TOO_LATE: &[Row] = &[
+    (2, Act::End, Reply::Ended(Ended::Killed)),
+    (1, Act::Try(1, Mode::X), Reply::Granted(2)),
+    (2, Act::Begin(1, Mode::SR), Reply::Waiting(2)),
+    (1, Act::Kill(2, 1), Reply::Is(false)),
+    (2, Act::Poll, Reply::Pending),
+    (1, Act::Release(2), Reply::Done),
+    (1, Act::Kill(2, 2), Reply::Is(false)),
+    (2, Act::End, Reply::Ended(Ended::Granted(2))),
+    (2, Act::Release(2), Reply::Done),
+];
+
+// A wait that is lost stands in the others' way until its session ends it.
+const LOST: &[Row] = &[
+    (1, Act::Resolve(Lock::Sales), Reply::Place(1)),
+    (2, Act::Resolve(Lock::Sales), Reply::Place(1)),
+    (3, Act::Resolve(Lock::Sales), Reply::Place(1)),
+    (1, Act::Try(1, Mode::SR), Reply::Granted(1)),
+    (2, Act::Begin(1, Mode::X), Reply::Waiting(1)),
+    (1, Act::Kill(2, 1), Reply::Is(true)),
+    (3, Act::Try(1, Mode::SR), Reply::WouldWait),
+];
+
+const ENDED: &[Row] = &[
+    (2, Act::End, Reply::Ended(Ended::Killed)),
+    (3, Act::Try(1, Mode::SR), Reply::Granted(1)),
+    (3, Act::Release(1), Reply::Done),
+    (1, Act::Release(1), Reply::Done),
+];
+
+const STORIES: &[Story] = &[
+    ("a session with a ticket stays open", HOLDS, GOES_ON),
+    ("a session that waits stays open", WAITS, GIVES_UP),
+    (
+        "a session whose wait was killed stays open",
+        KILLED,
+        KILLED_TOO_LATE,
+    ),
+    ("a lost wait stands until it is ended", LOST, ENDED),
+];
+
+#[test]
+fn sessions_stay_open(rt: HostRuntime) -> Result<(), Fail> {
+    for (shown, before, after) in STORIES {
+        let mut sessions = open_three(&rt, 1)?;
+        let wrong_before = sessions.first_wrong(rt.alloc(), before, Memory::Ample);
+        let mut sessions = sessions.keep_two_open(&rt);
+        let wrong_after = sessions.first_wrong(rt.alloc(), after, Memory::Ample);
+        sessions.close(&rt);
+        assert!(rt;
+            wrong_before.is_none(),
+            "{shown}: row {wrong_before:?} before"
+        );
+        assert!(rt; wrong_after.is_none(), "{shown}: row {wrong_after:?} after");
+    }
+    Ok(())
+}
