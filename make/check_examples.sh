@@ -1,7 +1,7 @@
 #!/bin/sh
 # Says which library crates show another example at the head of their src/lib.rt than the file of examples that names them, a line for each, or
-# that there is none. Such a file stands in mdl_examples, or in src/examples of a crate of trials. And which code of docs/EMBEDDING.md isn't in the
-# program that it is from, which `make c` builds and runs.
+# that there is none. Such a file stands in mdl_examples, in src/examples of a crate of trials, or in src of a program that is an example. And which
+# code of docs/EMBEDDING.md isn't in the program that it is from, which `make c` builds and runs.
 # Usage: sh make/check_examples.sh           looks
 #        sh make/check_examples.sh update    puts the examples there
 cd "$(dirname "$0")/.." || exit 1
@@ -19,7 +19,7 @@ libraries() {
 
 # The file of examples that names a crate in its first line.
 file_of() {
-    grep -l -x "//! \`$1\`: .*" crates/mdl_examples/src/*.rt crates/*_trials/src/examples/*.rt
+    grep -l -x "//! \`$1\`: .*" crates/mdl_examples/src/*.rt crates/*_trials/src/examples/*.rt crates/*_example/src/*.rt
 }
 
 # The head of a file is all comments that begin it. Its section of an example is the last one there.
@@ -46,7 +46,7 @@ with_section() {
 look_at() {
     file=$(file_of "$1")
     if [ -z "$file" ]; then
-        echo "crates/mdl_examples/src, crates/*_trials/src/examples: there is no example of $1"
+        echo "crates/mdl_examples/src, crates/*_trials/src/examples, crates/*_example/src: there is no example of $1"
         return
     fi
     section "crates/$1/src/lib.rt" > "$made/shown"

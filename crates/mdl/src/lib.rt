@@ -10,26 +10,67 @@
 //! # Example
 //!
 //! ```
-//! use mdl::{Book, Key, Mode, Ticket, Word};
+//! ghost use Rattle.std.specs.Prelude.{◌≡◌, [], None};
+//! ghost use Rattle.mdl.specs.mdl_shared.Passes.{pass_table, table_of};
+//! ghost use Rattle.mdl.specs.mdl_shared.SessionViews.{space_of};
 //!
-//! let alloc = rt.alloc();
-//! let word = Word(0); // no fast tickets
-//! let mut book = Book::new(alloc, Key::table(alloc, "test", "orders")?);
-//! let reader = Ticket {
-//!     session: 1,
-//!     number: 1,
-//!     mode: Mode::SR,
-//! };
-//! book.grant(reader, word)?;
-//! // Session 2 wants to change the table, and waits for session 1.
-//! assert!(rt; !book.can_grant(2, Mode::X, word));
-//! book.enqueue(Ticket {
-//!     session: 2,
-//!     mode: Mode::X,
-//!     ..reader
-//! })?;
-//! assert_eq!(rt; book.granted().len(), 1);
-//! assert_eq!(rt; book.waiting().len(), 1);
+//! use crate::requests::Request;
+//! use crate::work::answer_all;
+//! use mdl::{LockSpace, Manager, OwnedRunner, Pass, Session};
+//! use std::alloc::{AllocError, Global};
+//! use std::sync::Wait;
+//!
+//! // How many definitions the cache of a session keeps.
+//! const CACHE: u16 = 64;
+//!
+//! /// Answers the requests of the session that a pass is for.
+//! pub fn serve<R: Wait>(
+//!     rt: &R,
+//!     alloc: Global,
+//!     manager: &Manager,
+//!     pass: Pass,
+//!     requests: &[Request<'_>],
+//! ) -> Result<String, AllocError>
+//!     requires { pass_table pass ≡ table_of manager.now }
+//! {
+//!     let mut text = String::new(alloc);
+//!     let mut session = Session::open(rt, manager, pass);
+//!     let who = session.number();
+//!     let end = work(alloc, &mut session, who, requests, &mut text);
+//!     close(session);
+//!     match end {
+//!         Ok(()) => Ok(text),
+//!         Err(error) => Err(error),
+//!     }
+//! }
+//!
+//! // Answers the requests of a session that has nothing, and has nothing in the end.
+//! fn work<S: LockSpace>(
+//!     alloc: Global,
+//!     space: &mut S,
+//!     who: u16,
+//!     requests: &[Request<'_>],
+//!     text: &mut String,
+//! ) -> Result<(), AllocError>
+//!     requires speaks { S.speaks_for space.old who }
+//!     requires nothing { S.own space.old who ≡ record { held = []; wait = None } }
+//!     ensures { S.own space.new who ≡ record { held = []; wait = None } }
+//! {
+//!     let mut runner = OwnedRunner::new(alloc, who, CACHE)?;
+//!     let end = answer_all(alloc, space, &mut runner, who, requests, text);
+//!     runner.leave(space);
+//!     end
+//! }
+//!
+//! // Closes a session that has nothing.
+//! fn close<R: Drop>(session: Session<R>)
+//!     requires { (space_of session).own ≡ record { held = []; wait = None } }
+//! {
+//!     match session.close() {
+//!         Ok(_pass) => {}
+//!         Err(_open) => unreachable!(),
+//!     }
+//! }
 //! ```
 #![tactic(auto)]
 

@@ -2,13 +2,15 @@
 //! standard input, one on each line: the number of a session and a statement, as `2 SELECT shop.orders`. Each session answers its
 //! requests on a thread of its own, and waits there whatever they wait for. The answers are printed session by session.
 //!
-//! Begin with `session.rt`: a statement is parsed when its turn comes, and is dropped as soon as it has started.
+//! Of the repository it lists `mdl` alone. Begin with `session.rt`, whose contracts cite the library's definitions through `mdl`. `work.rt`
+//! has a statement parsed when its turn comes, and drops it as soon as it has started.
 #![tactic(auto)]
 
 mod requests;
 mod running;
 mod session;
 mod telling;
+mod work;
 
 use anyhow::Result;
 use running::answers;
@@ -17,7 +19,8 @@ use std::io::{Read, Write};
 fn main(rt: HostRuntime) -> Result<()> {
     let mut input = Vec::new(rt.alloc());
     rt.stdin().read_to_end(&mut input)?;
-    let text = answers(&rt, rt.alloc(), &input)?;
+    let mut text = String::new(rt.alloc());
+    answers(&mut text, &rt, rt.alloc(), &input)?;
     rt.stdout().write_all(text.as_bytes())?;
     Ok(())
 }

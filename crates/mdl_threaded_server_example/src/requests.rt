@@ -1,10 +1,10 @@
 //! The requests of the input, and the sessions that they are for.
-use mdl_lines::{Fault, first_words, session_of};
-use mdl_syntax::parse;
+use mdl::lines::{Fault, first_words, session_of};
+use mdl::parse;
 use std::alloc::{AllocError, Global};
 
 /// A line that names a session.
-#[derive(Clone, Copy)]
+#[derive(Drop)]
 pub struct Request<'t> {
     /// The line's number, counted from 1.
     pub number: u64,
@@ -34,19 +34,14 @@ pub fn read_requests<'t>(
     Ok(requests)
 }
 
-/// Those of one session.
-pub fn requests_of<'t>(
-    alloc: Global,
-    requests: &[Request<'t>],
-    who: u16,
-) -> Result<Vec<Request<'t>>, AllocError> {
-    let mut own = Vec::new(alloc);
+/// Whether one of the requests is for this session.
+pub fn is_asked(requests: &[Request<'_>], who: u16) -> bool {
     for request in requests {
         if request.session == who {
-            own.push(*request)?;
+            return true;
         }
     }
-    Ok(own)
+    false
 }
 
 // The session that a line names.

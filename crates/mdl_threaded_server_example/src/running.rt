@@ -1,31 +1,30 @@
 //! A thread for each session that is asked for something.
 ghost use Rattle.std.specs.Prelude.{◌≡◌, All};
-ghost use Rattle.mdl_shared.specs.Passes.{pass_table, table_of};
+ghost use Rattle.mdl.specs.mdl_shared.Passes.{pass_table, table_of};
 
-use crate::requests::{Request, read_requests, requests_of};
+use crate::requests::{Request, is_asked, read_requests};
 use crate::session::serve;
-use mdl_key::{MOST_PLACES, MOST_SESSIONS};
-use mdl_shared::{Manager, Pass};
+use mdl::key::{MOST_PLACES, MOST_SESSIONS};
+use mdl::{Manager, Pass};
 use std::alloc::{AllocError, Global};
 use std::sync::Wait;
 use std::thread;
 use std::thread::{JoinHandle, Scope, Threads};
 
-/// The errors of lines that are no requests, and then what each session answers, in the order of their numbers.
+/// Writes the errors of lines that are no requests, and then what each session answers, in the order of their numbers.
 ///
-/// Where memory is wanting, or a thread can't be started, there is no text.
+/// It fails where memory is wanting, or a thread can't be started.
 pub fn answers<R: Threads + Wait + Sync>(
+    text: &mut String,
     rt: &R,
     alloc: Global,
     input: &[u8],
-) -> Result<String, AllocError> {
-    let mut text = String::new(alloc);
-    let requests = read_requests(alloc, input, &mut text)?;
-    let Ok((manager, passes)) = Manager::new(alloc, MOST_PLACES, MOST_SESSIONS) else {
-        return Err(AllocError);
-    };
-    push_all(&mut text, rt, alloc, &manager, passes, &requests)?;
-    Ok(text)
+) -> Result<(), AllocError> {
+    let requests = read_requests(alloc, input, text)?;
+    match Manager::new(alloc, MOST_PLACES, MOST_SESSIONS) {
+        Ok((manager, passes)) => push_all(text, rt, alloc, &manager, passes, &requests),
+        Err(_error) => Err(AllocError),
+    }
 }
 
 // Writes what all sessions answer.
@@ -39,20 +38,16 @@ fn push_all<R: Threads + Wait + Sync>(
 ) -> Result<(), AllocError>
     requires { All (λ pass. pass_table pass ≡ table_of manager.now) passes.items }
 {
-    let texts = thread::scope(
+    thread::scope(
         thread::scope_env(),
         rt,
-        move |scope| -> Result<Vec<String>, AllocError>
+        move |scope| -> Result<(), AllocError>
             requires { All (λ pass. pass_table pass ≡ table_of manager.now) passes.items }
         {
             let threads = start_all(scope, rt, alloc, manager, passes, requests)?;
-            join_all(rt, alloc, threads)
+            join_all(text, rt, threads)
         },
-    )?;
-    for answered in texts {
-        text.push_str(&answered)?;
-    }
-    Ok(())
+    )
 }
 
 type Thread = JoinHandle<Result<String, AllocError>>;
@@ -64,15 +59,14 @@ fn start_all<'s, E, R: Threads + Wait + Sync>(
     alloc: Global,
     manager: &'s Manager,
     passes: Vec<Pass>,
-    requests: &[Request<'s>],
+    requests: &'s [Request<'s>],
 ) -> Result<Vec<Thread>, AllocError>
     requires { All (λ pass. pass_table pass ≡ table_of manager.now) passes.items }
 {
     let mut threads = Vec::new(alloc);
     for pass in passes {
-        let own = requests_of(alloc, requests, pass.number())?;
-        if !own.is_empty() {
-            threads.push(start(scope, rt, alloc, manager, pass, own)?)?;
+        if is_asked(requests, pass.number()) {
+            threads.push(start(scope, rt, alloc, manager, pass, requests)?)?;
         }
     }
     Ok(threads)
@@ -85,27 +79,23 @@ fn start<'s, E, R: Threads + Wait + Sync>(
     alloc: Global,
     manager: &'s Manager,
     pass: Pass,
-    requests: Vec<Request<'s>>,
+    requests: &'s [Request<'s>],
 ) -> Result<Thread, AllocError>
     requires { pass_table pass ≡ table_of manager.now }
 {
     let thread = scope.spawn(
         move || -> Result<String, AllocError>
             requires { pass_table pass ≡ table_of manager.now }
-        { serve(rt, alloc, manager, pass, &requests) },
+        { serve(rt, alloc, manager, pass, requests) },
     )?;
     Ok(thread)
 }
 
-// Waits for the ends of all threads.
-fn join_all<R: Threads>(
-    rt: &R,
-    alloc: Global,
-    threads: Vec<Thread>,
-) -> Result<Vec<String>, AllocError> {
-    let mut texts = Vec::new(alloc);
+// Waits for the ends of all threads, and writes what they answer.
+fn join_all<R: Threads>(text: &mut String, rt: &R, threads: Vec<Thread>) -> Result<(), AllocError> {
     for thread in threads {
-        texts.push(thread.join(rt)?)?;
+        let answered = thread.join(rt)?;
+        text.push_str(&answered)?;
     }
-    Ok(texts)
+    Ok(())
 }

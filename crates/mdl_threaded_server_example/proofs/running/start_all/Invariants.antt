@@ -1,7 +1,7 @@
 -- The passes that are left are the manager's.
 use Rattle.std.proofs.Common.{◌≡◌, All}
 use Rattle.std.specs.Vec.Iter.{into_iter_items}
-use Rattle.mdl_shared.specs.Passes.{pass_table, table_of}
+use Rattle.mdl.specs.mdl_shared.Passes.{pass_table, table_of}
 use Rattle.mdl_threaded_server_example.proofs.running.start_all.Given as goal
 
 abbrev pub invariant-loop-pass : goal.invariant-loop-pass

@@ -1,7 +1,7 @@
 -- The space attends to the session.
 use Rattle.std.proofs.Common.{◌≡◌}
-use Rattle.mdl_stmt.specs.Attendance.{AttendsWith}
-use Rattle.mdl_threaded_server_example.proofs.session.answer_all.Given as goal
+use Rattle.mdl.specs.mdl_stmt.Attendance.{AttendsWith}
+use Rattle.mdl_threaded_server_example.proofs.work.answer_all.Given as goal
 
 abbrev pub invariant-loop-request : goal.invariant-loop-request
 invariant-loop-request g l = record {

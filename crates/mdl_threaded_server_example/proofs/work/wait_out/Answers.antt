@@ -1,9 +1,9 @@
 -- A timeout takes nothing from the session.
 use Rattle.std.proofs.Common.{ℕ, refl, subst, sym}
-use Rattle.mdl_calls.specs.Words.{Settle_timeout, timed_out}
-use Rattle.mdl_calls.proofs.CacheLemmas.{still-met}
-use Rattle.mdl_context.proofs.AttendLemmas.{attends-still}
-use Rattle.mdl_threaded_server_example.proofs.session.wait_out.Goals as goal
+use Rattle.mdl.specs.mdl_calls.Words.{Settle_timeout, timed_out}
+use Rattle.mdl.proofs.mdl_calls.CacheLemmas.{still-met}
+use Rattle.mdl.proofs.mdl_context.AttendLemmas.{attends-still}
+use Rattle.mdl_threaded_server_example.proofs.work.wait_out.Goals as goal
 
 pub settle_timeout-settled-requires : goal.settle_timeout-settled-requires
 settle_timeout-settled-requires g c =
