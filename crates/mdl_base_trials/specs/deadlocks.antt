@@ -1,1 +1,2 @@
+-- The definitions of the tests of deadlocks.
 pub mod Ways

@@ -1,1 +1,2 @@
+-- The definitions of the tests of statements over sessions.
 pub mod Seats

@@ -1,1 +1,2 @@
+-- The definitions of the tests of contexts.
 pub mod Halls
