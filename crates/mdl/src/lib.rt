@@ -56,7 +56,9 @@
 //!     requires nothing { S.own space.old who ≡ record { held = []; wait = None } }
 //!     ensures { S.own space.new who ≡ record { held = []; wait = None } }
 //! {
-//!     let mut runner = OwnedRunner::new(alloc, who, CACHE)?;
+//!     let Ok(mut runner) = OwnedRunner::new(alloc, who, CACHE) else {
+//!         return Err(AllocError);
+//!     };
 //!     let end = answer_all(alloc, space, &mut runner, who, requests, text);
 //!     runner.leave(space);
 //!     end
