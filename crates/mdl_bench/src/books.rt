@@ -46,16 +46,22 @@ pub fn time_asking<R: Clock>(
     turns: u32,
 ) -> Result<Duration, Failure> {
     let mut book = Book::new(alloc, table(alloc, 0)?);
-    let gathered = gather(&mut book, tickets);
-    let began = Instant::now(rt)?;
-    let made = match asked {
-        Asked::CanGrant => wish_often(&book, turns),
-        Asked::NextGrantable => look_often(&book, turns),
-    };
-    let spent = spent_since(rt, began, made, turns);
-    match gathered {
-        Ok(()) => spent,
+    let spent = match gather(&mut book, tickets) {
+        Ok(()) => asked.timed(rt, &book, turns),
         Err(why) => Err(why),
+    };
+    drop(book);
+    spent
+}
+
+impl Asked {
+    fn timed<R: Clock>(&self, rt: &R, book: &Book, turns: u32) -> Result<Duration, Failure> {
+        let began = Instant::now(rt)?;
+        let right = match self {
+            Asked::CanGrant => wish_often(book, turns),
+            Asked::NextGrantable => look_often(book, turns),
+        };
+        spent_since(rt, began, right, turns)
     }
 }
 
@@ -203,7 +209,10 @@ fn tie(alloc: Global, books: &mut Vec<Book>, shape: &Shape, sessions: u16) -> Re
         Shape::Dense => sessions,
     };
     for holder in from..sessions.saturating_add(1) {
-        let before = if holder == 1 { sessions } else { holder - 1 };
+        let before = match holder {
+            1 => sessions,
+            _ => holder.saturating_sub(1),
+        };
         let (holders, waiters) = match shape {
             Shape::Dense => ((1, sessions), (1, sessions)),
             _ => ((holder, holder), (before, before)),

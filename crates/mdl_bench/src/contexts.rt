@@ -76,11 +76,13 @@ pub fn time_alone<R: Clock>(
     tickets: u16,
     turns: u32,
 ) -> Result<time::Duration, Failure> {
-    let Ok(mut space) = CoreSpace::new(alloc, MOST_PLACES, 1) else {
-        return Err(Failure::Unmade);
-    };
-    let mut context = Context::new(alloc, 1);
-    timed(rt, alloc, &mut space, &mut context, wish, tickets, turns)
+    match CoreSpace::new(alloc, MOST_PLACES, 1) {
+        Ok(mut space) => {
+            let mut context = Context::new(alloc, 1);
+            timed(rt, alloc, &mut space, &mut context, wish, tickets, turns)
+        }
+        Err(_) => Err(Failure::Unmade),
+    }
 }
 
 // The same by a session that has nothing yet. The first turn isn't timed: the context looks the keys up then.

@@ -331,15 +331,26 @@ fn time_look_ups<R: Wait + Clock>(
     keys: u16,
     turns: u32,
 ) -> Result<Duration, Failure> {
-    let key = table(alloc, keys.saturating_sub(1))?;
     let Some((first, others)) = guests.split_first_mut() else {
         return Err(Failure::Unexpected);
     };
     let wanted = learn(alloc, first, keys)?;
+    let key = table(alloc, keys.saturating_sub(1))?;
+    look_up_by_each(rt, others, &key, wanted, turns)
+}
+
+// The same by the others, once the key has its place.
+fn look_up_by_each<R: Wait + Clock>(
+    rt: &R,
+    others: &mut [Guest<'_, R>],
+    key: &Key,
+    wanted: Place,
+    turns: u32,
+) -> Result<Duration, Failure> {
     let mut made = 0u32;
     let began = Instant::now(rt)?;
     for guest in others.iter_mut().take(turns as usize) {
-        made = made.wrapping_add(u32::from(guest.resolve(&key)? == wanted));
+        made = made.wrapping_add(u32::from(guest.resolve(key)? == wanted));
     }
     spent_since(rt, began, made, turns)
 }

@@ -106,8 +106,9 @@ struct Told {
 // What is told of the figure at a place of a row of so many, of which there are these times.
 fn told_of(alloc: Global, times: &[u64], place: usize, figures: usize) -> Result<Told, Failure> {
     let mut rounds = Vec::new(alloc);
-    for round in times.chunks(figures) {
-        push(&mut rounds, rank(round, place))?;
+    for round in 0..ROUNDS {
+        let at = round.wrapping_mul(figures).wrapping_add(place);
+        push(&mut rounds, rank(times, at))?;
     }
     if rounds.sort().is_err() {
         return Err(Failure::Memory);
