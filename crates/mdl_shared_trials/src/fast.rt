@@ -1,10 +1,11 @@
 //! Sessions try for fast tickets, give them up and make slow ones of them.
-use crate::acts::{Act, Lock, Reply};
+use crate::acts::{Act, Lock, Memory, Reply};
 use crate::audits::Shown;
-use crate::rows::{Case, Row};
+use crate::rows::{Case, Row, are_right};
 use mdl_calls::{Ended, Held, Settled, SpaceError};
 use mdl_key::Mode;
 use mdl_word::Word;
+use std::test::Fail;
 
 const NOT_HELD: Reply = Reply::Refused(SpaceError::NotHeld);
 
@@ -261,7 +262,7 @@ const ELSEWHERE: &[Row] = &[
     (1, Act::Release(6), Reply::Done),
 ];
 
-pub(crate) const CASES: &[Case] = &[
+const CASES: &[Case] = &[
     ("a session has 1023 fast tickets at a place", 2, MOST),
     ("fast tickets become slow ones", 1, MADE_SLOW),
     ("fast tickets elsewhere become slow", 2, ELSEWHERE),
@@ -275,3 +276,8 @@ pub(crate) const CASES: &[Case] = &[
     ("what is not fast is refused", 1, REFUSED),
     ("unobtrusive wishes take the fast path", 1, WAITED_FOR),
 ];
+
+#[test]
+fn fast_tickets_come_and_go(rt: HostRuntime) -> Result<(), Fail> {
+    are_right(&rt, Memory::Ample, CASES)
+}

@@ -1,9 +1,10 @@
 //! Sessions look keys up, try for locks and give them up, and are told keys, tickets and books.
-use crate::acts::{Act, Lock, Reply};
+use crate::acts::{Act, Lock, Memory, Reply};
 use crate::audits::Shown;
-use crate::rows::{Case, Row};
+use crate::rows::{Case, Row, are_right};
 use mdl_calls::{Held, SpaceError};
 use mdl_key::Mode;
+use std::test::Fail;
 
 const NO_PLACE: Reply = Reply::Refused(SpaceError::NoPlace);
 
@@ -168,7 +169,7 @@ const AUDITS: &[Row] = &[
     (2, Act::Audit(FREE_BOOKS), Reply::Is(true)),
 ];
 
-pub(crate) const CASES: &[Case] = &[
+const CASES: &[Case] = &[
     ("keys get places", 2, PLACES),
     ("a writer stands alone", 1, WRITERS),
     ("what cannot be tried is refused", 1, REFUSED),
@@ -179,3 +180,8 @@ pub(crate) const CASES: &[Case] = &[
     ("who asks for tables knows them", 4, ASKED),
     ("an audit tells each book", 3, AUDITS),
 ];
+
+#[test]
+fn sessions_try_for_locks(rt: HostRuntime) -> Result<(), Fail> {
+    are_right(&rt, Memory::Ample, CASES)
+}

@@ -1,12 +1,13 @@
 //! Growths refused in turn: where each allocation fails once, each call does at the second try what it would have done at the first.
 //!
 //! `rt try --test --fail-alloc N` refuses the allocation of that number.
-use crate::acts::{Act, Edit, Lock, Reply};
+use crate::acts::{Act, Edit, Lock, Memory, Reply};
 use crate::audits::Shown;
-use crate::rows::{Case, Row};
+use crate::rows::{Case, Row, are_right};
 use crate::searches::A_CYCLE;
 use mdl_calls::{Ended, Held, Settled};
 use mdl_key::Mode;
+use std::test::Fail;
 
 const CALLS: &[Row] = &[
     (1, Act::Resolve(Lock::Sales), Reply::Place(1)),
@@ -147,7 +148,7 @@ const TABLES: &[Row] = &[
     (2, Act::Release(1), Reply::Done),
 ];
 
-pub(crate) const CASES: &[Case] = &[
+const CASES: &[Case] = &[
     ("calls outlive want of memory", 2, CALLS),
     ("waits outlive want of memory", 2, WAITS),
     ("what a session has is told at the second try", 2, TOLD),
@@ -158,3 +159,8 @@ pub(crate) const CASES: &[Case] = &[
     ("tables are told at the second try", 2, TABLES),
     ("searches outlive want of memory", 2, A_CYCLE),
 ];
+
+#[test]
+fn calls_outlive_want_of_memory(rt: HostRuntime) -> Result<(), Fail> {
+    are_right(&rt, Memory::Scarce, CASES)
+}

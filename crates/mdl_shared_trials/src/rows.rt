@@ -1,10 +1,9 @@
-//! Rows of calls of three sessions of one space, and the tables of all such rows.
+//! Rows of calls of three sessions of one space.
 ghost use Rattle.std.specs.Prelude.{◌≡◌, length, IfOk};
 ghost use Rattle.mdl_shared.specs.Passes.{ArePasses, table_of};
 
 use crate::acts::{Act, Memory, Reply, make_at_last};
 use crate::sessions::closed;
-use crate::{changes, fast, locks, memory, modes, searches, waits};
 use mdl_shared::{HoldsTickets, Manager, NewError, Pass, Session};
 use std::alloc::Global;
 use std::process::Abort;
@@ -103,21 +102,4 @@ pub(crate) fn are_right<R: Wait + Abort + AllocGlobal>(
         sessions.close(rt);
     }
     Ok(())
-}
-
-const TABLES: &[&[Case]] = &[
-    locks::CASES,
-    modes::CASES,
-    waits::CASES,
-    changes::CASES,
-    searches::CASES,
-    fast::CASES,
-];
-
-#[test]
-fn calls_come_to_what_rows_tell(rt: HostRuntime) -> Result<(), Fail> {
-    for cases in TABLES {
-        are_right(&rt, Memory::Ample, cases)?;
-    }
-    are_right(&rt, Memory::Scarce, memory::CASES)
 }

@@ -1,8 +1,9 @@
 //! Sessions that wait for one another look for deadlocks.
-use crate::acts::{Act, Lock, Reply};
-use crate::rows::{Case, Row};
+use crate::acts::{Act, Lock, Memory, Reply};
+use crate::rows::{Case, Row, are_right};
 use mdl_calls::{Ended, Held, Settled};
 use mdl_key::Mode;
+use std::test::Fail;
 
 /// Two that wait for one another weigh as much, and so the one of the greater number falls. Its deadlock is gone then, and who waits alone, or not at
 /// all, is in none.
@@ -138,10 +139,15 @@ const CROSSED: &[Row] = &[
     (2, Act::Release(1), Reply::Done),
 ];
 
-pub(crate) const CASES: &[Case] = &[
+const CASES: &[Case] = &[
     ("of two in a cycle one falls", 2, A_CYCLE),
     ("another falls than who searches", 2, THE_OTHER),
     ("a settled wait is in no cycle", 2, SETTLED),
     ("of three in a round one falls", 3, A_ROUND),
     ("of two upgrades one falls", 2, CROSSED),
 ];
+
+#[test]
+fn deadlocks_are_found(rt: HostRuntime) -> Result<(), Fail> {
+    are_right(&rt, Memory::Ample, CASES)
+}

@@ -1,8 +1,7 @@
-//! Tests of the shared lock table's steps: tables are made, sessions enrol, and latches are taken and put, by one thread and by two. `rows` tell what
+//! Tests of the shared lock table's steps: tables are made, sessions enrol, and two threads take a latch. `rows` tell what
 //! `visitors` do at a place, and `fast_visitors`, and what its `words` are.
 mod fast_tickets;
 mod fast_visitors;
-mod latches;
 mod rows;
 mod seated;
 mod threads;

@@ -1,8 +1,9 @@
 //! Sessions wait for locks, are granted them, and lose their waits.
-use crate::acts::{Act, Lock, Reply};
-use crate::rows::{Case, Row};
+use crate::acts::{Act, Lock, Memory, Reply};
+use crate::rows::{Case, Row, are_right};
 use mdl_calls::{Ended, Settled, SpaceError};
 use mdl_key::Mode;
+use std::test::Fail;
 
 const NO_WAIT: Reply = Reply::Refused(SpaceError::NoWait);
 
@@ -154,7 +155,7 @@ const BEHIND: &[Row] = &[
     (3, Act::Release(1), Reply::Done),
 ];
 
-pub(crate) const CASES: &[Case] = &[
+const CASES: &[Case] = &[
     ("a wish that clashes with nothing is granted", 1, ALONE),
     ("a wish that clashes waits", 1, CLASHING),
     ("a release grants who waits", 1, MAKING_WAY),
@@ -164,3 +165,8 @@ pub(crate) const CASES: &[Case] = &[
     ("a session that waits has its tickets", 1, ASKING_MORE),
     ("a lost wait that ends makes way", 1, BEHIND),
 ];
+
+#[test]
+fn sessions_wait(rt: HostRuntime) -> Result<(), Fail> {
+    are_right(&rt, Memory::Ample, CASES)
+}
