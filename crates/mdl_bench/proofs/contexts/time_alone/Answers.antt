@@ -5,7 +5,7 @@ use Rattle.mdl_bench.proofs.contexts.time_alone.Goals as goal
 
 pub timed-requires : goal.timed-requires
 timed-requires g c =
-    rw c.new-in-Ok.ensures (record {
+    rw c.new-context.ensures (record {
       speaks = c.in-Ok.ensures.speaks 1 (omega arith) (omega arith);
       serves = rw c.in-Ok.ensures.made (record { held = refl; wait = refl });
       known = All-nil _;
