@@ -13,20 +13,38 @@ mod versions;
 mod waits;
 
 use crate::used_up::rows::{Story, first_wrong};
+use std::alloc::Global;
+use std::process::Abort;
 
-const ALL: &[&[Story]] = &[
-    versions::STORIES,
-    places::STORIES,
-    full::STORIES,
-    waits::STORIES,
-];
+// All rows of a story have to go as they say.
+fn must_go_so(rt: &impl Abort, alloc: Global, story: Story) {
+    let wrong = first_wrong(alloc, story);
+    assert!(rt; wrong.is_none(), "{}: row {}", story.0, wrong.unwrap_or(0));
+}
+
+// Those of all stories have to.
+fn must_all_go_so(rt: &impl Abort, alloc: Global, stories: &[Story]) {
+    for story in stories {
+        must_go_so(rt, alloc, *story);
+    }
+}
 
 #[test]
-fn each_story_goes_as_it_says(rt: HostRuntime) {
-    for stories in ALL {
-        for story in *stories {
-            let wrong = first_wrong(rt.alloc(), *story);
-            assert!(rt; wrong.is_none(), "{}: row {}", story.0, wrong.unwrap_or(0));
-        }
-    }
+fn versions_are_used_up(rt: HostRuntime) {
+    must_all_go_so(&rt, rt.alloc(), versions::STORIES);
+}
+
+#[test]
+fn places_are_used_up(rt: HostRuntime) {
+    must_all_go_so(&rt, rt.alloc(), places::STORIES);
+}
+
+#[test]
+fn tickets_are_used_up(rt: HostRuntime) {
+    must_all_go_so(&rt, rt.alloc(), full::STORIES);
+}
+
+#[test]
+fn statements_go_on_after_their_waits(rt: HostRuntime) {
+    must_all_go_so(&rt, rt.alloc(), waits::STORIES);
 }
