@@ -14,33 +14,37 @@ mod waits;
 
 use crate::used_up::rows::{Story, first_wrong};
 use std::alloc::Global;
+use std::process::Abort;
 
-// Plays stories, and names the first that goes otherwise, with the row at which it does.
-fn first_astray(alloc: Global, stories: &[Story]) -> Option<(&'static str, usize)> {
+// All rows of a story have to go as they say.
+fn must_go_so(rt: &impl Abort, alloc: Global, story: Story) {
+    let wrong = first_wrong(alloc, story);
+    assert!(rt; wrong.is_none(), "{}: row {}", story.0, wrong.unwrap_or(0));
+}
+
+// Those of all stories have to.
+fn must_all_go_so(rt: &impl Abort, alloc: Global, stories: &[Story]) {
     for story in stories {
-        if let Some(row) = first_wrong(alloc, *story) {
-            return Some((story.0, row));
-        }
+        must_go_so(rt, alloc, *story);
     }
-    None
 }
 
 #[test]
 fn versions_are_used_up(rt: HostRuntime) {
-    assert_eq!(rt; first_astray(rt.alloc(), versions::STORIES), None);
+    must_all_go_so(&rt, rt.alloc(), versions::STORIES);
 }
 
 #[test]
 fn places_are_used_up(rt: HostRuntime) {
-    assert_eq!(rt; first_astray(rt.alloc(), places::STORIES), None);
+    must_all_go_so(&rt, rt.alloc(), places::STORIES);
 }
 
 #[test]
-fn locks_are_full(rt: HostRuntime) {
-    assert_eq!(rt; first_astray(rt.alloc(), full::STORIES), None);
+fn tickets_are_used_up(rt: HostRuntime) {
+    must_all_go_so(&rt, rt.alloc(), full::STORIES);
 }
 
 #[test]
-fn dropped_statements_wait(rt: HostRuntime) {
-    assert_eq!(rt; first_astray(rt.alloc(), waits::STORIES), None);
+fn statements_go_on_after_their_waits(rt: HostRuntime) {
+    must_all_go_so(&rt, rt.alloc(), waits::STORIES);
 }

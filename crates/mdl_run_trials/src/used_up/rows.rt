@@ -108,8 +108,11 @@ impl Play {
         let ticket = self.room.take(place, Mode::X)?;
         self.room.change(ticket, put)?;
         for left in (1..count).rev() {
-            let change = if left % 2 == 1 { put } else { &Change::Drop };
-            self.room.change(ticket, change)?;
+            if left % 2 == 1 {
+                self.room.change(ticket, put)?;
+            } else {
+                self.room.change(ticket, &Change::Drop)?;
+            }
         }
         Some(self.room.leave(ticket))
     }
