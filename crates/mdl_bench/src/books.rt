@@ -229,11 +229,15 @@ fn shelve(
     holders: (u16, u16),
     waiters: (u16, u16),
 ) -> Result<(), Failure> {
-    let mut book = Book::new(alloc, table(alloc, 0)?);
-    let contested = contest(&mut book, Mode::SR, holders, Mode::X, waiters);
-    match books.push(book) {
-        Ok(()) => contested,
-        Err(_) => Err(Failure::Memory),
+    let pushed = books.push(Book::new(alloc, table(alloc, 0)?));
+    let is_there = pushed.is_ok();
+    drop(pushed);
+    if !is_there {
+        return Err(Failure::Memory);
+    }
+    match books.last_mut() {
+        Some(book) => contest(book, Mode::SR, holders, Mode::X, waiters),
+        None => Err(Failure::Unexpected),
     }
 }
 

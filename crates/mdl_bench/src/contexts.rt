@@ -79,13 +79,16 @@ pub fn time_alone<R: Clock>(
     match CoreSpace::new(alloc, MOST_PLACES, 1) {
         Ok(mut space) => {
             let mut context = Context::new(alloc, 1);
-            timed(rt, alloc, &mut space, &mut context, wish, tickets, turns)
+            let spent = timed(rt, alloc, &mut space, &mut context, wish, tickets, turns);
+            drop(context);
+            drop(space);
+            spent
         }
         Err(_) => Err(Failure::Unmade),
     }
 }
 
-// The same by a session that has nothing yet. The first turn isn't timed: the context looks the keys up then.
+// The same by a session that has nothing yet.
 fn timed<R: Clock, S: LockSpace>(
     rt: &R,
     alloc: Global,
@@ -98,13 +101,33 @@ fn timed<R: Clock, S: LockSpace>(
     requires { Attends S.LockSpace space.old context.old }
 {
     stock_up(alloc, space, context, tickets)?;
-    let keys = keys_of(alloc, wish)?;
     let next = u64::from(tickets).wrapping_add(1);
-    if wish_often(space, context, wish, &keys, next, 1) == 0 {
+    let mut keys = Vec::new(alloc);
+    let spent = match list_keys(alloc, wish, &mut keys) {
+        Ok(()) => time_wishes(rt, space, context, wish, &keys, next, turns),
+        Err(why) => Err(why),
+    };
+    drop(keys);
+    spent
+}
+
+// The same once it has its tickets. The first turn isn't timed: the context looks the keys up then.
+fn time_wishes<R: Clock, S: LockSpace>(
+    rt: &R,
+    space: &mut S,
+    context: &mut Context<S>,
+    wish: &Wish,
+    keys: &[Key],
+    next: TicketId,
+    turns: u32,
+) -> Result<time::Duration, Failure>
+    requires { Attends S.LockSpace space.old context.old }
+{
+    if wish_often(space, context, wish, keys, next, 1) == 0 {
         return Err(Failure::Unexpected);
     }
     let began = Instant::now(rt)?;
-    let made = wish_often(space, context, wish, &keys, next, turns);
+    let made = wish_often(space, context, wish, keys, next, turns);
     spent_since(rt, began, made, turns)
 }
 
@@ -120,7 +143,9 @@ fn stock_up<S: LockSpace>(
 {
     for index in 0..tickets {
         let key = table(alloc, index % SPREAD)?;
-        if acquire(space, context, &key, Mode::SR, Duration::Explicit).is_none() {
+        let got = acquire(space, context, &key, Mode::SR, Duration::Explicit);
+        drop(key);
+        if got.is_none() {
             return Err(Failure::Unexpected);
         }
     }
@@ -128,29 +153,24 @@ fn stock_up<S: LockSpace>(
 }
 
 // The keys of a wish.
-fn keys_of(alloc: Global, wish: &Wish) -> Result<Vec<Key>, Failure> {
-    let mut keys = Vec::new(alloc);
-    let listed = match wish {
-        Wish::Request | Wish::AskAgain => list_tables(alloc, &mut keys, SPREAD, 1),
+fn list_keys(alloc: Global, wish: &Wish, keys: &mut Vec<Key>) -> Result<(), Failure> {
+    match wish {
+        Wish::Request | Wish::AskAgain => list_tables(alloc, keys, SPREAD, 1),
         Wish::Transact => match keys.push(Key::global(alloc)) {
-            Ok(()) => list_tables(alloc, &mut keys, 0, 3),
+            Ok(()) => list_tables(alloc, keys, 0, 3),
             Err(_) => Err(Failure::Memory),
         },
-        Wish::GoBack => list_tables(alloc, &mut keys, 0, LOCKED),
-    };
-    match listed {
-        Ok(()) => Ok(keys),
-        Err(why) => Err(why),
+        Wish::GoBack => list_tables(alloc, keys, 0, LOCKED),
     }
 }
 
 // The keys of so many tables from one on.
 fn list_tables(alloc: Global, keys: &mut Vec<Key>, from: u16, count: u16) -> Result<(), Failure> {
-    for index in 0..count {
-        if keys
-            .push(table(alloc, from.saturating_add(index))?)
-            .is_err()
-        {
+    for index in from..from.saturating_add(count) {
+        let pushed = keys.push(table(alloc, index)?);
+        let is_there = pushed.is_ok();
+        drop(pushed);
+        if !is_there {
             return Err(Failure::Memory);
         }
     }

@@ -51,6 +51,13 @@ pub struct Lap {
 }
 
 impl Lap {
+    /// That of no thread.
+    pub const NONE: Lap = Lap {
+        clock: Duration::ZERO,
+        processor: Duration::ZERO,
+        alters: Duration::ZERO,
+    };
+
     /// That of two threads: the longer time of each, and the ALTERs of both.
     pub fn beside(self, other: Lap) -> Lap {
         Lap {

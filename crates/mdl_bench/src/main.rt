@@ -10,6 +10,7 @@
 mod beside;
 mod books;
 mod contexts;
+mod crowds;
 mod failure;
 mod guests;
 mod lap;
@@ -30,7 +31,7 @@ mod work;
 use failure::Failure;
 use play::{Task, time_task};
 use reads::Reading;
-use row::time_row;
+use row::time_rows;
 use rows::ROWS;
 use session::Stock;
 use std::alloc::Global;
@@ -80,10 +81,7 @@ fn time_all<R: Threads + Wait + Sync + Clock + CpuClock + Print>(
     alloc: Global,
     quick: bool,
 ) -> Result<(), Failure> {
-    for row in ROWS {
-        time_row(rt, alloc, quick, row)?;
-    }
-    Ok(())
+    time_rows(rt, alloc, quick, ROWS)
 }
 
 // What the command line asks for: a word, and the numbers after it.

@@ -17,33 +17,45 @@ pub fn time_key_probes<R: Clock>(
     keys: u16,
     turns: u32,
 ) -> Result<Duration, Failure> {
-    let last = keys.saturating_sub(1);
-    let key = table(alloc, last)?;
     let mut map = IndexMap::new(alloc);
-    fill_keys(alloc, &mut map, keys)?;
-    let began = Instant::now(rt)?;
-    let made = find_key(&map, &key, last, turns);
-    spent_since(rt, began, made, turns)
+    let spent = probe_keys(rt, alloc, &mut map, keys, turns);
+    drop(map);
+    spent
 }
 
-fn fill_keys(alloc: Global, map: &mut IndexMap<Key, Place>, keys: u16) -> Result<(), Failure> {
+// Fills a map with the keys of tables, and looks the last one up.
+fn probe_keys<R: Clock>(
+    rt: &R,
+    alloc: Global,
+    map: &mut IndexMap<Key, Place>,
+    keys: u16,
+    turns: u32,
+) -> Result<Duration, Failure> {
     for index in 0..keys {
-        if map.insert(table(alloc, index)?, index).is_err() {
+        let key = table(alloc, index)?;
+        if map.insert(key, index).is_err() {
             return Err(Failure::Memory);
         }
     }
-    Ok(())
+    let last = keys.saturating_sub(1);
+    let key = table(alloc, last)?;
+    find_key(rt, map, &key, last, turns)
 }
 
-// Looks a key up so many times: how often its place was there.
-fn find_key(map: &IndexMap<Key, Place>, key: &Key, place: Place, turns: u32) -> u32 {
+// Looks a key up so many times, whose place is there.
+fn find_key<R: Clock>(
+    rt: &R,
+    map: &IndexMap<Key, Place>,
+    key: &Key,
+    place: Place,
+    turns: u32,
+) -> Result<Duration, Failure> {
+    let began = Instant::now(rt)?;
     let mut made = 0u32;
     for _turn in 0..turns {
-        if map.get(key) == Some(&place) {
-            made = made.wrapping_add(1);
-        }
+        made = made.wrapping_add(u32::from(map.get(key) == Some(&place)));
     }
-    made
+    spent_since(rt, began, made, turns)
 }
 
 /// How long so many probes of a map of so many places and versions took.
@@ -55,13 +67,27 @@ pub fn time_version_probes<R: Clock>(
 ) -> Result<Duration, Failure> {
     let words = Words::new(alloc)?;
     let mut map = IndexMap::new(alloc);
+    let spent = probe_versions(rt, &mut map, &words, places, turns);
+    drop(map);
+    drop(words);
+    spent
+}
+
+// Fills a map with places and versions, and looks the last one up.
+fn probe_versions<R: Clock>(
+    rt: &R,
+    map: &mut IndexMap<(Place, u64), Place>,
+    words: &Words,
+    places: u16,
+    turns: u32,
+) -> Result<Duration, Failure> {
     for place in 0..places {
         if map.insert((place, 0), place).is_err() {
             return Err(Failure::Memory);
         }
     }
     let began = Instant::now(rt)?;
-    let made = find_version(&map, &words, places.saturating_sub(1), turns);
+    let made = find_version(map, words, places.saturating_sub(1), turns);
     spent_since(rt, began, made, turns)
 }
 

@@ -37,11 +37,13 @@ pub fn time_reads<R: Wait + Clock + CpuClock>(
     tables: u16,
     race: &Race,
 ) -> Result<Lap, Failure> {
-    let ids = hold_each(rt, alloc, session, tables)?;
-    let Ok(mut cache) = DefCache::new(alloc, tables) else {
-        return Err(Failure::Memory);
+    let mut ids = Vec::new(alloc);
+    let lap = match hold_each(rt, alloc, session, tables, &mut ids) {
+        Ok(()) => time_cached(rt, alloc, session, &ids, reading, tables, race),
+        Err(why) => Err(why),
     };
-    read_last(rt, session, &ids, &mut cache, reading, race)
+    drop(ids);
+    lap
 }
 
 // A fast ticket of each table.
@@ -50,8 +52,8 @@ fn hold_each<R: Wait>(
     alloc: Global,
     session: &mut Session<&R>,
     tables: u16,
-) -> Result<Vec<TicketId>, Failure> {
-    let mut ids = Vec::new(alloc);
+    ids: &mut Vec<TicketId>,
+) -> Result<(), Failure> {
     for index in 0..tables {
         let place = look_table_up(alloc, session, index, 1)?;
         let id = gain(rt, session, place, Mode::SR)?;
@@ -59,26 +61,45 @@ fn hold_each<R: Wait>(
             return Err(Failure::Memory);
         }
     }
-    Ok(ids)
+    Ok(())
 }
 
-// Keeps all tables, and then reads under the last ticket, once all sessions are there.
+// Keeps all tables, and then reads under the last ticket.
+fn time_cached<R: Wait + Clock + CpuClock>(
+    rt: &R,
+    alloc: Global,
+    session: &mut Session<&R>,
+    ids: &[TicketId],
+    reading: &Reading,
+    tables: u16,
+    race: &Race,
+) -> Result<Lap, Failure> {
+    let Some(last) = ids.last().copied() else {
+        return Err(Failure::Unexpected);
+    };
+    let Ok(mut cache) = DefCache::new(alloc, tables) else {
+        return Err(Failure::Memory);
+    };
+    let lap = if keep_all(session, ids, &mut cache) {
+        read_last(rt, session, last, &mut cache, reading, race)
+    } else {
+        Err(Failure::Unexpected)
+    };
+    drop(cache);
+    lap
+}
+
+// Reads under a ticket, once all sessions are there.
 fn read_last<R: Wait + Clock + CpuClock>(
     rt: &R,
     session: &mut Session<&R>,
-    ids: &[TicketId],
+    last: TicketId,
     cache: &mut DefCache,
     reading: &Reading,
     race: &Race,
 ) -> Result<Lap, Failure>
     requires met { AreMet (HasMet (space_of session.old) session.old.me.0.number) cache.old.kept }
 {
-    let Some(last) = ids.last().copied() else {
-        return Err(Failure::Unexpected);
-    };
-    if !keep_all(session, ids, cache) {
-        return Err(Failure::Unexpected);
-    }
     let start = Start::of(rt, race)?;
     let found = match reading {
         Reading::Cached => look_often(session, last, cache, race.turns),
@@ -205,9 +226,10 @@ fn create<R: Wait>(
     place: Place,
     columns: u16,
 ) -> Result<(), Failure> {
-    let columns = columns_of(alloc, columns)?;
-    let change = Change::Create(Definition::Table(columns));
-    change_at(session, place, &change)
+    let change = Change::Create(Definition::Table(columns_of(alloc, columns)?));
+    let made = change_at(session, place, &change);
+    drop(change);
+    made
 }
 
 // So many columns.
@@ -221,10 +243,15 @@ fn columns_of(alloc: Global, count: u16) -> Result<Columns, Failure> {
 
 fn name_columns(alloc: Global, columns: &mut Columns, count: u16) -> Result<(), Failure> {
     for index in 0..count {
-        let name = format!(in alloc; "column_{index}")?;
-        columns.push(Column::new(alloc, name.as_str())?)?;
+        columns.push(column(alloc, index)?)?;
     }
     Ok(())
+}
+
+// One of many columns.
+fn column(alloc: Global, index: u16) -> Result<Column, Failure> {
+    let name = format!(in alloc; "column_{index}")?;
+    Ok(Column::new(alloc, name.as_str())?)
 }
 
 // The session locks a table for itself, and changes what stands there.

@@ -9,65 +9,52 @@ use std::time::{Clock, CpuClock, Duration};
 // The rounds of which the least and the median are told: as the median the upper of the two in the middle.
 const ROUNDS: usize = 10;
 
-/// What is timed: its name; what its calls are of, where `shared` is the table that threads share; by how many threads; what a turn of it is;
-/// how many turns a round has: so few that a round takes a millisecond or two, and often ends before other work gets the processor; and
-/// what is done.
-pub struct Figure(
-    pub &'static str,
-    pub &'static str,
-    pub u16,
-    pub &'static str,
-    pub u32,
-    pub Work,
-);
+/// What a turn is: what it is of, where `shared` is the table that threads share; by how many threads; its name; and how many turns a round
+/// has: so few that a round takes a millisecond or two, and often ends before other work gets the processor.
+pub struct Turn(pub &'static str, pub u16, pub &'static str, pub u32);
 
-/// Of two figures of a row, by their places from 0 on, how many tenths of the second one the first takes at most, where all is as wanted.
-#[derive(Clone, Copy)]
+/// What is timed: its name, its turns, and what is done.
+pub struct Figure(pub &'static str, pub Turn, pub Work);
+
+/// Of two figures of a row, by their places from 0 on, how many percent of the second one the first takes at most, where all is as wanted.
 pub struct Goal(pub usize, pub usize, pub u64);
 
 /// Figures that are timed beside each other, and goals for them.
 pub struct Row(pub &'static [Figure], pub &'static [Goal]);
 
-impl Figure {
-    // How long so many turns took, for which all is made anew. Each answer was what it ought to be.
-    fn round<R: Threads + Wait + Sync + Clock + CpuClock>(
-        &self,
-        rt: &R,
-        alloc: Global,
-        turns: u32,
-    ) -> Result<Duration, Failure> {
-        let Figure(_, _, threads, _, _, work) = self;
-        work.round(rt, alloc, *threads, turns)
-    }
-}
-
-/// Times the figures of a row, one after another in each round, so that other work on the machine weighs on all of them alike. Prints
-/// them, and how they do beside each other. Where no figures are wanted it makes one turn of each, which shows that they work, and
+/// Times the figures of some rows, and prints them. Where no figures are wanted it makes one turn of each, which shows that they work, and
 /// prints nothing.
-pub fn time_row<R: Threads + Wait + Sync + Clock + CpuClock + Print>(
+pub fn time_rows<R: Threads + Wait + Sync + Clock + CpuClock + Print>(
     rt: &R,
     alloc: Global,
     quick: bool,
-    row: &Row,
+    rows: &[Row],
 ) -> Result<(), Failure> {
-    let Row(figures, goals) = row;
-    if quick {
-        return make_each(rt, alloc, figures);
-    }
-    let mut times = Vec::new(alloc);
-    for _round in 0..ROUNDS {
-        time_each(rt, alloc, figures, &mut times)?;
-    }
-    let mut told = Vec::new(alloc);
-    for (place, figure) in figures.iter().enumerate() {
-        let one = told_of(alloc, &times, place, figures.len())?;
-        print(rt, figure, one)?;
-        push(&mut told, one)?;
-    }
-    for goal in *goals {
-        print_goal(rt, figures, &told, *goal)?;
+    for Row(figures, goals) in rows {
+        if quick {
+            make_each(rt, alloc, figures)?;
+        } else {
+            time_row(rt, alloc, figures, goals)?;
+        }
     }
     Ok(())
+}
+
+// Times the figures of a row, one after another in each round, so that other work on the machine weighs on all of them alike. Prints them, and
+// how they do beside each other.
+fn time_row<R: Threads + Wait + Sync + Clock + CpuClock + Print>(
+    rt: &R,
+    alloc: Global,
+    figures: &[Figure],
+    goals: &[Goal],
+) -> Result<(), Failure> {
+    let mut times = Vec::new(alloc);
+    let told = match time_each(rt, alloc, figures, &mut times) {
+        Ok(()) => tell(rt, figures, goals, &times),
+        Err(failure) => Err(failure),
+    };
+    drop(times);
+    told
 }
 
 // One turn of each.
@@ -82,109 +69,35 @@ fn make_each<R: Threads + Wait + Sync + Clock + CpuClock>(
     Ok(())
 }
 
-// A round of each: what a turn took, in tenths of a nanosecond, goes to the other times.
+// The rounds of each: what a turn took goes to the times.
 fn time_each<R: Threads + Wait + Sync + Clock + CpuClock>(
     rt: &R,
     alloc: Global,
     figures: &[Figure],
     times: &mut Vec<u64>,
 ) -> Result<(), Failure> {
-    for figure in figures {
-        let spent = figure.round(rt, alloc, figure.4)?;
-        push(times, tenths(spent, figure.4))?;
+    for _round in 0..ROUNDS {
+        for figure in figures {
+            if times.push(figure.round(rt, alloc, figure.1.3)?).is_err() {
+                return Err(Failure::Memory);
+            }
+        }
     }
     Ok(())
 }
 
-// What a turn took in the least round and in the median one, in tenths of a nanosecond.
-#[derive(Clone, Copy)]
-struct Told {
-    least: u64,
-    median: u64,
-}
-
-// What is told of the figure at a place of a row of so many, of which there are these times.
-fn told_of(alloc: Global, times: &[u64], place: usize, figures: usize) -> Result<Told, Failure> {
-    let mut rounds = Vec::new(alloc);
-    for round in 0..ROUNDS {
-        let at = round.wrapping_mul(figures).wrapping_add(place);
-        push(&mut rounds, rank(times, at))?;
+impl Figure {
+    // What a turn took in a round of so many, in tenths of a nanosecond. All is made anew, and each answer was what it ought to be.
+    fn round<R: Threads + Wait + Sync + Clock + CpuClock>(
+        &self,
+        rt: &R,
+        alloc: Global,
+        turns: u32,
+    ) -> Result<u64, Failure> {
+        let Figure(_, Turn(_, threads, _, _), work) = self;
+        let spent = work.round(rt, alloc, *threads, turns)?;
+        Ok(tenths(spent, turns))
     }
-    if rounds.sort().is_err() {
-        return Err(Failure::Memory);
-    }
-    Ok(Told {
-        least: rank(&rounds, 0),
-        median: rank(&rounds, ROUNDS / 2),
-    })
-}
-
-fn rank(times: &[u64], place: usize) -> u64 {
-    times.get(place).copied().unwrap_or(u64::MAX)
-}
-
-fn push<T: Copy>(list: &mut Vec<T>, one: T) -> Result<(), Failure> {
-    match list.push(one) {
-        Ok(()) => Ok(()),
-        Err(_) => Err(Failure::Memory),
-    }
-}
-
-// The two lines for a program.
-fn print<R: Print>(rt: &R, figure: &Figure, told: Told) -> Result<(), Failure> {
-    print_line(rt, figure, "least", told.least)?;
-    print_line(rt, figure, "median", told.median)
-}
-
-// NAME shared THREADS WHAT NS, where WHAT ends with the kind of the round.
-fn print_line<R: Print>(rt: &R, figure: &Figure, kind: &str, tenths: u64) -> Result<(), Failure> {
-    let Figure(name, of, threads, what, _, _) = figure;
-    println!(rt;
-        "{name} {of} {threads} {what}_{kind} {}.{}",
-        tenths / 10,
-        tenths % 10
-    )?;
-    Ok(())
-}
-
-// How often a figure contains the one beside it: by the least rounds, by the median ones, and what is wanted.
-fn print_goal<R: Print>(
-    rt: &R,
-    figures: &[Figure],
-    told: &[Told],
-    goal: Goal,
-) -> Result<(), Failure> {
-    let Goal(one, other, most) = goal;
-    let (Some(figure), Some(beside)) = (figures.get(one), figures.get(other)) else {
-        return Err(Failure::Unexpected);
-    };
-    let (Some(took), Some(compared)) = (told.get(one), told.get(other)) else {
-        return Err(Failure::Unexpected);
-    };
-    let least = times(took.least, compared.least);
-    let median = times(took.median, compared.median);
-    println!(rt;
-        "{} {} takes {}.{:02} times {} {}, {}.{:02} in the median; at most {}.{} are wanted",
-        figure.0,
-        figure.2,
-        least / 100,
-        least % 100,
-        beside.0,
-        beside.2,
-        median / 100,
-        median % 100,
-        most / 10,
-        most % 10
-    )?;
-    Ok(())
-}
-
-// How often one time contains another, in hundredths.
-fn times(tenths: u64, beside: u64) -> u64 {
-    tenths
-        .saturating_mul(100)
-        .checked_div(beside)
-        .unwrap_or(u64::MAX)
 }
 
 // The tenths of a nanosecond of each of so many turns.
@@ -194,4 +107,72 @@ fn tenths(spent: Duration, turns: u32) -> u64 {
         Some(each) => u64::try_from(each).unwrap_or(u64::MAX),
         None => 0,
     }
+}
+
+// Prints all figures, and then how they do beside each other.
+fn tell<R: Print>(
+    rt: &R,
+    figures: &[Figure],
+    goals: &[Goal],
+    times: &[u64],
+) -> Result<(), Failure> {
+    for (place, figure) in figures.iter().enumerate() {
+        let (least, median) = told_of(times, place, figures.len());
+        print_line(rt, figure, "least", least)?;
+        print_line(rt, figure, "median", median)?;
+    }
+    for goal in goals {
+        print_goal(rt, figures, times, goal)?;
+    }
+    Ok(())
+}
+
+// What a turn took in the least round and in the median one, of the figure at a place of a row of so many.
+fn told_of(times: &[u64], place: usize, figures: usize) -> (u64, u64) {
+    let mut rounds = [0; ROUNDS];
+    for round in 0..ROUNDS {
+        let at = round.wrapping_mul(figures).wrapping_add(place);
+        rounds[round] = times.get(at).copied().unwrap_or(u64::MAX);
+    }
+    rounds.sort_unstable();
+    (rounds[0], rounds[ROUNDS / 2])
+}
+
+// The line for a program: NAME OF THREADS WHAT NS, where WHAT ends with the kind of the round.
+fn print_line<R: Print>(rt: &R, figure: &Figure, kind: &str, tenths: u64) -> Result<(), Failure> {
+    let Figure(name, Turn(of, threads, what, _), _) = figure;
+    println!(rt;
+        "{name} {of} {threads} {what}_{kind} {}.{}",
+        tenths / 10,
+        tenths % 10
+    )?;
+    Ok(())
+}
+
+// How often a figure contains the one beside it, in percent: by the least rounds, by the median ones, and what is wanted.
+fn print_goal<R: Print>(
+    rt: &R,
+    figures: &[Figure],
+    times: &[u64],
+    goal: &Goal,
+) -> Result<(), Failure> {
+    let Goal(one, other, most) = goal;
+    let took = told_of(times, *one, figures.len());
+    let compared = told_of(times, *other, figures.len());
+    let least = percent(took.0, compared.0);
+    let median = percent(took.1, compared.1);
+    let (Some(figure), Some(beside)) = (figures.get(*one), figures.get(*other)) else {
+        return Err(Failure::Unexpected);
+    };
+    println!(rt;
+        "{} {} takes {least}% of {} {}, {median}% in the median; at most {most}% are wanted",
+        figure.0, figure.1.1, beside.0, beside.1.1
+    )?;
+    Ok(())
+}
+
+fn percent(took: u64, compared: u64) -> u64 {
+    took.saturating_mul(100)
+        .checked_div(compared)
+        .unwrap_or(u64::MAX)
 }

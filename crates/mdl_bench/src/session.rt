@@ -122,21 +122,21 @@ pub fn time_calls<R: Wait + Clock + CpuClock>(
 ) -> Result<Lap, Failure> {
     let last = stock_up(alloc, session, stock, Mode::SU)?;
     let key = table(alloc, stock.last())?;
-    let start = Start::of(rt, race)?;
-    let made = call_often(session, call, &key, last, race.turns);
-    start.lap(rt, race, made)
+    call_often(rt, session, call, &key, last, race)
 }
 
-// So many calls: how many had the answer that they should have.
-fn call_often<R: Wait>(
-    session: &mut Session<R>,
+// So many calls, each of which had the answer that it should have.
+fn call_often<R: Wait + Clock + CpuClock>(
+    rt: &R,
+    session: &mut Session<&R>,
     call: &Call,
     key: &Key,
     last: Last,
-    turns: u32,
-) -> u32 {
+    race: &Race,
+) -> Result<Lap, Failure> {
+    let start = Start::of(rt, race)?;
     let mut made = 0u32;
-    for _turn in 0..turns {
+    for _turn in 0..race.turns {
         let well = match call {
             Call::Exclusive => takes(session, last.place),
             Call::Resolve => has_place(session, key, last.place),
@@ -146,7 +146,7 @@ fn call_often<R: Wait>(
         };
         made = made.wrapping_add(u32::from(well));
     }
-    made
+    start.lap(rt, race, made)
 }
 
 fn takes<R: Wait>(session: &mut Session<R>, place: Place) -> bool {
@@ -156,7 +156,8 @@ fn takes<R: Wait>(session: &mut Session<R>, place: Place) -> bool {
     }
 }
 
-fn has_place<R: Wait>(session: &mut Session<R>, key: &Key, place: Place) -> bool {
+/// Whether a key has this place.
+pub fn has_place<R: Wait>(session: &mut Session<R>, key: &Key, place: Place) -> bool {
     match session.resolve(key) {
         Ok(found) => found == place,
         Err(_) => false,

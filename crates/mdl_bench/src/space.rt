@@ -49,7 +49,9 @@ fn name_places<S: LockSpace>(alloc: Global, space: &mut S) -> Result<(), Failure
 {
     for index in 0..MOST_PLACES {
         let key = table(alloc, index)?;
-        if space.resolve(1, &key).is_err() {
+        let is_known = space.resolve(1, &key).is_ok();
+        drop(key);
+        if !is_known {
             return Err(Failure::Refused);
         }
     }

@@ -144,10 +144,8 @@ impl Words {
         let mut made = 0u32;
         for turn in 0..turns {
             let mut well = true;
-            for place in self.all.chunks(A_PLACE).take(places) {
-                if let Some(word) = place.first() {
-                    well &= exchange(word, u64::from(turn));
-                }
+            for word in self.all.iter().step_by(A_PLACE).take(places) {
+                well &= exchange(word, u64::from(turn));
             }
             made = made.wrapping_add(u32::from(well));
         }
@@ -159,15 +157,11 @@ impl Words {
         let mut made = 0u32;
         for _turn in 0..turns {
             let mut free = true;
-            for place in self.all.chunks(A_PLACE) {
-                if let Some(latch) = place.first() {
-                    free &= take_latch(latch);
-                }
+            for latch in self.all.iter().step_by(A_PLACE) {
+                free &= take_latch(latch);
             }
-            for place in self.all.chunks(A_PLACE) {
-                if let Some(latch) = place.first() {
-                    latch.store(0, Ordering::SeqCst);
-                }
+            for latch in self.all.iter().step_by(A_PLACE) {
+                latch.store(0, Ordering::SeqCst);
             }
             made = made.wrapping_add(u32::from(free));
         }

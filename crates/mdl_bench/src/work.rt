@@ -2,8 +2,8 @@
 use crate::beside::TURNS_AN_ALTER;
 use crate::books::{Asked, Shape, time_asking, time_grants, time_searches};
 use crate::contexts::{Wish, time_alone, time_shared};
+use crate::crowds::{Crowd, time_crowd};
 use crate::failure::Failure;
-use crate::guests::{Crowd, time_crowd};
 use crate::lap::Lap;
 use crate::play::{Task, time_task};
 use crate::probes::{time_key_probes, time_version_probes};

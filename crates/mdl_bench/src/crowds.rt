@@ -1,0 +1,289 @@
+//! Many sessions of the table that threads share, on one thread: one has a lock, and the others wait for it; each waits for the next; or each
+//! looks a key up for the first time.
+use crate::failure::Failure;
+use crate::guests::{Guest, open_all};
+use crate::lap::spent_since;
+use crate::places::look_table_up;
+use crate::session::{has_place, take};
+use crate::table::table;
+use mdl_calls::{Begun, Ended, Place, Poll, Search, TicketId};
+use mdl_key::{Key, MOST_PLACES, Mode};
+use mdl_shared::Session;
+use std::alloc::Global;
+use std::sync::Wait;
+use std::time::{Clock, Duration, Instant};
+
+// The places of a table in which sessions look for deadlocks. Each has the key of a table.
+const SEARCHED: u16 = 64;
+
+/// What is done in a turn.
+pub enum Crowd {
+    /// One releases X, and so many wait to read.
+    Grant(u16),
+    /// One looks at its wait.
+    Poll,
+    /// The first of a chain, in which so many wait for the next one's lock, looks for a deadlock.
+    Search(u16),
+    /// One looks a key up, among so many; each turn another one that knows nothing.
+    LookUp(u16),
+}
+
+impl Crowd {
+    // The places of the table, and its sessions.
+    fn size(&self) -> (u16, u16) {
+        match self {
+            Crowd::Grant(waiters) => (1, waiters.saturating_add(1)),
+            Crowd::Poll => (1, 2),
+            Crowd::Search(waiters) => (SEARCHED, waiters.saturating_add(1)),
+            Crowd::LookUp(_) => (MOST_PLACES, 64),
+        }
+    }
+
+    // How long so many turns took, by the sessions of a new table.
+    fn timed<R: Wait + Clock>(
+        &self,
+        rt: &R,
+        alloc: Global,
+        guests: &mut [Guest<'_, R>],
+        turns: u32,
+    ) -> Result<Duration, Failure> {
+        let Some((first, others)) = guests.split_first_mut() else {
+            return Err(Failure::Unexpected);
+        };
+        let first = &mut first.session;
+        match self {
+            Crowd::Grant(_) => time_grants(rt, alloc, first, others, turns),
+            Crowd::Poll => time_polls(rt, alloc, first, others, turns),
+            Crowd::Search(_) => time_searches(rt, alloc, first, others, turns),
+            Crowd::LookUp(keys) => time_look_ups(rt, alloc, first, others, *keys, turns),
+        }
+    }
+}
+
+/// How long so many turns took, without the clock's own time where the clock is looked at in each.
+pub fn time_crowd<R: Wait + Clock>(
+    rt: &R,
+    alloc: Global,
+    crowd: &Crowd,
+    turns: u32,
+) -> Result<Duration, Failure> {
+    let (places, sessions) = crowd.size();
+    let mut guests = Vec::new(alloc);
+    let spent = match open_all(rt, alloc, places, sessions, &mut guests) {
+        Ok(()) => crowd.timed(rt, alloc, &mut guests, turns),
+        Err(why) => Err(why),
+    };
+    drop(guests);
+    spent
+}
+
+// How long it took so many times to release the lock that the others wait for.
+fn time_grants<R: Wait + Clock>(
+    rt: &R,
+    alloc: Global,
+    first: &mut Session<&R>,
+    others: &mut [Guest<'_, R>],
+    turns: u32,
+) -> Result<Duration, Failure> {
+    let place = meet(alloc, first, others)?;
+    let mut spent = Duration::ZERO;
+    for _turn in 0..turns {
+        let id = fill(first, others, place)?;
+        spent = spent.saturating_add(time_release(rt, first, id)?);
+        empty(others)?;
+    }
+    Ok(spent)
+}
+
+// All look the same key up: its place.
+fn meet<R: Wait>(
+    alloc: Global,
+    first: &mut Session<&R>,
+    others: &mut [Guest<'_, R>],
+) -> Result<Place, Failure> {
+    for other in others {
+        look_table_up(alloc, &mut other.session, 0, 0)?;
+    }
+    look_table_up(alloc, first, 0, 0)
+}
+
+// The first takes the lock for itself, and all others begin to wait for it.
+fn fill<R: Wait>(
+    first: &mut Session<&R>,
+    others: &mut [Guest<'_, R>],
+    place: Place,
+) -> Result<TicketId, Failure> {
+    let id = take(first, place, Mode::X)?;
+    for other in others {
+        wait_for(&mut other.session, place)?;
+    }
+    Ok(id)
+}
+
+// Each comes by the lock that it waits for, which is granted, and gives it up.
+fn empty<R: Wait>(others: &mut [Guest<'_, R>]) -> Result<(), Failure> {
+    for other in others {
+        come_and_go(&mut other.session)?;
+    }
+    Ok(())
+}
+
+// How long it takes to release a lock, without the clock's own time.
+fn time_release<R: Wait + Clock>(
+    rt: &R,
+    session: &mut Session<&R>,
+    id: TicketId,
+) -> Result<Duration, Failure> {
+    let idle = Instant::now(rt)?.elapsed(rt)?;
+    let began = Instant::now(rt)?;
+    session.release(id)?;
+    let spent = began.elapsed(rt)?;
+    Ok(spent.saturating_sub(idle))
+}
+
+// Begins to wait for a lock that isn't free, to read.
+fn wait_for<R: Wait>(session: &mut Session<&R>, place: Place) -> Result<(), Failure> {
+    match session.begin_wait(place, Mode::SR)? {
+        Begun::Waiting(_) => Ok(()),
+        Begun::Granted(_) => Err(Failure::Unexpected),
+    }
+}
+
+// The same by one of them.
+fn come_and_go<R: Wait>(session: &mut Session<&R>) -> Result<(), Failure> {
+    match session.end_wait()? {
+        Ended::Granted(id) => Ok(session.release(id)?),
+        _ => Err(Failure::Unexpected),
+    }
+}
+
+// How long it took so many times to look at a wait.
+fn time_polls<R: Wait + Clock>(
+    rt: &R,
+    alloc: Global,
+    first: &mut Session<&R>,
+    others: &mut [Guest<'_, R>],
+    turns: u32,
+) -> Result<Duration, Failure> {
+    let place = meet(alloc, first, others)?;
+    fill(first, others, place)?;
+    let Some(second) = others.first_mut() else {
+        return Err(Failure::Unexpected);
+    };
+    let began = Instant::now(rt)?;
+    let pending = poll_often(&mut second.session, turns);
+    spent_since(rt, began, pending, turns)
+}
+
+// Looks so many times at a wait: how often it wasn't settled.
+fn poll_often<R: Wait>(session: &mut Session<&R>, turns: u32) -> u32 {
+    let mut pending = 0u32;
+    for _turn in 0..turns {
+        let is_pending = match session.poll_wait() {
+            Ok(Poll::Pending) => true,
+            _ => false,
+        };
+        pending = pending.wrapping_add(u32::from(is_pending));
+    }
+    pending
+}
+
+// How long it took the first of a chain so many times to look for a deadlock. Each place has a key.
+fn time_searches<R: Wait + Clock>(
+    rt: &R,
+    alloc: Global,
+    first: &mut Session<&R>,
+    others: &mut [Guest<'_, R>],
+    turns: u32,
+) -> Result<Duration, Failure> {
+    learn(alloc, first, SEARCHED)?;
+    link(alloc, first, others)?;
+    let began = Instant::now(rt)?;
+    let untangled = search_often(first, turns);
+    spent_since(rt, began, untangled, turns)
+}
+
+// Each takes the lock of a table for itself, and each but the last one begins to wait for that of the next one.
+fn link<R: Wait>(
+    alloc: Global,
+    first: &mut Session<&R>,
+    others: &mut [Guest<'_, R>],
+) -> Result<(), Failure> {
+    take_own(alloc, first)?;
+    for other in others.iter_mut() {
+        take_own(alloc, &mut other.session)?;
+    }
+    wait_for_next(alloc, first)?;
+    let waiters = others.len().saturating_sub(1);
+    for other in others.iter_mut().take(waiters) {
+        wait_for_next(alloc, &mut other.session)?;
+    }
+    Ok(())
+}
+
+// Takes the lock of the session's own table, which is free, for itself.
+fn take_own<R: Wait>(alloc: Global, session: &mut Session<&R>) -> Result<(), Failure> {
+    let own = session.number().saturating_sub(1);
+    let place = look_table_up(alloc, session, own, 0)?;
+    take(session, place, Mode::X)?;
+    Ok(())
+}
+
+// Begins to wait for the lock of the next session's table.
+fn wait_for_next<R: Wait>(alloc: Global, session: &mut Session<&R>) -> Result<(), Failure> {
+    let next = session.number();
+    let place = look_table_up(alloc, session, next, 0)?;
+    wait_for(session, place)
+}
+
+// Looks so many times for a deadlock: how often there was none.
+fn search_often<R: Wait>(session: &mut Session<&R>, turns: u32) -> u32 {
+    let mut untangled = 0u32;
+    for _turn in 0..turns {
+        let is_untangled = match session.search_deadlock() {
+            Ok(Search::NoCycle) => true,
+            _ => false,
+        };
+        untangled = untangled.wrapping_add(u32::from(is_untangled));
+    }
+    untangled
+}
+
+// A session looks so many keys up: the last place.
+fn learn<R: Wait>(alloc: Global, session: &mut Session<&R>, keys: u16) -> Result<Place, Failure> {
+    let mut place = 0;
+    for index in 0..keys {
+        place = look_table_up(alloc, session, index, 0)?;
+    }
+    Ok(place)
+}
+
+// How long it took to look a key up that the first session gave its place, the last of so many: each time by another one.
+fn time_look_ups<R: Wait + Clock>(
+    rt: &R,
+    alloc: Global,
+    first: &mut Session<&R>,
+    others: &mut [Guest<'_, R>],
+    keys: u16,
+    turns: u32,
+) -> Result<Duration, Failure> {
+    let wanted = learn(alloc, first, keys)?;
+    let key = table(alloc, keys.saturating_sub(1))?;
+    look_up_by_each(rt, others, &key, wanted, turns)
+}
+
+// The same by the others, once the key has its place.
+fn look_up_by_each<R: Wait + Clock>(
+    rt: &R,
+    others: &mut [Guest<'_, R>],
+    key: &Key,
+    wanted: Place,
+    turns: u32,
+) -> Result<Duration, Failure> {
+    let mut made = 0u32;
+    let began = Instant::now(rt)?;
+    for guest in others.iter_mut().take(turns as usize) {
+        made = made.wrapping_add(u32::from(has_place(&mut guest.session, key, wanted)));
+    }
+    spent_since(rt, began, made, turns)
+}
