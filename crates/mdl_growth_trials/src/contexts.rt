@@ -3,15 +3,15 @@
 //! memory.
 ghost use Rattle.std.specs.Prelude.{◌≡◌, [], None};
 ghost use Rattle.mdl_context.specs.Contexts.{Attends};
-ghost use Rattle.mdl_shared.specs.Passes.{pass_table, table_of};
 
 use crate::passes::{closes, new_passes};
 use mdl_context::{Acquire, Context, ContextError, Kept, Mark, Request, Resume};
 use mdl_key::{Duration, Key, Mode};
-use mdl_shared::{Manager, Pass, Session};
+use mdl_shared::Session;
 use mdl_space::{Held, LockSpace, Settled, SpaceError, TicketId};
 use std::alloc::Global;
 use std::marker::Model;
+use std::mem::drop;
 use std::sync::Wait;
 
 // A call of a session.
@@ -119,10 +119,8 @@ impl<S: LockSpace> Seat<S> {
 
     // The session, with what it has, and without its context.
     fn into_session(self) -> S {
-        let Seat {
-            session,
-            context: _,
-        } = self;
+        let Seat { session, context } = self;
+        drop(context);
         session
     }
 }
@@ -315,42 +313,40 @@ const ROWS: &[Row] = &[
     (1, Act::EndTransaction, Reply::Done, 0),
 ];
 
-// The sessions of a new space, of two places.
-fn open<'r, R: Wait>(
-    rt: &'r R,
-    alloc: Global,
-) -> Option<(Seat<Session<&'r R>>, Seat<Session<&'r R>>)> {
-    let Ok((manager, mut passes)) = new_passes(alloc, 2) else {
-        return None;
-    };
-    let second = open_seat(rt, alloc, &manager, passes.remove(1));
-    let first = open_seat(rt, alloc, &manager, passes.remove(0));
-    Some((first, second))
-}
-
-// The session of a pass.
-fn open_seat<'r, R: Wait>(
-    rt: &'r R,
-    alloc: Global,
-    manager: &Manager,
-    pass: Pass,
-) -> Seat<Session<&'r R>>
-    requires { pass_table pass ≡ table_of manager.now }
-{
-    let session = Session::open(rt, manager, pass);
-    let who = session.number();
-    Seat::new(alloc, session, who)
-}
-
 /// Whether contexts do what they should.
 pub(crate) fn calls_are_answered<R: Wait>(rt: &R, alloc: Global) -> bool {
-    let Some((mut first, mut second)) = open(rt, alloc) else {
+    let Ok((manager, mut passes)) = new_passes(alloc, 2) else {
         return false;
     };
-    let go_well = all_outlive(alloc, &mut first, &mut second);
-    let _first = closes(rt, first.into_session());
-    let _second = closes(rt, second.into_session());
+    let second = Session::open(rt, &manager, passes.remove(1));
+    let first = Session::open(rt, &manager, passes.remove(0));
+    drop(passes);
+    drop(manager);
+    let one = first.number();
+    let two = second.number();
+    let (go_well, first, second) = sessions_outlive(alloc, first, one, second, two);
+    let _first = closes(rt, first);
+    let _second = closes(rt, second);
     go_well
+}
+
+// Whether all rows are as they say, by two sessions of these numbers that have nothing, and the sessions behind them.
+fn sessions_outlive<S: LockSpace>(
+    alloc: Global,
+    first: S,
+    one: u16,
+    second: S,
+    two: u16,
+) -> (bool, S, S)
+    requires first_speaks { S.speaks_for first one }
+    requires first_nothing { S.own first one ≡ record { held = []; wait = None } }
+    requires second_speaks { S.speaks_for second two }
+    requires second_nothing { S.own second two ≡ record { held = []; wait = None } }
+{
+    let mut first = Seat::new(alloc, first, one);
+    let mut second = Seat::new(alloc, second, two);
+    let go_well = all_outlive(alloc, &mut first, &mut second);
+    (go_well, first.into_session(), second.into_session())
 }
 
 fn all_outlive<S: LockSpace>(alloc: Global, first: &mut Seat<S>, second: &mut Seat<S>) -> bool {
@@ -372,12 +368,12 @@ fn all_outlive<S: LockSpace>(alloc: Global, first: &mut Seat<S>, second: &mut Se
 fn outlives<S: LockSpace>(alloc: Global, seat: &mut Seat<S>, row: Row) -> bool {
     let (_, act, want, count) = row;
     let (mark, had, _) = seat.stands();
-    let reply = seat.make(alloc, act);
-    if reply != Reply::NoMemory || !act.takes_memory() {
-        return reply == want && seat.keeps(count);
+    let mut reply = seat.make(alloc, act);
+    if reply == Reply::NoMemory && act.takes_memory() {
+        if seat.stands() != (mark, had, false) || !seat.keeps(had) {
+            return false;
+        }
+        reply = seat.make(alloc, act.again());
     }
-    seat.stands() == (mark, had, false)
-        && seat.keeps(had)
-        && seat.make(alloc, act.again()) == want
-        && seat.keeps(count)
+    reply == want && seat.keeps(count)
 }

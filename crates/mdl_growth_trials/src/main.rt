@@ -7,6 +7,7 @@
 #![tactic(auto)]
 
 mod acts;
+mod alike;
 mod contexts;
 mod passes;
 mod scenes;

@@ -4,6 +4,7 @@ ghost use Rattle.mdl_shared.specs.Passes.{ArePasses, table_of};
 
 use mdl_shared::{HoldsTickets, Manager, NewError, Pass, Session};
 use std::alloc::Global;
+use std::mem::drop;
 use std::sync::Wait;
 
 /// A space of so many places and the passes of its three sessions, at the second try, where memory was refused to the first.
@@ -22,7 +23,10 @@ pub(crate) fn closes<R: Wait + Drop>(rt: &impl Wait, session: Session<R>) -> boo
     let mut had_nothing = true;
     for _ in rt.forever() {
         match session.close() {
-            Ok(_pass) => return had_nothing,
+            Ok(pass) => {
+                drop(pass);
+                return had_nothing;
+            }
             Err(HoldsTickets(open)) => {
                 session = open;
                 give_up(&mut session);

@@ -1,6 +1,7 @@
 //! Rows of a server, read into locks.
 use mdl_lock_rows::{LockRows, LockRowsError, read_lock_rows};
 use std::alloc::Global;
+use std::mem::drop;
 
 // Two threads have or await two locks, the wait for one of them is settled, and a row is left out.
 const TEXT: &[u8] = b"\
@@ -14,21 +15,32 @@ BACKUP\tNULL\tNULL\tBACKUP_DDL\tTRANSACTION\tGRANTED\t48300
 /// Whether the rows are read whole, at the second try, where memory was refused to the first.
 pub(crate) fn rows_are_read(alloc: Global) -> bool {
     match read_lock_rows(alloc, TEXT) {
-        Err(LockRowsError::OutOfMemory) => is_whole(&read_lock_rows(alloc, TEXT)),
-        outcome => is_whole(&outcome),
+        Err(LockRowsError::OutOfMemory) => is_whole(read_lock_rows(alloc, TEXT)),
+        outcome => is_whole(outcome),
     }
 }
 
-fn is_whole(outcome: &Result<LockRows, LockRowsError>) -> bool {
-    let Ok(found) = outcome else {
-        return false;
+fn is_whole(outcome: Result<LockRows, LockRowsError>) -> bool {
+    let is_so = match &outcome {
+        Ok(found) => are_there(found),
+        Err(_) => false,
     };
+    drop(outcome);
+    is_so
+}
+
+// Whether these are the locks of the rows, with all that belongs to them.
+fn are_there(found: &LockRows) -> bool {
     let [first, second] = found.locks.as_slice() else {
         return false;
     };
-    (first.granted().len(), first.waiting().len()) == (1, 1)
-        && (second.granted().len(), second.waiting().len()) == (1, 0)
-        && (found.rows.len(), found.threads.len(), found.keys.len()) == (3, 2, 2)
+    first.granted().len() == 1
+        && first.waiting().len() == 1
+        && second.granted().len() == 1
+        && second.waiting().is_empty()
+        && found.rows.len() == 3
+        && found.threads.len() == 2
+        && found.keys.len() == 2
         && found.settled.contains(2)
         && !found.settled.contains(1)
         && found.left_out.len() == 1

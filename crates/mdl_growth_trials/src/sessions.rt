@@ -1,12 +1,14 @@
 //! Sessions of a space that threads share, on one thread: fast tickets, waits, a deadlock, and what stands under a key. Where a call is refused for
 //! want of memory, all stands as before, but that fast tickets may have become slow ones, those of a place together; then the call is made again.
 use crate::acts::{Act, Reply, knows, make};
+use crate::alike::are_alike;
 use crate::passes::{closes, new_passes};
 use mdl_key::Mode;
 use mdl_shared::{Audited, Fast, Session};
 use mdl_space::{Place, Settled};
 use mdl_word::Word;
 use std::alloc::Global;
+use std::mem::drop;
 use std::sync::Wait;
 
 // The places of the space: those of two tables.
@@ -22,22 +24,23 @@ struct Trio<R> {
     three: Session<R>,
 }
 
-impl<R> Trio<R> {
-    // The session of a number.
-    fn session(&mut self, who: u16) -> &mut Session<R> {
+impl<R: Wait> Trio<R> {
+    // Makes a call of a session.
+    fn make(&mut self, alloc: Global, who: u16, act: Act) -> Reply {
         match who {
-            1 => &mut self.one,
-            2 => &mut self.two,
-            _ => &mut self.three,
+            1 => make(&mut self.one, alloc, act),
+            2 => make(&mut self.two, alloc, act),
+            _ => make(&mut self.three, alloc, act),
         }
     }
-}
 
-impl<R: Wait> Trio<R> {
     // Whether of so many rows that comes that should.
     fn answers(&mut self, alloc: Global, count: usize) -> bool {
-        for (who, act, want) in ROWS.iter().take(count) {
-            if make(self.session(*who), alloc, *act) != *want {
+        for at in 0..count {
+            let Some((who, act, want)) = row(at) else {
+                return false;
+            };
+            if self.make(alloc, who, act) != want {
                 return false;
             }
         }
@@ -45,37 +48,50 @@ impl<R: Wait> Trio<R> {
     }
 
     // Whether all stands here as in another trio, but that this session's fast tickets may have become slow ones, at some places and not at others.
-    fn stands_as(&mut self, other: &mut Trio<R>, who: u16) -> bool {
-        for session in 1..=3 {
-            if !self.has_the_same(other, session) {
-                return false;
-            }
+    fn stands_as(&mut self, other: &mut Trio<R>, alloc: Global, who: u16) -> bool {
+        if !self.has_the_same(other) {
+            return false;
         }
         let first = self.place_stands_as(other, 1);
         let second = self.place_stands_as(other, 2);
-        let _slow = other.session(who).materialise();
+        let _slow = other.make(alloc, who, Act::Materialise);
         (first || self.place_stands_as(other, 1)) && (second || self.place_stands_as(other, 2))
     }
 
-    // Whether a session has the same tickets here as in another trio, and a wait that stands the same.
-    fn has_the_same(&mut self, other: &mut Trio<R>, who: u16) -> bool {
-        let holds_the_same = match (self.session(who).held(), other.session(who).held()) {
-            (Ok(here), Ok(there)) => here == there,
-            _ => false,
-        };
-        holds_the_same
-            && self.three.wait_of(who) == other.three.wait_of(who)
-            && self.session(who).poll_wait() == other.session(who).poll_wait()
+    // Whether each session has the same tickets here as in another trio, and a wait that stands the same.
+    fn has_the_same(&mut self, other: &mut Trio<R>) -> bool {
+        for who in 1..=3 {
+            if self.three.wait_of(who) != other.three.wait_of(who) {
+                return false;
+            }
+        }
+        has_the_same(&mut self.one, &mut other.one)
+            && has_the_same(&mut self.two, &mut other.two)
+            && has_the_same(&mut self.three, &mut other.three)
     }
 
     // Whether a place stands here as in another trio: its key, its lists, what stands under the key with the version, and the flag of its word.
     fn place_stands_as(&mut self, other: &mut Trio<R>, place: Place) -> bool {
-        let has_the_same_book = match (self.three.audit(), other.three.audit()) {
-            (Ok(here), Ok(there)) => have_the_same(&here, &there, place),
-            _ => false,
-        };
-        has_the_same_book && word_at(&mut self.three, place) == word_at(&mut other.three, place)
+        audits_the_same(&mut self.three, &mut other.three, place)
+            && word_at(&mut self.three, place) == word_at(&mut other.three, place)
     }
+}
+
+// Whether a session has the same tickets as another one, and a wait that stands the same.
+fn has_the_same<R: Wait>(here: &mut Session<R>, there: &mut Session<R>) -> bool {
+    are_alike(here.held(), there.held()) && here.poll_wait() == there.poll_wait()
+}
+
+// Whether the book of a place is to two sessions the same.
+fn audits_the_same<R: Wait>(here: &mut Session<R>, there: &mut Session<R>, place: Place) -> bool {
+    let (here, there) = (here.audit(), there.audit());
+    let is_so = match (&here, &there) {
+        (Ok(here), Ok(there)) => have_the_same(here, there, place),
+        _ => false,
+    };
+    drop(here);
+    drop(there);
+    is_so
 }
 
 // Whether the book of a place is in both lists the same, or in neither.
@@ -115,6 +131,8 @@ fn open<'r, R>(rt: &'r R, alloc: Global) -> Option<Trio<&'r R>> {
     let three = Session::open(rt, &manager, passes.remove(2));
     let two = Session::open(rt, &manager, passes.remove(1));
     let one = Session::open(rt, &manager, passes.remove(0));
+    drop(passes);
+    drop(manager);
     Some(Trio { one, two, three })
 }
 
@@ -185,28 +203,31 @@ pub(crate) fn calls_are_answered<R: Wait>(rt: &R, alloc: Global) -> bool {
 }
 
 fn all_outlive<'r, R: Wait>(rt: &'r R, alloc: Global, trio: &mut Trio<&'r R>) -> bool {
-    for (at, row) in ROWS.iter().enumerate() {
-        if !outlives(rt, alloc, trio, at, *row) {
+    for at in 0..ROWS.len() {
+        if !outlives(rt, alloc, trio, at) {
             return false;
         }
     }
     true
 }
 
+fn row(at: usize) -> Option<Row> {
+    match ROWS.get(at) {
+        Some(row) => Some(*row),
+        None => None,
+    }
+}
+
 // Whether this comes of a row: at once, or at the second try, where memory was refused to the first, after which all stood as before it.
-fn outlives<'r, R: Wait>(
-    rt: &'r R,
-    alloc: Global,
-    trio: &mut Trio<&'r R>,
-    at: usize,
-    row: Row,
-) -> bool {
-    let (who, act, want) = row;
-    let reply = make(trio.session(who), alloc, act);
+fn outlives<'r, R: Wait>(rt: &'r R, alloc: Global, trio: &mut Trio<&'r R>, at: usize) -> bool {
+    let Some((who, act, want)) = row(at) else {
+        return false;
+    };
+    let reply = trio.make(alloc, who, act);
     if reply != Reply::NoMemory || act.takes_none() {
         return reply == want;
     }
-    nothing_is_lost(rt, alloc, trio, at, who) && make(trio.session(who), alloc, act) == want
+    nothing_is_lost(rt, alloc, trio, at, who) && trio.make(alloc, who, act) == want
 }
 
 // Whether all stands as in a trio that is led up to a row of this session.
@@ -220,7 +241,7 @@ fn nothing_is_lost<'r, R: Wait>(
     let Some(mut other) = open(rt, alloc) else {
         return false;
     };
-    let is_so = other.answers(alloc, at) && trio.stands_as(&mut other, who);
+    let is_so = other.answers(alloc, at) && trio.stands_as(&mut other, alloc, who);
     let _had_nothing = close(rt, other);
     is_so
 }

@@ -7,8 +7,9 @@ ghost use Rattle.mdl_core.specs.Words.{SpeaksFor, empty_core};
 ghost use Rattle.mdl_space.specs.CoreMembers.{core_space};
 ghost use Rattle.mdl_stmt.specs.Attendance.{AttendsWith};
 
+use crate::alike::are_alike;
 use mdl_lines::Fault;
-use mdl_space::{CoreSpace, Held, LockSpace, NewError};
+use mdl_space::{CoreSpace, LockSpace, NewError};
 use mdl_stmt::{OutOfMemory, Progress, Reply, Runner};
 use mdl_syntax::{Line, Script, Statement, parse};
 use std::alloc::{AllocError, Global};
@@ -71,8 +72,15 @@ impl<'s> Pair<'s> {
     // Nobody has asked for anything.
     fn new(alloc: Global) -> Option<Pair<'s>> {
         let space = new_space(alloc, PLACES, 2)?;
-        let first = new_runner(alloc, 1)?;
-        let second = new_runner(alloc, 2)?;
+        let Some(first) = new_runner(alloc, 1) else {
+            drop(space);
+            return None;
+        };
+        let Some(second) = new_runner(alloc, 2) else {
+            drop(space);
+            drop(first);
+            return None;
+        };
         Some(Pair {
             space,
             first,
@@ -98,22 +106,12 @@ impl<'s> Pair<'s> {
         }
     }
 
-    // What a session holds.
-    fn held(&self, who: u16) -> Option<Vec<Held>> {
-        let held = if who == 1 {
-            self.space.held(1)
-        } else {
-            self.space.held(2)
-        };
-        held.ok()
-    }
-
-    // Whether a session has the same in another pair.
-    fn has_the_same(&self, other: &Pair<'s>, who: u16) -> bool {
-        match (self.held(who), other.held(who)) {
-            (Some(here), Some(there)) => here == there && self.waits(who) == other.waits(who),
-            _ => false,
-        }
+    // Whether the sessions have the same in another pair.
+    fn has_the_same(&self, other: &Pair<'s>) -> bool {
+        are_alike(self.space.held(1), other.space.held(1))
+            && are_alike(self.space.held(2), other.space.held(2))
+            && self.waits(1) == other.waits(1)
+            && self.waits(2) == other.waits(2)
     }
 
     // What a look tells, unless its session waits.
@@ -217,10 +215,21 @@ impl<'s> Staged<'s> {
         })
     }
 
+    // A line, and what comes of it.
+    fn row(self, at: usize) -> Option<(&'s Line, Outcome)> {
+        match (self.lines.get(at), self.rows.get(at)) {
+            (Some(line), Some((_, want))) => Some((line, *want)),
+            _ => None,
+        }
+    }
+
     // Whether it goes as it should, played by these two, also where memory is refused once.
     fn goes_well(self, pair: &mut Pair<'s>) -> bool {
-        for (at, (line, (_, want))) in self.lines.iter().zip(self.rows).enumerate() {
-            if !self.outlives(pair, at, line, *want) {
+        for at in 0..self.rows.len() {
+            let Some((line, want)) = self.row(at) else {
+                return false;
+            };
+            if !self.outlives(pair, at, line, want) {
                 return false;
             }
         }
@@ -256,9 +265,12 @@ impl<'s> Staged<'s> {
 
     // Plays the lines before one, but those of a session that come after its last end. Whether what should come of them does.
     fn leads_up_to(self, pair: &mut Pair<'s>, at: usize, who: u16, ended: usize) -> bool {
-        for (index, (line, (_, want))) in self.lines.iter().zip(self.rows).take(at).enumerate() {
+        for index in 0..at {
+            let Some((line, want)) = self.row(index) else {
+                return false;
+            };
             let is_left_out = line.session == who && index >= ended;
-            if !is_left_out && pair.play(line.session, &line.statement) != *want {
+            if !is_left_out && pair.play(line.session, &line.statement) != want {
                 return false;
             }
         }
@@ -268,8 +280,11 @@ impl<'s> Staged<'s> {
     // How far a session's last statement goes that ended before a line.
     fn last_end(self, at: usize, who: u16) -> usize {
         let mut ended = 0;
-        for (index, (line, (_, want))) in self.lines.iter().zip(self.rows).take(at).enumerate() {
-            if line.session == who && *want != Outcome::Waits {
+        for index in 0..at {
+            let Some((line, want)) = self.row(index) else {
+                return ended;
+            };
+            if line.session == who && want != Outcome::Waits {
                 ended = index.saturating_add(1);
             }
         }
@@ -278,7 +293,7 @@ impl<'s> Staged<'s> {
 
     // Whether both sessions have the same in two pairs, and are told the same.
     fn are_alike(self, one: &mut Pair<'s>, other: &mut Pair<'s>) -> bool {
-        if !one.has_the_same(other, 1) || !one.has_the_same(other, 2) {
+        if !one.has_the_same(other) {
             return false;
         }
         for line in self.looks {
@@ -294,19 +309,19 @@ impl<'s> Staged<'s> {
         let [commit, begin, rollback] = self.ends else {
             return false;
         };
-        let ends = match &line.statement {
-            Statement::Begin | Statement::Commit | Statement::Savepoint(_) => return false,
-            Statement::Select(_) | Statement::Write { .. } => return false,
-            Statement::GetLock(_) | Statement::ReleaseLock(_) => return false,
-            Statement::LockTables(_) => [begin, rollback],
-            _ => [commit, commit],
+        let (one, other) = match &line.statement {
+            Statement::Begin
+            | Statement::Commit
+            | Statement::Savepoint(_)
+            | Statement::Select(_)
+            | Statement::Write { .. }
+            | Statement::GetLock(_)
+            | Statement::ReleaseLock(_) => return false,
+            Statement::LockTables(_) => (begin, rollback),
+            _ => (commit, commit),
         };
-        for end in ends {
-            if pair.play(line.session, &end.statement) != Outcome::Done {
-                return false;
-            }
-        }
-        true
+        pair.play(line.session, &one.statement) == Outcome::Done
+            && pair.play(line.session, &other.statement) == Outcome::Done
     }
 }
 
@@ -320,10 +335,12 @@ fn takes_memory(statement: &Statement) -> bool {
 
 /// Whether a scene goes as it should, also where memory is refused once.
 pub(crate) fn goes_well(alloc: Global, scene: Scene<'_>) -> bool {
-    match read(alloc, scene) {
-        Some(script) => is_played_well(alloc, scene, script.lines()),
-        None => false,
-    }
+    let Some(script) = read(alloc, scene) else {
+        return false;
+    };
+    let is_so = is_played_well(alloc, scene, script.lines());
+    drop(script);
+    is_so
 }
 
 // Whether it goes as it should, played by the sessions of a new space.
@@ -347,24 +364,31 @@ fn read(alloc: Global, scene: Scene<'_>) -> Option<Script> {
     }
 }
 
-// All lines of a scene, its looks, and the ends behind them.
 fn script_of(alloc: Global, scene: Scene<'_>) -> Result<Script, Fault> {
     let mut text = String::new(alloc);
-    for (line, _) in scene.rows {
-        put(&mut text, line)?;
-    }
-    for line in scene.looks {
-        put(&mut text, line)?;
-    }
-    for line in ENDS {
-        put(&mut text, line)?;
-    }
-    parse(alloc, text.as_bytes())
-}
-
-fn put(text: &mut String, line: &str) -> Result<(), Fault> {
-    match text.push_str(line).and_then(|_| text.push('\n')) {
-        Ok(()) => Ok(()),
+    match put_all(&mut text, scene) {
+        Ok(()) => parse(alloc, text.as_bytes()),
         Err(AllocError) => Err(Fault::Memory),
     }
+}
+
+// All lines of a scene, its looks, and the ends behind them.
+fn put_all(text: &mut String, scene: Scene<'_>) -> Result<(), AllocError> {
+    for (line, _) in scene.rows {
+        put(text, line)?;
+    }
+    put_each(text, scene.looks)?;
+    put_each(text, ENDS)
+}
+
+fn put_each(text: &mut String, lines: &[&str]) -> Result<(), AllocError> {
+    for line in lines {
+        put(text, line)?;
+    }
+    Ok(())
+}
+
+fn put(text: &mut String, line: &str) -> Result<(), AllocError> {
+    text.push_str(line)?;
+    text.push('\n')
 }

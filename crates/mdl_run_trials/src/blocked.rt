@@ -3,12 +3,13 @@ ghost use Rattle.std.specs.Prelude.{◌≡◌, ◌≤◌, All, length};
 ghost use Rattle.mdl_shared.specs.Passes.{table_of, pass_table};
 
 use crate::playing::{lines, played_on};
-use mdl_calls::{Attempt, SpaceError, TicketId};
-use mdl_defs::{Definition, Standing};
+use mdl_calls::{Attempt, Place, TicketId};
+use mdl_defs::{Column, Definition, Standing};
 use mdl_key::{Key, MOST_PLACES, MOST_SESSIONS, Mode};
 use mdl_script::{DEFAULT_CACHE, OpenGate};
 use mdl_shared::{HoldsTickets, Manager, Pass, Session};
 use std::alloc::Global;
+use std::mem::drop;
 use std::process::Abort;
 use std::sync::Wait;
 use std::test::Fail;
@@ -18,70 +19,86 @@ const SCRIPT: &str = "1 CREATE TABLE t x / 1 CREATE TABLE u x";
 
 const TEXT: &str = "1 1 ERR 1205 / 2 1 OK / FINAL SCHEMA test@1 / FINAL TABLE test.u@1(x)";
 
-// Gets the lock of a key at once.
+// The ticket by which a session has a table of the schema test at once.
 fn take<R: Wait>(
     session: &mut Session<R>,
-    key: &Key,
+    alloc: Global,
+    table: &str,
     mode: Mode,
-) -> Result<Option<TicketId>, SpaceError> {
-    let place = session.resolve(key)?;
-    match session.try_now(place, mode)? {
-        Attempt::Granted(id) => Ok(Some(id)),
-        Attempt::WouldWait => Ok(None),
+) -> Option<TicketId> {
+    let place = place_of(session, alloc, table)?;
+    match session.try_now(place, mode) {
+        Ok(Attempt::Granted(id)) => Some(id),
+        Ok(Attempt::WouldWait) | Err(_) => None,
     }
 }
 
-// What stands under a key that is free to be read.
-fn read<R: Wait>(session: &mut Session<R>, key: &Key) -> Result<Option<Standing>, SpaceError> {
-    let Some(id) = take(session, key, Mode::SR)? else {
-        return Ok(None);
+fn place_of<R: Wait>(session: &mut Session<R>, alloc: Global, table: &str) -> Option<Place> {
+    let key = Key::table(alloc, "test", table).ok()?;
+    let place = session.resolve(&key);
+    drop(key);
+    place.ok()
+}
+
+// Whether a table is free to be read, and has just been created.
+fn sees_new<R: Wait>(session: &mut Session<R>, alloc: Global, table: &str) -> bool {
+    let Some(id) = take(session, alloc, table, Mode::SR) else {
+        return false;
     };
-    let standing = session.read_definition(id)?;
-    session.release(id)?;
-    Ok(Some(standing))
+    let is_new = match session.read_definition(id) {
+        Ok(standing) => is_new_table(standing),
+        Err(_) => false,
+    };
+    session.release(id).is_ok() && is_new
 }
 
 // Whether a table with the one column x stands, in its first version.
-fn is_new_table(standing: &Standing) -> bool {
-    let Some(Definition::Table(columns)) = &standing.definition else {
-        return false;
+fn is_new_table(standing: Standing) -> bool {
+    let is_new = match &standing.definition {
+        Some(Definition::Table(columns)) => {
+            standing.version == 1 && are_only_x(columns.as_slice())
+        }
+        _ => false,
     };
-    match columns.as_slice() {
-        [column] => standing.version == 1 && column.name() == "x",
+    drop(standing);
+    is_new
+}
+
+fn are_only_x(columns: &[Column]) -> bool {
+    match columns {
+        [column] => column.name() == "x",
         _ => false,
     }
 }
 
-// The text of the run while a session has table t, and what it sees of table u then.
+// The text of the run while a session has table t, and whether it sees then that table u is new, and gives up its own.
 fn played_beside<R: Threads + Wait + Sync>(
     rt: &R,
     alloc: Global,
     manager: &Manager,
     passes: Vec<Pass>,
+    script: &str,
     own: &mut Session<&R>,
-) -> Result<(String, Option<Standing>), Fail>
+) -> (Result<String, Fail>, bool)
     requires some { 1 ≤ length passes.items }
     requires theirs { All (λ pass. pass_table pass ≡ table_of manager.now) passes.items }
 {
-    let had = Key::table(alloc, "test", "t")?;
-    let seen = Key::table(alloc, "test", "u")?;
-    let Some(id) = take(own, &had, Mode::X)? else {
-        return Err(Fail::from("the table is not free"));
+    let Some(id) = take(own, alloc, "t", Mode::X) else {
+        drop(passes);
+        return (Err(Fail::from("the table is not free")), false);
     };
-    let script = lines(alloc, SCRIPT)?;
     let text = played_on(
         rt,
         alloc,
         manager,
         passes,
-        script.as_str(),
+        script,
         0,
         DEFAULT_CACHE,
         &OpenGate,
-    )?;
-    let standing = read(own, &seen)?;
-    own.release(id)?;
-    Ok((text, standing))
+    );
+    let sees_new = sees_new(own, alloc, "u");
+    (text, own.release(id).is_ok() && sees_new)
 }
 
 /// The session has no ticket and no wait: it is closed.
@@ -95,16 +112,17 @@ pub(crate) fn close<R: Drop>(rt: &impl Abort, session: Session<R>) {
 #[test]
 fn a_table_that_is_not_free_is_missed(rt: HostRuntime) -> Result<(), Fail> {
     let alloc = rt.alloc();
+    let script = lines(alloc, SCRIPT)?;
+    let wanted = lines(alloc, TEXT)?;
     let (manager, mut passes) = Manager::new(alloc, MOST_PLACES, MOST_SESSIONS)?;
     let Some(last) = passes.pop() else {
         return Err(Fail::from("there is no session"));
     };
     let mut own = Session::open(&rt, &manager, last);
-    let outcome = played_beside(&rt, alloc, &manager, passes, &mut own);
+    let (text, sees_new) = played_beside(&rt, alloc, &manager, passes, script.as_str(), &mut own);
     close(&rt, own);
-    let (text, standing) = outcome?;
-    let wanted = lines(alloc, TEXT)?;
+    let text = text?;
     assert!(rt; text == wanted, "{text}");
-    assert!(rt; standing.is_some_and(|standing| is_new_table(&standing)));
+    assert!(rt; sees_new);
     Ok(())
 }

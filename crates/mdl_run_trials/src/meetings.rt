@@ -1,6 +1,6 @@
 //! Two sessions that read at the same time: neither goes on before the other one is there too.
 use crate::flags::Flag;
-use crate::playing::{lines, played};
+use crate::playing::must_be_played_so;
 use mdl_script::Gate;
 use std::test::Fail;
 
@@ -79,12 +79,8 @@ const TEXT: &str =
 // Were the sessions played in turn, they wouldn't meet.
 #[test]
 fn sessions_read_at_the_same_time(rt: HostRuntime) -> Result<(), Fail> {
-    let alloc = rt.alloc();
     let gate = ReadTogether::new();
-    let script = lines(alloc, SCRIPT)?;
-    let played = played(&rt, alloc, script.as_str(), 0, &gate)?;
+    must_be_played_so(&rt, rt.alloc(), SCRIPT, TEXT, &gate)?;
     assert!(rt; !gate.missed.is_raised(), "the sessions did not meet");
-    let text = lines(alloc, TEXT)?;
-    assert!(rt; played == text, "{played}");
     Ok(())
 }

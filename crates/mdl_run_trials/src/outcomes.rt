@@ -1,5 +1,6 @@
 //! What comes of a statement.
 use mdl_stmt::{OutOfMemory, Progress, Reply};
+use std::mem::drop;
 
 /// What comes of a statement.
 #[derive(Clone, Copy, PartialEq, Eq)]
@@ -32,11 +33,13 @@ impl Outcome {
     }
 
     /// How far a statement has come.
-    pub(crate) fn at(progress: &Result<Progress, OutOfMemory>) -> Outcome {
-        match progress {
+    pub(crate) fn at(progress: Result<Progress, OutOfMemory>) -> Outcome {
+        let outcome = match &progress {
             Ok(Progress::Done(reply)) => Outcome::of(reply),
             Ok(Progress::Waiting(_, _)) | Ok(Progress::Pending) => Outcome::Waits,
             Err(_) => Outcome::NoMemory,
-        }
+        };
+        drop(progress);
+        outcome
     }
 }

@@ -9,6 +9,7 @@ use mdl_script::{DEFAULT_CACHE, Gate, run_on, run_threads};
 use mdl_shared::{Manager, Pass};
 use mdl_syntax::{Script, parse};
 use std::alloc::{AllocError, Global};
+use std::process::Abort;
 use std::sync::Wait;
 use std::test::Fail;
 use std::thread::Threads;
@@ -23,16 +24,30 @@ pub(crate) fn lines(alloc: Global, row: &str) -> Result<String, AllocError> {
     Ok(text)
 }
 
-/// The text of a run of a script.
-pub(crate) fn played<R: Threads + Wait + Sync, G: Gate + Sync>(
+/// A script has this text, where no session has patience. The lines of both are parted by ` / `.
+pub(crate) fn must_be_played_so<R: Threads + Wait + Sync + Abort, G: Gate + Sync>(
     rt: &R,
     alloc: Global,
     script: &str,
-    patience: u32,
+    text: &str,
+    gate: &G,
+) -> Result<(), Fail> {
+    let asked = lines(alloc, script)?;
+    let wanted = lines(alloc, text)?;
+    let played = played(rt, alloc, asked.as_str(), gate)?;
+    assert!(rt; played == wanted, "{script}: {played}");
+    Ok(())
+}
+
+// The text of a run of a script.
+fn played<R: Threads + Wait + Sync, G: Gate + Sync>(
+    rt: &R,
+    alloc: Global,
+    script: &str,
     gate: &G,
 ) -> Result<String, Fail> {
     let script = parse(alloc, script.as_bytes())?;
-    Ok(run_threads(rt, alloc, &script, patience, DEFAULT_CACHE, gate)?)
+    Ok(run_threads(rt, alloc, &script, 0, DEFAULT_CACHE, gate)?)
 }
 
 // Whether a session has one of these passes.

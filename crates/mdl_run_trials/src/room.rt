@@ -4,10 +4,11 @@ ghost use Rattle.mdl_run_trials.specs.Rooms.{IsFree, LeavesFree};
 
 use crate::outcomes::Outcome;
 use mdl_space::{CoreSpace, NewError};
-use mdl_stmt::{Progress, Reply, Runner};
-use mdl_syntax::parse;
+use mdl_stmt::{Reply, Runner};
+use mdl_syntax::{Line, parse};
 use mdl_work::{Gate, work};
 use std::alloc::Global;
+use std::mem::drop;
 
 /// The lines that are answered, and what comes of their statements.
 pub(crate) type Answers<'a> = &'a [(u64, Outcome)];
@@ -45,18 +46,21 @@ pub(crate) fn answers_so<G: Gate>(
     let Ok(script) = parse(alloc, text) else {
         return false;
     };
-    match work(alloc, space, who, &script, patience, CACHE, gate) {
-        Ok(answers) => are_told(&answers, want),
+    let outcome = work(alloc, space, who, &script, patience, CACHE, gate);
+    drop(script);
+    match outcome {
+        Ok(answers) => are_told(answers, want),
         Err(_) => false,
     }
 }
 
 // Whether answers are these.
-fn are_told(answers: &[(u64, Reply)], want: Answers<'_>) -> bool {
+fn are_told(answers: Vec<(u64, Reply)>, want: Answers<'_>) -> bool {
     let mut are_so = answers.len() == want.len();
     for (answer, want) in answers.iter().zip(want) {
         are_so &= answer.0 == want.0 && Outcome::of(&answer.1) == want.1;
     }
+    drop(answers);
     are_so
 }
 
@@ -68,14 +72,23 @@ pub(crate) fn holds(alloc: Global, space: &mut CoreSpace, text: &[u8]) -> bool
     let Ok(script) = parse(alloc, text) else {
         return false;
     };
-    let [line] = script.lines() else {
+    let is_made = makes(alloc, space, script.lines());
+    drop(script);
+    is_made
+}
+
+// Whether session 2 makes the statement of the only one of these lines at once.
+fn makes(alloc: Global, space: &mut CoreSpace, lines: &[Line]) -> bool
+    requires { IsFree space.old 2 }
+    ensures { LeavesFree 2 space.old space.new }
+{
+    let [line] = lines else {
         return false;
     };
     let Ok(mut runner) = Runner::new(alloc, 2, CACHE) else {
         return false;
     };
-    matches!(
-        runner.start(space, &line.statement),
-        Ok(Progress::Done(Reply::Ok | Reply::Number(true)))
-    )
+    let outcome = Outcome::at(runner.start(space, &line.statement));
+    drop(runner);
+    matches!(outcome, Outcome::Done | Outcome::Says(true))
 }

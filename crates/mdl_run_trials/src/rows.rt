@@ -1,5 +1,5 @@
 //! Worked scripts of one session, which has all in its own order.
-use crate::playing::{lines, played};
+use crate::playing::must_be_played_so;
 use mdl_script::OpenGate;
 use std::test::Fail;
 
@@ -19,15 +19,11 @@ const ROWS: &str = "\
 
 #[test]
 fn rows_are_played(rt: HostRuntime) -> Result<(), Fail> {
-    let alloc = rt.alloc();
     for row in ROWS.split('\n') {
         let Some((script, text)) = row.split_once(" => ") else {
             return Err(Fail::from("a row has no text"));
         };
-        let script = lines(alloc, script)?;
-        let text = lines(alloc, text)?;
-        let played = played(&rt, alloc, script.as_str(), 0, &OpenGate)?;
-        assert!(rt; played == text, "{row}: {played}");
+        must_be_played_so(&rt, rt.alloc(), script, text, &OpenGate)?;
     }
     Ok(())
 }

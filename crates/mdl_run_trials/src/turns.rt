@@ -1,6 +1,6 @@
 //! A gate that lets the lines of two sessions through in the order of the script.
 use crate::flags::Flag;
-use crate::playing::{lines, played};
+use crate::playing::must_be_played_so;
 use mdl_script::Gate;
 use std::process::Abort;
 use std::sync::Wait;
@@ -61,13 +61,9 @@ fn is_played_so<R: Threads + Wait + Sync + Abort + AllocGlobal>(
     script: &str,
     text: &str,
 ) -> Result<(), Fail> {
-    let alloc = rt.alloc();
     let gate = InOrder::new();
-    let script = lines(alloc, script)?;
-    let played = played(rt, alloc, script.as_str(), 0, &gate)?;
+    must_be_played_so(rt, rt.alloc(), script, text, &gate)?;
     assert!(rt; !gate.missed.is_raised(), "a line was held too long");
-    let text = lines(alloc, text)?;
-    assert!(rt; played == text, "{played}");
     Ok(())
 }
 

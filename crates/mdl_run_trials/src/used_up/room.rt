@@ -11,6 +11,7 @@ use mdl_space::{Attempt, CoreSpace, LockSpace, NewError, Place, SpaceError, Tick
 use mdl_stmt::{OutOfMemory, OwnedRunner, Statement};
 use std::alloc::Global;
 use std::marker::Model;
+use std::mem::drop;
 
 /// What the other session locks.
 #[derive(Clone, Copy)]
@@ -71,7 +72,10 @@ impl Room {
                 space,
                 runner,
             }),
-            Err(OutOfMemory) => Err(NewError::OutOfMemory),
+            Err(OutOfMemory) => {
+                drop(space);
+                Err(NewError::OutOfMemory)
+            }
         }
     }
 
@@ -98,7 +102,9 @@ impl Room {
             ..
         } = self;
         runner.leave(&mut space);
-        held(&space, 1)
+        let tickets = held(&space, 1);
+        drop(space);
+        tickets
     }
 
     /// The place of a lock.
@@ -141,7 +147,7 @@ fn start(
     if runner.is_waiting() {
         return Outcome::Waits;
     }
-    Outcome::at(&runner.start(space, statement))
+    Outcome::at(runner.start(space, statement))
 }
 
 fn go_on(space: &mut CoreSpace, runner: &mut OwnedRunner<CoreSpace>) -> Option<Outcome>
@@ -153,7 +159,7 @@ fn go_on(space: &mut CoreSpace, runner: &mut OwnedRunner<CoreSpace>) -> Option<O
     if !runner.is_waiting() {
         return None;
     }
-    Some(Outcome::at(&runner.go_on(space)))
+    Some(Outcome::at(runner.go_on(space)))
 }
 
 fn held<S: LockSpace>(space: &S, who: u16) -> Option<usize>

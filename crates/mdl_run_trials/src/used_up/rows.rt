@@ -139,11 +139,17 @@ fn script_of(alloc: Global, text: &str) -> Option<Script> {
 fn definition_of(alloc: Global, lock: Lock) -> Option<Definition> {
     match lock {
         Lock::Schema(_) => Some(Definition::Schema),
-        Lock::Table(_) => {
-            let mut columns = Columns::new(alloc);
-            columns.push(Column::new(alloc, "x").ok()?).ok()?;
-            Some(Definition::Table(columns))
-        }
+        Lock::Table(_) => one_column(alloc),
         Lock::Global | Lock::Commit | Lock::User(_) => None,
+    }
+}
+
+// A table of the one column `x`.
+fn one_column(alloc: Global) -> Option<Definition> {
+    let column = Column::new(alloc, "x").ok()?;
+    let mut columns = Columns::new(alloc);
+    match columns.push(column) {
+        Ok(()) => Some(Definition::Table(columns)),
+        Err(_) => None,
     }
 }
