@@ -13,7 +13,7 @@ use mdl_word::Word;
 use std::alloc::Global;
 use std::sync::Wait;
 
-/// A lock: the global one, the schema `shop`, some of its tables, or a table of another schema.
+/// A lock: the global one, the schema `shop`, some of its tables, of which many have only a number, or a table of another schema.
 #[derive(Clone, Copy)]
 pub(crate) enum Lock {
     Global,
@@ -22,6 +22,7 @@ pub(crate) enum Lock {
     Orders,
     Goods,
     Games,
+    Numbered(u16),
 }
 
 impl Lock {
@@ -34,7 +35,16 @@ impl Lock {
             Lock::Orders => Key::table(alloc, "shop", "orders"),
             Lock::Goods => Key::table(alloc, "shop", "goods"),
             Lock::Games => Key::table(alloc, "toys", "games"),
+            Lock::Numbered(number) => numbered(alloc, number),
         }
+    }
+}
+
+// The key of the table of a number.
+fn numbered(alloc: Global, number: u16) -> Result<Key, KeyError> {
+    match format!(in alloc; "t{number}") {
+        Ok(name) => Key::table(alloc, "shop", &name),
+        Err(_) => Err(KeyError::OutOfMemory),
     }
 }
 
@@ -56,9 +66,15 @@ impl Edit {
         match self {
             Edit::CreateSchema => Some(Change::Create(Definition::Schema)),
             Edit::PutSchema => Some(Change::Put(Definition::Schema)),
-            Edit::CreateTable(column) => Some(Change::Create(table(alloc, column).ok()?)),
-            Edit::PutTable(column) => Some(Change::Put(table(alloc, column).ok()?)),
-            Edit::AddColumn(column) => adding(alloc, column).ok(),
+            Edit::CreateTable(column) => match table(alloc, column) {
+                Some(definition) => Some(Change::Create(definition)),
+                None => None,
+            },
+            Edit::PutTable(column) => match table(alloc, column) {
+                Some(definition) => Some(Change::Put(definition)),
+                None => None,
+            },
+            Edit::AddColumn(column) => adding(alloc, column),
             Edit::Drop => Some(Change::Drop),
         }
     }
@@ -93,9 +109,7 @@ pub(crate) enum Act {
     Tables,
     // Whether its tickets are these.
     Holds(&'static [Held]),
-    // It asks for the key of a place.
-    KeyOf(Place),
-    // Whether that is this lock's.
+    // Whether the key of a place is this lock's.
     Names(Place, Lock),
     // Whether an audit tells just these books.
     Audit(&'static [Shown]),
@@ -115,7 +129,7 @@ pub(crate) enum Act {
 }
 
 /// What comes of it.
-#[derive(Clone, Copy, PartialEq, Eq)]
+#[derive(Clone, Copy, PartialEq)]
 pub(crate) enum Reply {
     Place(Place),
     Granted(TicketId),
@@ -169,7 +183,6 @@ pub(crate) fn make<R: Wait>(alloc: Global, session: &mut Session<R>, act: Act) -
         Act::PutOften(id, times) => put_often(alloc, session, id, times),
         Act::Tables => count_tables(session),
         Act::Holds(tickets) => holds(session, tickets),
-        Act::KeyOf(place) => key_of(session, place),
         Act::Names(place, lock) => names(alloc, session, place, lock),
         Act::Audit(books) => audit(alloc, session, books),
         Act::Begin(place, mode) => begun(session.begin_wait(place, mode)),
@@ -221,7 +234,6 @@ fn may_take_memory(act: Act) -> bool {
         | Act::Change(_, Edit::CreateTable(_) | Edit::PutTable(_) | Edit::AddColumn(_))
         | Act::Tables
         | Act::Holds(_)
-        | Act::KeyOf(_)
         | Act::Names(_, _)
         | Act::Audit(_)
         | Act::Begin(_, _)
@@ -324,12 +336,14 @@ fn release_all<R: Wait>(session: &mut Session<R>) -> Reply {
     let Ok(held) = session.held() else {
         return NO_MEMORY;
     };
+    let mut reply = Reply::Count(held.len());
     for ticket in &held {
         if let Err(why) = session.release(ticket.id) {
-            return Reply::Refused(why);
+            reply = Reply::Refused(why);
         }
     }
-    Reply::Count(held.len())
+    drop(held);
+    reply
 }
 
 fn reschedule<R: Wait>(session: &mut Session<R>, place: Place) -> Reply {
@@ -376,15 +390,10 @@ fn tried_fast(outcome: Result<Fast, SpaceError>) -> Reply {
 }
 
 fn resolve<R: Wait>(alloc: Global, session: &mut Session<R>, lock: Lock) -> Reply {
-    match lock.key(alloc) {
-        Ok(key) => look_up(session, &key),
-        Err(_) => NO_MEMORY,
-    }
-}
-
-/// Looks a key up.
-pub(crate) fn look_up<R: Wait>(session: &mut Session<R>, key: &Key) -> Reply {
-    match session.resolve(key) {
+    let Ok(key) = lock.key(alloc) else {
+        return NO_MEMORY;
+    };
+    match session.resolve(&key) {
         Ok(place) => Reply::Place(place),
         Err(why) => Reply::Refused(why),
     }
@@ -440,24 +449,12 @@ fn holds<R>(session: &Session<R>, tickets: &[Held]) -> Reply {
     }
 }
 
-fn key_of<R>(session: &mut Session<R>, place: Place) -> Reply {
-    match session.key_of(place) {
-        Ok(_key) => Reply::Done,
-        Err(why) => Reply::Refused(why),
-    }
-}
-
 fn names<R>(alloc: Global, session: &mut Session<R>, place: Place, lock: Lock) -> Reply {
-    match lock.key(alloc) {
-        Ok(key) => is_at(session, place, &key),
-        Err(_) => NO_MEMORY,
-    }
-}
-
-/// Whether a place has this key.
-pub(crate) fn is_at<R>(session: &mut Session<R>, place: Place, key: &Key) -> Reply {
+    let Ok(key) = lock.key(alloc) else {
+        return NO_MEMORY;
+    };
     match session.key_of(place) {
-        Ok(named) => Reply::Is(named == *key),
+        Ok(named) => Reply::Is(named == key),
         Err(why) => Reply::Refused(why),
     }
 }

@@ -1,4 +1,5 @@
 //! Which modes of a table's lock can't stand beside one another, written out here once more, and what books may be by that.
+use mdl_book::Ticket;
 use mdl_calls::Held;
 use mdl_key::Mode;
 use mdl_shared::Audited;
@@ -33,45 +34,36 @@ pub(crate) fn are_lawful(books: &[Audited]) -> bool {
 
 /// Whether the books have of a session, which waits for nothing, just the tickets that it holds.
 pub(crate) fn are_of(books: &[Audited], session: u16, held: &[Held]) -> bool {
-    for ticket in held {
-        if !has_ticket(books, session, ticket) {
-            return false;
-        }
+    let (mut granted, mut waiting) = (0usize, 0usize);
+    for book in books {
+        granted = granted.saturating_add(count(&book.book.granted, session));
+        waiting = waiting.saturating_add(count(&book.book.waiting, session));
     }
-    granted_to(books, session) == held.len() && !waits(books, session)
+    let mut listed = true;
+    for ticket in held {
+        listed = listed && has_ticket(books, session, ticket);
+    }
+    granted == held.len() && waiting == 0 && listed
 }
 
-fn granted_to(books: &[Audited], session: u16) -> usize {
-    let mut granted = 0usize;
-    for book in books {
-        for ticket in book.book.granted.iter() {
-            granted = granted.saturating_add(usize::from(ticket.session == session));
-        }
+// How many of the tickets are a session's.
+fn count(tickets: &[Ticket], session: u16) -> usize {
+    let mut count = 0usize;
+    for ticket in tickets {
+        count = count.saturating_add(usize::from(ticket.session == session));
     }
-    granted
+    count
 }
 
 fn has_ticket(books: &[Audited], session: u16, held: &Held) -> bool {
+    let ticket = Ticket {
+        number: held.id,
+        session,
+        mode: held.mode,
+    };
     for book in books {
-        for ticket in book.book.granted.iter() {
-            if book.place == held.place
-                && ticket.session == session
-                && ticket.number == held.id
-                && ticket.mode == held.mode
-            {
-                return true;
-            }
-        }
-    }
-    false
-}
-
-fn waits(books: &[Audited], session: u16) -> bool {
-    for book in books {
-        for ticket in book.book.waiting.iter() {
-            if ticket.session == session {
-                return true;
-            }
+        if book.place == held.place && book.book.granted.contains(&ticket) {
+            return true;
         }
     }
     false

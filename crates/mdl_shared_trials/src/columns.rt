@@ -1,19 +1,21 @@
-//! Definitions of tables, and a change of one.
+//! Definitions of tables, and a change of one, where memory is found for them.
 use mdl_defs::{Change, Column, Columns, Definition};
-use mdl_key::KeyError;
 use std::alloc::Global;
 
 /// A table of one column.
-pub(crate) fn table(alloc: Global, column: &str) -> Result<Definition, KeyError> {
-    let column = Column::new(alloc, column)?;
+pub(crate) fn table(alloc: Global, column: &str) -> Option<Definition> {
+    let column = Column::new(alloc, column).ok()?;
     let mut columns = Columns::new(alloc);
     match columns.push(column) {
-        Ok(()) => Ok(Definition::Table(columns)),
-        Err(_) => Err(KeyError::OutOfMemory),
+        Ok(()) => Some(Definition::Table(columns)),
+        Err(_) => None,
     }
 }
 
 /// A column is added to a table.
-pub(crate) fn adding(alloc: Global, column: &str) -> Result<Change, KeyError> {
-    Ok(Change::AddColumn(Column::new(alloc, column)?))
+pub(crate) fn adding(alloc: Global, column: &str) -> Option<Change> {
+    match Column::new(alloc, column) {
+        Ok(column) => Some(Change::AddColumn(column)),
+        Err(_) => None,
+    }
 }

@@ -2,6 +2,7 @@
 use crate::acts::{Act, Lock, Memory, Reply};
 use crate::audits::Shown;
 use crate::rows::{Case, Row, are_right};
+use mdl_book::Ticket;
 use mdl_calls::{Ended, Held, Settled, SpaceError};
 use mdl_key::Mode;
 use mdl_word::Word;
@@ -103,7 +104,23 @@ const NOBODY: Shown = Shown {
 const THREE: Shown = Shown {
     place: 1,
     lock: Lock::Sales,
-    granted: &[(1, 1, Mode::S), (1, 2, Mode::S), (1, 3, Mode::SR)],
+    granted: &[
+        Ticket {
+            session: 1,
+            number: 1,
+            mode: Mode::S,
+        },
+        Ticket {
+            session: 1,
+            number: 2,
+            mode: Mode::S,
+        },
+        Ticket {
+            session: 1,
+            number: 3,
+            mode: Mode::SR,
+        },
+    ],
 };
 
 // Tickets that become slow ones stand in the books, and stay what they were.
@@ -214,25 +231,55 @@ const WAITED_FOR: &[Row] = &[
 const READER: Shown = Shown {
     place: 1,
     lock: Lock::Sales,
-    granted: &[(1, 3, Mode::SR)],
+    granted: &[Ticket {
+        session: 1,
+        number: 3,
+        mode: Mode::SR,
+    }],
 };
 
 const UPGRADABLE: Shown = Shown {
     place: 2,
     lock: Lock::Orders,
-    granted: &[(1, 1, Mode::SU), (1, 2, Mode::SU)],
+    granted: &[
+        Ticket {
+            session: 1,
+            number: 1,
+            mode: Mode::SU,
+        },
+        Ticket {
+            session: 1,
+            number: 2,
+            mode: Mode::SU,
+        },
+    ],
 };
 
 const CHANGER: Shown = Shown {
     place: 2,
     lock: Lock::Orders,
-    granted: &[(1, 1, Mode::SU), (1, 2, Mode::X)],
+    granted: &[
+        Ticket {
+            session: 1,
+            number: 1,
+            mode: Mode::SU,
+        },
+        Ticket {
+            session: 1,
+            number: 2,
+            mode: Mode::X,
+        },
+    ],
 };
 
 const MERGED: Shown = Shown {
     place: 2,
     lock: Lock::Orders,
-    granted: &[(1, 1, Mode::X)],
+    granted: &[Ticket {
+        session: 1,
+        number: 1,
+        mode: Mode::X,
+    }],
 };
 
 // What goes by the latch of one place makes the session's fast tickets at all places slow first. An upgrade to a mode that the ticket has leaves

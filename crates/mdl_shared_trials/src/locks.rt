@@ -2,6 +2,7 @@
 use crate::acts::{Act, Lock, Memory, Reply};
 use crate::audits::Shown;
 use crate::rows::{Case, Row, are_right};
+use mdl_book::Ticket;
 use mdl_calls::{Held, SpaceError};
 use mdl_key::Mode;
 use std::test::Fail;
@@ -141,7 +142,11 @@ const BOOKS: &[Shown] = &[
     Shown {
         place: 2,
         lock: Lock::Sales,
-        granted: &[(2, 1, Mode::SNW)],
+        granted: &[Ticket {
+            session: 2,
+            number: 1,
+            mode: Mode::SNW,
+        }],
     },
 ];
 

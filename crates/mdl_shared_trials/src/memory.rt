@@ -5,6 +5,7 @@ use crate::acts::{Act, Edit, Lock, Memory, Reply};
 use crate::audits::Shown;
 use crate::rows::{Case, Row, are_right};
 use crate::searches::A_CYCLE;
+use mdl_book::Ticket;
 use mdl_calls::{Ended, Held, Settled};
 use mdl_key::Mode;
 use std::test::Fail;
@@ -45,7 +46,11 @@ const TICKET: Held = Held {
 const BOOK: Shown = Shown {
     place: 1,
     lock: Lock::Sales,
-    granted: &[(1, 1, Mode::SNW)],
+    granted: &[Ticket {
+        session: 1,
+        number: 1,
+        mode: Mode::SNW,
+    }],
 };
 
 const TOLD: &[Row] = &[
@@ -93,12 +98,27 @@ const BOOKS: &[Shown] = &[
     Shown {
         place: 1,
         lock: Lock::Sales,
-        granted: &[(1, 1, Mode::S), (1, 3, Mode::SW)],
+        granted: &[
+            Ticket {
+                session: 1,
+                number: 1,
+                mode: Mode::S,
+            },
+            Ticket {
+                session: 1,
+                number: 3,
+                mode: Mode::SW,
+            },
+        ],
     },
     Shown {
         place: 2,
         lock: Lock::Orders,
-        granted: &[(1, 2, Mode::SR)],
+        granted: &[Ticket {
+            session: 1,
+            number: 2,
+            mode: Mode::SR,
+        }],
     },
 ];
 

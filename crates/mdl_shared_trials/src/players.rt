@@ -1,22 +1,17 @@
 //! Sessions that make calls of every kind by chance for some seconds, over the locks of some tables, wait with short patience, look for deadlocks
 //! and kill each other's waits. Another one looks at all books each tenth of a second meanwhile.
-use crate::acts::{Act, Edit, Reply, look_up, make};
+use crate::acts::{Act, Edit, Lock, Reply, make};
 use crate::chance::Chance;
 use crate::clashes::{are_lawful, are_of};
 use crate::tally::Tally;
 use mdl_calls::{Ended, Held, Place, Settled, SpaceError, TicketId};
-use mdl_key::{Key, Mode};
+use mdl_key::Mode;
 use mdl_shared::{Audited, Session};
 use std::alloc::Global;
 use std::sync::Wait;
 use std::sync::atomic::{AtomicBool, Ordering};
 use std::thread;
 use std::time::{Clock, Duration, Instant};
-
-// The most tables that there are.
-const TABLES: &[&str] = &[
-    "sales", "goods", "staff", "rooms", "bills", "tills", "desks", "doors",
-];
 
 // How many thousandths of a second the sessions make calls, and how many go by between two looks of the ninth.
 const SPAN: u64 = 3_000;
@@ -41,13 +36,13 @@ const TURNS: usize = 12;
 const KEPT: u32 = 40;
 
 /// A session's row of chances, how many tables there are, of each how often it changed that and the last version that it saw, and what waits came to.
-#[derive(Drop)]
+#[derive(Clone, Copy)]
 pub(crate) struct Player {
     alloc: Global,
     chance: Chance,
     tables: u16,
     pub(crate) tally: Tally,
-    pub(crate) changes: [u64; 8],
+    changes: [u64; 8],
     seen: [u64; 8],
 }
 
@@ -62,6 +57,11 @@ impl Player {
             changes: [0; 8],
             seen: [0; 8],
         }
+    }
+
+    /// How often it changed a table, of those that are counted from 0.
+    pub(crate) fn changes(&self, table: usize) -> u64 {
+        self.changes.get(table).copied().unwrap_or(0)
     }
 
     // The place of one of the tables.
@@ -119,7 +119,7 @@ fn make_call<R: Wait>(session: &mut Session<R>, player: &mut Player, taken: &Ato
 fn ask<R: Wait>(session: &mut Session<R>, player: &mut Player, taken: &AtomicBool) -> bool {
     let place = player.draw();
     let act = match player.chance.below(40) {
-        0 => Act::KeyOf(place),
+        0 => Act::Names(place, Lock::Numbered(place)),
         1 => Act::Tables,
         2 => return kill(session, player),
         3..=7 => {
@@ -344,15 +344,12 @@ pub(crate) fn leave<R: Wait>(alloc: Global, session: &mut Session<R>) -> bool {
 
 /// Looks so many tables up, which get the places from 1 on in this order.
 pub(crate) fn look_all_up<R: Wait>(alloc: Global, session: &mut Session<R>, tables: u16) -> bool {
-    for (table, _) in TABLES.iter().zip(0..tables) {
-        let Ok(key) = Key::table(alloc, "shop", table) else {
-            return false;
-        };
-        if !was_answered(look_up(session, &key)) {
-            return false;
-        }
+    let mut all = true;
+    for number in 1..=tables {
+        let looked_up = make(alloc, session, Act::Resolve(Lock::Numbered(number)));
+        all = all && was_answered(looked_up);
     }
-    true
+    all
 }
 
 // Tries for fast tickets, and keeps those that it gets.
@@ -366,9 +363,33 @@ fn keep_some<R: Wait>(session: &mut Session<R>, player: &mut Player) -> bool {
     true
 }
 
-// Whether there is time for more calls, unless the clock fails.
-fn is_in_time<R: Clock>(rt: &R, start: Instant) -> Option<bool> {
-    Some(start.elapsed(rt).ok()? < Duration::from_millis(SPAN))
+// Whether there is time for more calls.
+fn is_in_time<R: Clock>(rt: &R, start: Instant) -> bool {
+    match start.elapsed(rt) {
+        Ok(elapsed) => elapsed < Duration::from_millis(SPAN),
+        Err(_) => false,
+    }
+}
+
+// Makes all its calls.
+fn make_calls<R: Wait + Clock>(
+    rt: &R,
+    session: &mut Session<&R>,
+    player: &mut Player,
+    taken: &AtomicBool,
+) -> bool {
+    let Ok(start) = Instant::now(rt) else {
+        return false;
+    };
+    let mut well = true;
+    for call in 0..CALLS {
+        if !well || call % UNTIMED == 0 && !is_in_time(rt, start) {
+            break;
+        }
+        well = make_call(session, player, taken)
+            && (call % UNWATCHED != 0 || audit(player.alloc, session));
+    }
+    well
 }
 
 /// A session's part: all its calls, after which it looks at all books, gives all its tickets up, and gets some fast ones and no others.
@@ -378,28 +399,10 @@ pub(crate) fn play<R: Wait + Clock>(
     player: &mut Player,
     taken: &AtomicBool,
 ) -> bool {
-    let Ok(start) = Instant::now(rt) else {
-        return false;
-    };
-    if !look_all_up(player.alloc, session, player.tables) {
-        return false;
-    }
-    for call in 0..CALLS {
-        if call % UNTIMED == 0 {
-            match is_in_time(rt, start) {
-                Some(true) => {}
-                Some(false) => break,
-                None => return false,
-            }
-        }
-        if !make_call(session, player, taken) {
-            return false;
-        }
-        if call % UNWATCHED == 0 && !audit(player.alloc, session) {
-            return false;
-        }
-    }
-    leave(player.alloc, session) && keep_some(session, player)
+    look_all_up(player.alloc, session, player.tables)
+        && make_calls(rt, session, player, taken)
+        && leave(player.alloc, session)
+        && keep_some(session, player)
 }
 
 /// Looks at all books from time to time.

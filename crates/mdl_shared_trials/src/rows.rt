@@ -89,6 +89,11 @@ pub(crate) fn open_three<R: AllocGlobal>(rt: &R, places: u16) -> Result<Three<&R
     Ok(Three { one, two, three })
 }
 
+/// No row of what is shown comes to something else.
+pub(crate) fn none_is_wrong(rt: &impl Abort, shown: &str, wrong: Option<usize>) {
+    assert!(rt; wrong.is_none(), "{shown}: row {wrong:?}");
+}
+
 /// The rows of each case are right of the sessions of a space of so many places.
 pub(crate) fn are_right<R: Wait + Abort + AllocGlobal>(
     rt: &R,
@@ -98,8 +103,8 @@ pub(crate) fn are_right<R: Wait + Abort + AllocGlobal>(
     for (shown, places, rows) in cases {
         let mut sessions = open_three(rt, *places)?;
         let wrong = sessions.first_wrong(rt.alloc(), rows, memory);
-        assert!(rt; wrong.is_none(), "{shown}: row {wrong:?}");
         sessions.close(rt);
+        none_is_wrong(rt, shown, wrong);
     }
     Ok(())
 }

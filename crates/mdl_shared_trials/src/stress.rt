@@ -17,12 +17,11 @@ use std::alloc::{AllocError, Global};
 use std::process::Abort;
 use std::sync::Wait;
 use std::sync::atomic::AtomicBool;
-use std::test::Fail;
 use std::thread;
 use std::thread::Threads;
 use std::time::Clock;
 
-// A game: how many tables there are, and how many sessions play. The next one looks on.
+// A game: how many tables there are, and how many sessions play. The next one looks on, and two more see in the end that all went well.
 type Game = (u16, u16);
 
 const GAMES: &[Game] = &[(8, 8), (1, 16)];
@@ -49,13 +48,14 @@ impl<R> Part<R> {
     }
 }
 
-// Plays it, or looks on.
+// Plays it, or looks on, or does nothing.
 fn act<R: Wait + Clock>(rt: &R, part: &mut Part<&R>, players: u16, taken: &AtomicBool) {
-    part.well = if part.session.number() <= players {
-        play(rt, &mut part.session, &mut part.player, taken)
-    } else {
-        watch(rt, &mut part.session, &part.player)
-    };
+    let number = part.session.number();
+    if number <= players {
+        part.well = play(rt, &mut part.session, &mut part.player, taken);
+    } else if number - players == 1 {
+        part.well = watch(rt, &mut part.session, &part.player);
+    }
 }
 
 // The pass of the last session.
@@ -69,7 +69,7 @@ fn take_last(_manager: &Manager, passes: &mut Vec<Pass>) -> Pass
     passes.remove(passes.len() - 1)
 }
 
-// The parts of the sessions of all passes.
+// The parts of the sessions of all passes, the last one first, if there is memory for them.
 fn open_all<'a, R>(
     rt: &'a R,
     alloc: Global,
@@ -87,6 +87,16 @@ fn open_all<'a, R>(
     Ok(parts)
 }
 
+// Likewise of a new space.
+fn open_game<R: AllocGlobal>(rt: &R, game: Game) -> Option<Vec<Part<&R>>> {
+    let (tables, players) = game;
+    let alloc = rt.alloc();
+    let (manager, passes) = Manager::new(alloc, tables, players.saturating_add(3)).ok()?;
+    let parts = open_all(rt, alloc, &manager, passes, tables).ok();
+    drop(manager);
+    parts
+}
+
 fn close_all<R: Drop>(rt: &impl Abort, mut parts: Vec<Part<R>>) {
     while let Some(part) = parts.pop() {
         let Part {
@@ -99,18 +109,13 @@ fn close_all<R: Drop>(rt: &impl Abort, mut parts: Vec<Part<R>>) {
     parts.destroy_empty();
 }
 
-// How often they together changed each table, if nothing went wrong.
-fn changes<R>(parts: &[Part<R>]) -> Option<[u64; 8]> {
-    let mut sums = [0u64; 8];
+// How often they together changed a table.
+fn changes<R>(parts: &[Part<R>], table: usize) -> u64 {
+    let mut sum = 0u64;
     for part in parts {
-        if !part.well {
-            return None;
-        }
-        for (sum, changes) in sums.iter_mut().zip(&part.player.changes) {
-            *sum = sum.saturating_add(*changes);
-        }
+        sum = sum.saturating_add(part.player.changes(table));
     }
-    Some(sums)
+    sum
 }
 
 // Whether each wait of a session was settled once, as one of all says.
@@ -126,16 +131,14 @@ fn is_settled<R>(parts: &[Part<R>], part: &Part<R>) -> bool {
     part.player.tally.agrees(killed, victims)
 }
 
-// Whether that is so of each session, and some waited.
+// Whether that is so of each session, nothing went wrong, and some waited.
 fn are_settled<R>(parts: &[Part<R>]) -> bool {
-    let mut waits = 0u64;
+    let (mut well, mut waits) = (true, 0u64);
     for part in parts {
-        if !is_settled(parts, part) {
-            return false;
-        }
+        well = well && part.well && is_settled(parts, part);
         waits = waits.saturating_add(part.player.tally.waits());
     }
-    waits > 0
+    well && waits > 0
 }
 
 // Adds all their tickets: whether there was memory.
@@ -190,47 +193,41 @@ fn are_words_right<R: Wait>(
     held: &[Held],
     tables: u16,
 ) -> bool {
-    if held.is_empty()
-        || !look_all_up(alloc, asker, tables)
-        || !look_all_up(alloc, reader, tables)
-    {
-        return false;
-    }
+    let mut right = !held.is_empty()
+        && look_all_up(alloc, asker, tables)
+        && look_all_up(alloc, reader, tables);
     for place in 1..=tables {
-        match read_word(alloc, asker, reader, place) {
-            Some(word) if are_counted(word, held, place) => {}
-            _ => return false,
-        }
+        right = right
+            && match read_word(alloc, asker, reader, place) {
+                Some(word) => are_counted(word, held, place),
+                None => false,
+            };
     }
-    true
+    right
 }
 
 // What is left in the end: no ticket, and of each table as many versions as changes.
-fn is_left(books: &[Audited], changes: &[u64], tables: u16) -> bool {
-    if books.len() != usize::from(tables) {
-        return false;
-    }
-    for (book, changes) in books.iter().zip(changes) {
+fn is_left<R>(books: &[Audited], parts: &[Part<R>]) -> bool {
+    let mut left = true;
+    for (table, book) in books.iter().enumerate() {
         let book = &book.book;
-        if !book.granted.is_empty()
-            || !book.waiting.is_empty()
-            || book.standing.version != *changes
-        {
-            return false;
-        }
+        left = left
+            && book.granted.is_empty()
+            && book.waiting.is_empty()
+            && book.standing.version == changes(parts, table);
     }
-    true
+    left
 }
 
 // Whether an audit finds in the end that all have left.
-fn have_left<R: Wait>(session: &mut Session<R>, changes: &[u64], tables: u16) -> bool {
+fn have_left<R: Wait>(session: &mut Session<R>, parts: &[Part<R>], tables: u16) -> bool {
     match session.audit() {
-        Ok(books) => is_left(&books, changes, tables),
+        Ok(books) => books.len() == usize::from(tables) && is_left(&books, parts),
         Err(_) => false,
     }
 }
 
-// Sees in the end, by two more sessions, that all went well.
+// Sees in the end, by two sessions that did nothing, that all went well with the others.
 fn is_well<R: Wait>(
     alloc: Global,
     parts: &mut [Part<R>],
@@ -240,53 +237,59 @@ fn is_well<R: Wait>(
 ) -> bool {
     let mut held = Vec::new(alloc);
     let words = add_held(parts, &mut held) && are_words_right(alloc, asker, reader, &held, tables);
+    drop(held);
     let left = leave_all(alloc, parts);
-    match changes(parts) {
-        Some(changes) => {
-            are_settled(parts) && words && left && have_left(reader, &changes, tables)
-        }
-        None => false,
+    words && left && are_settled(parts) && have_left(reader, parts, tables)
+}
+
+// The same, of the sessions of a game, the last two of which come first and did nothing.
+fn went_well<R: Wait>(alloc: Global, parts: &mut [Part<R>], tables: u16) -> bool {
+    match parts {
+        [reader, asker, others @ ..] => is_well(
+            alloc,
+            others,
+            &mut asker.session,
+            &mut reader.session,
+            tables,
+        ),
+        _ => false,
     }
 }
 
-// Whether all goes well in a game.
-fn goes_well<R: Threads + Wait + Clock + Abort + AllocGlobal + Sync>(
-    rt: &R,
-    game: Game,
-) -> Result<bool, Fail> {
-    let (tables, players) = game;
-    let (alloc, taken) = (rt.alloc(), AtomicBool::new(false));
-    let (manager, mut passes) = Manager::new(alloc, tables, players.saturating_add(3))?;
-    let last = take_last(&manager, &mut passes);
-    let next = take_last(&manager, &mut passes);
-    let mut parts = open_all(rt, alloc, &manager, passes, tables)?;
-    let mut reader = Session::open(rt, &manager, last);
-    let mut asker = Session::open(rt, &manager, next);
+// All of them play on threads of their own, or look on.
+fn play_all<R: Threads + Wait + Clock + Sync>(rt: &R, parts: &mut [Part<&R>], players: u16) {
+    let taken = AtomicBool::new(false);
     let threads = parts.len().max(1);
     thread::for_each_mut(
         rt,
-        &mut parts,
+        parts,
         threads,
         &|_, part| {
             act(rt, part, players, &taken);
         },
     );
-    let well = is_well(alloc, &mut parts, &mut asker, &mut reader, tables);
-    closed(rt, asker);
-    closed(rt, reader);
+}
+
+// Whether there is memory for a game, and all goes well in it.
+fn goes_well<R: Threads + Wait + Clock + Abort + AllocGlobal + Sync>(rt: &R, game: Game) -> bool {
+    let Some(mut parts) = open_game(rt, game) else {
+        return false;
+    };
+    let (tables, players) = game;
+    play_all(rt, &mut parts, players);
+    let well = went_well(rt.alloc(), &mut parts, tables);
     close_all(rt, parts);
-    Ok(well)
+    well
 }
 
 #[test]
-fn threads_make_all_calls_beside_audits(rt: HostRuntime) -> Result<(), Fail> {
+fn threads_make_all_calls_beside_audits(rt: HostRuntime) {
     for game in GAMES {
         assert!(rt;
-            goes_well(&rt, *game)?,
+            goes_well(&rt, *game),
             "{} tables, {} players",
             game.0,
             game.1
         );
     }
-    Ok(())
 }

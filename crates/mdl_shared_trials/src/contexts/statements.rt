@@ -8,7 +8,7 @@ use mdl_stmt::{OutOfMemory, Progress, Reply, Runner, Statement};
 pub(crate) const CACHE: u16 = 64;
 
 /// What comes of a statement, or of going on with one.
-#[derive(Clone, Copy, PartialEq, Eq)]
+#[derive(Clone, Copy, PartialEq)]
 pub(crate) enum Outcome {
     Done,
     /// The version of the last table that it read, and the number of its columns.
@@ -54,12 +54,14 @@ pub(crate) fn go_on<'s, S: LockSpace>(space: &mut S, runner: &mut Runner<'s, S>)
 }
 
 fn outcome_of(progress: Result<Progress, OutOfMemory>) -> Outcome {
-    match progress {
-        Ok(Progress::Done(reply)) => outcome_of_reply(&reply),
+    let outcome = match &progress {
+        Ok(Progress::Done(reply)) => outcome_of_reply(reply),
         Ok(Progress::Waiting(_, _)) => Outcome::Waits,
         Ok(Progress::Pending) => Outcome::Pending,
         Err(_) => Outcome::NoMemory,
-    }
+    };
+    drop(progress);
+    outcome
 }
 
 fn outcome_of_reply(reply: &Reply) -> Outcome {

@@ -4,7 +4,8 @@ use crate::contexts::statements::Outcome;
 use crate::contexts::statements::Outcome::{
     Done, Fails, Null, OutOfTurn, Pending, Reads, Says, Waits,
 };
-use mdl_shared::{Manager, Session};
+use crate::rows::none_is_wrong;
+use mdl_shared::Manager;
 use mdl_syntax::{Line, parse};
 use std::process::Abort;
 use std::sync::Wait;
@@ -300,7 +301,6 @@ const STORIES: &[(&str, &[Turn])] = &[
 #[test]
 fn sessions_take_turns(rt: HostRuntime) {
     for (what, rows) in STORIES {
-        let wrong = first_wrong(&rt, rows);
-        assert!(rt; wrong.is_none(), "{what}: {wrong:?}");
+        none_is_wrong(&rt, what, first_wrong(&rt, rows));
     }
 }

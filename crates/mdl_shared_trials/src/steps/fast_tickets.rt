@@ -1,12 +1,8 @@
 //! What the word of a lock is as fast tickets are granted and released.
-use crate::steps::fast_visitors::FastVisitor;
 use crate::steps::rows::{Answer, Case, Deed, Row};
-use crate::steps::seated::{Seated, come_three};
 use mdl_key::Mode;
 use mdl_steps::{Loss, WaitWord};
-use mdl_visits::FastTried;
 use mdl_word::Word;
-use std::test::Fail;
 
 const FREE: Answer = Answer::Lock(Word(0));
 
@@ -62,29 +58,6 @@ const ALONE: &[Row] = &[
     (1, Deed::LockWord, FREE),
     (1, Deed::ReleaseFast, Answer::Refused),
 ];
-
-// Whether a fast ticket comes and goes while another session holds the latch of the place, if that got it.
-fn goes_beside_a_latch(one: &mut FastVisitor, holder: Seated) -> Option<bool> {
-    let Seated {
-        mut seat,
-        place,
-        kind: _,
-    } = holder;
-    let latch = seat.take_latch(place)?;
-    let granted = one.try_fast(Mode::SW) == Some(FastTried::Granted);
-    let free = one.release_fast() == Some(false);
-    seat.put_latch(latch, &[]);
-    Some(granted && free)
-}
-
-// It comes and goes while another session holds the latch of the place, so it takes none.
-#[test]
-fn a_fast_ticket_needs_no_latch(rt: HostRuntime) -> Result<(), Fail> {
-    let (one, _two, three) = come_three(&rt, rt.alloc())?;
-    let mut one = FastVisitor::new(one);
-    assert!(rt; goes_beside_a_latch(&mut one, three) == Some(true));
-    Ok(())
-}
 
 // A listed ticket in a mode that isn't obtrusive leaves the fast path open. Whoever releases a fast ticket beside it can't know that nobody waits.
 const BESIDE_LISTED: &[Row] = &[

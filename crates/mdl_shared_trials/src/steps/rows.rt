@@ -1,14 +1,12 @@
 //! Rows of what sessions do at the place of one key, and what comes of it.
-use crate::steps::fast_visitors::FastVisitor;
-use crate::steps::seated::{Seated, come_three};
+use crate::rows::none_is_wrong;
 use crate::steps::visitors::Visitor;
 use crate::steps::{fast_tickets, words};
-use mdl_key::Mode;
-use mdl_steps::{Loss, WaitWord};
-use mdl_visits::FastTried;
+use mdl_key::{Key, Mode};
+use mdl_steps::{Loss, Maker, WaitWord};
 use mdl_word::Word;
 use std::process::Abort;
-use std::sync::Wait;
+use std::sync::{Arc, Wait};
 use std::test::Fail;
 
 /// What a session may do there.
@@ -30,7 +28,7 @@ pub(crate) enum Deed {
 }
 
 /// What comes of it.
-#[derive(Clone, Copy, PartialEq, Eq)]
+#[derive(Clone, Copy, PartialEq)]
 pub(crate) enum Answer {
     Granted,
     WouldWait,
@@ -58,101 +56,17 @@ pub(crate) type Row = (u16, Deed, Answer);
 /// What rows show, and the rows.
 pub(crate) type Case = (&'static str, &'static [Row]);
 
-impl Visitor {
-    // Does it.
-    fn act<R: Wait>(&mut self, rt: &R, deed: Deed) -> Answer {
-        match deed {
-            Deed::TryNow(mode) => self.try_now(rt, mode),
-            Deed::BeginWait(mode) => self.begin_wait(rt, mode),
-            Deed::Release => self.release(rt),
-            Deed::EndWait => self.end_wait(rt),
-            Deed::LockWord => Answer::Lock(self.lock_word()),
-            Deed::WaitWord(session) => met(self.wait_word(session)),
-            Deed::Settle(session, wait, how) => met(self.settle(session, wait, how)),
-            Deed::TryFast(_) | Deed::ReleaseFast | Deed::Reschedule => Answer::Refused,
-        }
-    }
-}
-
-// The word of a wait that was read, if it was.
-fn met(word: Option<WaitWord>) -> Answer {
-    match word {
-        Some(word) => Answer::Wait(word),
-        None => Answer::Refused,
-    }
-}
-
-impl FastVisitor {
-    // Does it.
-    fn act<R: Wait>(&mut self, rt: &R, deed: Deed) -> Answer {
-        match deed {
-            Deed::TryFast(mode) => tried(self.try_fast(mode)),
-            Deed::ReleaseFast => released(self.release_fast()),
-            Deed::Reschedule => {
-                self.reschedule(rt);
-                Answer::Done
-            }
-            Deed::LockWord => Answer::Lock(self.lock_word()),
-            _ => Answer::Refused,
-        }
-    }
-}
-
-// What came of a try for a fast ticket, if there was one.
-fn tried(outcome: Option<FastTried>) -> Answer {
-    match outcome {
-        Some(FastTried::Granted) => Answer::Granted,
-        Some(FastTried::Obtruded(word)) => Answer::Obtruded(word),
-        Some(FastTried::Contended(word)) => Answer::Contended(word),
-        None => Answer::Refused,
-    }
-}
-
-// What is owed for a fast ticket that was given up, if it was.
-fn released(owes: Option<bool>) -> Answer {
-    match owes {
-        Some(owes) => Answer::Owes(owes),
-        None => Answer::Refused,
-    }
-}
-
-// A session that takes the latch for each ticket, or one that has fast tickets alone.
+// Three sessions at the place of one key, with the numbers 1 to 3.
 #[derive(Drop)]
-enum Guest {
-    Slow(Visitor),
-    Fast(FastVisitor),
+struct Visitors {
+    one: Visitor,
+    two: Visitor,
+    three: Visitor,
 }
 
-impl Guest {
-    // It has done nothing yet.
-    fn of(seated: Seated, fast: bool) -> Guest {
-        if fast {
-            Guest::Fast(FastVisitor::new(seated))
-        } else {
-            Guest::Slow(Visitor::new(seated))
-        }
-    }
-
-    // Does it.
-    fn act<R: Wait>(&mut self, rt: &R, deed: Deed) -> Answer {
-        match self {
-            Guest::Slow(visitor) => visitor.act(rt, deed),
-            Guest::Fast(visitor) => visitor.act(rt, deed),
-        }
-    }
-}
-
-// Three of them, with the numbers 1 to 3.
-#[derive(Drop)]
-struct Guests {
-    one: Guest,
-    two: Guest,
-    three: Guest,
-}
-
-impl Guests {
+impl Visitors {
     // The one of a number.
-    fn guest(&mut self, number: u16) -> &mut Guest {
+    fn visitor(&mut self, number: u16) -> &mut Visitor {
         match number {
             3 => &mut self.three,
             2 => &mut self.two,
@@ -163,7 +77,7 @@ impl Guests {
     // Which row comes to something else, if there is one.
     fn first_wrong<R: Wait>(&mut self, rt: &R, rows: &[Row]) -> Option<usize> {
         for (at, (number, deed, wanted)) in rows.iter().enumerate() {
-            if self.guest(*number).act(rt, *deed) != *wanted {
+            if self.visitor(*number).act(rt, *deed) != *wanted {
                 return Some(at);
             }
         }
@@ -171,33 +85,48 @@ impl Guests {
     }
 }
 
-// The second takes the latch. So do the others, or they have fast tickets alone.
-fn come<R: Wait + Abort + AllocGlobal>(rt: &R, fast: bool) -> Result<Guests, Fail> {
-    let (one, two, three) = come_three(rt, rt.alloc())?;
-    Ok(Guests {
-        one: Guest::of(one, fast),
-        two: Guest::of(two, false),
-        three: Guest::of(three, fast),
-    })
+// They come there, and have done nothing else.
+fn come<R: Wait + Abort + AllocGlobal>(rt: &R) -> Result<Visitors, Fail> {
+    let alloc = rt.alloc();
+    let sales = Key::table(alloc, "shop", "sales")?;
+    let (table, mut maker) = Maker::of_places(alloc, 1, 3)?;
+    let table = Arc::new(alloc, table)?;
+    let one = Visitor::come(rt, alloc, &table, &mut maker, &sales);
+    let two = Visitor::come(rt, alloc, &table, &mut maker, &sales);
+    let three = Visitor::come(rt, alloc, &table, &mut maker, &sales);
+    match (one, two, three) {
+        (Some(one), Some(two), Some(three)) => Ok(Visitors { one, two, three }),
+        _ => panic!(rt; "there is room for three"),
+    }
 }
 
 // The rows of each case are right of three sessions.
-fn are_right<R: Wait + Abort + AllocGlobal>(
-    rt: &R,
-    fast: bool,
-    cases: &[Case],
-) -> Result<(), Fail> {
+fn are_right<R: Wait + Abort + AllocGlobal>(rt: &R, cases: &[Case]) -> Result<(), Fail> {
     for (shown, rows) in cases {
-        let mut guests = come(rt, fast)?;
-        let wrong = guests.first_wrong(rt, rows);
-        drop(guests);
-        assert!(rt; wrong.is_none(), "{shown}: row {wrong:?}");
+        let mut visitors = come(rt)?;
+        let wrong = visitors.first_wrong(rt, rows);
+        drop(visitors);
+        none_is_wrong(rt, shown, wrong);
     }
     Ok(())
 }
 
 #[test]
 fn words_tell_of_tickets_and_waits(rt: HostRuntime) -> Result<(), Fail> {
-    are_right(&rt, false, words::CASES)?;
-    are_right(&rt, true, fast_tickets::CASES)
+    are_right(&rt, words::CASES)?;
+    are_right(&rt, fast_tickets::CASES)
+}
+
+// A fast ticket comes and goes while another session holds the latch of the place, so it takes none.
+#[test]
+fn a_fast_ticket_needs_no_latch(rt: HostRuntime) -> Result<(), Fail> {
+    let Visitors {
+        mut one,
+        two: _,
+        three,
+    } = come(&rt)?;
+    let free = three.lets_by(&mut one);
+    drop(one);
+    assert!(rt; free == Some(true));
+    Ok(())
 }

@@ -1,24 +1,28 @@
 //! A session that visits the place of one key, and reads the words there and those of waits.
 ghost use Rattle.std.specs.Prelude.{◌≡◌, ℕ, ◌+◌, ◌<◌, ◌^◌, None, Some, true};
+ghost use Rattle.std.specs.Arc.{arc_value};
 ghost use Rattle.std.specs.Option.{option_to_list};
 ghost use Rattle.mdl_key.specs.Words.{is_mode_of};
-ghost use Rattle.mdl_steps.specs.Seats.{IsPlace};
+ghost use Rattle.mdl_steps.specs.Seats.{IsPlace, IsSized};
 ghost use Rattle.mdl_steps.specs.WaitStates.{IsLost, granted_state};
-ghost use Rattle.mdl_visits.specs.Idle.{IsIdle, HasSlowAlone};
+ghost use Rattle.mdl_visits.specs.Idle.{IsIdle};
 ghost use Rattle.mdl_shared.specs.Members.{kind_known};
 
-use crate::steps::rows::Answer;
-use crate::steps::seated::Seated;
-use mdl_key::{Kind, Mode};
-use mdl_steps::{Ask, Loss, Own, TableSeat, WaitWord};
-use mdl_visits::{Queued, Tried, begin_wait, end_lost_wait, release, try_now};
+use crate::steps::rows::{Answer, Deed};
+use mdl_key::{Key, Kind, Mode};
+use mdl_steps::{Ask, Loss, Maker, Own, OwnedTable, TableSeat, WaitWord};
+use mdl_visits::{
+    FastTried, Queued, Tried, begin_wait, end_lost_wait, release, release_fast, reschedule,
+    resolve, try_fast, try_now,
+};
 use mdl_word::Word;
-use std::sync::Wait;
+use std::alloc::Global;
+use std::sync::{Arc, Wait};
 
 // The greatest number of a ticket and of a wait.
 const MOST_NUMBERS: u64 = (1 << 60) - 1;
 
-/// A session at the place of one key, which it knows. It has one ticket there at most.
+/// A session at the place of one key, which it knows. It has one ticket there at most, a slow or a fast one, or waits for one.
 #[derive(Drop)]
 pub(crate) struct Visitor {
     seat: TableSeat,
@@ -28,74 +32,99 @@ pub(crate) struct Visitor {
     next: u64,
     waits: u64,
     asks: Option<Ask>,
-    ticket: Option<Own>,
+    slow: Option<Own>,
+    fast: Option<Own>,
     ghost placed: { IsPlace seat.table place },
     ghost known: { kind_known place seat.me.0.known ≡ Some kind },
     ghost idle: { IsIdle seat.me },
-    ghost slow: { HasSlowAlone seat.me },
     ghost next_is: { next ≡ seat.me.0.next },
     ghost waits_is: { waits ≡ seat.me.0.waits },
     ghost asks_is: { asks ≡ seat.me.0.asks },
-    ghost holds: { seat.me.0.slow ≡ option_to_list ticket },
+    ghost slow_is: { seat.me.0.slow ≡ option_to_list slow },
+    ghost fast_is: { seat.me.0.fast ≡ option_to_list fast },
 }
 
 impl Visitor {
-    /// It has done nothing yet.
-    pub(crate) fn new(seated: Seated) -> Visitor {
-        let Seated { seat, place, kind } = seated;
-        Visitor {
+    /// The session of the next seat, once it has looked the key up. It has done nothing else yet.
+    pub(crate) fn come<R: Wait>(
+        rt: &R,
+        alloc: Global,
+        table: &Arc<OwnedTable, Global>,
+        maker: &mut Maker,
+        key: &Key,
+    ) -> Option<Visitor>
+        requires seated { maker.old.seat.table_id ≡ (arc_value table.now).shared.table_id }
+        requires sized { IsSized (arc_value table.now).shared.table_id }
+        ensures seated { maker.new.seat.table_id ≡ maker.old.seat.table_id }
+    {
+        let mut seat = maker.enrol(Arc::try_clone(table).ok()?)?;
+        let place = resolve(rt, &mut seat, alloc, key).ok()?;
+        Some(Visitor {
             seat,
             place,
-            kind,
+            kind: key.kind(),
             next: 1,
             waits: 0,
             asks: None,
-            ticket: None,
+            slow: None,
+            fast: None,
+        })
+    }
+
+    /// Does something there, and tells what comes of it.
+    pub(crate) fn act<R: Wait>(&mut self, rt: &R, deed: Deed) -> Answer {
+        match deed {
+            Deed::TryNow(mode) => self.try_now(rt, mode),
+            Deed::BeginWait(mode) => self.begin_wait(rt, mode),
+            Deed::Release => self.release(rt),
+            Deed::EndWait => self.end_wait(rt),
+            Deed::TryFast(mode) => self.try_fast(mode),
+            Deed::ReleaseFast => self.release_fast(),
+            Deed::Reschedule => self.reschedule(rt),
+            Deed::LockWord => Answer::Lock(self.seat.read_word_unlatched(self.place)),
+            Deed::WaitWord(session) => self.wait_word(session),
+            Deed::Settle(session, wait, how) => self.settle(session, wait, how),
         }
     }
 
-    /// The word of the lock.
-    pub(crate) fn lock_word(&mut self) -> Word {
-        self.seat.read_word_unlatched(self.place)
-    }
-
-    /// The word of a session's wait.
-    pub(crate) fn wait_word(&mut self, session: u16) -> Option<WaitWord> {
+    // The word of a session's wait.
+    fn wait_word(&mut self, session: u16) -> Answer {
         if !self.seat.has_session(session) {
-            return None;
+            return Answer::Refused;
         }
-        Some(self.seat.read_wait(session))
+        Answer::Wait(self.seat.read_wait(session))
     }
 
-    /// Settles a wait as lost so, where it is unsettled, and tells the word that it met.
-    pub(crate) fn settle(&mut self, session: u16, wait: u64, how: Loss) -> Option<WaitWord> {
+    // Settles a wait as lost so, where it is unsettled, and tells the word that it met.
+    fn settle(&mut self, session: u16, wait: u64, how: Loss) -> Answer {
         if !self.seat.has_session(session) || wait > MOST_NUMBERS {
-            return None;
+            return Answer::Refused;
         }
-        Some(self.seat.settle_wait(session, wait, how))
+        Answer::Wait(self.seat.settle_wait(session, wait, how))
     }
 
     // Whether it may ask for a ticket in a mode: it has none, waits for none, and has a number for it.
     fn may_ask(&self, mode: Mode) -> bool
-        ensures { result ≡ true → (self.now.asks ≡ None) × (self.now.ticket ≡ None) × (self.now.next < 2 ^ 60) × (self.now.waits + 1 < 2 ^ 60)
-            × (is_mode_of self.now.kind mode ≡ true) }
+        ensures { result ≡ true → (self.now.asks ≡ None) × (self.now.slow ≡ None) × (self.now.fast ≡ None) × (self.now.next < 2 ^ 60)
+            × (self.now.waits + 1 < 2 ^ 60) × (is_mode_of self.now.kind mode ≡ true) }
     {
         self.asks.is_none()
-            && self.ticket.is_none()
+            && self.slow.is_none()
+            && self.fast.is_none()
             && self.next < MOST_NUMBERS
             && self.waits < MOST_NUMBERS
             && self.kind.has_mode(mode)
     }
 
-    /// Asks for a ticket, without waiting.
-    pub(crate) fn try_now<R: Wait>(&mut self, rt: &R, mode: Mode) -> Answer {
+    // Asks for a ticket, without waiting.
+    fn try_now<R: Wait>(&mut self, rt: &R, mode: Mode) -> Answer {
         if !self.may_ask(mode) {
             return Answer::Refused;
         }
         let (place, number) = (self.place, self.next);
         match try_now(rt, &mut self.seat, place, self.kind, number, mode) {
             Ok(Tried::Granted) => {
-                self.ticket = Some(Own {
+                self.slow = Some(Own {
                     number,
                     place,
                     mode,
@@ -109,15 +138,15 @@ impl Visitor {
         }
     }
 
-    /// Asks for a ticket, and begins to wait for it where it can't be had now.
-    pub(crate) fn begin_wait<R: Wait>(&mut self, rt: &R, mode: Mode) -> Answer {
+    // Asks for a ticket, and begins to wait for it where it can't be had now.
+    fn begin_wait<R: Wait>(&mut self, rt: &R, mode: Mode) -> Answer {
         if !self.may_ask(mode) {
             return Answer::Refused;
         }
         let (place, number, wait) = (self.place, self.next, self.waits + 1);
         match begin_wait(rt, &mut self.seat, place, self.kind, number, mode, wait) {
             Ok(Queued::Granted) => {
-                self.ticket = Some(Own {
+                self.slow = Some(Own {
                     number,
                     place,
                     mode,
@@ -140,9 +169,9 @@ impl Visitor {
         }
     }
 
-    /// Gives its ticket up, while it waits for none.
-    pub(crate) fn release<R: Wait>(&mut self, rt: &R) -> Answer {
-        let Some(ticket) = self.ticket else {
+    // Gives its slow ticket up, while it waits for none.
+    fn release<R: Wait>(&mut self, rt: &R) -> Answer {
+        let Some(ticket) = self.slow else {
             return Answer::Refused;
         };
         if self.asks.is_some() || ticket.place != self.place {
@@ -153,20 +182,20 @@ impl Visitor {
     }
 
     fn give_back<R: Wait>(&mut self, rt: &R, ticket: Own)
-        requires held { self.old.ticket ≡ Some ticket }
+        requires held { self.old.slow ≡ Some ticket }
         requires here { ticket.place ≡ self.old.place }
         requires unwaited { self.old.asks ≡ None }
     {
         release(rt, &mut self.seat, ticket.place, ticket.number);
-        self.ticket = None;
+        self.slow = None;
     }
 
-    /// Ends its wait, where it is settled.
-    pub(crate) fn end_wait<R: Wait>(&mut self, rt: &R) -> Answer {
+    // Ends its wait, where it is settled.
+    fn end_wait<R: Wait>(&mut self, rt: &R) -> Answer {
         let Some(ask) = self.asks else {
             return Answer::Refused;
         };
-        if self.ticket.is_some() || ask.place != self.place || self.waits > MOST_NUMBERS {
+        if self.slow.is_some() || ask.place != self.place || self.waits > MOST_NUMBERS {
             return Answer::Refused;
         }
         let session = self.seat.number();
@@ -190,11 +219,11 @@ impl Visitor {
     fn take_over(&mut self, ask: Ask)
         requires asks { self.old.asks ≡ Some ask }
         requires granted { self.old.seat.me.0.told ≡ Some granted_state }
-        requires empty { self.old.ticket ≡ None }
+        requires empty { self.old.slow ≡ None }
         requires few { self.old.waits < 2 ^ 60 }
     {
         self.seat.end_granted(self.waits);
-        self.ticket = Some(Own {
+        self.slow = Some(Own {
             number: ask.number,
             place: ask.place,
             mode: ask.mode,
@@ -212,5 +241,66 @@ impl Visitor {
     {
         end_lost_wait(rt, &mut self.seat, ask, self.waits);
         self.asks = None;
+    }
+
+    // Tries for a fast ticket. Nothing is done where tickets in this mode aren't counted.
+    fn try_fast(&mut self, mode: Mode) -> Answer {
+        if !self.may_ask(mode) {
+            return Answer::Refused;
+        }
+        let (place, number) = (self.place, self.next);
+        let Some(one) = Word::increment(self.kind, mode) else {
+            return Answer::Refused;
+        };
+        match try_fast(&mut self.seat, place, mode, None, one) {
+            FastTried::Granted => {
+                self.fast = Some(Own {
+                    number,
+                    place,
+                    mode,
+                    noted: None,
+                });
+                self.next += 1;
+                Answer::Granted
+            }
+            FastTried::Obtruded(word) => Answer::Obtruded(word),
+            FastTried::Contended(word) => Answer::Contended(word),
+        }
+    }
+
+    // Gives its fast ticket up, and tells whether waits there may have become grantable.
+    fn release_fast(&mut self) -> Answer {
+        let Some(ticket) = self.fast else {
+            return Answer::Refused;
+        };
+        if ticket.place != self.place {
+            return Answer::Refused;
+        }
+        let Some(one) = Word::increment(self.kind, ticket.mode) else {
+            return Answer::Refused;
+        };
+        let owes = release_fast(&mut self.seat, self.place, ticket.number, one);
+        self.fast = None;
+        Answer::Owes(owes)
+    }
+
+    // Grants the waits there that can be granted.
+    fn reschedule<R: Wait>(&mut self, rt: &R) -> Answer {
+        reschedule(rt, &mut self.seat, self.place);
+        Answer::Done
+    }
+
+    /// Whether another session's fast ticket comes and goes while this one holds the latch of the place, if it gets that.
+    pub(crate) fn lets_by(self, other: &mut Visitor) -> Option<bool> {
+        let Visitor {
+            mut seat,
+            place,
+            ..
+        } = self;
+        let latch = seat.take_latch(place)?;
+        let granted = other.try_fast(Mode::SW) == Answer::Granted;
+        let free = other.release_fast() == Answer::Owes(false);
+        seat.put_latch(latch, &[]);
+        Some(granted && free)
     }
 }

@@ -15,4 +15,4 @@ release-requires-clause-known g c =
 pub release-requires-clause-held : goal.release-requires-clause-held
 release-requires-clause-held g c =
     let t : Own = c.args.ticket in
-    subst (λ (ts : List Own). HasTicket t.place t.number ts) (sym (c.args.self.now.holds ∙ ap option_to_list c.requires.held)) (zero, t, refl, refl, refl)
+    subst (λ (ts : List Own). HasTicket t.place t.number ts) (sym (c.args.self.now.slow_is ∙ ap option_to_list c.requires.held)) (zero, t, refl, refl, refl)

@@ -9,5 +9,5 @@ try_now-requires-clause-wish g c =
     let may = c.may_ask.ensures c.if-not-may_ask.false in record {
       idle = sym self.asks_is ∙ may.0;
       knows = kind_there self.place self.kind self.seat.me.0.known self.known;
-      is_mode = may.4;
+      is_mode = may.5;
     }

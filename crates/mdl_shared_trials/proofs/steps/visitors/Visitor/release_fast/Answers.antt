@@ -1,4 +1,4 @@
--- The session has just one ticket, which is at the place whose key it knows.
+-- The session has just one fast ticket, which is at the place whose key it knows.
 use Rattle.std.proofs.Common.{◌≡◌, ℕ, List, [], ◌∷◌, filter, refl, sym, ap, ◌∙◌}
 use Rattle.std.proofs.lemmas.Bool.{eq-eqb}
 use Rattle.std.specs.Option.{option_to_list}
@@ -7,7 +7,7 @@ use Rattle.mdl_word.specs.Words.{increment_of}
 use Rattle.mdl_steps.specs.declared.view.Own.{Own}
 use Rattle.mdl_steps.specs.Deeds.{is_own}
 use Rattle.mdl_shared.proofs.Membership.{kind_there}
-use Rattle.mdl_shared_trials.proofs.steps.fast_visitors.FastVisitor.release_fast.Goals as goal
+use Rattle.mdl_shared_trials.proofs.steps.visitors.Visitor.release_fast.Goals as goal
 
 -- it is found by its number
 found_alone : (place : ℕ) (t : Own) → t.place ≡ place → filter (is_own place t.number) (t ∷ []) ≡ t ∷ []
@@ -16,11 +16,11 @@ found_alone place t here = rw (eq-eqb t.place place here) (rw (eq-eqb t.number t
 pub release_fast-owes-requires-clause-lost : goal.release_fast-owes-requires-clause-lost
 release_fast-owes-requires-clause-lost c =
     let self = c.args.self.now in
-    let t : Own = c.in_ok-ticket.ticket in
+    let t : Own = c.in-Some.ticket in
     let there = kind_there self.place self.kind self.seat.me.0.known self.known in
-    let alone = self.single c.if-self-ne1.false ∙ ap option_to_list c.in_ok-ticket.was in
+    let alone = self.fast_is ∙ ap option_to_list c.in-Some.is in
     record {
       ticket = t;
       only = ap (λ (ts : List Own). filter (is_own self.place t.number) ts) alone ∙ found_alone self.place t c.if-ticket-self.false;
-      counted_so = (there.0, there.1, there.2, there.3, ap (λ (k : Kind). increment_of k t.mode) there.4 ∙ sym c.increment.ensures ∙ c.in_ok-one.was);
+      counted_so = (there.0, there.1, there.2, there.3, ap (λ (k : Kind). increment_of k t.mode) there.4 ∙ sym c.increment.ensures ∙ c.in-Some-increment.is);
     }

@@ -1,2 +1,0 @@
-pub mod MetAfter
-pub mod VainTries
