@@ -9,7 +9,7 @@ use crate::rows::{Three, none_is_wrong, open_three};
 use mdl_calls::{Attempt, LockSpace, Place, SpaceError, TicketId};
 use mdl_defs::{Column, DefCache, Definition, Standing};
 use mdl_key::{Key, Mode};
-use mdl_shared::{Cached, Session, read_cached};
+use mdl_shared::{Cached, Fast, Session, read_cached};
 use std::alloc::Global;
 use std::process::Abort;
 use std::sync::Wait;
@@ -42,6 +42,8 @@ pub(crate) enum Step {
     LookUp(Lock, Place),
     /// It takes a ticket to read with.
     Take(Place, TicketId),
+    /// Likewise without the latch, at a place that it knows.
+    TakeFast(Place, TicketId),
     /// It looks in its cache for a definition that has these columns.
     Look(TicketId, Names, Found),
     /// It reads with its cache: the version, and what stands. What it may not read has the version 0.
@@ -153,6 +155,24 @@ fn give_up<S: LockSpace>(space: &mut S, who: u16, id: TicketId, _cache: &DefCach
     space.release(who, id).is_ok()
 }
 
+// Takes a ticket to read with, without the latch, at a place that the session has looked up.
+fn take_fast<R>(session: &mut Session<R>, place: Place, _cache: &DefCache) -> Option<TicketId>
+    requires met { AreMet (HasMet (space_of session.old) session.old.me.0.number) _cache.now.kept }
+    ensures met { AreMet (HasMet (space_of session.new) session.new.me.0.number) _cache.now.kept }
+{
+    match session.key_of(place) {
+        Ok(_key) => granted(session.try_fast(place, Mode::SR)),
+        Err(_) => None,
+    }
+}
+
+fn granted(outcome: Result<Fast, SpaceError>) -> Option<TicketId> {
+    match outcome {
+        Ok(Fast::Granted(id)) => Some(id),
+        _ => None,
+    }
+}
+
 // Whether what the reader does comes to what it should.
 fn does<R: Wait>(alloc: Global, cache: &mut DefCache, reader: &mut Session<R>, step: Step) -> bool
     requires met { AreMet (HasMet (space_of reader.old) reader.old.me.0.number) cache.old.kept }
@@ -165,6 +185,7 @@ fn does<R: Wait>(alloc: Global, cache: &mut DefCache, reader: &mut Session<R>, s
             Err(_) => false,
         },
         Step::Take(place, id) => take(reader, who, place, cache) == Some(id),
+        Step::TakeFast(place, id) => take_fast(reader, place, cache) == Some(id),
         Step::Look(id, names, wanted) => look(cache, reader, id, names) == wanted,
         Step::Read(id, names, version, wanted) => {
             read(reader, who, id, names, cache) == (version, wanted)
