@@ -1,4 +1,6 @@
 //! Examples of crates, which the heads of their `src/lib.rt` show, too.
+mod lock;
+mod program;
 mod script;
 mod script_laws;
 mod work;
