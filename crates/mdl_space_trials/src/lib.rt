@@ -38,4 +38,6 @@ mod room;
 #[cfg(test)]
 mod tables;
 #[cfg(test)]
+mod trials;
+#[cfg(test)]
 mod wishes;

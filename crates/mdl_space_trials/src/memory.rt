@@ -1,11 +1,11 @@
 //! Growths refused in turn: where each allocation fails once, the space has lost nothing, and goes on.
 //!
 //! `rt try --test --fail-alloc N` refuses the allocation of that number. Then the call that needed it is made again.
-use crate::acts::{Act, Reply};
+use crate::acts::{Act, Row};
 use crate::room::{ORDINARY, OTHER_TABLE, Room, Story, TABLE};
 use crate::wishes::{Shown, Wish};
 use mdl_key::Mode;
-use mdl_space::SpaceError;
+use mdl_space::{Attempt, Begun, Ended, Search};
 use std::alloc::Global;
 
 const SESSIONS: u16 = 16;
@@ -18,18 +18,18 @@ fn new_room(alloc: Global) -> Option<Room> {
     }
 }
 
-// What a call answers, likewise.
-fn make(room: &mut Room, act: Act) -> Reply {
-    match room.make(act) {
-        Reply::Refused(SpaceError::OutOfMemory) => room.make(act),
-        reply => reply,
+// Whether a call answers as it should, likewise.
+fn make(room: &mut Room, who: u16, act: Act) -> bool {
+    match room.make(who, act) {
+        Some(is_right) => is_right,
+        None => room.make(who, act) == Some(true),
     }
 }
 
 // The first call of a row that answers something else than it should.
-fn first_lost(room: &mut Room, rows: &[(Act, Reply)]) -> Option<usize> {
-    for (place, (act, reply)) in rows.iter().enumerate() {
-        if make(room, *act) != *reply {
+fn first_lost(room: &mut Room, rows: &[Row]) -> Option<usize> {
+    for (place, (who, act)) in rows.iter().enumerate() {
+        if !make(room, *who, *act) {
             return Some(place);
         }
     }
@@ -39,7 +39,7 @@ fn first_lost(room: &mut Room, rows: &[(Act, Reply)]) -> Option<usize> {
 // Whether so many clones of the first session's first ticket can be made.
 fn clones(room: &mut Room, most: u64) -> bool {
     for number in 2..most {
-        if make(room, Act::Clone(1, 1, Mode::SW)) != Reply::Granted(number) {
+        if !make(room, 1, Act::Clone(1, Mode::SW, Ok(number))) {
             return false;
         }
     }
@@ -48,8 +48,9 @@ fn clones(room: &mut Room, most: u64) -> bool {
 
 // Whether all sessions from the third on begin to wait for a lock, and then, when it is had, end their waits.
 fn all_wait(room: &mut Room) -> bool {
+    let wait = Act::BeginWait(OTHER_TABLE, Mode::S, Ok(Begun::Waiting(1)));
     for who in 3..SESSIONS + 1 {
-        if make(room, Act::BeginWait(who, OTHER_TABLE, Mode::S)) != Reply::Waiting(1) {
+        if !make(room, who, wait) {
             return false;
         }
     }
@@ -58,16 +59,19 @@ fn all_wait(room: &mut Room) -> bool {
 
 fn all_are_granted(room: &mut Room) -> bool {
     for who in 3..SESSIONS + 1 {
-        if room.make(Act::EndWait(who)) != Reply::Granted(1) {
+        if room.make(who, Act::EndWait(Ok(Ended::Granted(1)))) != Some(true) {
             return false;
         }
     }
     true
 }
 
-const TWO_LOCKS: &[(Act, Reply)] = &[
-    (Act::TryNow(1, TABLE, Mode::SW), Reply::Granted(1)),
-    (Act::BeginWait(2, OTHER_TABLE, Mode::X), Reply::Granted(1)),
+const TWO_LOCKS: &[Row] = &[
+    (1, Act::TryNow(TABLE, Mode::SW, Ok(Attempt::Granted(1)))),
+    (
+        2,
+        Act::BeginWait(OTHER_TABLE, Mode::X, Ok(Begun::Granted(1))),
+    ),
 ];
 
 // Whether one session comes to many tickets, beside a lock that all others wait for, and all of them are granted by one
@@ -76,7 +80,7 @@ fn crowd_outlives(room: &mut Room) -> bool {
     first_lost(room, TWO_LOCKS).is_none()
         && clones(room, 40)
         && all_wait(room)
-        && room.make(Act::Release(2, 1)) == Reply::Done
+        && room.make(2, Act::Release(1, Ok(()))) == Some(true)
         && all_are_granted(room)
 }
 
@@ -89,33 +93,42 @@ fn a_crowd_outlives_want_of_memory(rt: HostRuntime) {
     assert!(rt; outlives);
 }
 
-const SEARCHES: &[(Act, Reply)] = &[
-    (Act::TryNow(1, OTHER_TABLE, Mode::X), Reply::Granted(1)),
-    (Act::TryNow(2, TABLE, Mode::SR), Reply::Granted(1)),
-    (Act::TryNow(3, TABLE, Mode::SR), Reply::Granted(1)),
-    (Act::BeginWait(2, OTHER_TABLE, Mode::SR), Reply::Waiting(1)),
-    (Act::BeginWait(3, OTHER_TABLE, Mode::SR), Reply::Waiting(1)),
-    (Act::BeginWait(1, TABLE, Mode::X), Reply::Waiting(1)),
-    (Act::Search(1), Reply::Victim(2)),
-    (Act::Search(1), Reply::Victim(3)),
-    (Act::Search(1), Reply::NoCycle),
+const SEARCHES: &[Row] = &[
+    (
+        1,
+        Act::TryNow(OTHER_TABLE, Mode::X, Ok(Attempt::Granted(1))),
+    ),
+    (2, Act::TryNow(TABLE, Mode::SR, Ok(Attempt::Granted(1)))),
+    (3, Act::TryNow(TABLE, Mode::SR, Ok(Attempt::Granted(1)))),
+    (
+        2,
+        Act::BeginWait(OTHER_TABLE, Mode::SR, Ok(Begun::Waiting(1))),
+    ),
+    (
+        3,
+        Act::BeginWait(OTHER_TABLE, Mode::SR, Ok(Begun::Waiting(1))),
+    ),
+    (1, Act::BeginWait(TABLE, Mode::X, Ok(Begun::Waiting(1)))),
+    (1, Act::Search(Ok(Search::Victim(2)))),
+    (1, Act::Search(Ok(Search::Victim(3)))),
+    (1, Act::Search(Ok(Search::NoCycle))),
 ];
 
-const CHANGES: &[(Act, Reply)] = &[
-    (Act::TryNow(1, TABLE, Mode::X), Reply::Granted(1)),
-    (Act::Redefine(1, 1, Wish::CreateTable), Reply::Changed(1)),
-    (Act::Redefine(1, 1, Wish::AddY), Reply::Changed(2)),
-    (Act::Read(1, 1), Reply::Reads(2, Shown::Table(2))),
-    (Act::Redefine(1, 1, Wish::DropX), Reply::Changed(3)),
-    (Act::Redefine(1, 1, Wish::PutTable), Reply::Changed(4)),
-    (Act::Redefine(1, 1, Wish::Drop), Reply::Changed(5)),
-    (Act::Read(1, 1), Reply::Reads(5, Shown::Nothing)),
+const CHANGES: &[Row] = &[
+    (1, Act::TryNow(TABLE, Mode::X, Ok(Attempt::Granted(1)))),
+    (1, Act::Redefine(1, Wish::CreateTable, Ok(1))),
+    (1, Act::Redefine(1, Wish::AddY, Ok(2))),
+    (1, Act::Read(1, Ok((2, Shown::Table(2))))),
+    (1, Act::Redefine(1, Wish::DropX, Ok(3))),
+    (1, Act::Redefine(1, Wish::PutTable, Ok(4))),
+    (1, Act::Redefine(1, Wish::Drop, Ok(5))),
+    (1, Act::Read(1, Ok((5, Shown::Nothing)))),
 ];
 
 const STORIES: &[Story] = &[("searches", SEARCHES), ("reads and changes", CHANGES)];
 
 // The same of a new room.
-fn first_lost_of_new(alloc: Global, rows: &[(Act, Reply)]) -> Option<usize> {
+fn first_lost_of_new(alloc: Global, rows: &[Row]) -> Option<usize> {
     match new_room(alloc) {
         Some(mut room) => first_lost(&mut room, rows),
         None => Some(rows.len()),

@@ -59,7 +59,7 @@ fn first_wrong_turn(alloc: Global, (first, second, act): Turn, is_x_first: bool)
         x_waiter,
         sh_waiter,
     ];
-    first_wrong(alloc, &rows)
+    first_wrong(alloc, &rows, false)
 }
 
 // Turns, and whether X goes first.
