@@ -13,8 +13,8 @@ use std::marker::Model;
 /// The sessions are numbered from 1 up to this.
 pub(crate) const SESSIONS: u16 = 5;
 
-/// A space, at the second try where memory was refused to the first.
-pub(crate) fn new_space(alloc: Global, places: u16, sessions: u16) -> Result<CoreSpace, NewError>
+// A space, at the second try where memory was refused to the first.
+fn new_space(alloc: Global, places: u16, sessions: u16) -> Result<CoreSpace, NewError>
     ensures made { IfOk result (λ space. space ≡ empty_core places sessions) }
     ensures speaks { IfOk result (λ space. (who : ℕ) → 1 ≤ who → who ≤ sessions → SpeaksFor space who) }
 {

@@ -6,7 +6,7 @@ use crate::acts::{Act, Row, call};
 use crate::{deadlocks, definitions, life, modes, refusals};
 use mdl_book::Book;
 use mdl_key::{Key, KeyError};
-use mdl_space::{CoreSpace, Held, LockSpace, NewError, Place, SpaceError};
+use mdl_space::{CoreSpace, Held, LockSpace, Place, SpaceError};
 use std::alloc::Global;
 use std::marker::Model;
 
@@ -71,25 +71,18 @@ impl Model for Room {
 }
 
 impl Room {
-    // Nobody has asked for anything.
-    fn empty(alloc: Global, places: u16, sessions: u16) -> Result<Room, NewError> {
-        match CoreSpace::new(alloc, places, sessions) {
-            Ok(space) => Ok(Room {
-                alloc,
-                space,
-                sessions,
-            }),
-            Err(error) => Err(error),
-        }
-    }
-
     /// Each of these keys has a place, in this order, and there are no more places. Nobody has anything.
     pub(crate) fn of_keys(alloc: Global, keys: &[Of], sessions: u16) -> Option<Room> {
         let Ok(places) = u16::try_from(keys.len()) else {
             return None;
         };
-        let Ok(mut room) = Room::empty(alloc, places, sessions) else {
+        let Ok(space) = CoreSpace::new(alloc, places, sessions) else {
             return None;
+        };
+        let mut room = Room {
+            alloc,
+            space,
+            sessions,
         };
         if room.has_places(keys) {
             Some(room)

@@ -16,13 +16,15 @@ pub(crate) enum Lock {
     Global,
     Commit,
     User,
+    // A table that is named by its number.
+    Numbered(u16),
 }
 
 impl Lock {
     /// Its kind.
     pub(crate) fn kind(self) -> Kind {
         match self {
-            Lock::A | Lock::B | Lock::User => Kind::Object,
+            Lock::A | Lock::B | Lock::User | Lock::Numbered(_) => Kind::Object,
             Lock::Schema | Lock::Global | Lock::Commit => Kind::Scoped,
         }
     }
@@ -36,7 +38,15 @@ impl Lock {
             Lock::Global => Ok(Key::global(alloc)),
             Lock::Commit => Ok(Key::commit(alloc)),
             Lock::User => Key::user_lock(alloc, "a"),
+            Lock::Numbered(number) => numbered_key(alloc, number),
         }
+    }
+}
+
+fn numbered_key(alloc: Global, number: u16) -> Result<Key, KeyError> {
+    match format!(in alloc; "t{number}") {
+        Ok(table) => Key::table(alloc, "test", table.as_str()),
+        Err(_) => Err(KeyError::OutOfMemory),
     }
 }
 
@@ -134,15 +144,6 @@ fn look<S: LockSpace>(alloc: Global, context: &Context<S>, act: Act) -> Option<R
     }
 }
 
-// A wish for a lock.
-fn wish(key: &Key, mode: Mode, duration: Duration) -> Request<'_> {
-    Request {
-        key,
-        mode,
-        duration,
-    }
-}
-
 // Asks for a lock by its key, or gives it up by its key.
 fn ask<S: LockSpace>(space: &mut S, context: &mut Context<S>, key: &Key, act: Act) -> Option<Reply>
     requires { Attends S.LockSpace space.old context.old }
@@ -152,10 +153,20 @@ fn ask<S: LockSpace>(space: &mut S, context: &mut Context<S>, key: &Key, act: Ac
 {
     match act {
         Act::Acquire(_, mode, duration) => {
-            acquired(context.acquire(space, wish(key, mode, duration)))
+            let wish = Request {
+                key,
+                mode,
+                duration,
+            };
+            acquired(context.acquire(space, wish))
         }
         Act::TryAcquire(_, mode, duration) => {
-            tried(context.try_acquire(space, wish(key, mode, duration)))
+            let wish = Request {
+                key,
+                mode,
+                duration,
+            };
+            tried(context.try_acquire(space, wish))
         }
         _ => Some(done(context.release_name(space, key))),
     }

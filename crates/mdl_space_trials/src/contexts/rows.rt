@@ -25,22 +25,16 @@ pub(crate) const NOT_UPGRADABLE: Reply = Reply::Refused(ContextError::Space(
 
 pub(crate) const BAD_MODE: Reply = Reply::Refused(ContextError::Space(SpaceError::BadMode));
 
-// Whether a reply is the wanted one. Where a search found no memory, the wait was given up and began again, and its numbers
-// are the next ones.
+// Whether a reply is the wanted one. Where memory was refused to a search, the wait was given up and began again: its numbers are
+// the wanted ones or the next.
 fn is_wanted(reply: Option<Reply>, wanted: Reply, lacks_memory: bool) -> bool {
     match (reply, wanted) {
-        (Some(Reply::MustWait(number)), Reply::MustWait(least)) if lacks_memory => is_or_follows(
-            number, least,
-        ),
+        (Some(Reply::MustWait(number)), Reply::MustWait(least)) if lacks_memory =>
+            number.wrapping_sub(least) <= 1,
         (Some(Reply::Resumed(Resume::Acquired(id))), Reply::Resumed(Resume::Acquired(least)))
-            if lacks_memory => is_or_follows(id, least),
+            if lacks_memory => id.wrapping_sub(least) <= 1,
         _ => reply == Some(wanted),
     }
-}
-
-// Whether a number is this one or the next.
-fn is_or_follows(number: u64, least: u64) -> bool {
-    number == least || number == least.saturating_add(1)
 }
 
 /// What a session does, and what comes of it.
@@ -49,9 +43,9 @@ pub(crate) type Row = (u16, Act, Reply);
 /// What rows show, and the rows.
 pub(crate) type Story = (&'static str, &'static [Row]);
 
-// Sessions do this one after another: the first row whose reply isn't the wanted one. Where memory may be refused once, the act
-// that needed it is done again.
-fn first_wrong_in(hall: &mut Hall, rows: &[Row], lacks_memory: bool) -> Option<usize> {
+/// Sessions do this one after another: the first row whose reply isn't the wanted one. Where memory may be refused once, the act
+/// that needed it is done again.
+pub(crate) fn first_wrong_in(hall: &mut Hall, rows: &[Row], lacks_memory: bool) -> Option<usize> {
     for (index, (who, act, wanted)) in rows.iter().enumerate() {
         let mut reply = hall.make(*who, *act);
         if lacks_memory && reply.is_none() {
@@ -64,8 +58,8 @@ fn first_wrong_in(hall: &mut Hall, rows: &[Row], lacks_memory: bool) -> Option<u
     None
 }
 
-/// The same where nobody has asked for anything before.
-pub(crate) fn first_wrong(alloc: Global, rows: &[Row], lacks_memory: bool) -> Option<usize> {
+// The same where nobody has asked for anything before.
+fn first_wrong(alloc: Global, rows: &[Row], lacks_memory: bool) -> Option<usize> {
     match Hall::new(alloc, PLACES) {
         Ok(mut hall) => first_wrong_in(&mut hall, rows, lacks_memory),
         Err(_) => Some(rows.len()),
