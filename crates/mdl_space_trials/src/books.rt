@@ -5,8 +5,6 @@ use mdl_book::Ticket;
 use mdl_key::Mode;
 use mdl_space::{Attempt, Begun, Ended, Place, TimedOut};
 
-const NO_TICKETS: &[Ticket] = &[];
-
 const READER: Ticket = Ticket {
     session: 1,
     number: 1,
@@ -58,12 +56,19 @@ fn first_has(room: &Room, granted: &[Ticket], waiting: &[Ticket]) -> bool {
     }
 }
 
-/// Whether a lost wait is in its book until its session ends it.
+// Calls, and the granted and the waiting tickets of the first place after them. A lost wait is in its book until its session ends it.
+const LISTED: &[(&[Row], &[Ticket], &[Ticket])] = &[
+    (&[], &[], &[]),
+    (TIMED_OUT, &[READER], &[CHANGE, LATE_READER]),
+    (ENDED, &[READER, LATE_READER], &[]),
+];
+
+/// Whether the books are those of all places, and list what stands.
 pub(crate) fn list_what_stands(room: &mut Room) -> bool {
+    for (rows, granted, waiting) in LISTED {
+        if room.first_wrong(rows).is_some() || !first_has(room, granted, waiting) {
+            return false;
+        }
+    }
     are_of_places(room, 5)
-        && first_has(room, NO_TICKETS, NO_TICKETS)
-        && room.first_wrong(TIMED_OUT).is_none()
-        && first_has(room, &[READER], &[CHANGE, LATE_READER])
-        && room.first_wrong(ENDED).is_none()
-        && first_has(room, &[READER, LATE_READER], NO_TICKETS)
 }

@@ -3,7 +3,7 @@
 use crate::acts::{Act, Row};
 use crate::room::{Room, SCHEMA, Story, TABLE};
 use mdl_key::Mode;
-use mdl_space::{Attempt, Begun, Ended, Poll, Settled, SpaceError, TimedOut, Upgrade};
+use mdl_space::{Attempt, Begun, Ended, Held, Poll, Settled, SpaceError, TimedOut, Upgrade};
 use std::alloc::Global;
 
 const NOT_HELD: SpaceError = SpaceError::NotHeld;
@@ -348,28 +348,27 @@ const CHANGES: &[(Mode, Act, Mode)] = &[
 
 // Whether the first session holds one ticket, in this mode.
 fn holds(room: &Room, mode: Mode) -> bool {
+    let wanted: &[Held] = &[Held {
+        id: 1,
+        place: TABLE,
+        mode,
+    }];
     match room.held(1) {
-        Ok(tickets) => match tickets.as_slice() {
-            [ticket] => ticket.id == 1 && ticket.place == TABLE && ticket.mode == mode,
-            _ => false,
-        },
+        Ok(tickets) => tickets.as_slice() == wanted,
         Err(_) => false,
     }
 }
 
-// Whether the ticket that it gains comes to the mode that it should.
-fn comes_to(room: &mut Room, held: Mode, act: Act, mode: Mode) -> bool {
-    room.make(1, Act::TryNow(TABLE, held, Ok(Attempt::Granted(1)))) == Some(true)
-        && room.make(1, act) == Some(true)
-        && holds(room, mode)
-}
-
-// The same in a new room.
+// Whether the ticket that it gains in a new room comes to the mode that it should.
 fn is_right(alloc: Global, held: Mode, act: Act, mode: Mode) -> bool {
-    match Room::new(alloc) {
-        Some(mut room) => comes_to(&mut room, held, act, mode),
-        None => false,
-    }
+    let Some(mut room) = Room::new(alloc) else {
+        return false;
+    };
+    let is_so = room.make(1, Act::TryNow(TABLE, held, Ok(Attempt::Granted(1)))) == Some(true)
+        && room.make(1, act) == Some(true)
+        && holds(&room, mode);
+    drop(room);
+    is_so
 }
 
 #[test]

@@ -47,13 +47,21 @@ const CREATED: &[Row] = &[
 
 const DROPPED: &[Row] = &[(1, Act::Redefine(1, Wish::Drop, Ok(2)))];
 
+// Calls, and the tables of a schema after them.
+const TOLD: &[(&[Row], &str, &[Place])] = &[
+    (&[], "test", &[]),
+    (CREATED, "test", &[A, B]),
+    (&[], "tes", &[OF_ANOTHER]),
+    (&[], "t", &[]),
+    (DROPPED, "test", &[A]),
+];
+
 /// Whether the tables are told as they come and go.
 pub(crate) fn tells_what_is_defined(room: &mut Room) -> bool {
-    tells(room, "test", &[])
-        && room.first_wrong(CREATED).is_none()
-        && tells(room, "test", &[A, B])
-        && tells(room, "tes", &[OF_ANOTHER])
-        && tells(room, "t", &[])
-        && room.first_wrong(DROPPED).is_none()
-        && tells(room, "test", &[A])
+    for (rows, schema, places) in TOLD {
+        if room.first_wrong(rows).is_some() || !tells(room, schema, places) {
+            return false;
+        }
+    }
+    true
 }

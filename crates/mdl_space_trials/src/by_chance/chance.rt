@@ -4,7 +4,6 @@ ghost use Rattle.std.specs.Prelude.{◌<◌};
 use crate::by_chance::plain::Plain;
 use crate::contexts::acts::{Act, Lock};
 use crate::hall::SESSIONS;
-use mdl_context::Mark;
 use mdl_key::{Duration, Kind, Mode};
 use mdl_space::TicketId;
 
@@ -79,18 +78,13 @@ impl Chance {
         }
     }
 
-    // Some mode, mostly one of the kind's.
-    fn draw_mode(&mut self, kind: Kind) -> Mode {
-        match kind {
-            Kind::Object => OBJECT_MODES[usize::from(self.draw(16))],
-            Kind::Scoped => SCOPED_MODES[usize::from(self.draw(8))],
-        }
-    }
-
-    /// A wish for some lock.
+    /// A wish for some lock, mostly in one of its modes.
     pub(crate) fn draw_acquire(&mut self) -> Act {
         let lock = self.draw_lock();
-        let mode = self.draw_mode(lock.kind());
+        let mode = match lock.kind() {
+            Kind::Object => OBJECT_MODES[usize::from(self.draw(16))],
+            Kind::Scoped => SCOPED_MODES[usize::from(self.draw(8))],
+        };
         Act::Acquire(lock, mode, DURATIONS[usize::from(self.draw(8))])
     }
 
@@ -120,15 +114,8 @@ impl Chance {
         }
     }
 
-    /// A way back to a mark of where the session stood, or at times where it never was.
-    pub(crate) fn draw_way_back(&mut self, stands: Mark) -> Act {
-        let statement = self.draw_up_to(stands.statement);
-        let transaction = self.draw_up_to(stands.transaction);
-        Act::GoBack(statement, transaction)
-    }
-
-    // Up to so many, or at times one more.
-    fn draw_up_to(&mut self, most: usize) -> usize {
+    /// Up to so many, or at times one more.
+    pub(crate) fn draw_up_to(&mut self, most: usize) -> usize {
         let some = usize::from(self.draw(8));
         if self.draw(16) == 0 {
             return most.wrapping_add(1);

@@ -33,7 +33,11 @@ fn draw_act(trial: &mut Trial, who: u16) -> Act {
         0..=33 => trial.chance.draw_acquire(),
         34..=42 => Act::Release(trial.chance.draw_id(&trial.plain, who)),
         43..=45 => Act::ReleaseName(trial.chance.draw_lock()),
-        46..=49 => trial.chance.draw_way_back(trial.plain.mark_of(who)),
+        46..=49 => {
+            let stands = trial.plain.mark_of(who);
+            let statement = trial.chance.draw_up_to(stands.statement);
+            Act::GoBack(statement, trial.chance.draw_up_to(stands.transaction))
+        }
         50..=54 => Act::EndStatement,
         55..=57 => Act::EndTransaction,
         58 => Act::MakeExplicit,

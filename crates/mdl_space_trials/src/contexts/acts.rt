@@ -215,7 +215,9 @@ pub(crate) fn make<S: LockSpace>(
     match act {
         Act::Last(_) | Act::AwaitsUserLock | Act::Mark => look(alloc, context, act),
         Act::Acquire(lock, _, _) | Act::TryAcquire(lock, _, _) | Act::ReleaseName(lock) => {
-            let key = lock.key(alloc).ok()?;
+            let Ok(key) = lock.key(alloc) else {
+                return None;
+            };
             let reply = ask(space, context, &key, act);
             drop(key);
             reply

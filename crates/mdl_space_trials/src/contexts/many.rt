@@ -29,15 +29,23 @@ const ENDED: &[Row] = &[
     (2, Act::Mark, Reply::Stands(0, 512)),
 ];
 
-// New tickets, tickets used again, and clones.
+// New tickets, tickets used again, and clones: how long they last, and the first of them.
+const GAINS: &[(Duration, TicketId)] = &[
+    (Duration::Statement, 1),
+    (Duration::Statement, 1),
+    (Duration::Transaction, 257),
+    (Duration::Transaction, 257),
+    (Duration::Explicit, 513),
+    (Duration::Explicit, 769),
+];
+
 fn are_locked(hall: &mut Hall) -> bool {
-    gains_all(hall, Duration::Statement, 1)
-        && gains_all(hall, Duration::Statement, 1)
-        && gains_all(hall, Duration::Transaction, 257)
-        && gains_all(hall, Duration::Transaction, 257)
-        && gains_all(hall, Duration::Explicit, 513)
-        && gains_all(hall, Duration::Explicit, 769)
-        && first_wrong_in(hall, ENDED, false).is_none()
+    for (duration, first) in GAINS {
+        if !gains_all(hall, *duration, *first) {
+            return false;
+        }
+    }
+    first_wrong_in(hall, ENDED, false).is_none()
 }
 
 #[test]

@@ -5,6 +5,13 @@ use mdl_context::{Acquire, ContextError, Mark, Resume};
 use mdl_key::{Duration, Mode, at_least};
 use mdl_space::{Settled, SpaceError, TicketId};
 
+// Which tickets of a session: those of a lock, or those of a duration.
+#[derive(Clone, Copy)]
+enum Which {
+    Of(Lock),
+    Lasting(Duration),
+}
+
 impl Plain {
     /// What an act of a session comes to, unless no memory is found. It has those acts that are drawn.
     pub(crate) fn make(&mut self, who: u16, act: Act) -> Option<Reply> {
@@ -117,23 +124,8 @@ impl Plain {
         if self.wait(who).is_some() {
             return Err(ContextError::Waiting);
         }
-        for _ticket in 0..self.tickets.len() {
-            match self.first_of(who, lock) {
-                Some(number) => self.let_go(who, number),
-                None => return Ok(()),
-            }
-        }
+        self.give_up_all(who, Which::Of(lock), 0);
         Ok(())
-    }
-
-    // The first held ticket of a lock.
-    fn first_of(&self, who: u16, lock: Lock) -> Option<TicketId> {
-        for ticket in &self.tickets {
-            if self.is_held(ticket, who) && ticket.lock == lock {
-                return Some(ticket.number);
-            }
-        }
-        None
     }
 
     // Those beyond a mark are: those of the statement, and then those of the transaction. The end of either goes back to a mark
@@ -152,15 +144,15 @@ impl Plain {
         if self.wait(who).is_some() {
             return Err(ContextError::Waiting);
         }
-        self.give_up_beyond(who, Duration::Statement, statement);
-        self.give_up_beyond(who, Duration::Transaction, transaction);
+        self.give_up_all(who, Which::Lasting(Duration::Statement), statement);
+        self.give_up_all(who, Which::Lasting(Duration::Transaction), transaction);
         Ok(())
     }
 
-    // Gives up a session's tickets of a duration but for so many from the front.
-    fn give_up_beyond(&mut self, who: u16, duration: Duration, most: usize) {
+    // Gives up these tickets of a session but for so many from the front.
+    fn give_up_all(&mut self, who: u16, which: Which, most: usize) {
         for _ticket in 0..self.tickets.len() {
-            match self.first_beyond(who, duration, most) {
+            match self.first_beyond(who, which, most) {
                 Some(number) => self.let_go(who, number),
                 None => return,
             }
@@ -168,10 +160,14 @@ impl Plain {
     }
 
     // The first of these.
-    fn first_beyond(&self, who: u16, duration: Duration, most: usize) -> Option<TicketId> {
+    fn first_beyond(&self, who: u16, which: Which, most: usize) -> Option<TicketId> {
         let mut left = most;
         for ticket in &self.tickets {
-            if self.is_held(ticket, who) && ticket.duration == duration {
+            let is_one = match which {
+                Which::Of(lock) => ticket.lock == lock,
+                Which::Lasting(duration) => ticket.duration == duration,
+            };
+            if is_one && self.is_held(ticket, who) {
                 if left == 0 {
                     return Some(ticket.number);
                 }

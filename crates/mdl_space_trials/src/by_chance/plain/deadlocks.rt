@@ -4,13 +4,9 @@ use crate::contexts::acts::Lock;
 use mdl_key::Mode;
 use mdl_space::Settled;
 
-// Distinct sessions each of which waits for the next. The places behind the last one have the first.
-#[derive(Clone, Copy)]
-struct Path {
-    sessions: [u16; 5],
-    length: usize,
-    last: u16,
-}
+// Distinct sessions each of which waits for the one before it in this list. The one that the path begins with comes last, and has
+// the rest of the places too.
+type Path = [u16; 5];
 
 // More than there are.
 const MOST_PATHS: usize = 100;
@@ -35,12 +31,7 @@ impl Plain {
     // The victim of the deadlock that a session waits in, if one is found. All paths that begin with it are gone through, the shorter
     // ones first, and those of one length in the order of dictionaries.
     fn victim(&self, paths: &mut Vec<Path>, who: u16) -> Option<u16> {
-        let first = Path {
-            sessions: [who; 5],
-            length: 1,
-            last: who,
-        };
-        if paths.push(first).is_err() {
+        if paths.push([who; 5]).is_err() {
             return None;
         }
         for index in 0..MOST_PATHS {
@@ -48,8 +39,8 @@ impl Plain {
                 Some(path) => *path,
                 None => return None,
             };
-            if self.waits_for(path.last, who) {
-                return Some(self.lightest(&path.sessions));
+            if self.waits_for(path[0], who) {
+                return Some(self.lightest(path));
             }
             if !self.lengthen(paths, path) {
                 return None;
@@ -61,16 +52,9 @@ impl Plain {
     // Adds all paths that are one longer than this one: whether memory was found.
     fn lengthen(&self, paths: &mut Vec<Path>, path: Path) -> bool {
         for seat in &self.seats {
-            let last = seat.session;
-            if self.waits_for(path.last, last) && !path.sessions.contains(&last) {
-                let mut longer = Path {
-                    length: path.length.wrapping_add(1),
-                    last,
-                    ..path
-                };
-                if let Some(place) = longer.sessions.get_mut(path.length) {
-                    *place = last;
-                }
+            let next = seat.session;
+            if self.waits_for(path[0], next) && !path.contains(&next) {
+                let longer = [next, path[0], path[1], path[2], path[3]];
                 if paths.push(longer).is_err() {
                     return false;
                 }
@@ -80,10 +64,10 @@ impl Plain {
     }
 
     // The member of a cycle whose wish weighs least, and of equal weights that of the greatest number.
-    fn lightest(&self, cycle: &[u16]) -> u16 {
+    fn lightest(&self, cycle: Path) -> u16 {
         let mut victim = 0;
         let mut least = u8::MAX;
-        for &member in cycle {
+        for &member in &cycle {
             let weight = self.weight(member);
             if weight < least || (weight == least && member > victim) {
                 victim = member;

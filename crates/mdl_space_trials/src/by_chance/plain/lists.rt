@@ -13,19 +13,18 @@ impl Plain {
         let mut count: usize = 0;
         for ticket in &self.tickets {
             if self.is_held(ticket, who) {
+                let wanted = Held {
+                    id: ticket.number,
+                    place: self.place_of(ticket.lock),
+                    mode: ticket.mode,
+                };
                 match tickets.get(count) {
-                    Some(held) if self.is_same(ticket, held) => count = count.wrapping_add(1),
+                    Some(held) if *held == wanted => count = count.wrapping_add(1),
                     _ => return false,
                 }
             }
         }
         count == tickets.len()
-    }
-
-    // Whether a ticket is told so.
-    fn is_same(&self, ticket: &Ticket, held: &Held) -> bool {
-        let place = self.place_of(ticket.lock);
-        held.id == ticket.number && held.place == place && held.mode == ticket.mode
     }
 
     /// The number of the ticket of this index among those that a session holds. Behind the last it's that of the last.
