@@ -1,11 +1,9 @@
 //! The books of a space: who holds each lock and who waits for it, as a tool lists them that shows locks.
-use crate::acts::{Act, Reply};
+use crate::acts::{Act, Row};
 use crate::room::{Room, TABLE};
 use mdl_book::Ticket;
 use mdl_key::Mode;
-use mdl_space::{Place, Settled};
-
-const NO_TICKETS: &[Ticket] = &[];
+use mdl_space::{Attempt, Begun, Ended, Place, TimedOut};
 
 const READER: Ticket = Ticket {
     session: 1,
@@ -26,15 +24,15 @@ const LATE_READER: Ticket = Ticket {
 };
 
 // A reader, a change that has timed out, and a reader behind it.
-const TIMED_OUT: &[(Act, Reply)] = &[
-    (Act::TryNow(1, TABLE, Mode::SR), Reply::Granted(1)),
-    (Act::BeginWait(2, TABLE, Mode::X), Reply::Waiting(1)),
-    (Act::BeginWait(3, TABLE, Mode::SR), Reply::Waiting(1)),
-    (Act::TimeOut(2), Reply::TimedOut),
+const TIMED_OUT: &[Row] = &[
+    (1, Act::TryNow(TABLE, Mode::SR, Ok(Attempt::Granted(1)))),
+    (2, Act::BeginWait(TABLE, Mode::X, Ok(Begun::Waiting(1)))),
+    (3, Act::BeginWait(TABLE, Mode::SR, Ok(Begun::Waiting(1)))),
+    (2, Act::TimeOut(Ok(TimedOut::ByThisCall))),
 ];
 
 // The session of the change ends its wait, so the reader behind it is granted.
-const ENDED: &[(Act, Reply)] = &[(Act::EndWait(2), Reply::Lost(Settled::Timeout))];
+const ENDED: &[Row] = &[(2, Act::EndWait(Ok(Ended::Timeout)))];
 
 // Whether the books are those of the places from 1 to this one, in order.
 fn are_of_places(room: &mut Room, last: Place) -> bool {
@@ -58,21 +56,19 @@ fn first_has(room: &Room, granted: &[Ticket], waiting: &[Ticket]) -> bool {
     }
 }
 
-// Whether a lost wait is in its book until its session ends it.
-fn list_what_stands(room: &mut Room) -> bool {
-    are_of_places(room, 5)
-        && first_has(room, NO_TICKETS, NO_TICKETS)
-        && room.first_wrong(TIMED_OUT).is_none()
-        && first_has(room, &[READER], &[CHANGE, LATE_READER])
-        && room.first_wrong(ENDED).is_none()
-        && first_has(room, &[READER, LATE_READER], NO_TICKETS)
-}
+// Calls, and the granted and the waiting tickets of the first place after them. A lost wait is in its book until its session ends it.
+const LISTED: &[(&[Row], &[Ticket], &[Ticket])] = &[
+    (&[], &[], &[]),
+    (TIMED_OUT, &[READER], &[CHANGE, LATE_READER]),
+    (ENDED, &[READER, LATE_READER], &[]),
+];
 
-#[test]
-fn the_books_list_who_holds_and_who_waits(rt: HostRuntime) {
-    let are_listed = match Room::new(rt.alloc()) {
-        Some(mut room) => list_what_stands(&mut room),
-        None => false,
-    };
-    assert!(rt; are_listed);
+/// Whether the books are those of all places, and list what stands.
+pub(crate) fn list_what_stands(room: &mut Room) -> bool {
+    for (rows, granted, waiting) in LISTED {
+        if room.first_wrong(rows).is_some() || !first_has(room, granted, waiting) {
+            return false;
+        }
+    }
+    are_of_places(room, 5)
 }

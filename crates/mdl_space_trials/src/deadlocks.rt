@@ -1,104 +1,102 @@
 //! Deadlocks, and the victims of searches, as rows of calls.
-use crate::acts::{Act, Reply};
-use crate::room::{COMMIT, GLOBAL, OTHER_TABLE as B, Room, Story, TABLE as A};
+use crate::acts::{Act, Row};
+use crate::room::{COMMIT, GLOBAL, OTHER_TABLE as B, Story, TABLE as A, first_wrong};
 use mdl_key::Mode;
-use mdl_space::{Place, Settled};
+use mdl_space::{Attempt, Begun, Ended, Place, Poll, Search, Settled, TimedOut};
 use std::alloc::Global;
 
-const TWO_CYCLES: &[(Act, Reply)] = &[
-    (Act::TryNow(1, B, Mode::X), Reply::Granted(1)),
-    (Act::TryNow(2, A, Mode::SR), Reply::Granted(1)),
-    (Act::TryNow(3, A, Mode::SR), Reply::Granted(1)),
-    (Act::BeginWait(2, B, Mode::SR), Reply::Waiting(1)),
-    (Act::BeginWait(3, B, Mode::SR), Reply::Waiting(1)),
-    (Act::Search(3), Reply::NoCycle),
-    (Act::BeginWait(1, A, Mode::X), Reply::Waiting(1)),
-    (Act::Search(1), Reply::Victim(2)),
-    (Act::Search(1), Reply::Victim(3)),
-    (Act::Search(1), Reply::NoCycle),
-    (Act::Poll(1), Reply::Pending),
-    (Act::Poll(2), Reply::Settled(Settled::Victim)),
-    (Act::Poll(3), Reply::Settled(Settled::Victim)),
-    (Act::TimeOut(2), Reply::Settled(Settled::Victim)),
-    (Act::Kill(2, 1), Reply::Killed(false)),
-    (Act::EndWait(2), Reply::Lost(Settled::Victim)),
-    (Act::EndWait(3), Reply::Lost(Settled::Victim)),
-    (Act::Release(2, 1), Reply::Done),
-    (Act::Poll(1), Reply::Pending),
-    (Act::Release(3, 1), Reply::Done),
-    (Act::EndWait(1), Reply::Granted(2)),
+const TWO_CYCLES: &[Row] = &[
+    (1, Act::TryNow(B, Mode::X, Ok(Attempt::Granted(1)))),
+    (2, Act::TryNow(A, Mode::SR, Ok(Attempt::Granted(1)))),
+    (3, Act::TryNow(A, Mode::SR, Ok(Attempt::Granted(1)))),
+    (2, Act::BeginWait(B, Mode::SR, Ok(Begun::Waiting(1)))),
+    (3, Act::BeginWait(B, Mode::SR, Ok(Begun::Waiting(1)))),
+    (3, Act::Search(Ok(Search::NoCycle))),
+    (1, Act::BeginWait(A, Mode::X, Ok(Begun::Waiting(1)))),
+    (1, Act::Search(Ok(Search::Victim(2)))),
+    (1, Act::Search(Ok(Search::Victim(3)))),
+    (1, Act::Search(Ok(Search::NoCycle))),
+    (1, Act::Poll(Ok(Poll::Pending))),
+    (2, Act::Poll(Ok(Poll::Settled(Settled::Victim)))),
+    (3, Act::Poll(Ok(Poll::Settled(Settled::Victim)))),
+    (2, Act::TimeOut(Ok(TimedOut::Already(Settled::Victim)))),
+    (1, Act::Kill(2, 1, false)),
+    (2, Act::EndWait(Ok(Ended::Victim))),
+    (3, Act::EndWait(Ok(Ended::Victim))),
+    (2, Act::Release(1, Ok(()))),
+    (1, Act::Poll(Ok(Poll::Pending))),
+    (3, Act::Release(1, Ok(()))),
+    (1, Act::EndWait(Ok(Ended::Granted(2)))),
 ];
 
-const LEAST_CYCLE: &[(Act, Reply)] = &[
+const LEAST_CYCLE: &[Row] = &[
     // From 3 to 4 and back, and from 3 to 2, which came later, and back.
-    (Act::TryNow(3, B, Mode::X), Reply::Granted(1)),
-    (Act::TryNow(4, A, Mode::SR), Reply::Granted(1)),
-    (Act::TryNow(2, A, Mode::SR), Reply::Granted(1)),
-    (Act::BeginWait(4, B, Mode::SW), Reply::Waiting(1)),
-    (Act::BeginWait(2, B, Mode::SW), Reply::Waiting(1)),
-    (Act::BeginWait(3, A, Mode::SNRW), Reply::Waiting(1)),
-    (Act::Search(3), Reply::Victim(2)),
-    (Act::Search(3), Reply::Victim(4)),
-    (Act::Search(3), Reply::NoCycle),
+    (3, Act::TryNow(B, Mode::X, Ok(Attempt::Granted(1)))),
+    (4, Act::TryNow(A, Mode::SR, Ok(Attempt::Granted(1)))),
+    (2, Act::TryNow(A, Mode::SR, Ok(Attempt::Granted(1)))),
+    (4, Act::BeginWait(B, Mode::SW, Ok(Begun::Waiting(1)))),
+    (2, Act::BeginWait(B, Mode::SW, Ok(Begun::Waiting(1)))),
+    (3, Act::BeginWait(A, Mode::SNRW, Ok(Begun::Waiting(1)))),
+    (3, Act::Search(Ok(Search::Victim(2)))),
+    (3, Act::Search(Ok(Search::Victim(4)))),
+    (3, Act::Search(Ok(Search::NoCycle))),
 ];
 
-const SHORTEST_CYCLE: &[(Act, Reply)] = &[
+const SHORTEST_CYCLE: &[Row] = &[
     // From 5 by 1 and 2 and back, and from 5 to 4 and back.
-    (Act::TryNow(5, GLOBAL, Mode::X), Reply::Granted(1)),
-    (Act::TryNow(1, A, Mode::SR), Reply::Granted(1)),
-    (Act::TryNow(4, A, Mode::SR), Reply::Granted(1)),
-    (Act::TryNow(2, B, Mode::X), Reply::Granted(1)),
-    (Act::BeginWait(1, B, Mode::SR), Reply::Waiting(1)),
-    (Act::BeginWait(2, GLOBAL, Mode::IX), Reply::Waiting(1)),
-    (Act::BeginWait(4, GLOBAL, Mode::IX), Reply::Waiting(1)),
-    (Act::BeginWait(5, A, Mode::X), Reply::Waiting(1)),
+    (5, Act::TryNow(GLOBAL, Mode::X, Ok(Attempt::Granted(1)))),
+    (1, Act::TryNow(A, Mode::SR, Ok(Attempt::Granted(1)))),
+    (4, Act::TryNow(A, Mode::SR, Ok(Attempt::Granted(1)))),
+    (2, Act::TryNow(B, Mode::X, Ok(Attempt::Granted(1)))),
+    (1, Act::BeginWait(B, Mode::SR, Ok(Begun::Waiting(1)))),
+    (2, Act::BeginWait(GLOBAL, Mode::IX, Ok(Begun::Waiting(1)))),
+    (4, Act::BeginWait(GLOBAL, Mode::IX, Ok(Begun::Waiting(1)))),
+    (5, Act::BeginWait(A, Mode::X, Ok(Begun::Waiting(1)))),
     // The wish of 1 weighs least of all, but the cycle by 4 is shorter.
-    (Act::Search(5), Reply::Victim(5)),
-    (Act::Search(1), Reply::NoCycle),
-    (Act::Search(4), Reply::NoCycle),
+    (5, Act::Search(Ok(Search::Victim(5)))),
+    (1, Act::Search(Ok(Search::NoCycle))),
+    (4, Act::Search(Ok(Search::NoCycle))),
 ];
 
-const LONGER_CYCLE: &[(Act, Reply)] = &[
+const LONGER_CYCLE: &[Row] = &[
     // 2 waits for 1, behind whose back 3 waits for 2, and 1 for 3.
-    (Act::TryNow(1, A, Mode::SR), Reply::Granted(1)),
-    (Act::TryNow(3, B, Mode::X), Reply::Granted(1)),
-    (Act::BeginWait(2, A, Mode::X), Reply::Waiting(1)),
-    (Act::BeginWait(3, A, Mode::SR), Reply::Waiting(1)),
-    (Act::Search(3), Reply::NoCycle),
-    (Act::BeginWait(1, B, Mode::SR), Reply::Waiting(1)),
+    (1, Act::TryNow(A, Mode::SR, Ok(Attempt::Granted(1)))),
+    (3, Act::TryNow(B, Mode::X, Ok(Attempt::Granted(1)))),
+    (2, Act::BeginWait(A, Mode::X, Ok(Begun::Waiting(1)))),
+    (3, Act::BeginWait(A, Mode::SR, Ok(Begun::Waiting(1)))),
+    (3, Act::Search(Ok(Search::NoCycle))),
+    (1, Act::BeginWait(B, Mode::SR, Ok(Begun::Waiting(1)))),
     // Two of them weigh nothing.
-    (Act::Search(1), Reply::Victim(3)),
-    (Act::Search(1), Reply::NoCycle),
+    (1, Act::Search(Ok(Search::Victim(3)))),
+    (1, Act::Search(Ok(Search::NoCycle))),
 ];
 
-const LOST_WAITS: &[(Act, Reply)] = &[
-    (Act::Search(1), Reply::NoCycle),
-    (Act::TryNow(1, A, Mode::X), Reply::Granted(1)),
-    (Act::TryNow(2, B, Mode::X), Reply::Granted(1)),
-    (Act::Search(1), Reply::NoCycle),
-    (Act::BeginWait(1, B, Mode::SR), Reply::Waiting(1)),
-    (Act::BeginWait(2, A, Mode::SR), Reply::Waiting(1)),
-    (Act::TimeOut(2), Reply::TimedOut),
+const LOST_WAITS: &[Row] = &[
+    (1, Act::Search(Ok(Search::NoCycle))),
+    (1, Act::TryNow(A, Mode::X, Ok(Attempt::Granted(1)))),
+    (2, Act::TryNow(B, Mode::X, Ok(Attempt::Granted(1)))),
+    (1, Act::Search(Ok(Search::NoCycle))),
+    (1, Act::BeginWait(B, Mode::SR, Ok(Begun::Waiting(1)))),
+    (2, Act::BeginWait(A, Mode::SR, Ok(Begun::Waiting(1)))),
+    (2, Act::TimeOut(Ok(TimedOut::ByThisCall))),
     // Neither the one whose wait is lost nor the other finds one, while the lost ticket still waits.
-    (Act::Search(2), Reply::NoCycle),
-    (Act::Search(1), Reply::NoCycle),
-    (Act::EndWait(2), Reply::Lost(Settled::Timeout)),
-    (Act::BeginWait(2, A, Mode::SR), Reply::Waiting(2)),
-    (Act::Search(2), Reply::Victim(2)),
+    (2, Act::Search(Ok(Search::NoCycle))),
+    (1, Act::Search(Ok(Search::NoCycle))),
+    (2, Act::EndWait(Ok(Ended::Timeout))),
+    (2, Act::BeginWait(A, Mode::SR, Ok(Begun::Waiting(2)))),
+    (2, Act::Search(Ok(Search::Victim(2)))),
 ];
 
-const BEHIND_A_KILLED_WAIT: &[(Act, Reply)] = &[
+const BEHIND_A_KILLED_WAIT: &[Row] = &[
     // A wish that stands behind a killed one waits for nobody.
-    (Act::TryNow(1, A, Mode::SR), Reply::Granted(1)),
-    (Act::TryNow(3, B, Mode::X), Reply::Granted(1)),
-    (Act::BeginWait(2, A, Mode::X), Reply::Waiting(1)),
-    (Act::BeginWait(3, A, Mode::SR), Reply::Waiting(1)),
-    (Act::BeginWait(1, B, Mode::SR), Reply::Waiting(1)),
-    (Act::Kill(2, 1), Reply::Killed(true)),
-    (Act::Search(1), Reply::NoCycle),
-    (Act::Poll(3), Reply::Pending),
-    (Act::Search(0), Reply::NoSession),
-    (Act::Search(6), Reply::NoSession),
+    (1, Act::TryNow(A, Mode::SR, Ok(Attempt::Granted(1)))),
+    (3, Act::TryNow(B, Mode::X, Ok(Attempt::Granted(1)))),
+    (2, Act::BeginWait(A, Mode::X, Ok(Begun::Waiting(1)))),
+    (3, Act::BeginWait(A, Mode::SR, Ok(Begun::Waiting(1)))),
+    (1, Act::BeginWait(B, Mode::SR, Ok(Begun::Waiting(1)))),
+    (1, Act::Kill(2, 1, true)),
+    (1, Act::Search(Ok(Search::NoCycle))),
+    (3, Act::Poll(Ok(Poll::Pending))),
 ];
 
 pub(crate) const DEADLOCKS: &[Story] = &[
@@ -116,21 +114,17 @@ pub(crate) const DEADLOCKS: &[Story] = &[
 // A lock that one holds in a mode, and another one wishes for in the other mode.
 type Wish = (Place, Mode, Mode);
 
-// What a search answers where 1 wishes for a lock of 2's, and 2 for one of 1's.
-fn search_between(alloc: Global, first: Wish, second: Wish) -> Reply {
-    let Some(mut room) = Room::new(alloc) else {
-        return Reply::NoSession;
-    };
+// Where 1 wishes for a lock of 2's, and 2 for one of 1's, a search has this victim: the first call that answers something else
+// than it should.
+fn first_wrong_between(alloc: Global, first: Wish, second: Wish, victim: u16) -> Option<usize> {
     let rows = [
-        (Act::TryNow(2, first.0, first.1), Reply::Granted(1)),
-        (Act::TryNow(1, second.0, second.1), Reply::Granted(1)),
-        (Act::BeginWait(1, first.0, first.2), Reply::Waiting(1)),
-        (Act::BeginWait(2, second.0, second.2), Reply::Waiting(1)),
+        (2, Act::TryNow(first.0, first.1, Ok(Attempt::Granted(1)))),
+        (1, Act::TryNow(second.0, second.1, Ok(Attempt::Granted(1)))),
+        (1, Act::BeginWait(first.0, first.2, Ok(Begun::Waiting(1)))),
+        (2, Act::BeginWait(second.0, second.2, Ok(Begun::Waiting(1)))),
+        (1, Act::Search(Ok(Search::Victim(victim)))),
     ];
-    match room.first_wrong(&rows) {
-        Some(_) => Reply::NoSession,
-        None => room.make(Act::Search(1)),
-    }
+    first_wrong(alloc, &rows)
 }
 
 const LIGHT_COMMIT: Wish = (COMMIT, Mode::X, Mode::S);
@@ -157,9 +151,7 @@ const VICTIMS: &[(Wish, Wish, u16)] = &[
 #[test]
 fn the_lightest_wish_falls(rt: HostRuntime) {
     for (number, (first, second, victim)) in VICTIMS.iter().enumerate() {
-        assert!(rt;
-            search_between(rt.alloc(), *first, *second) == Reply::Victim(*victim),
-            "case {number}"
-        );
+        let wrong = first_wrong_between(rt.alloc(), *first, *second, *victim);
+        assert!(rt; wrong.is_none(), "case {number}: {wrong:?}");
     }
 }

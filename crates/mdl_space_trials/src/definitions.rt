@@ -1,128 +1,132 @@
 //! What stands under keys: read and changed under tickets, and each refusal, alone and beside those that come later in the order.
 //!
 //! One refusal is in no row: what stands under a key has had all its versions only after 1,000,000 changes.
-use crate::acts::{Act, Reply};
+use crate::acts::{Act, Row};
 use crate::room::{GLOBAL, SCHEMA, Story, TABLE};
 use crate::wishes::{Shown, Wish};
 use mdl_defs::DefError;
 use mdl_key::Mode;
-use mdl_space::SpaceError;
+use mdl_space::{Attempt, SpaceError};
 
-const NOT_HELD: Reply = Reply::Refused(SpaceError::NotHeld);
+const NOT_HELD: SpaceError = SpaceError::NotHeld;
 
-const NOT_EXCLUSIVE: Reply = Reply::Refused(SpaceError::NotExclusive);
+const NOT_EXCLUSIVE: SpaceError = SpaceError::NotExclusive;
 
-const WRONG_KIND: Reply = Reply::Refused(SpaceError::WrongKind);
+const WRONG_KIND: SpaceError = SpaceError::WrongKind;
 
-const CHANGES: &[(Act, Reply)] = &[
-    (Act::TryNow(1, TABLE, Mode::X), Reply::Granted(1)),
-    (Act::Read(1, 1), Reply::Reads(0, Shown::Nothing)),
-    (Act::Redefine(1, 1, Wish::CreateTable), Reply::Changed(1)),
-    (Act::Read(1, 1), Reply::Reads(1, Shown::Table(1))),
-    (Act::Redefine(1, 1, Wish::AddY), Reply::Changed(2)),
-    (Act::Read(1, 1), Reply::Reads(2, Shown::Table(2))),
-    (Act::Release(1, 1), Reply::Done),
+const CHANGES: &[Row] = &[
+    (1, Act::TryNow(TABLE, Mode::X, Ok(Attempt::Granted(1)))),
+    (1, Act::Read(1, Ok((0, Shown::Nothing)))),
+    (1, Act::Redefine(1, Wish::CreateTable, Ok(1))),
+    (1, Act::Read(1, Ok((1, Shown::Table(1))))),
+    (1, Act::Redefine(1, Wish::AddY, Ok(2))),
+    (1, Act::Read(1, Ok((2, Shown::Table(2))))),
+    (1, Act::Release(1, Ok(()))),
     // Others read what was left, under any mode, and as often as they like.
-    (Act::TryNow(2, TABLE, Mode::SR), Reply::Granted(1)),
-    (Act::TryNow(3, TABLE, Mode::SH), Reply::Granted(1)),
-    (Act::Read(2, 1), Reply::Reads(2, Shown::Table(2))),
-    (Act::Read(3, 1), Reply::Reads(2, Shown::Table(2))),
-    (Act::Read(2, 1), Reply::Reads(2, Shown::Table(2))),
-    (Act::Release(2, 1), Reply::Done),
-    (Act::Release(3, 1), Reply::Done),
-    (Act::TryNow(4, TABLE, Mode::X), Reply::Granted(1)),
-    (Act::Redefine(4, 1, Wish::DropX), Reply::Changed(3)),
-    (Act::Redefine(4, 1, Wish::Drop), Reply::Changed(4)),
-    (Act::Read(4, 1), Reply::Reads(4, Shown::Nothing)),
-    (Act::Redefine(4, 1, Wish::PutTable), Reply::Changed(5)),
-    (Act::Redefine(4, 1, Wish::PutTable), Reply::Changed(6)),
-    (Act::Read(4, 1), Reply::Reads(6, Shown::Table(1))),
+    (2, Act::TryNow(TABLE, Mode::SR, Ok(Attempt::Granted(1)))),
+    (3, Act::TryNow(TABLE, Mode::SH, Ok(Attempt::Granted(1)))),
+    (2, Act::Read(1, Ok((2, Shown::Table(2))))),
+    (3, Act::Read(1, Ok((2, Shown::Table(2))))),
+    (2, Act::Read(1, Ok((2, Shown::Table(2))))),
+    (2, Act::Release(1, Ok(()))),
+    (3, Act::Release(1, Ok(()))),
+    (4, Act::TryNow(TABLE, Mode::X, Ok(Attempt::Granted(1)))),
+    (4, Act::Redefine(1, Wish::DropX, Ok(3))),
+    (4, Act::Redefine(1, Wish::Drop, Ok(4))),
+    (4, Act::Read(1, Ok((4, Shown::Nothing)))),
+    (4, Act::Redefine(1, Wish::PutTable, Ok(5))),
+    (4, Act::Redefine(1, Wish::PutTable, Ok(6))),
+    (4, Act::Read(1, Ok((6, Shown::Table(1))))),
     // Another key has versions of its own.
-    (Act::TryNow(4, SCHEMA, Mode::X), Reply::Granted(2)),
-    (Act::Redefine(4, 2, Wish::PutSchema), Reply::Changed(1)),
-    (Act::Read(4, 2), Reply::Reads(1, Shown::Schema)),
-    (Act::Read(4, 1), Reply::Reads(6, Shown::Table(1))),
+    (4, Act::TryNow(SCHEMA, Mode::X, Ok(Attempt::Granted(2)))),
+    (4, Act::Redefine(2, Wish::PutSchema, Ok(1))),
+    (4, Act::Read(2, Ok((1, Shown::Schema)))),
+    (4, Act::Read(1, Ok((6, Shown::Table(1))))),
 ];
 
 // A cache changes no answer in the space of one thread, and is left alone.
-const WITH_A_CACHE: &[(Act, Reply)] = &[
-    (Act::ReadKept(1, 1), NOT_HELD),
-    (Act::TryNow(1, TABLE, Mode::X), Reply::Granted(1)),
-    (Act::ReadKept(1, 1), Reply::Reads(0, Shown::Nothing)),
-    (Act::Redefine(1, 1, Wish::CreateTable), Reply::Changed(1)),
-    (Act::ReadKept(1, 1), Reply::Reads(1, Shown::Table(1))),
-    (Act::ReadKept(1, 1), Reply::Reads(1, Shown::Table(1))),
-    (Act::Read(1, 1), Reply::Reads(1, Shown::Table(1))),
-    (Act::ReadKept(1, 2), NOT_HELD),
+const WITH_A_CACHE: &[Row] = &[
+    (1, Act::ReadKept(1, Err(NOT_HELD))),
+    (1, Act::TryNow(TABLE, Mode::X, Ok(Attempt::Granted(1)))),
+    (1, Act::ReadKept(1, Ok((0, Shown::Nothing)))),
+    (1, Act::Redefine(1, Wish::CreateTable, Ok(1))),
+    (1, Act::ReadKept(1, Ok((1, Shown::Table(1))))),
+    (1, Act::ReadKept(1, Ok((1, Shown::Table(1))))),
+    (1, Act::Read(1, Ok((1, Shown::Table(1))))),
+    (1, Act::ReadKept(2, Err(NOT_HELD))),
     // A ticket is its own session's.
-    (Act::ReadKept(2, 1), NOT_HELD),
-    (Act::Release(1, 1), Reply::Done),
-    (Act::ReadKept(1, 1), NOT_HELD),
-    (Act::TryNow(2, TABLE, Mode::SR), Reply::Granted(1)),
-    (Act::ReadKept(2, 1), Reply::Reads(1, Shown::Table(1))),
+    (2, Act::ReadKept(1, Err(NOT_HELD))),
+    (1, Act::Release(1, Ok(()))),
+    (1, Act::ReadKept(1, Err(NOT_HELD))),
+    (2, Act::TryNow(TABLE, Mode::SR, Ok(Attempt::Granted(1)))),
+    (2, Act::ReadKept(1, Ok((1, Shown::Table(1))))),
 ];
 
-const REFUSED: &[(Act, Reply)] = &[
-    (Act::Read(1, 1), NOT_HELD),
-    (Act::Redefine(1, 1, Wish::Drop), NOT_HELD),
-    (Act::TryNow(2, TABLE, Mode::SR), Reply::Granted(1)),
+const REFUSED: &[Row] = &[
+    (1, Act::Read(1, Err(NOT_HELD))),
+    (1, Act::Redefine(1, Wish::Drop, Err(NOT_HELD))),
+    (2, Act::TryNow(TABLE, Mode::SR, Ok(Attempt::Granted(1)))),
     // A ticket is its own session's.
-    (Act::Read(1, 1), NOT_HELD),
-    (Act::Release(2, 1), Reply::Done),
-    (Act::TryNow(1, TABLE, Mode::SNRW), Reply::Granted(1)),
-    (Act::Redefine(1, 1, Wish::CreateTable), NOT_EXCLUSIVE),
+    (1, Act::Read(1, Err(NOT_HELD))),
+    (2, Act::Release(1, Ok(()))),
+    (1, Act::TryNow(TABLE, Mode::SNRW, Ok(Attempt::Granted(1)))),
+    (1, Act::Redefine(1, Wish::CreateTable, Err(NOT_EXCLUSIVE))),
     // Beside what suits no table, and what doesn't stand.
-    (Act::Redefine(1, 1, Wish::CreateSchema), NOT_EXCLUSIVE),
-    (Act::Redefine(1, 1, Wish::Drop), NOT_EXCLUSIVE),
-    (Act::Release(1, 1), Reply::Done),
-    (Act::TryNow(1, TABLE, Mode::X), Reply::Granted(2)),
-    (Act::Redefine(1, 2, Wish::CreateSchema), WRONG_KIND),
-    (Act::Redefine(1, 2, Wish::PutSchema), WRONG_KIND),
+    (1, Act::Redefine(1, Wish::CreateSchema, Err(NOT_EXCLUSIVE))),
+    (1, Act::Redefine(1, Wish::Drop, Err(NOT_EXCLUSIVE))),
+    (1, Act::Release(1, Ok(()))),
+    (1, Act::TryNow(TABLE, Mode::X, Ok(Attempt::Granted(2)))),
+    (1, Act::Redefine(2, Wish::CreateSchema, Err(WRONG_KIND))),
+    (1, Act::Redefine(2, Wish::PutSchema, Err(WRONG_KIND))),
     (
-        Act::Redefine(1, 2, Wish::Drop),
-        Reply::Refused(SpaceError::Def(DefError::Missing)),
+        1,
+        Act::Redefine(2, Wish::Drop, Err(SpaceError::Def(DefError::Missing))),
     ),
     (
-        Act::Redefine(1, 2, Wish::AddX),
-        Reply::Refused(SpaceError::Def(DefError::Missing)),
+        1,
+        Act::Redefine(2, Wish::AddX, Err(SpaceError::Def(DefError::Missing))),
     ),
-    (Act::Redefine(1, 2, Wish::CreateTable), Reply::Changed(1)),
+    (1, Act::Redefine(2, Wish::CreateTable, Ok(1))),
     // Beside one that stands.
-    (Act::Redefine(1, 2, Wish::CreateSchema), WRONG_KIND),
+    (1, Act::Redefine(2, Wish::CreateSchema, Err(WRONG_KIND))),
     (
-        Act::Redefine(1, 2, Wish::CreateTable),
-        Reply::Refused(SpaceError::Def(DefError::Exists)),
+        1,
+        Act::Redefine(2, Wish::CreateTable, Err(SpaceError::Def(DefError::Exists))),
     ),
     (
-        Act::Redefine(1, 2, Wish::AddX),
-        Reply::Refused(SpaceError::Def(DefError::DuplicateColumn)),
+        1,
+        Act::Redefine(
+            2,
+            Wish::AddX,
+            Err(SpaceError::Def(DefError::DuplicateColumn)),
+        ),
     ),
     (
-        Act::Redefine(1, 2, Wish::DropY),
-        Reply::Refused(SpaceError::Def(DefError::NoColumn)),
+        1,
+        Act::Redefine(2, Wish::DropY, Err(SpaceError::Def(DefError::NoColumn))),
     ),
     (
-        Act::Redefine(1, 2, Wish::DropX),
-        Reply::Refused(SpaceError::Def(DefError::LastColumn)),
+        1,
+        Act::Redefine(2, Wish::DropX, Err(SpaceError::Def(DefError::LastColumn))),
     ),
-    (Act::TryNow(1, SCHEMA, Mode::X), Reply::Granted(3)),
-    (Act::Redefine(1, 3, Wish::CreateTable), WRONG_KIND),
+    (1, Act::TryNow(SCHEMA, Mode::X, Ok(Attempt::Granted(3)))),
+    (1, Act::Redefine(3, Wish::CreateTable, Err(WRONG_KIND))),
     (
-        Act::Redefine(1, 3, Wish::AddX),
-        Reply::Refused(SpaceError::Def(DefError::Missing)),
+        1,
+        Act::Redefine(3, Wish::AddX, Err(SpaceError::Def(DefError::Missing))),
     ),
-    (Act::Redefine(1, 3, Wish::CreateSchema), Reply::Changed(1)),
+    (1, Act::Redefine(3, Wish::CreateSchema, Ok(1))),
     (
-        Act::Redefine(1, 3, Wish::AddX),
-        Reply::Refused(SpaceError::Def(DefError::WrongKind)),
+        1,
+        Act::Redefine(3, Wish::AddX, Err(SpaceError::Def(DefError::WrongKind))),
     ),
-    (Act::TryNow(1, GLOBAL, Mode::X), Reply::Granted(4)),
-    (Act::Redefine(1, 4, Wish::Drop), WRONG_KIND),
-    (Act::Redefine(1, 4, Wish::CreateSchema), WRONG_KIND),
+    (1, Act::TryNow(GLOBAL, Mode::X, Ok(Attempt::Granted(4)))),
+    (1, Act::Redefine(4, Wish::Drop, Err(WRONG_KIND))),
+    (1, Act::Redefine(4, Wish::CreateSchema, Err(WRONG_KIND))),
     // None of them has changed a thing.
-    (Act::Read(1, 2), Reply::Reads(1, Shown::Table(1))),
-    (Act::Read(1, 3), Reply::Reads(1, Shown::Schema)),
-    (Act::Read(1, 4), Reply::Reads(0, Shown::Nothing)),
+    (1, Act::Read(2, Ok((1, Shown::Table(1))))),
+    (1, Act::Read(3, Ok((1, Shown::Schema)))),
+    (1, Act::Read(4, Ok((0, Shown::Nothing)))),
 ];
 
 pub(crate) const DEFINITIONS: &[Story] = &[

@@ -1,8 +1,8 @@
 //! A lock that has as many tickets as it can have.
-use crate::acts::{Act, Reply};
+use crate::acts::{Act, Row};
 use crate::room::{Room, SCHEMA, TABLE};
 use mdl_key::Mode;
-use mdl_space::SpaceError;
+use mdl_space::{Attempt, Begun, SpaceError};
 
 const MOST_TICKETS: u64 = 65_535;
 
@@ -10,7 +10,7 @@ const MOST_TICKETS: u64 = 65_535;
 fn clone_until_refused(room: &mut Room, who: u16, most: u64) -> u64 {
     let mut last = 1;
     for number in 2..most {
-        if room.make(Act::Clone(who, 1, Mode::SR)) != Reply::Granted(number) {
+        if room.make(who, Act::Clone(1, Mode::SR, Ok(number))) != Some(true) {
             return last;
         }
         last = number;
@@ -18,43 +18,34 @@ fn clone_until_refused(room: &mut Room, who: u16, most: u64) -> u64 {
     last
 }
 
-const FULL: Reply = Reply::Refused(SpaceError::Full);
+const FULL: SpaceError = SpaceError::Full;
 
-const BAD_MODE: Reply = Reply::Refused(SpaceError::BadMode);
+const BAD_MODE: SpaceError = SpaceError::BadMode;
 
-const TWO_LOCKS: &[(Act, Reply)] = &[
-    (Act::TryNow(1, SCHEMA, Mode::IX), Reply::Granted(1)),
-    (Act::TryNow(2, TABLE, Mode::SR), Reply::Granted(1)),
+const TWO_LOCKS: &[Row] = &[
+    (1, Act::TryNow(SCHEMA, Mode::IX, Ok(Attempt::Granted(1)))),
+    (2, Act::TryNow(TABLE, Mode::SR, Ok(Attempt::Granted(1)))),
 ];
 
-const FULL_UP: &[(Act, Reply)] = &[
-    (Act::Clone(2, 1, Mode::SR), FULL),
-    (Act::TryNow(1, TABLE, Mode::S), FULL),
-    (Act::BeginWait(1, TABLE, Mode::S), FULL),
-    (Act::BeginWait(1, TABLE, Mode::X), FULL),
+const FULL_UP: &[Row] = &[
+    (2, Act::Clone(1, Mode::SR, Err(FULL))),
+    (1, Act::TryNow(TABLE, Mode::S, Err(FULL))),
+    (1, Act::BeginWait(TABLE, Mode::S, Err(FULL))),
+    (1, Act::BeginWait(TABLE, Mode::X, Err(FULL))),
     // A lock that can't be had now isn't looked at any further.
-    (Act::TryNow(1, TABLE, Mode::X), Reply::WouldWait),
-    (Act::TryNow(1, TABLE, Mode::IX), BAD_MODE),
-    (Act::Clone(2, 1, Mode::X), BAD_MODE),
-    (Act::Clone(1, 1, Mode::IX), Reply::Granted(2)),
-    (Act::WaitOf(1), Reply::HasNone),
-    (Act::Release(2, MOST_TICKETS), Reply::Done),
-    (Act::BeginWait(1, TABLE, Mode::X), Reply::Waiting(1)),
-    (Act::Clone(2, 1, Mode::SR), FULL),
+    (1, Act::TryNow(TABLE, Mode::X, Ok(Attempt::WouldWait))),
+    (1, Act::TryNow(TABLE, Mode::IX, Err(BAD_MODE))),
+    (2, Act::Clone(1, Mode::X, Err(BAD_MODE))),
+    (1, Act::Clone(1, Mode::IX, Ok(2))),
+    (1, Act::WaitOf(1, None)),
+    (2, Act::Release(MOST_TICKETS, Ok(()))),
+    (1, Act::BeginWait(TABLE, Mode::X, Ok(Begun::Waiting(1)))),
+    (2, Act::Clone(1, Mode::SR, Err(FULL))),
 ];
 
-// Whether a lock is full at so many tickets.
-fn is_full_at_last(room: &mut Room) -> bool {
+/// Whether a lock is full at so many tickets.
+pub(crate) fn is_full_at_last(room: &mut Room) -> bool {
     room.first_wrong(TWO_LOCKS).is_none()
         && clone_until_refused(room, 2, MOST_TICKETS + 9) == MOST_TICKETS
         && room.first_wrong(FULL_UP).is_none()
-}
-
-#[test]
-fn a_lock_is_full(rt: HostRuntime) {
-    let full = match Room::new(rt.alloc()) {
-        Some(mut room) => is_full_at_last(&mut room),
-        None => false,
-    };
-    assert!(rt; full);
 }

@@ -3,7 +3,6 @@ ghost use Rattle.std.specs.Prelude.{◌≡◌, ℕ, ◌≤◌, length, IfOk};
 ghost use Rattle.mdl_core.specs.Words.{empty_core, SpeaksFor};
 ghost use Rattle.mdl_space_trials.specs.contexts.Halls.{AreServed};
 
-use crate::by_chance::contexts::{Trial, acts_alike};
 use crate::by_chance::plain::Plain;
 use crate::contexts::acts::{Act, Reply, make};
 use mdl_context::Context;
@@ -14,8 +13,8 @@ use std::marker::Model;
 /// The sessions are numbered from 1 up to this.
 pub(crate) const SESSIONS: u16 = 5;
 
-/// A space, at the second try where memory was refused to the first.
-pub(crate) fn new_space(alloc: Global, places: u16, sessions: u16) -> Result<CoreSpace, NewError>
+// A space, at the second try where memory was refused to the first.
+fn new_space(alloc: Global, places: u16, sessions: u16) -> Result<CoreSpace, NewError>
     ensures made { IfOk result (λ space. space ≡ empty_core places sessions) }
     ensures speaks { IfOk result (λ space. (who : ℕ) → 1 ≤ who → who ≤ sessions → SpeaksFor space who) }
 {
@@ -68,11 +67,9 @@ impl Hall {
         make_among(self.alloc, &mut self.space, &mut self.contexts, who, act)
     }
 
-    /// Some context makes some call: whether it answers as the plain one, and then all stand alike.
-    pub(crate) fn acts_alike(&mut self, trial: &mut Trial) -> bool {
-        let who = trial.chance.draw(SESSIONS) + 1;
-        one_acts(&mut self.space, &mut self.contexts, trial, who)
-            && hold_the_same(&self.space, &self.contexts, &trial.plain)
+    /// Whether each session stands where it does in the plain program.
+    pub(crate) fn stands_as(&self, plain: &Plain) -> bool {
+        hold_the_same(&self.space, &self.contexts, plain)
     }
 }
 
@@ -93,22 +90,6 @@ fn make_among(
     make(alloc, space, context, act)
 }
 
-// The context of a session makes some call.
-fn one_acts(
-    space: &mut CoreSpace,
-    contexts: &mut [Context<CoreSpace>],
-    trial: &mut Trial,
-    who: u16,
-) -> bool
-    requires served { AreServed space.old 1 contexts.old }
-    requires least { 1 ≤ who }
-    requires most { who ≤ length contexts.old }
-    ensures served { AreServed space.new 1 contexts.new }
-{
-    let context = &mut contexts[usize::from(who) - 1];
-    acts_alike(space, context, trial, who)
-}
-
 // Whether each session holds in the space what the plain program has, and keeps as many of each duration in its context.
 fn hold_the_same(space: &CoreSpace, contexts: &[Context<CoreSpace>], plain: &Plain) -> bool
     requires served { AreServed space.now 1 contexts.now }
@@ -116,10 +97,11 @@ fn hold_the_same(space: &CoreSpace, contexts: &[Context<CoreSpace>], plain: &Pla
 {
     for who in 1..SESSIONS + 1 {
         let context = &contexts[usize::from(who) - 1];
-        let (Ok(held), Ok(wanted)) = (space.held(who), plain.held(who)) else {
-            return false;
+        let is_held = match space.held(who) {
+            Ok(held) => plain.holds(who, held.as_slice()),
+            Err(_) => false,
         };
-        if held.as_slice() != wanted.as_slice() || context.savepoint() != plain.mark_of(who) {
+        if !is_held || context.savepoint() != plain.mark_of(who) {
             return false;
         }
     }

@@ -1,9 +1,9 @@
 //! Limits and places of the space.
-use crate::acts::{Act, Reply};
+use crate::acts::{Act, Row};
 use crate::room::{Of, Room, SCHEMA};
 use crate::wishes::{Shown, Wish};
 use mdl_key::Mode;
-use mdl_space::{CoreSpace, NewError, Place, SpaceError};
+use mdl_space::{Attempt, CoreSpace, NewError, Place, SpaceError};
 use std::alloc::Global;
 
 const LIMITS: &[(u16, u16, Option<NewError>)] = &[
@@ -35,22 +35,20 @@ fn has_none(room: &mut Room, place: Place) -> bool {
     room.key_of(place).err() == Some(SpaceError::NoPlace)
 }
 
-// Whether keys keep their places, which are numbered from 1 to 5, and a sixth key finds none.
-fn keeps_places(room: &mut Room) -> bool {
-    room.place_of(Of::Table("test", "t")) == Ok(1)
-        && room.place_of(Of::Global) == Ok(3)
-        && room.place_of(Of::Table("test", "v")) == Err(SpaceError::NoPlace)
-        && has_none(room, 0)
-        && has_none(room, 6)
-}
+const PLACES: &[(Of, Result<Place, SpaceError>)] = &[
+    (Of::Table("test", "t"), Ok(1)),
+    (Of::Global, Ok(3)),
+    (Of::Table("test", "v"), Err(SpaceError::NoPlace)),
+];
 
-#[test]
-fn keys_keep_their_places(rt: HostRuntime) {
-    let are_kept = match Room::new(rt.alloc()) {
-        Some(mut room) => keeps_places(&mut room),
-        None => false,
-    };
-    assert!(rt; are_kept);
+/// Whether keys keep their places, which are numbered from 1 to 5, and a sixth key finds none.
+pub(crate) fn keeps_places(room: &mut Room) -> bool {
+    for (of, place) in PLACES {
+        if room.place_of(*of) != *place {
+            return false;
+        }
+    }
+    has_none(room, 0) && has_none(room, 6)
 }
 
 const MOST_VERSIONS: u64 = 1_000_000;
@@ -59,7 +57,7 @@ const MOST_VERSIONS: u64 = 1_000_000;
 fn change_until_refused(room: &mut Room, most: u64) -> u64 {
     let mut last = 0;
     for version in 1..most {
-        if room.make(Act::Redefine(1, 1, Wish::PutSchema)) != Reply::Changed(version) {
+        if room.make(1, Act::Redefine(1, Wish::PutSchema, Ok(version))) != Some(true) {
             return last;
         }
         last = version;
@@ -67,33 +65,24 @@ fn change_until_refused(room: &mut Room, most: u64) -> u64 {
     last
 }
 
-const LOCKED: &[(Act, Reply)] = &[(Act::TryNow(1, SCHEMA, Mode::X), Reply::Granted(1))];
+const LOCKED: &[Row] = &[(1, Act::TryNow(SCHEMA, Mode::X, Ok(Attempt::Granted(1))))];
 
-const VERSION_FULL: Reply = Reply::Refused(SpaceError::VersionFull);
+const VERSION_FULL: SpaceError = SpaceError::VersionFull;
 
-const NO_VERSION_LEFT: &[(Act, Reply)] = &[
-    (Act::Redefine(1, 1, Wish::PutSchema), VERSION_FULL),
-    (Act::Redefine(1, 1, Wish::Drop), VERSION_FULL),
-    (Act::Read(1, 1), Reply::Reads(MOST_VERSIONS, Shown::Schema)),
+const NO_VERSION_LEFT: &[Row] = &[
+    (1, Act::Redefine(1, Wish::PutSchema, Err(VERSION_FULL))),
+    (1, Act::Redefine(1, Wish::Drop, Err(VERSION_FULL))),
+    (1, Act::Read(1, Ok((MOST_VERSIONS, Shown::Schema)))),
     // That is told before any other reason why it can't be made.
-    (Act::Redefine(1, 1, Wish::CreateTable), VERSION_FULL),
-    (Act::Release(1, 1), Reply::Done),
-    (Act::TryNow(2, SCHEMA, Mode::X), Reply::Granted(1)),
-    (Act::Redefine(2, 1, Wish::Drop), VERSION_FULL),
+    (1, Act::Redefine(1, Wish::CreateTable, Err(VERSION_FULL))),
+    (1, Act::Release(1, Ok(()))),
+    (2, Act::TryNow(SCHEMA, Mode::X, Ok(Attempt::Granted(1)))),
+    (2, Act::Redefine(1, Wish::Drop, Err(VERSION_FULL))),
 ];
 
-// Whether the versions of a schema end at this many.
-fn has_versions_up_to_the_last(room: &mut Room) -> bool {
+/// Whether the versions of a schema end at this many.
+pub(crate) fn has_versions_up_to_the_last(room: &mut Room) -> bool {
     room.first_wrong(LOCKED).is_none()
         && change_until_refused(room, MOST_VERSIONS + 9) == MOST_VERSIONS
         && room.first_wrong(NO_VERSION_LEFT).is_none()
-}
-
-#[test]
-fn a_definition_has_a_last_version(rt: HostRuntime) {
-    let has_one = match Room::new(rt.alloc()) {
-        Some(mut room) => has_versions_up_to_the_last(&mut room),
-        None => false,
-    };
-    assert!(rt; has_one);
 }

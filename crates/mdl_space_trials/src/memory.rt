@@ -1,11 +1,11 @@
 //! Growths refused in turn: where each allocation fails once, the space has lost nothing, and goes on.
 //!
 //! `rt try --test --fail-alloc N` refuses the allocation of that number. Then the call that needed it is made again.
-use crate::acts::{Act, Reply};
-use crate::room::{ORDINARY, OTHER_TABLE, Room, Story, TABLE};
+use crate::acts::{Act, Row};
+use crate::room::{ORDINARY, OTHER_TABLE, Room, TABLE};
 use crate::wishes::{Shown, Wish};
 use mdl_key::Mode;
-use mdl_space::SpaceError;
+use mdl_space::{Attempt, Begun, Ended, Search};
 use std::alloc::Global;
 
 const SESSIONS: u16 = 16;
@@ -18,114 +18,155 @@ fn new_room(alloc: Global) -> Option<Room> {
     }
 }
 
-// What a call answers, likewise.
-fn make(room: &mut Room, act: Act) -> Reply {
-    match room.make(act) {
-        Reply::Refused(SpaceError::OutOfMemory) => room.make(act),
-        reply => reply,
-    }
-}
-
-// The first call of a row that answers something else than it should.
-fn first_lost(room: &mut Room, rows: &[(Act, Reply)]) -> Option<usize> {
-    for (place, (act, reply)) in rows.iter().enumerate() {
-        if make(room, *act) != *reply {
+// The first call that answers something else than it should. Where memory was refused to it, it is made again.
+fn first_lost(room: &mut Room, rows: &[Row]) -> Option<usize> {
+    for (place, (who, act)) in rows.iter().enumerate() {
+        let is_right = match room.make(*who, *act) {
+            None => room.make(*who, *act),
+            answered => answered,
+        };
+        if is_right != Some(true) {
             return Some(place);
         }
     }
     None
 }
 
-// Whether so many clones of the first session's first ticket can be made.
-fn clones(room: &mut Room, most: u64) -> bool {
-    for number in 2..most {
-        if make(room, Act::Clone(1, 1, Mode::SW)) != Reply::Granted(number) {
-            return false;
-        }
-    }
-    true
-}
+const WAIT: Act = Act::BeginWait(OTHER_TABLE, Mode::S, Ok(Begun::Waiting(1)));
 
-// Whether all sessions from the third on begin to wait for a lock, and then, when it is had, end their waits.
-fn all_wait(room: &mut Room) -> bool {
-    for who in 3..SESSIONS + 1 {
-        if make(room, Act::BeginWait(who, OTHER_TABLE, Mode::S)) != Reply::Waiting(1) {
-            return false;
-        }
-    }
-    true
-}
+const GAINED: Act = Act::EndWait(Ok(Ended::Granted(1)));
 
-fn all_are_granted(room: &mut Room) -> bool {
-    for who in 3..SESSIONS + 1 {
-        if room.make(Act::EndWait(who)) != Reply::Granted(1) {
-            return false;
-        }
-    }
-    true
-}
-
-const TWO_LOCKS: &[(Act, Reply)] = &[
-    (Act::TryNow(1, TABLE, Mode::SW), Reply::Granted(1)),
-    (Act::BeginWait(2, OTHER_TABLE, Mode::X), Reply::Granted(1)),
+// One session comes to many tickets, beside a lock that all others wait for.
+const CROWD: &[Row] = &[
+    (1, Act::TryNow(TABLE, Mode::SW, Ok(Attempt::Granted(1)))),
+    (
+        2,
+        Act::BeginWait(OTHER_TABLE, Mode::X, Ok(Begun::Granted(1))),
+    ),
+    (1, Act::Clone(1, Mode::SW, Ok(2))),
+    (1, Act::Clone(1, Mode::SW, Ok(3))),
+    (1, Act::Clone(1, Mode::SW, Ok(4))),
+    (1, Act::Clone(1, Mode::SW, Ok(5))),
+    (1, Act::Clone(1, Mode::SW, Ok(6))),
+    (1, Act::Clone(1, Mode::SW, Ok(7))),
+    (1, Act::Clone(1, Mode::SW, Ok(8))),
+    (1, Act::Clone(1, Mode::SW, Ok(9))),
+    (1, Act::Clone(1, Mode::SW, Ok(10))),
+    (1, Act::Clone(1, Mode::SW, Ok(11))),
+    (1, Act::Clone(1, Mode::SW, Ok(12))),
+    (1, Act::Clone(1, Mode::SW, Ok(13))),
+    (1, Act::Clone(1, Mode::SW, Ok(14))),
+    (1, Act::Clone(1, Mode::SW, Ok(15))),
+    (1, Act::Clone(1, Mode::SW, Ok(16))),
+    (1, Act::Clone(1, Mode::SW, Ok(17))),
+    (1, Act::Clone(1, Mode::SW, Ok(18))),
+    (1, Act::Clone(1, Mode::SW, Ok(19))),
+    (1, Act::Clone(1, Mode::SW, Ok(20))),
+    (1, Act::Clone(1, Mode::SW, Ok(21))),
+    (1, Act::Clone(1, Mode::SW, Ok(22))),
+    (1, Act::Clone(1, Mode::SW, Ok(23))),
+    (1, Act::Clone(1, Mode::SW, Ok(24))),
+    (1, Act::Clone(1, Mode::SW, Ok(25))),
+    (1, Act::Clone(1, Mode::SW, Ok(26))),
+    (1, Act::Clone(1, Mode::SW, Ok(27))),
+    (1, Act::Clone(1, Mode::SW, Ok(28))),
+    (1, Act::Clone(1, Mode::SW, Ok(29))),
+    (1, Act::Clone(1, Mode::SW, Ok(30))),
+    (1, Act::Clone(1, Mode::SW, Ok(31))),
+    (1, Act::Clone(1, Mode::SW, Ok(32))),
+    (1, Act::Clone(1, Mode::SW, Ok(33))),
+    (1, Act::Clone(1, Mode::SW, Ok(34))),
+    (1, Act::Clone(1, Mode::SW, Ok(35))),
+    (1, Act::Clone(1, Mode::SW, Ok(36))),
+    (1, Act::Clone(1, Mode::SW, Ok(37))),
+    (1, Act::Clone(1, Mode::SW, Ok(38))),
+    (1, Act::Clone(1, Mode::SW, Ok(39))),
+    (3, WAIT),
+    (4, WAIT),
+    (5, WAIT),
+    (6, WAIT),
+    (7, WAIT),
+    (8, WAIT),
+    (9, WAIT),
+    (10, WAIT),
+    (11, WAIT),
+    (12, WAIT),
+    (13, WAIT),
+    (14, WAIT),
+    (15, WAIT),
+    (16, WAIT),
 ];
 
-// Whether one session comes to many tickets, beside a lock that all others wait for, and all of them are granted by one
-// release, which takes no memory.
-fn crowd_outlives(room: &mut Room) -> bool {
-    first_lost(room, TWO_LOCKS).is_none()
-        && clones(room, 40)
-        && all_wait(room)
-        && room.make(Act::Release(2, 1)) == Reply::Done
-        && all_are_granted(room)
-}
-
-#[test]
-fn a_crowd_outlives_want_of_memory(rt: HostRuntime) {
-    let outlives = match new_room(rt.alloc()) {
-        Some(mut room) => crowd_outlives(&mut room),
-        None => false,
-    };
-    assert!(rt; outlives);
-}
-
-const SEARCHES: &[(Act, Reply)] = &[
-    (Act::TryNow(1, OTHER_TABLE, Mode::X), Reply::Granted(1)),
-    (Act::TryNow(2, TABLE, Mode::SR), Reply::Granted(1)),
-    (Act::TryNow(3, TABLE, Mode::SR), Reply::Granted(1)),
-    (Act::BeginWait(2, OTHER_TABLE, Mode::SR), Reply::Waiting(1)),
-    (Act::BeginWait(3, OTHER_TABLE, Mode::SR), Reply::Waiting(1)),
-    (Act::BeginWait(1, TABLE, Mode::X), Reply::Waiting(1)),
-    (Act::Search(1), Reply::Victim(2)),
-    (Act::Search(1), Reply::Victim(3)),
-    (Act::Search(1), Reply::NoCycle),
+// All of them are granted by one release, which takes no memory.
+const GRANTED: &[Row] = &[
+    (2, Act::Release(1, Ok(()))),
+    (3, GAINED),
+    (4, GAINED),
+    (5, GAINED),
+    (6, GAINED),
+    (7, GAINED),
+    (8, GAINED),
+    (9, GAINED),
+    (10, GAINED),
+    (11, GAINED),
+    (12, GAINED),
+    (13, GAINED),
+    (14, GAINED),
+    (15, GAINED),
+    (16, GAINED),
 ];
 
-const CHANGES: &[(Act, Reply)] = &[
-    (Act::TryNow(1, TABLE, Mode::X), Reply::Granted(1)),
-    (Act::Redefine(1, 1, Wish::CreateTable), Reply::Changed(1)),
-    (Act::Redefine(1, 1, Wish::AddY), Reply::Changed(2)),
-    (Act::Read(1, 1), Reply::Reads(2, Shown::Table(2))),
-    (Act::Redefine(1, 1, Wish::DropX), Reply::Changed(3)),
-    (Act::Redefine(1, 1, Wish::PutTable), Reply::Changed(4)),
-    (Act::Redefine(1, 1, Wish::Drop), Reply::Changed(5)),
-    (Act::Read(1, 1), Reply::Reads(5, Shown::Nothing)),
+const SEARCHES: &[Row] = &[
+    (
+        1,
+        Act::TryNow(OTHER_TABLE, Mode::X, Ok(Attempt::Granted(1))),
+    ),
+    (2, Act::TryNow(TABLE, Mode::SR, Ok(Attempt::Granted(1)))),
+    (3, Act::TryNow(TABLE, Mode::SR, Ok(Attempt::Granted(1)))),
+    (
+        2,
+        Act::BeginWait(OTHER_TABLE, Mode::SR, Ok(Begun::Waiting(1))),
+    ),
+    (
+        3,
+        Act::BeginWait(OTHER_TABLE, Mode::SR, Ok(Begun::Waiting(1))),
+    ),
+    (1, Act::BeginWait(TABLE, Mode::X, Ok(Begun::Waiting(1)))),
+    (1, Act::Search(Ok(Search::Victim(2)))),
+    (1, Act::Search(Ok(Search::Victim(3)))),
+    (1, Act::Search(Ok(Search::NoCycle))),
 ];
 
-const STORIES: &[Story] = &[("searches", SEARCHES), ("reads and changes", CHANGES)];
+const CHANGES: &[Row] = &[
+    (1, Act::TryNow(TABLE, Mode::X, Ok(Attempt::Granted(1)))),
+    (1, Act::Redefine(1, Wish::CreateTable, Ok(1))),
+    (1, Act::Redefine(1, Wish::AddY, Ok(2))),
+    (1, Act::Read(1, Ok((2, Shown::Table(2))))),
+    (1, Act::Redefine(1, Wish::DropX, Ok(3))),
+    (1, Act::Redefine(1, Wish::PutTable, Ok(4))),
+    (1, Act::Redefine(1, Wish::Drop, Ok(5))),
+    (1, Act::Read(1, Ok((5, Shown::Nothing)))),
+];
 
-// The same of a new room.
-fn first_lost_of_new(alloc: Global, rows: &[(Act, Reply)]) -> Option<usize> {
+// What calls show, those that may take memory, and then those that take none.
+const STORIES: &[(&str, &[Row], &[Row])] = &[
+    ("a crowd", CROWD, GRANTED),
+    ("searches", SEARCHES, &[]),
+    ("reads and changes", CHANGES, &[]),
+];
+
+// The first of these in a new room that goes wrong.
+fn first_lost_of_new(alloc: Global, taking: &[Row], sparing: &[Row]) -> Option<usize> {
     match new_room(alloc) {
-        Some(mut room) => first_lost(&mut room, rows),
-        None => Some(rows.len()),
+        Some(mut room) => first_lost(&mut room, taking).or(room.first_wrong(sparing)),
+        None => Some(taking.len()),
     }
 }
 
 #[test]
 fn calls_outlive_want_of_memory(rt: HostRuntime) {
-    for (what, rows) in STORIES {
-        let wrong = first_lost_of_new(rt.alloc(), rows);
+    for (what, taking, sparing) in STORIES {
+        let wrong = first_lost_of_new(rt.alloc(), taking, sparing);
         assert!(rt; wrong.is_none(), "{what}: {wrong:?}");
     }
 }

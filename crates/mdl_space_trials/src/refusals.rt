@@ -2,112 +2,105 @@
 //!
 //! Two refusals are in no row. A session has used up its numbers only after 2 to the 60 tickets or waits, and no test lives
 //! so long. A lock takes 65,535 tickets: that is a test of its own.
-use crate::acts::{Act, Reply};
+use crate::acts::{Act, Row};
 use crate::room::{GLOBAL, SCHEMA, Story, TABLE};
 use mdl_key::Mode;
-use mdl_space::SpaceError;
+use mdl_space::{Attempt, Begun, Ended, Poll, SpaceError, TimedOut};
 
-const NO_PLACE: Reply = Reply::Refused(SpaceError::NoPlace);
+const NO_PLACE: SpaceError = SpaceError::NoPlace;
 
-const BAD_MODE: Reply = Reply::Refused(SpaceError::BadMode);
+const BAD_MODE: SpaceError = SpaceError::BadMode;
 
-const HAS_WAIT: Reply = Reply::Refused(SpaceError::AlreadyWaiting);
+const HAS_WAIT: SpaceError = SpaceError::AlreadyWaiting;
 
-const NOT_HELD: Reply = Reply::Refused(SpaceError::NotHeld);
+const NOT_HELD: SpaceError = SpaceError::NotHeld;
 
-const NO_WAIT: Reply = Reply::Refused(SpaceError::NoWait);
+const NO_WAIT: SpaceError = SpaceError::NoWait;
 
-const REQUESTS: &[(Act, Reply)] = &[
-    (Act::TryNow(1, 0, Mode::S), NO_PLACE),
-    (Act::BeginWait(1, 6, Mode::S), NO_PLACE),
+const REQUESTS: &[Row] = &[
+    (1, Act::TryNow(0, Mode::S, Err(NO_PLACE))),
+    (1, Act::BeginWait(6, Mode::S, Err(NO_PLACE))),
     // No mode is one of no place.
-    (Act::TryNow(1, 6, Mode::SR), NO_PLACE),
-    (Act::BeginWait(1, 0, Mode::IX), NO_PLACE),
-    (Act::TryNow(1, TABLE, Mode::IX), BAD_MODE),
-    (Act::BeginWait(1, TABLE, Mode::IX), BAD_MODE),
-    (Act::TryNow(1, SCHEMA, Mode::SR), BAD_MODE),
-    (Act::BeginWait(1, GLOBAL, Mode::SNRW), BAD_MODE),
-    (Act::TryNow(0, TABLE, Mode::S), Reply::NoSession),
-    (Act::TryNow(6, TABLE, Mode::S), Reply::NoSession),
+    (1, Act::TryNow(6, Mode::SR, Err(NO_PLACE))),
+    (1, Act::BeginWait(0, Mode::IX, Err(NO_PLACE))),
+    (1, Act::TryNow(TABLE, Mode::IX, Err(BAD_MODE))),
+    (1, Act::BeginWait(TABLE, Mode::IX, Err(BAD_MODE))),
+    (1, Act::TryNow(SCHEMA, Mode::SR, Err(BAD_MODE))),
+    (1, Act::BeginWait(GLOBAL, Mode::SNRW, Err(BAD_MODE))),
+
     // None of them has changed a thing.
-    (Act::TryNow(1, TABLE, Mode::X), Reply::Granted(1)),
-    (Act::WaitOf(1), Reply::HasNone),
+    (1, Act::TryNow(TABLE, Mode::X, Ok(Attempt::Granted(1)))),
+    (1, Act::WaitOf(1, None)),
 ];
 
-const WHILE_WAITING: &[(Act, Reply)] = &[
-    (Act::TryNow(1, TABLE, Mode::X), Reply::Granted(1)),
-    (Act::TryNow(2, SCHEMA, Mode::IX), Reply::Granted(1)),
-    (Act::BeginWait(2, TABLE, Mode::SR), Reply::Waiting(1)),
-    (Act::TryNow(2, SCHEMA, Mode::IX), HAS_WAIT),
-    (Act::BeginWait(2, SCHEMA, Mode::IX), HAS_WAIT),
-    (Act::Clone(2, 1, Mode::IX), HAS_WAIT),
+const WHILE_WAITING: &[Row] = &[
+    (1, Act::TryNow(TABLE, Mode::X, Ok(Attempt::Granted(1)))),
+    (2, Act::TryNow(SCHEMA, Mode::IX, Ok(Attempt::Granted(1)))),
+    (2, Act::BeginWait(TABLE, Mode::SR, Ok(Begun::Waiting(1)))),
+    (2, Act::TryNow(SCHEMA, Mode::IX, Err(HAS_WAIT))),
+    (2, Act::BeginWait(SCHEMA, Mode::IX, Err(HAS_WAIT))),
+    (2, Act::Clone(1, Mode::IX, Err(HAS_WAIT))),
     // Beside a place that has no key, and a mode that isn't one of the lock.
-    (Act::TryNow(2, 9, Mode::IX), NO_PLACE),
-    (Act::BeginWait(2, 9, Mode::SR), NO_PLACE),
-    (Act::TryNow(2, TABLE, Mode::IX), HAS_WAIT),
-    (Act::BeginWait(2, SCHEMA, Mode::SR), HAS_WAIT),
-    (Act::Clone(2, 1, Mode::X), HAS_WAIT),
-    (
-        Act::Clone(2, 9, Mode::IX),
-        Reply::Refused(SpaceError::NotHeld),
-    ),
+    (2, Act::TryNow(9, Mode::IX, Err(NO_PLACE))),
+    (2, Act::BeginWait(9, Mode::SR, Err(NO_PLACE))),
+    (2, Act::TryNow(TABLE, Mode::IX, Err(HAS_WAIT))),
+    (2, Act::BeginWait(SCHEMA, Mode::SR, Err(HAS_WAIT))),
+    (2, Act::Clone(1, Mode::X, Err(HAS_WAIT))),
+    (2, Act::Clone(9, Mode::IX, Err(SpaceError::NotHeld))),
     // A settled wait is a wait, until it is ended.
-    (Act::TimeOut(2), Reply::TimedOut),
-    (Act::TryNow(2, SCHEMA, Mode::IX), HAS_WAIT),
-    (Act::BeginWait(2, SCHEMA, Mode::IX), HAS_WAIT),
-    (Act::Clone(2, 1, Mode::IX), HAS_WAIT),
-    (Act::Release(1, 1), Reply::Done),
-    (Act::TryNow(2, TABLE, Mode::IX), HAS_WAIT),
+    (2, Act::TimeOut(Ok(TimedOut::ByThisCall))),
+    (2, Act::TryNow(SCHEMA, Mode::IX, Err(HAS_WAIT))),
+    (2, Act::BeginWait(SCHEMA, Mode::IX, Err(HAS_WAIT))),
+    (2, Act::Clone(1, Mode::IX, Err(HAS_WAIT))),
+    (1, Act::Release(1, Ok(()))),
+    (2, Act::TryNow(TABLE, Mode::IX, Err(HAS_WAIT))),
 ];
 
-const CLONES_AND_RELEASES: &[(Act, Reply)] = &[
-    (Act::Release(1, 1), NOT_HELD),
-    (Act::Clone(1, 1, Mode::S), NOT_HELD),
-    (Act::TryNow(1, TABLE, Mode::SU), Reply::Granted(1)),
-    (Act::TryNow(1, SCHEMA, Mode::X), Reply::Granted(2)),
-    (Act::TryNow(2, GLOBAL, Mode::S), Reply::Granted(1)),
+const CLONES_AND_RELEASES: &[Row] = &[
+    (1, Act::Release(1, Err(NOT_HELD))),
+    (1, Act::Clone(1, Mode::S, Err(NOT_HELD))),
+    (1, Act::TryNow(TABLE, Mode::SU, Ok(Attempt::Granted(1)))),
+    (1, Act::TryNow(SCHEMA, Mode::X, Ok(Attempt::Granted(2)))),
+    (2, Act::TryNow(GLOBAL, Mode::S, Ok(Attempt::Granted(1)))),
     // Not as strong, and in a mode of other locks.
-    (Act::Clone(1, 1, Mode::SW), BAD_MODE),
-    (Act::Clone(1, 1, Mode::X), BAD_MODE),
-    (Act::Clone(1, 1, Mode::IX), BAD_MODE),
-    (Act::Clone(1, 2, Mode::SR), BAD_MODE),
-    (Act::Clone(2, 1, Mode::IX), BAD_MODE),
+    (1, Act::Clone(1, Mode::SW, Err(BAD_MODE))),
+    (1, Act::Clone(1, Mode::X, Err(BAD_MODE))),
+    (1, Act::Clone(1, Mode::IX, Err(BAD_MODE))),
+    (1, Act::Clone(2, Mode::SR, Err(BAD_MODE))),
+    (2, Act::Clone(1, Mode::IX, Err(BAD_MODE))),
     // Of another session, or of none.
-    (Act::Clone(2, 2, Mode::S), NOT_HELD),
-    (Act::Release(2, 2), NOT_HELD),
-    (Act::Release(1, 0), NOT_HELD),
-    (Act::Clone(1, 3, Mode::SR), NOT_HELD),
-    (Act::Release(1, 1), Reply::Done),
-    (Act::Release(1, 1), NOT_HELD),
-    (Act::Clone(1, 1, Mode::SR), NOT_HELD),
-    (Act::Clone(1, 2, Mode::S), Reply::Granted(3)),
-    (Act::Release(0, 2), Reply::NoSession),
+    (2, Act::Clone(2, Mode::S, Err(NOT_HELD))),
+    (2, Act::Release(2, Err(NOT_HELD))),
+    (1, Act::Release(0, Err(NOT_HELD))),
+    (1, Act::Clone(3, Mode::SR, Err(NOT_HELD))),
+    (1, Act::Release(1, Ok(()))),
+    (1, Act::Release(1, Err(NOT_HELD))),
+    (1, Act::Clone(1, Mode::SR, Err(NOT_HELD))),
+    (1, Act::Clone(2, Mode::S, Ok(3))),
 ];
 
-const WAITS: &[(Act, Reply)] = &[
-    (Act::Poll(1), NO_WAIT),
-    (Act::TimeOut(1), NO_WAIT),
-    (Act::EndWait(1), NO_WAIT),
-    (Act::Kill(1, 0), Reply::Killed(false)),
-    (Act::TryNow(2, TABLE, Mode::X), Reply::Granted(1)),
-    (Act::Poll(2), NO_WAIT),
-    (Act::BeginWait(1, TABLE, Mode::S), Reply::Waiting(1)),
-    (Act::EndWait(1), Reply::Refused(SpaceError::Unsettled)),
-    (Act::Poll(1), Reply::Pending),
-    (Act::EndWait(2), NO_WAIT),
-    (Act::Release(2, 1), Reply::Done),
-    (Act::EndWait(1), Reply::Granted(1)),
-    (Act::EndWait(1), NO_WAIT),
-    (Act::Poll(1), NO_WAIT),
-    (Act::TimeOut(1), NO_WAIT),
-    (Act::WaitOf(1), Reply::HasNone),
+const WAITS: &[Row] = &[
+    (1, Act::Poll(Err(NO_WAIT))),
+    (1, Act::TimeOut(Err(NO_WAIT))),
+    (1, Act::EndWait(Err(NO_WAIT))),
+    (1, Act::Kill(1, 0, false)),
+    (2, Act::TryNow(TABLE, Mode::X, Ok(Attempt::Granted(1)))),
+    (2, Act::Poll(Err(NO_WAIT))),
+    (1, Act::BeginWait(TABLE, Mode::S, Ok(Begun::Waiting(1)))),
+    (1, Act::EndWait(Err(SpaceError::Unsettled))),
+    (1, Act::Poll(Ok(Poll::Pending))),
+    (2, Act::EndWait(Err(NO_WAIT))),
+    (2, Act::Release(1, Ok(()))),
+    (1, Act::EndWait(Ok(Ended::Granted(1)))),
+    (1, Act::EndWait(Err(NO_WAIT))),
+    (1, Act::Poll(Err(NO_WAIT))),
+    (1, Act::TimeOut(Err(NO_WAIT))),
+    (1, Act::WaitOf(1, None)),
     // Of sessions that there aren't.
-    (Act::WaitOf(0), Reply::HasNone),
-    (Act::WaitOf(6), Reply::HasNone),
-    (Act::Kill(0, 1), Reply::Killed(false)),
-    (Act::Kill(6, 1), Reply::Killed(false)),
-    (Act::Poll(0), Reply::NoSession),
-    (Act::EndWait(6), Reply::NoSession),
+    (1, Act::WaitOf(0, None)),
+    (1, Act::WaitOf(6, None)),
+    (1, Act::Kill(0, 1, false)),
+    (1, Act::Kill(6, 1, false)),
 ];
 
 pub(crate) const REFUSALS: &[Story] = &[

@@ -2,11 +2,11 @@
 ghost use Rattle.mdl_core.specs.CoreJoins.{SpeaksFor};
 ghost use Rattle.mdl_space_trials.specs.Serving.{SpeaksForAll};
 
-use crate::acts::{Act, Reply, call, key_of, resolve, tables_of};
+use crate::acts::{Act, Row, call};
 use crate::{deadlocks, definitions, life, modes, refusals};
 use mdl_book::Book;
 use mdl_key::{Key, KeyError};
-use mdl_space::{CoreSpace, Held, LockSpace, NewError, Place, SpaceError};
+use mdl_space::{CoreSpace, Held, LockSpace, Place, SpaceError};
 use std::alloc::Global;
 use std::marker::Model;
 
@@ -40,7 +40,7 @@ pub(crate) const ORDINARY: &[Of] = &[
 ];
 
 /// What rows of calls show, and the rows.
-pub(crate) type Story = (&'static str, &'static [(Act, Reply)]);
+pub(crate) type Story = (&'static str, &'static [Row]);
 
 fn new_key(alloc: Global, of: Of) -> Result<Key, KeyError> {
     match of {
@@ -71,25 +71,18 @@ impl Model for Room {
 }
 
 impl Room {
-    // Nobody has asked for anything.
-    fn empty(alloc: Global, places: u16, sessions: u16) -> Result<Room, NewError> {
-        match CoreSpace::new(alloc, places, sessions) {
-            Ok(space) => Ok(Room {
-                alloc,
-                space,
-                sessions,
-            }),
-            Err(error) => Err(error),
-        }
-    }
-
     /// Each of these keys has a place, in this order, and there are no more places. Nobody has anything.
     pub(crate) fn of_keys(alloc: Global, keys: &[Of], sessions: u16) -> Option<Room> {
         let Ok(places) = u16::try_from(keys.len()) else {
             return None;
         };
-        let Ok(mut room) = Room::empty(alloc, places, sessions) else {
+        let Ok(space) = CoreSpace::new(alloc, places, sessions) else {
             return None;
+        };
+        let mut room = Room {
+            alloc,
+            space,
+            sessions,
         };
         if room.has_places(keys) {
             Some(room)
@@ -126,7 +119,7 @@ impl Room {
         if self.sessions == 0 {
             return Err(SpaceError::NoPlace);
         }
-        resolve(&mut self.space, 1, key)
+        self.space.resolve(1, key)
     }
 
     /// The key of a place, for the first session.
@@ -134,7 +127,7 @@ impl Room {
         if self.sessions == 0 {
             return Err(SpaceError::NoPlace);
         }
-        key_of(&mut self.space, 1, place)
+        self.space.key_of(1, place)
     }
 
     /// The places of a schema's tables, for the first session.
@@ -142,7 +135,7 @@ impl Room {
         if self.sessions == 0 {
             return Err(SpaceError::NoPlace);
         }
-        tables_of(&mut self.space, 1, schema)
+        self.space.tables_of(1, schema)
     }
 
     /// What a session holds.
@@ -158,19 +151,18 @@ impl Room {
         self.space.books()
     }
 
-    /// Makes a call. For a session that there isn't, it makes only those that anyone may make.
-    pub(crate) fn make(&mut self, act: Act) -> Reply {
-        let who = act.caller(1);
+    /// Makes a call: whether it answers as it should, unless no memory is found.
+    pub(crate) fn make(&mut self, who: u16, act: Act) -> Option<bool> {
         if who == 0 || who > self.sessions {
-            return Reply::NoSession;
+            return Some(false);
         }
         call(&mut self.space, self.alloc, who, act)
     }
 
     /// Makes calls one after another, and gives the place of the first that answers something else than it should.
-    pub(crate) fn first_wrong(&mut self, rows: &[(Act, Reply)]) -> Option<usize> {
-        for (place, (act, reply)) in rows.iter().enumerate() {
-            if self.make(*act) != *reply {
+    pub(crate) fn first_wrong(&mut self, rows: &[Row]) -> Option<usize> {
+        for (place, (who, act)) in rows.iter().enumerate() {
+            if self.make(*who, *act) != Some(true) {
                 return Some(place);
             }
         }
@@ -179,7 +171,7 @@ impl Room {
 }
 
 // The same in a new room.
-fn first_wrong(alloc: Global, rows: &[(Act, Reply)]) -> Option<usize> {
+pub(crate) fn first_wrong(alloc: Global, rows: &[Row]) -> Option<usize> {
     match Room::new(alloc) {
         Some(mut room) => room.first_wrong(rows),
         None => Some(rows.len()),

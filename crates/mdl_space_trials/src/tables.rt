@@ -1,9 +1,9 @@
 //! The tables of a schema, told in the order of their keys.
-use crate::acts::{Act, Reply};
+use crate::acts::{Act, Row};
 use crate::room::{Of, Room};
 use crate::wishes::Wish;
 use mdl_key::Mode;
-use mdl_space::Place;
+use mdl_space::{Attempt, Place};
 
 // The places of a room of tables.
 const B: Place = 1;
@@ -16,7 +16,8 @@ const OF_ANOTHER: Place = 4;
 
 const UNDEFINED: Place = 5;
 
-const KEYS: &[Of] = &[
+/// The keys of the places.
+pub(crate) const KEYS: &[Of] = &[
     Of::Table("test", "b"),
     Of::Schema("test"),
     Of::Table("test", "a"),
@@ -32,36 +33,35 @@ fn tells(room: &mut Room, schema: &str, places: &[Place]) -> bool {
     }
 }
 
-const CREATED: &[(Act, Reply)] = &[
-    (Act::TryNow(1, B, Mode::X), Reply::Granted(1)),
-    (Act::Redefine(1, 1, Wish::CreateTable), Reply::Changed(1)),
-    (Act::TryNow(1, SCHEMA, Mode::X), Reply::Granted(2)),
-    (Act::Redefine(1, 2, Wish::CreateSchema), Reply::Changed(1)),
-    (Act::TryNow(1, A, Mode::X), Reply::Granted(3)),
-    (Act::Redefine(1, 3, Wish::CreateTable), Reply::Changed(1)),
-    (Act::TryNow(1, OF_ANOTHER, Mode::X), Reply::Granted(4)),
-    (Act::Redefine(1, 4, Wish::CreateTable), Reply::Changed(1)),
-    (Act::TryNow(1, UNDEFINED, Mode::X), Reply::Granted(5)),
+const CREATED: &[Row] = &[
+    (1, Act::TryNow(B, Mode::X, Ok(Attempt::Granted(1)))),
+    (1, Act::Redefine(1, Wish::CreateTable, Ok(1))),
+    (1, Act::TryNow(SCHEMA, Mode::X, Ok(Attempt::Granted(2)))),
+    (1, Act::Redefine(2, Wish::CreateSchema, Ok(1))),
+    (1, Act::TryNow(A, Mode::X, Ok(Attempt::Granted(3)))),
+    (1, Act::Redefine(3, Wish::CreateTable, Ok(1))),
+    (1, Act::TryNow(OF_ANOTHER, Mode::X, Ok(Attempt::Granted(4)))),
+    (1, Act::Redefine(4, Wish::CreateTable, Ok(1))),
+    (1, Act::TryNow(UNDEFINED, Mode::X, Ok(Attempt::Granted(5)))),
 ];
 
-const DROPPED: &[(Act, Reply)] = &[(Act::Redefine(1, 1, Wish::Drop), Reply::Changed(2))];
+const DROPPED: &[Row] = &[(1, Act::Redefine(1, Wish::Drop, Ok(2)))];
 
-// Whether the tables are told as they come and go.
-fn tells_what_is_defined(room: &mut Room) -> bool {
-    tells(room, "test", &[])
-        && room.first_wrong(CREATED).is_none()
-        && tells(room, "test", &[A, B])
-        && tells(room, "tes", &[OF_ANOTHER])
-        && tells(room, "t", &[])
-        && room.first_wrong(DROPPED).is_none()
-        && tells(room, "test", &[A])
-}
+// Calls, and the tables of a schema after them.
+const TOLD: &[(&[Row], &str, &[Place])] = &[
+    (&[], "test", &[]),
+    (CREATED, "test", &[A, B]),
+    (&[], "tes", &[OF_ANOTHER]),
+    (&[], "t", &[]),
+    (DROPPED, "test", &[A]),
+];
 
-#[test]
-fn the_tables_of_a_schema_are_told(rt: HostRuntime) {
-    let are_told = match Room::of_keys(rt.alloc(), KEYS, 2) {
-        Some(mut room) => tells_what_is_defined(&mut room),
-        None => false,
-    };
-    assert!(rt; are_told);
+/// Whether the tables are told as they come and go.
+pub(crate) fn tells_what_is_defined(room: &mut Room) -> bool {
+    for (rows, schema, places) in TOLD {
+        if room.first_wrong(rows).is_some() || !tells(room, schema, places) {
+            return false;
+        }
+    }
+    true
 }

@@ -2,10 +2,10 @@
 ghost use Rattle.std.specs.Prelude.{◌<◌};
 
 use crate::by_chance::plain::Plain;
+use crate::contexts::acts::{Act, Lock};
 use crate::hall::SESSIONS;
-use mdl_key::{Duration, Key, KeyError, Kind, Mode};
+use mdl_key::{Duration, Kind, Mode};
 use mdl_space::TicketId;
-use std::alloc::Global;
 
 // What is asked for, some of it more often than others.
 const OBJECT_MODES: [Mode; 16] = [
@@ -66,46 +66,51 @@ impl Chance {
         ((self.0 >> 33) % u64::from(below)) as u16
     }
 
-    /// Some mode, mostly one of the kind's.
-    pub(crate) fn draw_mode(&mut self, kind: Kind) -> Mode {
-        match kind {
-            Kind::Object => OBJECT_MODES[usize::from(self.draw(16))],
-            Kind::Scoped => SCOPED_MODES[usize::from(self.draw(8))],
+    /// Some lock.
+    pub(crate) fn draw_lock(&mut self) -> Lock {
+        match self.draw(10) {
+            0..=3 => Lock::A,
+            4 | 5 => Lock::B,
+            6 => Lock::Schema,
+            7 => Lock::Global,
+            8 => Lock::Commit,
+            _ => Lock::User,
         }
     }
 
-    /// Some key, of six.
-    pub(crate) fn draw_key(&mut self, alloc: Global) -> Result<Key, KeyError> {
-        match self.draw(10) {
-            0..=3 => Key::table(alloc, "test", "a"),
-            4 | 5 => Key::table(alloc, "test", "b"),
-            6 => Key::schema(alloc, "test"),
-            7 => Ok(Key::global(alloc)),
-            8 => Ok(Key::commit(alloc)),
-            _ => Key::user_lock(alloc, "a"),
-        }
+    /// A wish for some lock, mostly in one of its modes.
+    pub(crate) fn draw_acquire(&mut self) -> Act {
+        let lock = self.draw_lock();
+        let mode = match lock.kind() {
+            Kind::Object => OBJECT_MODES[usize::from(self.draw(16))],
+            Kind::Scoped => SCOPED_MODES[usize::from(self.draw(8))],
+        };
+        Act::Acquire(lock, mode, DURATIONS[usize::from(self.draw(8))])
     }
 
     /// The number of some ticket that the session holds, or at times any number.
     pub(crate) fn draw_id(&mut self, plain: &Plain, who: u16) -> TicketId {
         let at = self.draw(6);
-        match plain.held(who) {
-            Ok(held) if self.draw(8) > 0 => match held.get(usize::from(at)).or(held.last()) {
-                Some(ticket) => ticket.id,
-                None => 1,
-            },
-            _ => u64::from(at),
+        if self.draw(8) == 0 {
+            return u64::from(at);
+        }
+        match plain.held_at(who, usize::from(at)) {
+            Some(number) => number,
+            None => 1,
         }
     }
 
-    /// Some session, and the number of its wait, or at times one less.
-    pub(crate) fn draw_wait(&mut self, plain: &Plain) -> (u16, u64) {
+    /// A kill of some session's wait, or at times of the one before.
+    pub(crate) fn draw_kill(&mut self, plain: &Plain) -> Act {
         let target = self.draw(SESSIONS) + 1;
-        let number = plain.wait_of(target).unwrap_or(1);
+        let number = match plain.wait(target) {
+            Some(wait) => wait.number,
+            None => 1,
+        };
         if self.draw(3) == 0 {
-            (target, number.saturating_sub(1))
+            Act::Kill(target, number.saturating_sub(1))
         } else {
-            (target, number)
+            Act::Kill(target, number)
         }
     }
 
@@ -116,10 +121,5 @@ impl Chance {
             return most.wrapping_add(1);
         }
         some.min(most)
-    }
-
-    /// Some duration.
-    pub(crate) fn draw_duration(&mut self) -> Duration {
-        DURATIONS[usize::from(self.draw(8))]
     }
 }

@@ -3,12 +3,12 @@ ghost use Rattle.std.specs.Prelude.{◌≡◌};
 ghost use Rattle.mdl_context.specs.Contexts.{Attends, LeavesOthers};
 
 use mdl_context::{Acquire, Context, ContextError, Mark, Request, Resume, Tried};
-use mdl_key::{Duration, Key, KeyError, Mode};
+use mdl_key::{Duration, Key, KeyError, Kind, Mode};
 use mdl_space::{LockSpace, SpaceError, TicketId};
 use std::alloc::Global;
 
 /// What may be locked.
-#[derive(Clone, Copy)]
+#[derive(Clone, Copy, PartialEq, Eq)]
 pub(crate) enum Lock {
     A,
     B,
@@ -16,9 +16,19 @@ pub(crate) enum Lock {
     Global,
     Commit,
     User,
+    // A table that is named by its number.
+    Numbered(u16),
 }
 
 impl Lock {
+    /// Its kind.
+    pub(crate) fn kind(self) -> Kind {
+        match self {
+            Lock::A | Lock::B | Lock::User | Lock::Numbered(_) => Kind::Object,
+            Lock::Schema | Lock::Global | Lock::Commit => Kind::Scoped,
+        }
+    }
+
     /// Its key.
     pub(crate) fn key(self, alloc: Global) -> Result<Key, KeyError> {
         match self {
@@ -28,7 +38,15 @@ impl Lock {
             Lock::Global => Ok(Key::global(alloc)),
             Lock::Commit => Ok(Key::commit(alloc)),
             Lock::User => Key::user_lock(alloc, "a"),
+            Lock::Numbered(number) => numbered_key(alloc, number),
         }
+    }
+}
+
+fn numbered_key(alloc: Global, number: u16) -> Result<Key, KeyError> {
+    match format!(in alloc; "t{number}") {
+        Ok(table) => Key::table(alloc, "test", table.as_str()),
+        Err(_) => Err(KeyError::OutOfMemory),
     }
 }
 
@@ -70,16 +88,16 @@ pub(crate) enum Reply {
     Refused(ContextError),
 }
 
-// What an answer without a value says.
-fn done(answer: Result<(), ContextError>) -> Reply {
+/// What an answer without a value says.
+pub(crate) fn done(answer: Result<(), ContextError>) -> Reply {
     match answer {
         Ok(()) => Reply::Done,
         Err(cause) => Reply::Refused(cause),
     }
 }
 
-// What the answer to a wish says, unless no memory was found.
-fn acquired(answer: Result<Acquire, ContextError>) -> Option<Reply> {
+/// What the answer to a wish says, unless no memory was found.
+pub(crate) fn acquired(answer: Result<Acquire, ContextError>) -> Option<Reply> {
     match answer {
         Ok(Acquire::Acquired(id)) => Some(Reply::Acquired(id)),
         Ok(Acquire::MustWait(number)) => Some(Reply::MustWait(number)),
@@ -98,8 +116,8 @@ fn tried(answer: Result<Tried, ContextError>) -> Option<Reply> {
     }
 }
 
-// What the answer of a wait says, unless no memory was found.
-fn resumed(answer: Result<Resume, ContextError>) -> Option<Reply> {
+/// What the answer of a wait says, unless no memory was found.
+pub(crate) fn resumed(answer: Result<Resume, ContextError>) -> Option<Reply> {
     match answer {
         Ok(how) => Some(Reply::Resumed(how)),
         Err(ContextError::Space(SpaceError::OutOfMemory)) => None,
@@ -109,23 +127,20 @@ fn resumed(answer: Result<Resume, ContextError>) -> Option<Reply> {
 
 // What the session finds in its context, unless no memory is found.
 fn look<S: LockSpace>(alloc: Global, context: &Context<S>, act: Act) -> Option<Reply> {
-    let reply = match act {
-        Act::Last(lock) => Reply::Last(context.last_ticket(&lock.key(alloc).ok()?)),
-        Act::AwaitsUserLock => Reply::AwaitsUserLock(context.waits_for_user_lock()),
+    match act {
+        Act::Last(lock) => match lock.key(alloc) {
+            Ok(key) => {
+                let last = context.last_ticket(&key);
+                drop(key);
+                Some(Reply::Last(last))
+            }
+            Err(_) => None,
+        },
+        Act::AwaitsUserLock => Some(Reply::AwaitsUserLock(context.waits_for_user_lock())),
         _ => {
             let mark = context.savepoint();
-            Reply::Stands(mark.statement, mark.transaction)
+            Some(Reply::Stands(mark.statement, mark.transaction))
         }
-    };
-    Some(reply)
-}
-
-// A wish for a lock.
-fn wish(key: &Key, mode: Mode, duration: Duration) -> Request<'_> {
-    Request {
-        key,
-        mode,
-        duration,
     }
 }
 
@@ -138,10 +153,20 @@ fn ask<S: LockSpace>(space: &mut S, context: &mut Context<S>, key: &Key, act: Ac
 {
     match act {
         Act::Acquire(_, mode, duration) => {
-            acquired(context.acquire(space, wish(key, mode, duration)))
+            let wish = Request {
+                key,
+                mode,
+                duration,
+            };
+            acquired(context.acquire(space, wish))
         }
         Act::TryAcquire(_, mode, duration) => {
-            tried(context.try_acquire(space, wish(key, mode, duration)))
+            let wish = Request {
+                key,
+                mode,
+                duration,
+            };
+            tried(context.try_acquire(space, wish))
         }
         _ => Some(done(context.release_name(space, key))),
     }
@@ -190,8 +215,12 @@ pub(crate) fn make<S: LockSpace>(
     match act {
         Act::Last(_) | Act::AwaitsUserLock | Act::Mark => look(alloc, context, act),
         Act::Acquire(lock, _, _) | Act::TryAcquire(lock, _, _) | Act::ReleaseName(lock) => {
-            let key = lock.key(alloc).ok()?;
-            ask(space, context, &key, act)
+            let Ok(key) = lock.key(alloc) else {
+                return None;
+            };
+            let reply = ask(space, context, &key, act);
+            drop(key);
+            reply
         }
         Act::Upgrade(id, mode) => acquired(context.upgrade(space, id, mode)),
         Act::Resume => resumed(context.resume(space)),

@@ -3,10 +3,9 @@
 //! A session holds S and X, and others wait for X and then for SH. Where X goes first, SH is granted beside S; where S goes
 //! first, X is.
 use crate::contexts::acts::{Act, Lock, Reply};
-use crate::contexts::rows::{Row, Story, first_wrong};
+use crate::contexts::rows::{Row, Story};
 use mdl_context::Resume;
 use mdl_key::{Duration, Mode};
-use std::alloc::Global;
 
 const WAITING: Reply = Reply::Resumed(Resume::Waiting);
 
@@ -32,121 +31,133 @@ const SH_IS_GRANTED: Row = (3, Act::Resume, GRANTED);
 
 const SH_WAITS: Row = (3, Act::Resume, WAITING);
 
-// The two tickets that a session gains of a table, one after the other, and what it then does.
-type Turn = ((Mode, Duration), (Mode, Duration), Act);
+const S_OF_STATEMENT: Row = (
+    1,
+    Act::Acquire(Lock::A, Mode::S, Duration::Statement),
+    Reply::Acquired(1),
+);
 
-// Where the first wrong row is, if one is, once the tickets have gone: X first, or S first.
-fn first_wrong_turn(alloc: Global, (first, second, act): Turn, is_x_first: bool) -> Option<usize> {
-    let (x_waiter, sh_waiter) = if is_x_first {
-        (X_WAITS, SH_IS_GRANTED)
-    } else {
-        (X_IS_GRANTED, SH_WAITS)
-    };
-    let rows = [
-        (
-            1,
-            Act::Acquire(Lock::A, first.0, first.1),
-            Reply::Acquired(1),
-        ),
-        (
-            1,
-            Act::Acquire(Lock::A, second.0, second.1),
-            Reply::Acquired(2),
-        ),
-        WAIT_FOR_X,
-        WAIT_FOR_SH,
-        (1, act, Reply::Done),
-        x_waiter,
-        sh_waiter,
-    ];
-    first_wrong(alloc, &rows)
-}
+const S_OF_TRANSACTION: Row = (
+    1,
+    Act::Acquire(Lock::A, Mode::S, Duration::Transaction),
+    Reply::Acquired(1),
+);
 
-// Turns, and whether X goes first.
-const TURNS: &[(Turn, bool)] = &[
-    // Tickets of the statement go before those of the transaction.
-    (
-        (
-            (Mode::S, Duration::Transaction),
-            (Mode::X, Duration::Statement),
-            Act::EndTransaction,
-        ),
-        true,
-    ),
-    (
-        (
-            (Mode::S, Duration::Transaction),
-            (Mode::X, Duration::Statement),
-            Act::GoBack(0, 0),
-        ),
-        true,
-    ),
-    (
-        (
-            (Mode::S, Duration::Statement),
-            (Mode::X, Duration::Transaction),
-            Act::EndTransaction,
-        ),
-        false,
-    ),
-    (
-        (
-            (Mode::S, Duration::Statement),
-            (Mode::X, Duration::Transaction),
-            Act::GoBack(0, 0),
-        ),
-        false,
-    ),
-    // Those of one duration go as they came.
-    (
-        (
-            (Mode::S, Duration::Statement),
-            (Mode::X, Duration::Statement),
-            Act::EndStatement,
-        ),
-        false,
-    ),
-    (
-        (
-            (Mode::S, Duration::Transaction),
-            (Mode::X, Duration::Transaction),
-            Act::EndTransaction,
-        ),
-        false,
-    ),
-    (
-        (
-            (Mode::S, Duration::Transaction),
-            (Mode::X, Duration::Transaction),
-            Act::GoBack(0, 0),
-        ),
-        false,
-    ),
-    (
-        (
-            (Mode::S, Duration::Transaction),
-            (Mode::X, Duration::Transaction),
-            Act::ReleaseName(Lock::A),
-        ),
-        false,
-    ),
-    (
-        (
-            (Mode::S, Duration::Explicit),
-            (Mode::X, Duration::Explicit),
-            Act::ReleaseName(Lock::A),
-        ),
-        false,
-    ),
+const S_IS_EXPLICIT: Row = (
+    1,
+    Act::Acquire(Lock::A, Mode::S, Duration::Explicit),
+    Reply::Acquired(1),
+);
+
+const X_OF_STATEMENT: Row = (
+    1,
+    Act::Acquire(Lock::A, Mode::X, Duration::Statement),
+    Reply::Acquired(2),
+);
+
+const X_OF_TRANSACTION: Row = (
+    1,
+    Act::Acquire(Lock::A, Mode::X, Duration::Transaction),
+    Reply::Acquired(2),
+);
+
+const X_IS_EXPLICIT: Row = (
+    1,
+    Act::Acquire(Lock::A, Mode::X, Duration::Explicit),
+    Reply::Acquired(2),
+);
+
+// Tickets of the statement go before those of the transaction.
+const X_OF_ENDED_STATEMENT: &[Row] = &[
+    S_OF_TRANSACTION,
+    X_OF_STATEMENT,
+    WAIT_FOR_X,
+    WAIT_FOR_SH,
+    (1, Act::EndTransaction, Reply::Done),
+    X_WAITS,
+    SH_IS_GRANTED,
 ];
 
-#[test]
-fn tickets_go_in_turn(rt: HostRuntime) {
-    for (number, (turn, is_x_first)) in TURNS.iter().enumerate() {
-        let wrong = first_wrong_turn(rt.alloc(), *turn, *is_x_first);
-        assert!(rt; wrong.is_none(), "turn {number}: {wrong:?}");
-    }
-}
+const X_OF_STATEMENT_BACK: &[Row] = &[
+    S_OF_TRANSACTION,
+    X_OF_STATEMENT,
+    WAIT_FOR_X,
+    WAIT_FOR_SH,
+    (1, Act::GoBack(0, 0), Reply::Done),
+    X_WAITS,
+    SH_IS_GRANTED,
+];
+
+const S_OF_ENDED_STATEMENT: &[Row] = &[
+    S_OF_STATEMENT,
+    X_OF_TRANSACTION,
+    WAIT_FOR_X,
+    WAIT_FOR_SH,
+    (1, Act::EndTransaction, Reply::Done),
+    X_IS_GRANTED,
+    SH_WAITS,
+];
+
+const S_OF_STATEMENT_BACK: &[Row] = &[
+    S_OF_STATEMENT,
+    X_OF_TRANSACTION,
+    WAIT_FOR_X,
+    WAIT_FOR_SH,
+    (1, Act::GoBack(0, 0), Reply::Done),
+    X_IS_GRANTED,
+    SH_WAITS,
+];
+
+// Those of one duration go as they came.
+const STATEMENT: &[Row] = &[
+    S_OF_STATEMENT,
+    X_OF_STATEMENT,
+    WAIT_FOR_X,
+    WAIT_FOR_SH,
+    (1, Act::EndStatement, Reply::Done),
+    X_IS_GRANTED,
+    SH_WAITS,
+];
+
+const TRANSACTION: &[Row] = &[
+    S_OF_TRANSACTION,
+    X_OF_TRANSACTION,
+    WAIT_FOR_X,
+    WAIT_FOR_SH,
+    (1, Act::EndTransaction, Reply::Done),
+    X_IS_GRANTED,
+    SH_WAITS,
+];
+
+const TRANSACTION_BACK: &[Row] = &[
+    S_OF_TRANSACTION,
+    X_OF_TRANSACTION,
+    WAIT_FOR_X,
+    WAIT_FOR_SH,
+    (1, Act::GoBack(0, 0), Reply::Done),
+    X_IS_GRANTED,
+    SH_WAITS,
+];
+
+const NAME_IN_TRANSACTION: &[Row] = &[
+    S_OF_TRANSACTION,
+    X_OF_TRANSACTION,
+    WAIT_FOR_X,
+    WAIT_FOR_SH,
+    (1, Act::ReleaseName(Lock::A), Reply::Done),
+    X_IS_GRANTED,
+    SH_WAITS,
+];
+
+const EXPLICIT_NAME: &[Row] = &[
+    S_IS_EXPLICIT,
+    X_IS_EXPLICIT,
+    WAIT_FOR_X,
+    WAIT_FOR_SH,
+    (1, Act::ReleaseName(Lock::A), Reply::Done),
+    X_IS_GRANTED,
+    SH_WAITS,
+];
 
 // Whatever their durations are.
 const OF_A_NAME: &[Row] = &[
@@ -174,4 +185,33 @@ const OF_A_NAME: &[Row] = &[
     (1, Act::Release(3), Reply::Done),
 ];
 
-pub(super) const STORIES: &[Story] = &[("tickets of a name go as they came", OF_A_NAME)];
+pub(super) const STORIES: &[Story] = &[
+    (
+        "the statement goes first as the transaction ends",
+        X_OF_ENDED_STATEMENT,
+    ),
+    (
+        "the statement goes first on the way back",
+        X_OF_STATEMENT_BACK,
+    ),
+    (
+        "S of the statement goes first as the transaction ends",
+        S_OF_ENDED_STATEMENT,
+    ),
+    (
+        "S of the statement goes first on the way back",
+        S_OF_STATEMENT_BACK,
+    ),
+    ("tickets of the statement go as they came", STATEMENT),
+    ("tickets of the transaction go as they came", TRANSACTION),
+    (
+        "tickets of the transaction go back as they came",
+        TRANSACTION_BACK,
+    ),
+    (
+        "tickets of a name and the transaction go as they came",
+        NAME_IN_TRANSACTION,
+    ),
+    ("explicit tickets of a name go as they came", EXPLICIT_NAME),
+    ("tickets of a name go as they came", OF_A_NAME),
+];

@@ -25,20 +25,16 @@ pub(crate) const NOT_UPGRADABLE: Reply = Reply::Refused(ContextError::Space(
 
 pub(crate) const BAD_MODE: Reply = Reply::Refused(ContextError::Space(SpaceError::BadMode));
 
-// Whether a reply is the wanted one. Where a search found no memory, the wait was given up and began again, and its numbers
-// are the next ones.
-fn is_about(reply: Option<Reply>, wanted: Reply) -> bool {
+// Whether a reply is the wanted one. Where memory was refused to a search, the wait was given up and began again: its numbers are
+// the wanted ones or the next.
+fn is_wanted(reply: Option<Reply>, wanted: Reply, lacks_memory: bool) -> bool {
     match (reply, wanted) {
-        (Some(Reply::MustWait(number)), Reply::MustWait(least)) => is_or_follows(number, least),
-        (Some(Reply::Resumed(Resume::Acquired(id))), Reply::Resumed(Resume::Acquired(least))) =>
-            is_or_follows(id, least),
+        (Some(Reply::MustWait(number)), Reply::MustWait(least)) if lacks_memory =>
+            number.wrapping_sub(least) <= 1,
+        (Some(Reply::Resumed(Resume::Acquired(id))), Reply::Resumed(Resume::Acquired(least)))
+            if lacks_memory => id.wrapping_sub(least) <= 1,
         _ => reply == Some(wanted),
     }
-}
-
-// Whether a number is this one or the next.
-fn is_or_follows(number: u64, least: u64) -> bool {
-    number == least || number == least.saturating_add(1)
 }
 
 /// What a session does, and what comes of it.
@@ -47,42 +43,25 @@ pub(crate) type Row = (u16, Act, Reply);
 /// What rows show, and the rows.
 pub(crate) type Story = (&'static str, &'static [Row]);
 
-// Sessions do this one after another: the first row whose reply isn't the wanted one.
-fn first_wrong_in(hall: &mut Hall, rows: &[Row]) -> Option<usize> {
+/// Sessions do this one after another: the first row whose reply isn't the wanted one. Where memory may be refused once, the act
+/// that needed it is done again.
+pub(crate) fn first_wrong_in(hall: &mut Hall, rows: &[Row], lacks_memory: bool) -> Option<usize> {
     for (index, (who, act, wanted)) in rows.iter().enumerate() {
-        if hall.make(*who, *act) != Some(*wanted) {
+        let mut reply = hall.make(*who, *act);
+        if lacks_memory && reply.is_none() {
+            reply = hall.make(*who, *act);
+        }
+        if !is_wanted(reply, *wanted, lacks_memory) {
             return Some(index);
         }
     }
     None
 }
 
-// The same, where memory may be refused once. Then the act that needed it is done again.
-fn first_lost_in(hall: &mut Hall, rows: &[Row]) -> Option<usize> {
-    for (index, (who, act, wanted)) in rows.iter().enumerate() {
-        let reply = match hall.make(*who, *act) {
-            Some(reply) => Some(reply),
-            None => hall.make(*who, *act),
-        };
-        if !is_about(reply, *wanted) {
-            return Some(index);
-        }
-    }
-    None
-}
-
-/// Where nobody has asked for anything, sessions do this: the first row whose reply isn't the wanted one.
-pub(crate) fn first_wrong(alloc: Global, rows: &[Row]) -> Option<usize> {
+// The same where nobody has asked for anything before.
+fn first_wrong(alloc: Global, rows: &[Row], lacks_memory: bool) -> Option<usize> {
     match Hall::new(alloc, PLACES) {
-        Ok(mut hall) => first_wrong_in(&mut hall, rows),
-        Err(_) => Some(rows.len()),
-    }
-}
-
-// Likewise, where memory may be refused once.
-fn first_lost(alloc: Global, rows: &[Row]) -> Option<usize> {
-    match Hall::new(alloc, PLACES) {
-        Ok(mut hall) => first_lost_in(&mut hall, rows),
+        Ok(mut hall) => first_wrong_in(&mut hall, rows, lacks_memory),
         Err(_) => Some(rows.len()),
     }
 }
@@ -100,7 +79,7 @@ const STORIES: &[&[Story]] = &[
 fn contexts_do_as_told(rt: HostRuntime) {
     for stories in STORIES {
         for (what, rows) in *stories {
-            let wrong = first_wrong(rt.alloc(), rows);
+            let wrong = first_wrong(rt.alloc(), rows, false);
             assert!(rt; wrong.is_none(), "{what}: {wrong:?}");
         }
     }
@@ -117,7 +96,7 @@ const OUTLIVING: &[&[Story]] = &[
 fn contexts_outlive_want_of_memory(rt: HostRuntime) {
     for stories in OUTLIVING {
         for (what, rows) in *stories {
-            let wrong = first_lost(rt.alloc(), rows);
+            let wrong = first_wrong(rt.alloc(), rows, true);
             assert!(rt; wrong.is_none(), "{what}: {wrong:?}");
         }
     }

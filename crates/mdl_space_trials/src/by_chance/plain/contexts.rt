@@ -1,180 +1,175 @@
 //! What the contexts of the plain program's sessions do, each told by the number of its session.
 use super::{Plain, Ticket};
+use crate::contexts::acts::{Act, Lock, Reply, acquired, done, resumed};
 use mdl_context::{Acquire, ContextError, Mark, Resume};
-use mdl_key::{Duration, Key, Mode, Namespace, at_least};
-use mdl_space::{Begun, Ended, Place, Search, Settled, SpaceError, TicketId};
+use mdl_key::{Duration, Mode, at_least};
+use mdl_space::{Settled, SpaceError, TicketId};
+
+// Which tickets of a session: those of a lock, or those of a duration.
+#[derive(Clone, Copy)]
+enum Which {
+    Of(Lock),
+    Lasting(Duration),
+}
 
 impl Plain {
-    /// A lock is had by a ticket that is used again, by a clone, by a new ticket, or not yet.
-    pub(crate) fn acquire(
+    /// What an act of a session comes to, unless no memory is found. It has those acts that are drawn.
+    pub(crate) fn make(&mut self, who: u16, act: Act) -> Option<Reply> {
+        match act {
+            Act::Acquire(lock, mode, duration) => acquired(self.acquire(who, lock, mode, duration)),
+            Act::Resume => resumed(self.resume(who)),
+            Act::GiveUp => resumed(self.give_up(who)),
+            Act::Kill(target, number) => Some(Reply::Killed(self.kill(target, number))),
+            _ => Some(done(self.lose(who, act))),
+        }
+    }
+
+    // Gives tickets up, or gives them another duration.
+    fn lose(&mut self, who: u16, act: Act) -> Result<(), ContextError> {
+        match act {
+            Act::Release(id) => self.give_back(who, id),
+            Act::ReleaseName(lock) => self.give_back_name(who, lock),
+            Act::GoBack(statement, transaction) => self.go_back(who, statement, transaction),
+            Act::EndStatement => {
+                let stands = self.mark_of(who);
+                self.go_back(who, 0, stands.transaction)
+            }
+            Act::EndTransaction => self.go_back(who, 0, 0),
+            Act::MakeExplicit => self.make_last(who, Duration::Explicit),
+            _ => self.make_last(who, Duration::Transaction),
+        }
+    }
+
+    // A lock is had by a ticket that is used again, by a clone, by a new ticket, or not yet.
+    fn acquire(
         &mut self,
         who: u16,
-        key: &Key,
+        lock: Lock,
         mode: Mode,
         duration: Duration,
     ) -> Result<Acquire, ContextError> {
-        self.check_idle(who)?;
-        if let Some(ticket) = self.first_that_serves(who, key, mode, Some(duration)) {
+        if self.wait(who).is_some() {
+            return Err(ContextError::Waiting);
+        }
+        let wish = Ticket {
+            session: who,
+            number: 0,
+            lock,
+            mode,
+            duration,
+            is_granted: false,
+        };
+        if let Some(number) = self.first_that_serves(&wish, true) {
             self.seen.reused = self.seen.reused.wrapping_add(1);
-            return Ok(Acquire::Acquired(ticket.number));
+            return Ok(Acquire::Acquired(number));
         }
-        match self.ask(who, key, mode) {
-            Ok(Begun::Granted(id)) => {
-                self.keep_newest(who, duration);
-                Ok(Acquire::Acquired(id))
-            }
-            Ok(Begun::Waiting(number)) => {
-                self.keep_newest(who, duration);
-                self.end_deadlocks(who);
-                Ok(Acquire::MustWait(number))
-            }
-            Err(cause) => Err(ContextError::Space(cause)),
+        if self.first_that_serves(&wish, false).is_some() {
+            self.seen.cloned = self.seen.cloned.wrapping_add(1);
+            return Ok(Acquire::Acquired(self.add(wish, true)?));
         }
-    }
-
-    // A clone, a new ticket or a wait for one.
-    fn ask(&mut self, who: u16, key: &Key, mode: Mode) -> Result<Begun, SpaceError> {
-        if let Some(ticket) = self.first_that_serves(who, key, mode, None) {
-            return Ok(Begun::Granted(self.clone_ticket(who, ticket.number, mode)?));
-        }
-        let place = self.resolve(key)?;
-        self.begin_wait(who, place, mode)
+        self.ask(wish)
     }
 
     // The first held ticket that is strong enough for a wish, and, if it is to be used again, isn't explicit and lasts as long.
-    fn first_that_serves(
-        &self,
-        who: u16,
-        key: &Key,
-        mode: Mode,
-        again: Option<Duration>,
-    ) -> Option<Ticket> {
-        let place = self.place_of(key);
-        let kind = key.kind();
+    fn first_that_serves(&self, wish: &Ticket, again: bool) -> Option<TicketId> {
+        let kind = wish.lock.kind();
         for ticket in &self.tickets {
-            let is_kept_so = match again {
-                Some(duration) => duration != Duration::Explicit && ticket.duration == duration,
-                None => true,
-            };
-            if is_kept_so
-                && self.is_held(ticket, who)
-                && ticket.place == place
-                && kind.has_mode(mode)
-                && at_least(kind, ticket.mode, mode)
+            let lasts_so = ticket.duration == wish.duration
+                && ticket.duration != Duration::Explicit;
+            if (lasts_so || !again)
+                && self.is_held(ticket, wish.session)
+                && ticket.lock == wish.lock
+                && kind.has_mode(wish.mode)
+                && at_least(kind, ticket.mode, wish.mode)
             {
-                return Some(*ticket);
+                return Some(ticket.number);
             }
         }
         None
     }
 
-    // The ticket that a session gained or asked for last is kept so long.
-    fn keep_newest(&mut self, who: u16, duration: Duration) {
-        for used in &self.used {
-            for ticket in &mut self.tickets {
-                if used.session == who && ticket.session == who && ticket.number == used.tickets {
-                    ticket.duration = duration;
-                }
-            }
+    // A new ticket, or a wait for one.
+    fn ask(&mut self, wish: Ticket) -> Result<Acquire, ContextError> {
+        self.find_place(wish.lock)?;
+        if !wish.lock.kind().has_mode(wish.mode) {
+            return Err(ContextError::Space(SpaceError::BadMode));
         }
+        if self.is_grantable(&wish) {
+            return Ok(Acquire::Acquired(self.add(wish, true)?));
+        }
+        let ticket = self.add(wish, false)?;
+        let number = self.add_wait(wish.session, ticket);
+        self.end_deadlocks(wish.session);
+        Ok(Acquire::MustWait(number))
     }
 
-    // Settles the waits of victims, until the session waits in no deadlock any more.
-    fn end_deadlocks(&mut self, who: u16) {
-        for _search in 0..self.used.len() {
-            match self.search(who) {
-                Ok(Search::Victim(_)) => {}
-                _ => return,
-            }
-        }
-    }
-
-    // A session that waits asks for nothing else.
-    fn check_idle(&self, who: u16) -> Result<(), ContextError> {
-        match self.wait(who) {
-            Some(_) => Err(ContextError::Waiting),
-            None => Ok(()),
-        }
-    }
-
-    /// A ticket is given up.
-    pub(crate) fn give_back(&mut self, who: u16, id: TicketId) -> Result<(), ContextError> {
-        let Some(ticket) = self.held_ticket(who, id) else {
-            return Err(ContextError::NotHeld);
+    // A ticket is given up.
+    fn give_back(&mut self, who: u16, id: TicketId) -> Result<(), ContextError> {
+        let is_held = match self.ticket(who, id) {
+            Some(ticket) => self.is_held(&ticket, who),
+            None => false,
         };
-        self.check_idle(who)?;
-        self.let_go(ticket);
+        if !is_held {
+            return Err(ContextError::NotHeld);
+        }
+        if self.wait(who).is_some() {
+            return Err(ContextError::Waiting);
+        }
+        self.let_go(who, id);
         Ok(())
     }
 
-    /// All tickets of a key are.
-    pub(crate) fn give_back_name(&mut self, who: u16, key: &Key) -> Result<(), ContextError> {
-        self.check_idle(who)?;
-        let place = self.place_of(key);
-        for _ticket in 0..self.tickets.len() {
-            match self.first_at(who, place) {
-                Some(ticket) => self.let_go(ticket),
-                None => return Ok(()),
-            }
+    // All tickets of a lock are.
+    fn give_back_name(&mut self, who: u16, lock: Lock) -> Result<(), ContextError> {
+        if self.wait(who).is_some() {
+            return Err(ContextError::Waiting);
         }
+        self.give_up_all(who, Which::Of(lock), 0);
         Ok(())
     }
 
-    // The first held ticket of a place.
-    fn first_at(&self, who: u16, place: Place) -> Option<Ticket> {
-        for ticket in &self.tickets {
-            if self.is_held(ticket, who) && ticket.place == place {
-                return Some(*ticket);
-            }
-        }
-        None
-    }
-
-    /// Those beyond a mark are.
-    pub(crate) fn go_back(&mut self, who: u16, mark: Mark) -> Result<(), ContextError> {
+    // Those beyond a mark are: those of the statement, and then those of the transaction. The end of either goes back to a mark
+    // of none.
+    fn go_back(
+        &mut self,
+        who: u16,
+        statement: usize,
+        transaction: usize,
+    ) -> Result<(), ContextError> {
         let stands = self.mark_of(who);
-        if stands.statement < mark.statement || stands.transaction < mark.transaction {
+        if stands.statement < statement || stands.transaction < transaction {
             self.seen.stale = self.seen.stale.wrapping_add(1);
             return Err(ContextError::StaleSavepoint);
         }
-        self.check_idle(who)?;
-        self.give_up_beyond(who, Duration::Statement, mark.statement);
-        self.give_up_beyond(who, Duration::Transaction, mark.transaction);
+        if self.wait(who).is_some() {
+            return Err(ContextError::Waiting);
+        }
+        self.give_up_all(who, Which::Lasting(Duration::Statement), statement);
+        self.give_up_all(who, Which::Lasting(Duration::Transaction), transaction);
         Ok(())
     }
 
-    /// Those of the statement are.
-    pub(crate) fn end_statement(&mut self, who: u16) -> Result<(), ContextError> {
-        self.check_idle(who)?;
-        self.give_up_beyond(who, Duration::Statement, 0);
-        Ok(())
-    }
-
-    /// Those of the statement are, and then those of the transaction.
-    pub(crate) fn end_transaction(&mut self, who: u16) -> Result<(), ContextError> {
-        self.check_idle(who)?;
-        self.give_up_beyond(who, Duration::Statement, 0);
-        self.give_up_beyond(who, Duration::Transaction, 0);
-        Ok(())
-    }
-
-    // Gives up a session's tickets of a duration but for so many from the front.
-    fn give_up_beyond(&mut self, who: u16, duration: Duration, most: usize) {
+    // Gives up these tickets of a session but for so many from the front.
+    fn give_up_all(&mut self, who: u16, which: Which, most: usize) {
         for _ticket in 0..self.tickets.len() {
-            match self.first_beyond(who, duration, most) {
-                Some(ticket) => self.let_go(ticket),
+            match self.first_beyond(who, which, most) {
+                Some(number) => self.let_go(who, number),
                 None => return,
             }
         }
     }
 
     // The first of these.
-    fn first_beyond(&self, who: u16, duration: Duration, most: usize) -> Option<Ticket> {
+    fn first_beyond(&self, who: u16, which: Which, most: usize) -> Option<TicketId> {
         let mut left = most;
         for ticket in &self.tickets {
-            if self.is_held(ticket, who) && ticket.duration == duration {
+            let is_one = match which {
+                Which::Of(lock) => ticket.lock == lock,
+                Which::Lasting(duration) => ticket.duration == duration,
+            };
+            if is_one && self.is_held(ticket, who) {
                 if left == 0 {
-                    return Some(*ticket);
+                    return Some(ticket.number);
                 }
                 left -= 1;
             }
@@ -182,47 +177,61 @@ impl Plain {
         None
     }
 
-    /// All tickets of a session are explicit from now on.
-    pub(crate) fn make_explicit(&mut self, who: u16) -> Result<(), ContextError> {
-        self.check_idle(who)?;
+    // All tickets of a session are explicit from now on, or its explicit ones end with the transaction, but for those of user-level
+    // locks.
+    fn make_last(&mut self, who: u16, duration: Duration) -> Result<(), ContextError> {
+        if self.wait(who).is_some() {
+            return Err(ContextError::Waiting);
+        }
+        let is_for_all = duration == Duration::Explicit;
         for ticket in &mut self.tickets {
-            if ticket.session == who {
-                ticket.duration = Duration::Explicit;
+            let is_explicit = ticket.duration == Duration::Explicit && ticket.lock != Lock::User;
+            if ticket.session == who && (is_for_all || is_explicit) {
+                ticket.duration = duration;
             }
         }
         Ok(())
     }
 
-    /// Its explicit ones end with the transaction from now on, but for those of user-level locks.
-    pub(crate) fn make_transactional(&mut self, who: u16) -> Result<(), ContextError> {
-        self.check_idle(who)?;
-        for ticket in &mut self.tickets {
-            if ticket.session == who
-                && ticket.duration == Duration::Explicit
-                && !is_user_lock(&self.keys, ticket.place)
-            {
-                ticket.duration = Duration::Transaction;
+    // How the session's wait stands. A settled one is ended. If it is lost, its ticket goes.
+    fn resume(&mut self, who: u16) -> Result<Resume, ContextError> {
+        let Some(wait) = self.wait(who) else {
+            return Err(ContextError::Space(SpaceError::NoWait));
+        };
+        let Some(how) = wait.settled else {
+            return Ok(Resume::Waiting);
+        };
+        self.put_wait(who, None);
+        match how {
+            Settled::Granted => {
+                self.seen.granted = self.seen.granted.wrapping_add(1);
+                return Ok(Resume::Acquired(wait.ticket));
             }
+            Settled::Timeout => self.seen.timed_out = self.seen.timed_out.wrapping_add(1),
+            Settled::Killed => self.seen.killed = self.seen.killed.wrapping_add(1),
+            Settled::Victim => {}
         }
-        Ok(())
+        self.let_go(who, wait.ticket);
+        Ok(Resume::Lost(how))
     }
 
-    /// How the session's wait stands. A settled one is ended.
-    pub(crate) fn resume(&mut self, who: u16) -> Result<Resume, ContextError> {
-        match self.end_wait(who) {
-            Ok(Ended::Granted(new)) => Ok(Resume::Acquired(new)),
-            Ok(Ended::Victim) => Ok(Resume::Lost(Settled::Victim)),
-            Ok(Ended::Timeout) => Ok(Resume::Lost(Settled::Timeout)),
-            Ok(Ended::Killed) => Ok(Resume::Lost(Settled::Killed)),
-            Err(SpaceError::Unsettled) => Ok(Resume::Waiting),
-            Err(cause) => Err(ContextError::Space(cause)),
+    // Settles the session's wait as a timeout, unless it is settled, and ends it.
+    fn give_up(&mut self, who: u16) -> Result<Resume, ContextError> {
+        if self.wish(who).is_some() {
+            self.settle(who, Settled::Timeout);
         }
-    }
-
-    /// Settles the session's wait as a timeout, unless it is settled, and ends it.
-    pub(crate) fn give_up(&mut self, who: u16) -> Result<Resume, ContextError> {
-        let _settled = self.settle_timeout(who);
         self.resume(who)
+    }
+
+    // Whether a wait of this number is there, and is killed now.
+    fn kill(&mut self, target: u16, number: u64) -> bool {
+        match self.wait(target) {
+            Some(wait) if wait.number == number && wait.settled.is_none() => {
+                self.settle(target, Settled::Killed);
+                true
+            }
+            _ => false,
+        }
     }
 
     /// How many tickets a session has of the statement and of the transaction.
@@ -241,13 +250,5 @@ impl Plain {
             }
         }
         mark
-    }
-}
-
-// Whether the key of a place is that of a user-level lock.
-fn is_user_lock(keys: &[Key], place: Place) -> bool {
-    match keys.get(usize::from(place.wrapping_sub(1))) {
-        Some(key) => key.namespace() == Namespace::UserLevelLock,
-        None => false,
     }
 }

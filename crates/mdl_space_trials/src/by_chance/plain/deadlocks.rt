@@ -1,54 +1,73 @@
 //! Deadlocks of the plain program, by trying all paths.
-ghost use Rattle.std.specs.Prelude.{◌≤◌};
+use super::Plain;
+use crate::contexts::acts::Lock;
+use mdl_key::Mode;
+use mdl_space::Settled;
 
-use super::{Plain, Ticket};
-use mdl_key::{Mode, Namespace};
-use std::alloc::AllocError;
+// Distinct sessions each of which waits for the one before it in this list. The one that the path begins with comes last, and has
+// the rest of the places too.
+type Path = [u16; 5];
 
-// Distinct sessions each of which waits for the next, with room for one more than there are. Where its length is known, so
-// many count.
-type Path = [u16; 6];
+// More than there are.
+const MOST_PATHS: usize = 100;
 
 impl Plain {
-    // The victim of the deadlock that a session waits in. Each round has all paths of one length, the first of which comes
-    // first in the order of dictionaries.
-    pub(super) fn victim(&self, who: u16) -> Result<Option<u16>, AllocError> {
-        let mut paths = Vec::new(self.alloc);
-        paths.push([who; 6])?;
-        for length in 1..6 {
-            for path in &paths {
-                if self.waits_for(path[length - 1], who) {
-                    return Ok(Some(self.lightest(&path[..length])));
+    // Settles the waits of victims, until the session waits in no deadlock any more.
+    pub(super) fn end_deadlocks(&mut self, who: u16) {
+        for _search in 0..self.seats.len() {
+            let mut paths = Vec::new(self.alloc);
+            let victim = self.victim(&mut paths, who);
+            drop(paths);
+            match victim {
+                Some(victim) => {
+                    self.seen.victims = self.seen.victims.wrapping_add(1);
+                    self.settle(victim, Settled::Victim);
                 }
+                None => return,
             }
-            paths = self.longer(&paths, length)?;
         }
-        Ok(None)
     }
 
-    // All paths that are one longer than these.
-    fn longer(&self, paths: &[Path], length: usize) -> Result<Vec<Path>, AllocError>
-        requires { (1 ≤ length) × (length ≤ 5) }
-    {
-        let mut longer = Vec::new(self.alloc);
-        for path in paths {
-            for used in &self.used {
-                let next = used.session;
-                if self.waits_for(path[length - 1], next) && !path[..length].contains(&next) {
-                    let mut path = *path;
-                    path[length] = next;
-                    longer.push(path)?;
+    // The victim of the deadlock that a session waits in, if one is found. All paths that begin with it are gone through, the shorter
+    // ones first, and those of one length in the order of dictionaries.
+    fn victim(&self, paths: &mut Vec<Path>, who: u16) -> Option<u16> {
+        if paths.push([who; 5]).is_err() {
+            return None;
+        }
+        for index in 0..MOST_PATHS {
+            let path = match paths.get(index) {
+                Some(path) => *path,
+                None => return None,
+            };
+            if self.waits_for(path[0], who) {
+                return Some(self.lightest(path));
+            }
+            if !self.lengthen(paths, path) {
+                return None;
+            }
+        }
+        None
+    }
+
+    // Adds all paths that are one longer than this one: whether memory was found.
+    fn lengthen(&self, paths: &mut Vec<Path>, path: Path) -> bool {
+        for seat in &self.seats {
+            let next = seat.session;
+            if self.waits_for(path[0], next) && !path.contains(&next) {
+                let longer = [next, path[0], path[1], path[2], path[3]];
+                if paths.push(longer).is_err() {
+                    return false;
                 }
             }
         }
-        Ok(longer)
+        true
     }
 
     // The member of a cycle whose wish weighs least, and of equal weights that of the greatest number.
-    fn lightest(&self, cycle: &[u16]) -> u16 {
+    fn lightest(&self, cycle: Path) -> u16 {
         let mut victim = 0;
         let mut least = u8::MAX;
-        for &member in cycle {
+        for &member in &cycle {
             let weight = self.weight(member);
             if weight < least || (weight == least && member > victim) {
                 victim = member;
@@ -63,19 +82,11 @@ impl Plain {
         let Some(wish) = self.wish(who) else {
             return 0;
         };
-        match (self.key_at(wish.place), wish.mode) {
-            (Some(key), _) if key.namespace() == Namespace::Global => 100,
-            (Some(key), _) if key.namespace() == Namespace::UserLevelLock => 50,
+        match (wish.lock, wish.mode) {
+            (Lock::Global, _) => 100,
+            (Lock::User, _) => 50,
             (_, Mode::SU | Mode::SRO | Mode::SNW | Mode::SNRW | Mode::X) => 100,
             _ => 0,
-        }
-    }
-
-    // The ticket that a session waits for, unsettled.
-    fn wish(&self, who: u16) -> Option<Ticket> {
-        match self.wait(who) {
-            Some(wait) if wait.settled.is_none() => self.ticket(who, wait.ticket),
-            _ => None,
         }
     }
 
@@ -87,8 +98,8 @@ impl Plain {
         for ticket in &self.tickets {
             if ticket.session == other
                 && waiter != other
-                && (ticket.is_granted || self.is_unsettled(other))
-                && self.is_in_the_way(ticket, wish.place, wish.mode)
+                && (ticket.is_granted || self.wish(other).is_some())
+                && ticket.is_in_the_way_of(&wish)
             {
                 return true;
             }

@@ -1,81 +1,69 @@
 //! Who is granted what, in the plain program.
 use super::{Plain, Ticket};
-use mdl_key::{Mode, conflicts_granted, conflicts_waiting};
-use mdl_space::{Place, Settled};
+use crate::contexts::acts::Lock;
+use mdl_key::{conflicts_granted, conflicts_waiting};
+use mdl_space::{Settled, TicketId};
 
 impl Plain {
-    // Lets a ticket go, and grants waiters of its place.
-    pub(super) fn let_go(&mut self, gone: Ticket) {
-        self.tickets.retain(|ticket| ticket.session != gone.session
-            || ticket.number != gone.number);
-        self.serve(gone.place);
+    // Lets a session's ticket go, and grants waiters of its lock.
+    pub(super) fn let_go(&mut self, who: u16, number: TicketId) {
+        let index = self.index_of(who, number);
+        if index < self.tickets.len() {
+            let gone = self.tickets.remove(index);
+            self.serve(gone.lock);
+        }
     }
 
-    // Grants waiters of a place: again and again the first in order of arrival whose wait isn't settled and whose wish can be
+    // Grants waiters of a lock: again and again the first in order of arrival whose wait isn't settled and whose wish can be
     // granted, until there is none.
-    pub(super) fn serve(&mut self, place: Place) {
-        for _grant in 0..self.waits.len() {
-            match self.next_waiter(place) {
-                Some(ticket) => self.grant(ticket),
-                None => return,
-            }
+    fn serve(&mut self, lock: Lock) {
+        for _grant in 0..self.tickets.len() {
+            let index = self.next_waiter(lock);
+            let Some(ticket) = self.tickets.get_mut(index) else {
+                return;
+            };
+            ticket.is_granted = true;
+            let who = ticket.session;
+            self.settle(who, Settled::Granted);
         }
     }
 
-    // The first of a place in order of arrival whose wait isn't settled and whose wish can be granted.
-    fn next_waiter(&self, place: Place) -> Option<Ticket> {
-        for ticket in &self.tickets {
-            if ticket.place == place
+    // Where the first of a lock is in order of arrival whose wait isn't settled and whose wish can be granted. Where there is none,
+    // behind the last.
+    fn next_waiter(&self, lock: Lock) -> usize {
+        for (index, ticket) in self.tickets.iter().enumerate() {
+            if ticket.lock == lock
                 && !ticket.is_granted
-                && self.is_unsettled(ticket.session)
-                && self.is_grantable(ticket.session, place, ticket.mode)
+                && self.wish(ticket.session).is_some()
+                && self.is_grantable(ticket)
             {
-                return Some(*ticket);
+                return index;
             }
         }
-        None
-    }
-
-    // Grants a waiting ticket.
-    fn grant(&mut self, chosen: Ticket) {
-        for ticket in &mut self.tickets {
-            if ticket.session == chosen.session && ticket.number == chosen.number {
-                ticket.is_granted = true;
-            }
-        }
-        self.settle(chosen.session, Settled::Granted);
-    }
-
-    // Settles a session's wait.
-    pub(super) fn settle(&mut self, who: u16, how: Settled) {
-        for wait in &mut self.waits {
-            if wait.session == who {
-                wait.settled = Some(how);
-            }
-        }
+        self.tickets.len()
     }
 
     // Whether a wish can be granted: it clashes with no granted ticket of another session, and stands behind no waiting one.
-    pub(super) fn is_grantable(&self, who: u16, place: Place, mode: Mode) -> bool {
+    pub(super) fn is_grantable(&self, wish: &Ticket) -> bool {
         for other in &self.tickets {
-            if other.session != who && self.is_in_the_way(other, place, mode) {
+            if other.session != wish.session && other.is_in_the_way_of(wish) {
                 return false;
             }
         }
         true
     }
+}
 
-    // Whether a ticket of another session stands in the way of a wish.
-    pub(super) fn is_in_the_way(&self, ticket: &Ticket, place: Place, mode: Mode) -> bool {
-        match self.kind_of(place) {
-            Some(kind) if ticket.place == place => {
-                if ticket.is_granted {
-                    conflicts_granted(kind, mode, ticket.mode)
-                } else {
-                    conflicts_waiting(kind, mode, ticket.mode)
-                }
-            }
-            _ => false,
+impl Ticket {
+    // Whether the ticket stands in the way of another session's wish.
+    pub(super) fn is_in_the_way_of(&self, wish: &Ticket) -> bool {
+        let kind = wish.lock.kind();
+        if self.lock != wish.lock {
+            false
+        } else if self.is_granted {
+            conflicts_granted(kind, wish.mode, self.mode)
+        } else {
+            conflicts_waiting(kind, wish.mode, self.mode)
         }
     }
 }

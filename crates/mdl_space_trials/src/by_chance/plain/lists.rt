@@ -1,47 +1,53 @@
 //! What the plain program finds in its lists, and puts there.
 use super::{Plain, Ticket, Wait};
-use mdl_key::{Duration, Key, Kind, Mode};
-use mdl_space::{Held, Place, SpaceError, TicketId};
+use crate::contexts::acts::Lock;
+use mdl_context::ContextError;
+use mdl_space::{Held, Place, Settled, SpaceError, TicketId};
+
+const NO_MEMORY: ContextError = ContextError::Space(SpaceError::OutOfMemory);
 
 impl Plain {
-    /// The tickets that a session holds: its granted ones, without that of a wait that isn't ended, in rising number.
-    pub(crate) fn held(&self, who: u16) -> Result<Vec<Held>, SpaceError> {
-        let mut held = Vec::new(self.alloc);
+    /// Whether these are the tickets that a session holds: its granted ones, without that of a wait that isn't ended, in rising
+    /// number.
+    pub(crate) fn holds(&self, who: u16, tickets: &[Held]) -> bool {
+        let mut count: usize = 0;
         for ticket in &self.tickets {
             if self.is_held(ticket, who) {
-                let (id, place, mode) = (ticket.number, ticket.place, ticket.mode);
-                if held.push(Held { id, place, mode }).is_err() {
-                    return Err(SpaceError::OutOfMemory);
+                let wanted = Held {
+                    id: ticket.number,
+                    place: self.place_of(ticket.lock),
+                    mode: ticket.mode,
+                };
+                match tickets.get(count) {
+                    Some(held) if *held == wanted => count = count.wrapping_add(1),
+                    _ => return false,
                 }
             }
         }
-        Ok(held)
+        count == tickets.len()
     }
 
-    // Why a lock can't be asked for.
-    pub(super) fn check_request(
-        &self,
-        who: u16,
-        place: Place,
-        mode: Mode,
-    ) -> Result<(), SpaceError> {
-        let Some(kind) = self.kind_of(place) else {
-            return Err(SpaceError::NoPlace);
-        };
-        if self.wait(who).is_some() {
-            return Err(SpaceError::AlreadyWaiting);
+    /// The number of the ticket of this index among those that a session holds. Behind the last it's that of the last.
+    pub(crate) fn held_at(&self, who: u16, index: usize) -> Option<TicketId> {
+        let mut left = index;
+        let mut last = None;
+        for ticket in &self.tickets {
+            if self.is_held(ticket, who) {
+                last = Some(ticket.number);
+                if left == 0 {
+                    return last;
+                }
+                left -= 1;
+            }
         }
-        if !kind.has_mode(mode) {
-            return Err(SpaceError::BadMode);
-        }
-        Ok(())
+        last
     }
 
-    // The place of a key, from 1, or 0.
-    pub(super) fn place_of(&self, key: &Key) -> Place {
+    // The place of a lock, from 1, or 0.
+    fn place_of(&self, lock: Lock) -> Place {
         let mut place: Place = 1;
-        for other in &self.keys {
-            if *other == *key {
+        for other in &self.locks {
+            if *other == lock {
                 return place;
             }
             place = place.wrapping_add(1);
@@ -49,52 +55,70 @@ impl Plain {
         0
     }
 
-    // The key of a place.
-    pub(super) fn key_at(&self, place: Place) -> Option<&Key> {
-        self.keys.get(usize::from(place.wrapping_sub(1)))
-    }
-
-    /// The kind of the locks of a place.
-    pub(crate) fn kind_of(&self, place: Place) -> Option<Kind> {
-        match self.key_at(place) {
-            Some(key) => Some(key.kind()),
-            None => None,
+    // Gives a lock the next place, unless it has one.
+    pub(super) fn find_place(&mut self, lock: Lock) -> Result<(), ContextError> {
+        if self.place_of(lock) != 0 {
+            return Ok(());
+        }
+        if self.locks.len() >= self.places {
+            return Err(ContextError::Space(SpaceError::NoPlace));
+        }
+        match self.locks.push(lock) {
+            Ok(()) => Ok(()),
+            Err(_) => Err(NO_MEMORY),
         }
     }
 
-    // A session's wait that isn't ended.
-    pub(super) fn wait(&self, who: u16) -> Option<Wait> {
-        for wait in &self.waits {
-            if wait.session == who {
-                return Some(*wait);
+    /// A session's wait that isn't ended.
+    pub(crate) fn wait(&self, who: u16) -> Option<Wait> {
+        for seat in &self.seats {
+            if seat.session == who {
+                return seat.wait;
             }
         }
         None
     }
 
-    // Whether a session has a wait that isn't settled.
-    pub(super) fn is_unsettled(&self, who: u16) -> bool {
+    // A session has this wait now.
+    pub(super) fn put_wait(&mut self, who: u16, wait: Option<Wait>) {
+        for seat in &mut self.seats {
+            if seat.session == who {
+                seat.wait = wait;
+            }
+        }
+    }
+
+    // Settles a session's wait.
+    pub(super) fn settle(&mut self, who: u16, how: Settled) {
+        if let Some(wait) = self.wait(who) {
+            let settled = Some(how);
+            self.put_wait(who, Some(Wait { settled, ..wait }));
+        }
+    }
+
+    // The ticket that a session waits for, unsettled.
+    pub(super) fn wish(&self, who: u16) -> Option<Ticket> {
         match self.wait(who) {
-            Some(wait) => wait.settled.is_none(),
-            None => false,
+            Some(wait) if wait.settled.is_none() => self.ticket(who, wait.ticket),
+            _ => None,
         }
     }
 
-    // A session's ticket of this number.
-    pub(super) fn ticket(&self, who: u16, number: TicketId) -> Option<Ticket> {
-        for ticket in &self.tickets {
+    // Where a session's ticket of this number is. Where there is none, behind the last.
+    pub(super) fn index_of(&self, who: u16, number: TicketId) -> usize {
+        for (index, ticket) in self.tickets.iter().enumerate() {
             if ticket.session == who && ticket.number == number {
-                return Some(*ticket);
+                return index;
             }
         }
-        None
+        self.tickets.len()
     }
 
-    // That ticket, if it is held.
-    pub(super) fn held_ticket(&self, who: u16, number: TicketId) -> Option<Ticket> {
-        match self.ticket(who, number) {
-            Some(ticket) if self.is_held(&ticket, who) => Some(ticket),
-            _ => None,
+    // That ticket.
+    pub(super) fn ticket(&self, who: u16, number: TicketId) -> Option<Ticket> {
+        match self.tickets.get(self.index_of(who, number)) {
+            Some(ticket) => Some(*ticket),
+            None => None,
         }
     }
 
@@ -107,53 +131,40 @@ impl Plain {
         ticket.session == who && ticket.is_granted && !is_awaited
     }
 
-    // Puts a new ticket last, and gives its number, which is used with this.
-    pub(super) fn add(
-        &mut self,
-        who: u16,
-        place: Place,
-        mode: Mode,
-        is_granted: bool,
-    ) -> Result<TicketId, SpaceError> {
+    // Puts a new ticket last, as it was wished for, and gives its number, which is used with this.
+    pub(super) fn add(&mut self, wish: Ticket, is_granted: bool) -> Result<TicketId, ContextError> {
         let mut number = 0;
-        for used in &mut self.used {
-            if used.session == who {
-                used.tickets = used.tickets.wrapping_add(1);
-                number = used.tickets;
+        for seat in &mut self.seats {
+            if seat.session == wish.session {
+                seat.tickets = seat.tickets.wrapping_add(1);
+                number = seat.tickets;
             }
         }
         let ticket = Ticket {
-            session: who,
             number,
-            place,
-            mode,
-            duration: Duration::Explicit,
             is_granted,
+            ..wish
         };
         match self.tickets.push(ticket) {
             Ok(()) => Ok(number),
-            Err(_) => Err(SpaceError::OutOfMemory),
+            Err(_) => Err(NO_MEMORY),
         }
     }
 
-    // Puts a session's new wait for a ticket last, likewise.
-    pub(super) fn add_wait(&mut self, who: u16, ticket: TicketId) -> Result<u64, SpaceError> {
+    // A session waits for a ticket, and the wait gets the next number.
+    pub(super) fn add_wait(&mut self, who: u16, ticket: TicketId) -> u64 {
         let mut number = 0;
-        for used in &mut self.used {
-            if used.session == who {
-                used.waits = used.waits.wrapping_add(1);
-                number = used.waits;
+        for seat in &mut self.seats {
+            if seat.session == who {
+                seat.waits = seat.waits.wrapping_add(1);
+                number = seat.waits;
+                seat.wait = Some(Wait {
+                    number,
+                    ticket,
+                    settled: None,
+                });
             }
         }
-        let wait = Wait {
-            session: who,
-            number,
-            ticket,
-            settled: None,
-        };
-        match self.waits.push(wait) {
-            Ok(()) => Ok(number),
-            Err(_) => Err(SpaceError::OutOfMemory),
-        }
+        number
     }
 }

@@ -1,7 +1,0 @@
--- The context keeps what its session holds.
-use Rattle.mdl_space.specs.CoreMembers.{core_space}
-use Rattle.mdl_context.specs.Contexts.{Attends}
-use Rattle.mdl_space_trials.proofs.contexts.many.gains_all.Given as goal
-
-abbrev pub invariant-loop-key : goal.invariant-loop-key
-invariant-loop-key l = Attends core_space l.space l.context
