@@ -24,8 +24,8 @@
 //!
 //! // There are 1 to 256 places in a space.
 //! // One more is refused.
-//! let refused = lone_space(rt.alloc(), 257).err();
-//! assert!(rt; refused == Some(NewError::BadPlaces));
+//! let refused = lone_space(rt.alloc(), 257);
+//! assert!(rt; matches!(refused, Err(NewError::BadPlaces)));
 //! ```
 #![tactic(auto)]
 

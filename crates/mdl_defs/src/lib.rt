@@ -11,18 +11,17 @@
 //! use mdl_key::Namespace;
 //!
 //! let alloc = rt.alloc();
+//! let note = Column::new(alloc, "note")?;
 //! let mut columns = Columns::new(alloc);
 //! columns.push(Column::new(alloc, "id")?)?;
-//! let add = Change::AddColumn(Column::new(alloc, "note")?);
 //! let create = Change::Create(Definition::Table(columns));
+//! let add = Change::AddColumn(note);
 //! let mut table = Standing::new();
-//! assert!(rt; table.change(alloc, Namespace::Table, &create).is_ok());
-//! assert!(rt; table.change(alloc, Namespace::Table, &add).is_ok());
-//! assert!(rt; table.version == 2);
+//! assert!(rt; table.change(alloc, Namespace::Table, &create) == Ok(1)); // the table's version
+//! assert!(rt; table.change(alloc, Namespace::Table, &add) == Ok(2));
 //! // The table has the column already, and nothing changes.
 //! let refused = table.change(alloc, Namespace::Table, &add);
-//! assert!(rt; refused == Err(ChangeError::Def(DefError::DuplicateColumn)));
-//! assert!(rt; table.version == 2);
+//! assert!(rt; refused == Err(ChangeError::Def(DefError::DuplicateColumn)) && table.version == 2);
 //! ```
 #![tactic(auto)]
 

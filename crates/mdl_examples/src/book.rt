@@ -1,31 +1,33 @@
 //! `mdl_book`: a change that waits for a reader.
-use mdl_book::{Book, BookError, Sessions, Ticket};
+use mdl_book::{Book, Sessions, Ticket};
 use mdl_key::{Key, Mode};
 use mdl_word::Word;
 use std::test::Fail;
 
-/// Session 1 reads a table, and session 2 waits to change it. Which ticket is next when the reader is gone.
-fn next_behind_a_reader(book: &mut Book) -> Result<Option<(u16, u64)>, BookError> {
+/// Session 1 reads a table, and session 2 waits to change it. It is next when the reader is gone.
+fn change_is_next(book: &mut Book) -> bool {
     let word = Word(0); // no fast tickets
     let reader = Ticket {
         session: 1,
         number: 1,
         mode: Mode::SR,
     };
-    book.grant(reader, word)?;
-    book.enqueue(Ticket {
+    let change = Ticket {
         session: 2,
         mode: Mode::X,
         ..reader
-    })?;
-    book.remove(1, 1)?;
-    Ok(book.next_grantable(word, &Sessions::all()))
+    };
+    book.grant(reader, word).is_ok()
+        && book.enqueue(change).is_ok()
+        && book.remove(1, 1).is_ok()
+        && matches!(book.next_grantable(word, &Sessions::all()), Some((2, 1)))
 }
 
 #[test]
 fn a_change_waits_for_a_reader(rt: HostRuntime) -> Result<(), Fail> {
     let orders = Key::table(rt.alloc(), "test", "orders")?;
     let mut book = Book::new(rt.alloc(), orders);
-    assert!(rt; next_behind_a_reader(&mut book) == Ok(Some((2, 1))));
+    assert!(rt; change_is_next(&mut book));
+    drop(book);
     Ok(())
 }

@@ -15,10 +15,10 @@ fn a_session_goes_back_to_a_savepoint(rt: HostRuntime) -> Result<(), Fail> {
         mode: Mode::SR,
         duration: Duration::Transaction,
     };
-    assert!(rt; context.acquire(&mut space, request) == Ok(Acquire::Acquired(1)));
-    assert!(rt; context.kept().len() == 1);
+    let acquired = context.acquire(&mut space, request);
+    assert!(rt; acquired == Ok(Acquire::Acquired(1)) && context.kept().len() == 1);
     // What was gained since the savepoint is given up.
-    assert!(rt; context.rollback_to(&mut space, savepoint).is_ok());
-    assert!(rt; context.kept().is_empty());
+    let given_up = context.rollback_to(&mut space, savepoint);
+    assert!(rt; given_up.is_ok() && context.kept().is_empty());
     Ok(())
 }

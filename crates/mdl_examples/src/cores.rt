@@ -18,6 +18,6 @@ fn lone_space(alloc: Global, places: u16) -> Result<CoreSpace, NewError>
 fn a_space_has_its_limits(rt: HostRuntime) {
     // There are 1 to 256 places in a space.
     // One more is refused.
-    let refused = lone_space(rt.alloc(), 257).err();
-    assert!(rt; refused == Some(NewError::BadPlaces));
+    let refused = lone_space(rt.alloc(), 257);
+    assert!(rt; matches!(refused, Err(NewError::BadPlaces)));
 }

@@ -4,9 +4,5 @@ use mdl_rows::{ErrorNumber, Reply};
 #[test]
 fn a_failed_statement_has_a_number(rt: HostRuntime) {
     let reply = Reply::Error(ErrorNumber::NoSuchTable);
-    let number = match &reply {
-        Reply::Error(error) => error.number(),
-        _ => 0,
-    };
-    assert!(rt; number == 1146);
+    assert!(rt; matches!(&reply, Reply::Error(error) if error.number() == 1146));
 }

@@ -21,6 +21,7 @@ fn reads_at_last<'s>(alloc: Global, lines: &'s [Line]) -> bool {
         let progress = runner.start(&mut space, &line.statement);
         reads = matches!(&progress, Ok(Progress::Done(Reply::Columns(_))));
     }
+    runner.leave(&mut space);
     reads
 }
 

@@ -10,13 +10,14 @@
 //! ```
 //! use mdl_key::{Key, Kind, Mode, conflicts_granted, conflicts_waiting};
 //!
-//! let table = Key::table(rt.alloc(), "test", "orders")?;
-//! assert!(rt; table.kind() == Kind::Object);
+//! let kind = Key::table(rt.alloc(), "test", "orders")?.kind();
+//! assert!(rt; kind == Kind::Object);
 //! // A reader stands in the way of a change, and who reads later waits behind that.
-//! assert!(rt; conflicts_granted(table.kind(), Mode::X, Mode::SR));
-//! assert!(rt; conflicts_waiting(table.kind(), Mode::SR, Mode::X));
+//! assert!(rt;
+//!     conflicts_granted(kind, Mode::X, Mode::SR) && conflicts_waiting(kind, Mode::SR, Mode::X)
+//! );
 //! // High priority waits behind nothing.
-//! assert!(rt; !conflicts_waiting(table.kind(), Mode::SH, Mode::X));
+//! assert!(rt; !conflicts_waiting(kind, Mode::SH, Mode::X));
 //! ```
 #![tactic(auto)]
 

@@ -10,15 +10,16 @@
 //! use mdl_lines::{Fault, LineError, first_words, is_comment, report, session_of};
 //!
 //! assert!(rt; is_comment(b"# session 3 is done") == Ok(true));
-//! let (who, what) = first_words(b"3 COMMIT").unwrap_or((b"", None));
-//! assert!(rt; session_of(who) == Some(3));
-//! assert!(rt; what == Some(b"COMMIT".as_slice()));
+//! let is_read = match first_words(b"3 COMMIT") {
+//!     Some((who, Some(what))) => session_of(who) == Some(3) && what == b"COMMIT".as_slice(),
+//!     _ => false,
+//! };
+//! assert!(rt; is_read);
 //! // There are 64 sessions at most.
 //! assert!(rt; session_of(b"65").is_none());
 //! let mut told = Vec::new(rt.alloc());
 //! let status = report(&Fault::Refused(2, LineError::BadSession), &mut told);
-//! assert!(rt; status == 1);
-//! assert!(rt; told.as_slice() == b"line 2: BadSession\n".as_slice());
+//! assert!(rt; status == 1 && told.as_slice() == b"line 2: BadSession\n".as_slice());
 //! ```
 #![tactic(auto)]
 

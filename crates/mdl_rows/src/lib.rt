@@ -6,11 +6,7 @@
 //! use mdl_rows::{ErrorNumber, Reply};
 //!
 //! let reply = Reply::Error(ErrorNumber::NoSuchTable);
-//! let number = match &reply {
-//!     Reply::Error(error) => error.number(),
-//!     _ => 0,
-//! };
-//! assert!(rt; number == 1146);
+//! assert!(rt; matches!(&reply, Reply::Error(error) if error.number() == 1146));
 //! ```
 #![tactic(auto)]
 

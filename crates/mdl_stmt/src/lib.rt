@@ -24,6 +24,7 @@
 //!         let progress = runner.start(&mut space, &line.statement);
 //!         reads = matches!(&progress, Ok(Progress::Done(Reply::Columns(_))));
 //!     }
+//!     runner.leave(&mut space);
 //!     reads
 //! }
 //!

@@ -10,20 +10,21 @@
 //! use mdl_lines::{Fault, LineError};
 //! use mdl_syntax::{Statement, parse};
 //!
+//! // The first refused line refuses a script. There are 64 sessions at most.
+//! let refused = parse(rt.alloc(), b"1 BEGIN\n65 BEGIN\n").err();
+//! assert!(rt; refused == Some(Fault::Refused(2, LineError::BadSession)));
+//! // Here the first line is a comment.
 //! let script = parse(
 //!     rt.alloc(),
 //!     b"# who has ordered?\n1 SELECT orders shop.customers\n",
 //! )?;
-//! for line in script.lines() {
-//!     // The first line is a comment.
-//!     assert!(rt; line.number == 2);
-//!     assert!(rt; line.session == 1);
-//!     assert!(rt; matches!(line.statement, Statement::Select(_)));
-//! }
-//! // The first refused line refuses a script.
-//! // There are 64 sessions at most.
-//! let refused = parse(rt.alloc(), b"1 BEGIN\n65 BEGIN\n").err();
-//! assert!(rt; refused == Some(Fault::Refused(2, LineError::BadSession)));
+//! let is_read = match script.lines() {
+//!     [line] => line.number == 2
+//!         && line.session == 1
+//!         && matches!(line.statement, Statement::Select(_)),
+//!     _ => false,
+//! };
+//! assert!(rt; is_read);
 //! ```
 #![tactic(auto)]
 

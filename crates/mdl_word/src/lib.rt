@@ -16,8 +16,7 @@
 //! // Two readers stand in the way of a change, and of no writer.
 //! let word = Word(2 << 20);
 //! assert!(rt; word.counts() == [0, 2, 0]);
-//! assert!(rt; word.blocks(Kind::Object, Mode::X));
-//! assert!(rt; !word.blocks(Kind::Object, Mode::SW));
+//! assert!(rt; word.blocks(Kind::Object, Mode::X) && !word.blocks(Kind::Object, Mode::SW));
 //! ```
 #![tactic(auto)]
 

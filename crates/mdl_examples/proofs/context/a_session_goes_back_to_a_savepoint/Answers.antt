@@ -4,7 +4,7 @@ use Rattle.mdl_core.specs.Words.{own_at}
 use Rattle.mdl_examples.proofs.SpaceLemmas.{attends-new}
 use Rattle.mdl_examples.proofs.context.a_session_goes_back_to_a_savepoint.Goals as goal
 
-pub acquire-requires : goal.acquire-requires
-acquire-requires g c =
+pub acquire-acquired-requires : goal.acquire-acquired-requires
+acquire-acquired-requires g c =
     let made = c.in_ok-space.ensures in
     attends-new c.in_ok-space.space 1 _ c.new-context.ensures (made.speaks 1 (omega arith) (omega arith)) (ap (λ s. own_at s 1) made.made)
