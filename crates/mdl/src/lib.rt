@@ -1,11 +1,12 @@
-//! The whole library behind one name: who lists this crate in its line of crates.txt needs no other crate of the repository there.
+//! The whole library behind one name: a crate that lists this one in its line of crates.txt needs no other crate of the repository there.
 //!
-//! The chief types stand here. Each layer is a module with all that its crate has: [`key`], [`word`], [`defs`], [`book`], [`graph`],
-//! [`system`], [`calls`], [`space`], [`context`], [`lines`], [`syntax`], [`stmt`], [`work`], [`script`] and [`shared`]. So `mdl::Key` and
-//! `mdl::key::Key` are one type.
+//! The chief types are at the top of this module. Each layer is a module with all that its crate has: [`key`], [`word`], [`defs`],
+//! [`book`], [`graph`], [`system`], [`calls`], [`space`], [`context`], [`lines`], [`syntax`], [`stmt`], [`work`], [`script`] and
+//! [`shared`]. So `mdl::Key` and `mdl::key::Key` are one type.
 //!
-//! Contracts cite the definitions of a layer by its crate: what is `Rattle.mdl_core.specs.Words` there is `Rattle.mdl.specs.mdl_core.Words`
-//! for a user of this crate. Lemmas are passed on in the same way, as `Rattle.mdl.proofs.mdl_core.CallLaws`.
+//! Contracts cite the definitions of a layer by its crate: what is `Rattle.mdl_core.specs.Words` there is
+//! `Rattle.mdl.specs.mdl_core.Words` for a user of this crate. Lemmas are re-exported in the same way, as
+//! `Rattle.mdl.proofs.mdl_core.CallLaws`.
 //!
 //! # Example
 //!

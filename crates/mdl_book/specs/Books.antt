@@ -1,4 +1,4 @@
--- One lock's book: its two lists of tickets, and what stands under its key, after MySQL 5.7: `MDL_lock` of sql/mdl.cc.
+-- One lock's book: its two lists of tickets, and its key's version and definition, after MySQL 5.7: `MDL_lock` of sql/mdl.cc.
 use Rattle.std.specs.Prelude.{ℕ, ◌+◌, Bool, not, ◌&&◌, ◌||◌, nat_lt, nat_le, List, [], ◌∷◌, ◌++◌, length, Option, Some, None, find, All, Contains, IsTrue, if◌then◌else◌, is_some}
 use Rattle.std.specs.List.{list_any}
 use Rattle.std.specs.Option.{option_to_list}
@@ -21,7 +21,7 @@ use Rattle.mdl_book.specs.Tickets.{ticket_of, without, with_mode}
 abbrev pub lock_kind : BookView → Kind
 lock_kind book = kind_of book.key.namespace
 
--- nobody holds the lock, nobody waits for it, and nothing ever stood under its key
+-- the book of a lock that no session holds or waits for; its key has version 0 and no definition
 abbrev pub empty_book : KeyName → BookView
 empty_book key = record { key = key; granted = []; waiting = []; standing = nothing_yet }
 
@@ -29,7 +29,7 @@ empty_book key = record { key = key; granted = []; waiting = []; standing = noth
 abbrev pub ticket_count : BookView → ℕ
 ticket_count book = length book.granted + length book.waiting
 
--- why a book with so many tickets can't take one more
+-- why a book with this number of tickets can't have one more
 abbrev pub full_fault : ℕ → Option BookError
 full_fault count = if nat_le 65535 count then Some Full else None
 
@@ -46,39 +46,39 @@ change_fault session number mode word book =
     if not (is_some (ticket_of session number book.granted)) then Some NotHere
     else (if not (may_stand (lock_kind book) book.granted word session mode) then Some WouldConflict else None)
 
--- with a ticket granted last
+-- the book with a ticket added at the end of the granted ones
 abbrev pub granting : Ticket → BookView → BookView
 granting ticket book = record book { granted = book.granted ++ ticket ∷ [] }
 
--- with a ticket waiting last
+-- the book with a ticket added at the end of the waiting ones
 abbrev pub enqueueing : Ticket → BookView → BookView
 enqueueing ticket book = record book { waiting = book.waiting ++ ticket ∷ [] }
 
--- with the waiting ticket of this session and number granted last
+-- the book with the waiting ticket of this session and number moved to the end of the granted ones
 abbrev pub admitting : ℕ → ℕ → BookView → BookView
 admitting session number book = record book {
   granted = book.granted ++ option_to_list (ticket_of session number book.waiting);
   waiting = without session number book.waiting;
 }
 
--- without the waiting ticket of this session and number
+-- the book without the waiting ticket of this session and number
 abbrev pub cancelling : ℕ → ℕ → BookView → BookView
 cancelling session number book = record book { waiting = without session number book.waiting }
 
--- without the granted ticket of this session and number
+-- the book without the granted ticket of this session and number
 abbrev pub removing : ℕ → ℕ → BookView → BookView
 removing session number book = record book { granted = without session number book.granted }
 
--- with the granted ticket of this session and number in another mode, in its place
+-- the book with the granted ticket of this session and number in another mode, at the same position
 abbrev pub changing : ℕ → ℕ → Mode → BookView → BookView
 changing session number mode book = record book { granted = with_mode session number mode book.granted }
 
--- with another definition, or none, under the key
+-- the book after a change of its key's definition
 abbrev pub redefining : Change → BookView → BookView
 redefining change book = record book { standing = standing_after change book.standing }
 
--- whether a waiting ticket is of an unsettled session and its wish can be granted; tickets that arrived later count as
--- pending too
+-- whether a waiting ticket is of an unsettled session and can be granted; it may also have to wait behind tickets that
+-- arrived later
 abbrev pub is_ready : ℕ → set.FinSet nat_cmp → BookView → Ticket → Bool
 is_ready word unsettled book ticket =
     set.contains unsettled ticket.session && can_be_granted (lock_kind book) book.granted book.waiting word ticket.session ticket.mode
@@ -87,11 +87,11 @@ is_ready word unsettled book ticket =
 abbrev pub next_grantable : ℕ → set.FinSet nat_cmp → BookView → Option Ticket
 next_grantable word unsettled book = find (is_ready word unsettled book) book.waiting
 
--- these tickets are of sessions that don't wait
+-- none of these tickets is of a session that waits in the book
 abbrev pub AreOfNoWaiter : BookView → List Ticket → Type 0
 AreOfNoWaiter book tickets = All (λ ticket. AreOfOthers ticket.session tickets) book.waiting
 
--- whether a waiting ticket is of an unsettled session and grantable, these tickets being granted beside the others
+-- whether a waiting ticket is of an unsettled session and grantable, if these fast tickets are granted besides those of the book
 abbrev pub is_ready_beside : List Ticket → set.FinSet nat_cmp → BookView → Ticket → Bool
 is_ready_beside fast unsettled book ticket =
     set.contains unsettled ticket.session && is_grantable (lock_kind book) (fast ++ book.granted) book.waiting ticket.session ticket.mode
@@ -100,8 +100,8 @@ is_ready_beside fast unsettled book ticket =
 abbrev pub next_grantable_beside : List Ticket → set.FinSet nat_cmp → BookView → Option Ticket
 next_grantable_beside fast unsettled book = find (is_ready_beside fast unsettled book) book.waiting
 
--- nobody is forgotten: no waiting ticket of an unsettled session is grantable, these fast tickets being granted beside the
--- others
+-- no waiter is forgotten: no waiting ticket of an unsettled session is grantable, if these fast tickets are granted besides
+-- those of the book
 abbrev pub NoneForgotten : List Ticket → set.FinSet nat_cmp → BookView → Type 0
 NoneForgotten fast unsettled book =
     (ticket : Ticket) → Contains book.waiting ticket → IsTrue (set.contains unsettled ticket.session) →
@@ -115,6 +115,6 @@ any_obtrusive kind tickets = list_any (λ ticket. is_obtrusive kind ticket.mode)
 abbrev pub has_obtrusive : BookView → Bool
 has_obtrusive book = any_obtrusive (lock_kind book) book.granted || any_obtrusive (lock_kind book) book.waiting
 
--- whether a ticket is granted or waits
+-- whether there is a ticket, granted or waiting
 abbrev pub has_tickets : BookView → Bool
 has_tickets book = nat_lt 0 (ticket_count book)

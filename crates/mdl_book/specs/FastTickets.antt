@@ -1,4 +1,4 @@
--- Fast tickets: those that stand in no list of a lock and are only counted by its packed word, after MySQL 5.7: the fast
+-- Fast tickets: those that are in no list of a lock and are only counted by its packed word, after MySQL 5.7: the fast
 -- path of `MDL_context::try_acquire_lock_impl` in sql/mdl.cc.
 use Rattle.std.specs.Prelude.{◌≡◌, ◌≢◌, ℕ, ◌<◌, ◌≤◌, Bool, false, not, ◌&&◌, ◌==◌, List, slice_index, All, count_by, IsTrue}
 use Rattle.std.specs.Option.{option_map_or}
@@ -13,8 +13,8 @@ use Rattle.mdl_book.specs.Granting.{is_compatible, goes_first}
 abbrev pub is_of_class : Kind → ℕ → Ticket → Bool
 is_of_class kind class ticket = option_map_or (λ own. own == class) (class_of kind ticket.mode) false
 
--- the word counts just these fast tickets: each is in a mode that is counted, and for each class their number is the word's
--- count
+-- the word counts exactly these fast tickets: each is in a mode that is counted, and for each class their number is the
+-- word's count
 pub record CountsFastTickets (kind : Kind) (word : ℕ) (fast : List Ticket) : Type 0 where
   pub unobtrusive : All (λ ticket. IsTrue (not (is_obtrusive kind ticket.mode))) fast
   pub counted : (class : ℕ) → class < 3 → count_by (is_of_class kind class) fast ≡ slice_index (counts_of word) class
@@ -29,11 +29,12 @@ pub record CoversFastTickets (kind : Kind) (word : ℕ) (fast : List Ticket) : T
 abbrev pub AreOfOthers : ℕ → List Ticket → Type 0
 AreOfOthers session tickets = All (λ ticket. ticket.session ≢ session) tickets
 
--- as far as granted locks go the wish may be granted: no granted ticket of another session clashes with it, and no fast
--- ticket that the word counts does
+-- whether no granted or fast ticket blocks a request: it clashes with no granted ticket of another session, and with no
+-- fast ticket that the word counts
 abbrev pub may_stand : Kind → List Ticket → ℕ → ℕ → Mode → Bool
 may_stand kind granted word session mode = is_compatible kind granted session mode && not (blocks_by (counts_of word) kind mode)
 
--- the wish may stand beside the granted tickets and the fast ones, and it waits behind no waiting ticket
+-- whether a request can be granted: no granted or fast ticket blocks it, and it waits behind no waiting ticket of another
+-- session
 abbrev pub can_be_granted : Kind → List Ticket → List Ticket → ℕ → ℕ → Mode → Bool
 can_be_granted kind granted waiting word session mode = may_stand kind granted word session mode && goes_first kind waiting session mode

@@ -11,29 +11,30 @@ use Rattle.mdl_book.specs.Books.{lock_kind, granting, admitting, enqueueing, nex
 use Rattle.mdl_book.specs.FastTickets.{CountsFastTickets, CoversFastTickets}
 use Rattle.mdl_book.specs.Granting.{IsGrantable, IsLawful}
 
--- the same tickets stand in both lists, in whatever order and however often
+-- both lists have the same tickets, in any order and any number of times
 abbrev pub SameMembers : List Ticket → List Ticket → Type 0
 SameMembers a b = (ticket : Ticket) → Contains a ticket ↔ Contains b ticket
 
--- whether granted tickets are lawful depends on its members alone
+-- whether a list of granted tickets is lawful depends on its members alone
 abbrev pub LawfulByMembers : Type 0
 LawfulByMembers = (kind : Kind) (a b : List Ticket) → SameMembers a b → IsLawful kind a ↔ IsLawful kind b
 
--- whether a wish is grantable depends on the members of the two lists alone
+-- whether a request is grantable depends on the members of the two lists alone
 abbrev pub GrantableByMembers : Type 0
 GrantableByMembers =
     (kind : Kind) (granted granted′ waiting waiting′ : List Ticket) (session : ℕ) (mode : Mode) →
     SameMembers granted granted′ → SameMembers waiting waiting′ →
     IsGrantable kind granted waiting session mode ↔ IsGrantable kind granted′ waiting′ session mode
 
--- nobody is next exactly where nobody is forgotten, the word counting just these fast tickets
+-- if the word counts exactly these fast tickets, and none is of a session that waits, there is no next waiter exactly if no
+-- waiter is forgotten
 abbrev pub NobodyIsNextWhereNoneIsForgotten : Type 0
 NobodyIsNextWhereNoneIsForgotten =
     (word : ℕ) (fast : List Ticket) (unsettled : set.FinSet nat_cmp) (lists : BookView) →
     CountsFastTickets (lock_kind lists) word fast → AreOfNoWaiter lists fast →
     (next_grantable word unsettled lists ≡ None) ↔ NoneForgotten fast unsettled lists
 
--- whoever is next waits, is unsettled and grantable beside the fast tickets, of which the word may count too many
+-- the next waiter waits, is unsettled, and is grantable beside the fast tickets; the word may count more than these
 abbrev pub WhoIsNextIsGrantable : Type 0
 WhoIsNextIsGrantable =
     (word : ℕ) (fast : List Ticket) (unsettled : set.FinSet nat_cmp) (lists : BookView) (ticket : Ticket) →
@@ -41,27 +42,27 @@ WhoIsNextIsGrantable =
     Contains lists.waiting ticket × IsTrue (set.contains unsettled ticket.session)
     × IsGrantable (lock_kind lists) (fast ++ lists.granted) lists.waiting ticket.session ticket.mode
 
--- where a ticket is granted nobody comes to be forgotten, whether it goes into the list or is a fast one
+-- granting a ticket makes no waiter forgotten, whether it is added to the list or is a fast one
 abbrev pub GrantingForgetsNobody : Type 0
 GrantingForgetsNobody =
     (fast : List Ticket) (unsettled : set.FinSet nat_cmp) (lists : BookView) (ticket : Ticket) →
     NoneForgotten fast unsettled lists →
     NoneForgotten fast unsettled (granting ticket lists) × NoneForgotten (ticket ∷ fast) unsettled lists
 
--- nor where a waiting ticket is granted: who waited behind it clashes with it now
+-- granting a waiting ticket makes no waiter forgotten: a request that waited behind it now clashes with it
 abbrev pub AdmittingForgetsNobody : Type 0
 AdmittingForgetsNobody =
     (fast : List Ticket) (unsettled : set.FinSet nat_cmp) (lists : BookView) (session number : ℕ) →
     NoneForgotten fast unsettled lists → NoneForgotten fast unsettled (admitting session number lists)
 
--- nor where a ticket comes to wait whose wish isn't grantable, or whose session is settled
+-- adding a waiting ticket makes no waiter forgotten, if it isn't grantable or its session is settled
 abbrev pub EnqueueingForgetsNobody : Type 0
 EnqueueingForgetsNobody =
     (fast : List Ticket) (unsettled : set.FinSet nat_cmp) (lists : BookView) (ticket : Ticket) →
     (IsTrue (set.contains unsettled ticket.session) → IsGrantable (lock_kind lists) (fast ++ lists.granted) lists.waiting ticket.session ticket.mode → ⊥) →
     NoneForgotten fast unsettled lists → NoneForgotten fast unsettled (enqueueing ticket lists)
 
--- nor where fewer sessions are unsettled
+-- settling sessions makes no waiter forgotten
 abbrev pub SettlingForgetsNobody : Type 0
 SettlingForgetsNobody =
     (fast : List Ticket) (fewer more : set.FinSet nat_cmp) (lists : BookView) →

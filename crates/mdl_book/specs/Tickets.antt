@@ -1,19 +1,19 @@
--- Tickets: that a session holds a lock or waits for it, after MySQL 5.7: `MDL_ticket` of sql/mdl.h.
+-- Tickets: a session's hold on a lock, or its wait for it, after MySQL 5.7: `MDL_ticket` of sql/mdl.h.
 use Rattle.std.specs.Prelude.{ℕ, Bool, ◌&&◌, ◌==◌, List, ◌++◌, Option, find}
 use Rattle.std.specs.List.{before_first, after_first}
 use Rattle.std.specs.Option.{option_map, option_to_list}
 use Rattle.mdl_key.specs.declared.mode.Mode.{Mode}
 use Rattle.mdl_book.specs.declared.ticket.Ticket.{Ticket}
 
--- the ticket that a session gave this number
+-- whether a ticket is the one to which a session gave this number
 abbrev pub is_ticket : ℕ → ℕ → Ticket → Bool
 is_ticket session number ticket = ticket.session == session && ticket.number == number
 
--- what tells a ticket from others: its session, and the number that the session gave it
+-- what identifies a ticket: its session, and the number that the session gave it
 abbrev pub ticket_id : Ticket → ℕ × ℕ
 ticket_id ticket = (ticket.session, ticket.number)
 
--- the first ticket of this session and number, where there is one
+-- the first ticket of this session and number, if there is one
 abbrev pub ticket_of : ℕ → ℕ → List Ticket → Option Ticket
 ticket_of session number tickets = find (is_ticket session number) tickets
 
@@ -25,7 +25,7 @@ without session number tickets = before_first (is_ticket session number) tickets
 abbrev pub in_mode : Mode → Ticket → Ticket
 in_mode mode ticket = record ticket { mode = mode }
 
--- the list with that ticket in another mode, in its place
+-- the list with that ticket in another mode, at the same position
 abbrev pub with_mode : ℕ → ℕ → Mode → List Ticket → List Ticket
 with_mode session number mode tickets =
     before_first (is_ticket session number) tickets

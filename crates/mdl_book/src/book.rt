@@ -20,9 +20,9 @@ use std::marker::Model;
 // The most tickets that a book can have.
 const MOST_TICKETS: usize = 65_535;
 
-/// The book of one lock: who holds it, who waits for it, and what stands under its key.
+/// The book of one lock: who holds it, who waits for it, and its key's version and definition.
 ///
-/// A book has at most 65,535 tickets. Whatever waits has room among the granted tickets, so granting it takes no memory.
+/// A book has at most 65,535 tickets. The granted list has room for each waiting ticket, so granting it takes no memory.
 /// After MySQL 5.7, `MDL_lock` of `sql/mdl.cc`.
 #[derive(Drop)]
 pub struct Book {
@@ -52,7 +52,8 @@ impl Model for Book {
 }
 
 impl Book {
-    /// The book of a lock that nobody holds and nobody waits for, and under whose key nothing ever stood. It takes no memory.
+    /// Creates the book of a lock that no session holds or waits for. Its key has version 0 and no definition. It takes no
+    /// memory.
     pub fn new(alloc: Global, key: Key) -> Book
         ensures { result ≡ empty_book key }
     {
@@ -64,50 +65,50 @@ impl Book {
         }
     }
 
-    /// The lock's key.
+    /// Returns the lock's key.
     pub fn key(&self) -> &Key
         ensures { result.now ≡ self.now.key }
     {
         &self.key
     }
 
-    /// The granted tickets, in the order in which they were granted.
+    /// Returns the granted tickets, in the order in which they were granted.
     pub fn granted(&self) -> &[Ticket]
         ensures { result.now ≡ self.now.granted }
     {
         self.granted.as_slice()
     }
 
-    /// The waiting tickets, in order of arrival.
+    /// Returns the waiting tickets, in order of arrival.
     pub fn waiting(&self) -> &[Ticket]
         ensures { result.now ≡ self.now.waiting }
     {
         self.waiting.as_slice()
     }
 
-    /// How often what stands under the lock's key was changed.
+    /// Returns the key's version: how often its definition was changed.
     pub fn version(&self) -> u64
         ensures { result ≡ self.now.standing.version }
     {
         self.standing.version()
     }
 
-    /// What stands under the lock's key, if anything does.
+    /// Returns the key's definition, if there is one.
     pub fn definition(&self) -> Option<&Definition>
         ensures { option_copied result ≡ self.now.standing.definition }
     {
         self.standing.definition()
     }
 
-    /// A copy of what stands under the lock's key, with its version.
+    /// Returns a copy of the key's version and definition.
     pub fn read(&self) -> Result<Standing, AllocError>
         ensures { IfOk result (λ standing. standing ≡ self.now.standing) }
     {
         self.standing.read()
     }
 
-    /// Changes what stands under the lock's key, and answers the new version. Who may do that is the caller's to know. `Drop`
-    /// takes no memory.
+    /// Changes the key's definition, and returns the new version. The caller must make sure that the change is allowed.
+    /// `Drop` takes no memory.
     pub fn redefine(&mut self, change: &Change) -> Result<u64, ChangeError>
         ensures done { IfOk result (λ version. (self.new ≡ redefining change.now self.old) × (version ≡ self.new.standing.version)) }
         ensures unchanged { OnErr result (self.new ≡ self.old) }
@@ -118,8 +119,8 @@ impl Book {
         self.standing.change(self.key.namespace(), change)
     }
 
-    /// Whether a session's wish for a mode can be granted now, the lock's word being `word`. The fast tickets that it counts
-    /// are taken for other sessions'.
+    /// Whether a session's request for a mode can be granted now. `word` is the lock's word, and the fast tickets that it
+    /// counts are taken for those of other sessions.
     pub fn can_grant(&self, session: u16, mode: Mode, word: Word) -> bool
         ensures exact { result ≡ can_be_granted (lock_kind self.now) self.now.granted self.now.waiting word.0 session mode }
         ensures counted { (fast : List Ticket) → CountsFastTickets (lock_kind self.now) word.0 fast → AreOfOthers session fast
@@ -132,7 +133,7 @@ impl Book {
             && self.waiting.all_overtaken(kind, session, mode)
     }
 
-    /// Grants a ticket, the lock's word being `word`. What waits doesn't count here.
+    /// Grants a ticket. `word` is the lock's word. Waiting tickets don't block it.
     #[inline]
     pub fn grant(&mut self, ticket: Ticket, word: Word) -> Result<(), BookError>
         ensures granted { OnOk result (self.new ≡ granting ticket self.old) }
@@ -153,7 +154,7 @@ impl Book {
         Ok(())
     }
 
-    /// Puts a ticket at the end of the waiting list, and makes the room that granting it will need.
+    /// Adds a ticket at the end of the waiting list, and makes the room that granting it will need.
     #[inline]
     pub fn enqueue(&mut self, ticket: Ticket) -> Result<(), BookError>
         ensures enqueued { OnOk result (self.new ≡ enqueueing ticket self.old) }
@@ -167,8 +168,8 @@ impl Book {
         }
     }
 
-    /// Grants a waiting ticket, which goes to the end of the granted list. It takes no memory. Whether the wish can be
-    /// granted is the caller's to know.
+    /// Grants a waiting ticket: moves it to the end of the granted list, and returns it. The caller must make sure that it
+    /// can be granted. It takes no memory.
     #[inline]
     pub fn admit(&mut self, session: u16, number: u64) -> Result<Ticket, BookError>
         ensures answer { result ≡ ok_or (ticket_of session number self.old.waiting) BookError.NotHere }
@@ -185,7 +186,7 @@ impl Book {
         Ok(ticket)
     }
 
-    /// Takes a waiting ticket away. It takes no memory.
+    /// Removes a waiting ticket, and returns it. It takes no memory.
     #[inline]
     pub fn cancel(&mut self, session: u16, number: u64) -> Result<Ticket, BookError>
         ensures answer { result ≡ ok_or (ticket_of session number self.old.waiting) BookError.NotHere }
@@ -195,7 +196,7 @@ impl Book {
         take_ticket(&mut self.waiting, session, number)
     }
 
-    /// Takes a granted ticket away. It takes no memory.
+    /// Removes a granted ticket, and returns it. It takes no memory.
     #[inline]
     pub fn remove(&mut self, session: u16, number: u64) -> Result<Ticket, BookError>
         ensures answer { result ≡ ok_or (ticket_of session number self.old.granted) BookError.NotHere }
@@ -208,8 +209,8 @@ impl Book {
         take_ticket(&mut self.granted, session, number)
     }
 
-    /// Changes the mode of a granted ticket, which keeps its place, the lock's word being `word`. The session's own tickets
-    /// and what waits don't count here. It takes no memory.
+    /// Changes the mode of a granted ticket, which keeps its position in the list. `word` is the lock's word. The session's
+    /// own tickets and waiting ones don't block the change. It takes no memory.
     pub fn set_mode(
         &mut self,
         session: u16,
@@ -236,8 +237,8 @@ impl Book {
         Ok(())
     }
 
-    /// The first waiting ticket, in order of arrival, whose session is among `unsettled` and whose wish can be granted, the
-    /// lock's word being `word`: its session and its number. Tickets that arrived later count as pending too.
+    /// Returns the session and the number of the first waiting ticket, in order of arrival, whose session is in `unsettled`
+    /// and that can be granted. `word` is the lock's word. A ticket may also have to wait behind one that arrived later.
     pub fn next_grantable(&self, word: Word, unsettled: &Sessions) -> Option<(u16, u64)>
         ensures exact { result ≡ option_map ticket_id (next_grantable word.0 unsettled.now self.now) }
         ensures counted { (fast : List Ticket) → CountsFastTickets (lock_kind self.now) word.0 fast → AreOfNoWaiter self.now fast
@@ -253,7 +254,7 @@ impl Book {
         None
     }
 
-    /// What the lists have to tell those who take fast tickets.
+    /// Returns what the flags of the lock's word must say of the lists, for sessions that take fast tickets.
     pub fn needs(&self) -> Needs
         ensures obtrusive { result.obtrusive ≡ has_obtrusive self.now }
         ensures slow { result.slow ≡ has_tickets self.now }
@@ -266,7 +267,7 @@ impl Book {
     }
 }
 
-// Makes room among the granted tickets for one more ticket than there are, granted and waiting.
+// Makes room in the granted list for all tickets that there are, granted and waiting, and one more.
 #[inline]
 fn make_room(granted: &mut TicketList, waiting: usize) -> Result<(), BookError>
     requires { length granted.old.tickets + waiting ≤ 65535 }
@@ -284,8 +285,8 @@ fn make_room(granted: &mut TicketList, waiting: usize) -> Result<(), BookError>
     }
 }
 
-// Whether a session's wish for a mode clashes with no granted ticket of another session and with no fast ticket that the
-// word counts.
+// Whether a session's request for a mode clashes with no granted ticket of another session and with no fast ticket that
+// the word counts.
 #[inline]
 fn may_stand(kind: Kind, granted: &TicketList, word: Word, session: u16, mode: Mode) -> bool
     ensures { result ≡ may_stand kind granted.now.tickets word.0 session mode }
@@ -293,7 +294,7 @@ fn may_stand(kind: Kind, granted: &TicketList, word: Word, session: u16, mode: M
     granted.all_stand_beside(kind, session, mode) && !word.blocks(kind, mode)
 }
 
-// Takes the first ticket of this session and number out of a list.
+// Removes the first ticket of this session and number from a list, and returns it.
 #[inline]
 fn take_ticket(tickets: &mut TicketList, session: u16, number: u64) -> Result<Ticket, BookError>
     ensures answer { result ≡ ok_or (ticket_of session number tickets.old.tickets) BookError.NotHere }

@@ -1,10 +1,10 @@
-//! What a book is seen as.
+//! The value of a book in contracts.
 use crate::Ticket;
 use mdl_defs::Standing;
 use mdl_key::Key;
 
-/// The value of a book in contracts: the lock's key, its two lists of tickets, each in order, and what stands under the key.
-/// It is never made.
+/// The value of a book in contracts: the lock's key, its two lists of tickets, each in order, and the key's version and
+/// definition. No code makes one.
 #[derive(Drop)]
 pub struct BookView {
     /// The lock's key.
@@ -13,6 +13,6 @@ pub struct BookView {
     pub granted: [Ticket; 0],
     /// The waiting tickets, in order of arrival.
     pub waiting: [Ticket; 0],
-    /// What stands under the key, and how often that was changed.
+    /// The key's version and definition.
     pub standing: Standing,
 }

@@ -1,4 +1,4 @@
-//! What stands under a key, out of the way of its book.
+//! A key's version and definition, stored outside of its book.
 ghost use Rattle.std.specs.Prelude.{◌≡◌, IfOk, OnErr};
 ghost use Rattle.std.specs.Option.{option_copied};
 ghost use Rattle.mdl_key.specs.Refusals.{Refuses, RefusesJust};
@@ -9,7 +9,7 @@ use mdl_key::Namespace;
 use std::alloc::{AllocError, Global};
 use std::marker::Model;
 
-/// What stands under a key. It is boxed, so that a book stays small, and not before it is changed for the first time.
+/// A key's version and definition. They are boxed, so that a book stays small, and only once they are first changed.
 #[derive(Drop)]
 pub(crate) struct KeptStanding {
     alloc: Global,
@@ -26,7 +26,7 @@ impl Model for KeptStanding {
 }
 
 impl KeptStanding {
-    /// Nothing stands, and nothing ever did. It takes no memory.
+    /// Returns version 0, without a definition. It takes no memory.
     pub(crate) fn new(alloc: Global) -> KeptStanding
         ensures { result ≡ nothing_yet }
     {
@@ -36,7 +36,7 @@ impl KeptStanding {
         }
     }
 
-    /// How often it was changed.
+    /// Returns how often the definition was changed.
     pub(crate) fn version(&self) -> u64
         ensures { result ≡ self.now.version }
     {
@@ -46,7 +46,7 @@ impl KeptStanding {
         }
     }
 
-    /// The definition, if one stands.
+    /// Returns the definition, if there is one.
     pub(crate) fn definition(&self) -> Option<&Definition>
         ensures { option_copied result ≡ self.now.definition }
     {
@@ -56,7 +56,7 @@ impl KeptStanding {
         }
     }
 
-    /// A copy of it.
+    /// Returns a copy of the version and the definition.
     pub(crate) fn read(&self) -> Result<Standing, AllocError>
         ensures { IfOk result (λ standing. standing ≡ self.now) }
     {
@@ -66,7 +66,7 @@ impl KeptStanding {
         }
     }
 
-    /// Makes a change under a key of this namespace, and answers the new version. `Drop` takes no memory.
+    /// Changes the definition of a key of this namespace, and returns the new version. `Drop` takes no memory.
     pub(crate) fn change(
         &mut self,
         namespace: Namespace,

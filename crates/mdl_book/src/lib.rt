@@ -1,11 +1,12 @@
 //! The book of one lock: its granted tickets, and its waiting ones in order of arrival.
 //!
-//! A [`Book`] says who holds a lock and who waits for it. It grants a wish where no granted ticket of another session
-//! clashes with it and no waiting one goes before it ([`Book::can_grant`]), keeps those that wait ([`Book::enqueue`]),
-//! and names the next of them that can be granted ([`Book::next_grantable`]). Contracts see it as its [`BookView`].
+//! A [`Book`] says who holds a lock and who waits for it. A request can be granted if no granted ticket of another session
+//! clashes with it, and it waits behind no waiting one ([`Book::can_grant`]). Otherwise it is added to the waiting list
+//! ([`Book::enqueue`]). [`Book::next_grantable`] returns the first waiting ticket that can be granted. The value of a book
+//! in contracts is a [`BookView`].
 //!
-//! Fast tickets stand in no list: whoever asks brings the lock's packed [`Word`](mdl_word::Word), which counts them, and
-//! they are taken for tickets of other sessions. What the word's flags have to say is [`Book::needs`].
+//! Fast tickets are in no list: only the lock's packed [`Word`](mdl_word::Word) counts them. The caller passes the word, and
+//! its tickets are taken for those of other sessions. [`Book::needs`] returns what the word's flags must say.
 //!
 //! # Example
 //!

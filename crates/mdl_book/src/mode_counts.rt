@@ -9,12 +9,12 @@ use mdl_key::{Kind, Mode, granted_row, obtrusive_row, waiting_row};
 #[derive(Drop)]
 pub(crate) struct ModeCounts {
     pub(crate) counts: [u16; 11],
-    // Bit n stands for the mode at place n, as in the rows of the matrices: one `&` tells whether a counted mode is in a row.
+    // Bit n is the mode at index n, as in the rows of the matrices: one `&` shows whether a counted mode is in a row.
     pub(crate) present: u16,
 }
 
 impl ModeCounts {
-    /// The counts where there are no tickets.
+    /// Returns the counts of no tickets.
     pub(crate) fn new() -> ModeCounts
         ensures counts { result.counts ≡ replicate 11 0 }
         ensures marked { MarksModes result.present result.counts }
@@ -52,7 +52,7 @@ impl ModeCounts {
         }
     }
 
-    /// Whether no mode that has tickets clashes with a wish for `mode`.
+    /// Whether a request for `mode` clashes with no mode that has tickets.
     pub(crate) fn none_clashes(&self, kind: Kind, mode: Mode) -> bool
         requires { MarksModes self.now.present self.now.counts }
         ensures { result ≡ none_counted (clashes kind mode) self.now.counts }
@@ -60,7 +60,7 @@ impl ModeCounts {
         self.present & granted_row(kind, mode) == 0
     }
 
-    /// Whether a wish for `mode` waits behind no mode that has tickets.
+    /// Whether a request for `mode` waits behind no mode that has tickets.
     pub(crate) fn none_goes_before(&self, kind: Kind, mode: Mode) -> bool
         requires { MarksModes self.now.present self.now.counts }
         ensures { result ≡ none_counted (waits_behind kind mode) self.now.counts }
@@ -77,7 +77,7 @@ impl ModeCounts {
     }
 }
 
-// The place of a mode in the order of modes.
+// Returns the index of a mode in the order of modes.
 #[inline]
 fn place_of(mode: Mode) -> usize
     ensures value { result ≡ mode_rank mode }

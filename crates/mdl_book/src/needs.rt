@@ -1,10 +1,10 @@
-//! What the flags of a lock's word have to say.
+//! What the flags of a lock's word must say.
 
-/// What a lock's lists have to tell those who take fast tickets.
+/// What the flags of a lock's word must say of its lists, for sessions that take fast tickets.
 #[derive(Clone, Copy, Debug, PartialEq, Eq)]
 pub struct Needs {
     /// Whether a granted or a waiting ticket is obtrusive.
     pub obtrusive: bool,
-    /// Whether a ticket is granted or waits.
+    /// Whether there is a ticket, granted or waiting.
     pub slow: bool,
 }

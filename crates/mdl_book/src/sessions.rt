@@ -5,7 +5,7 @@ ghost use Rattle.mdl_book.specs.SessionSets.{IsEverySession};
 
 use std::marker::Model;
 
-// The numbers that a set may have: from 1 up to this.
+// The greatest number that a set can have. The least is 1.
 const MOST: u16 = 1024;
 
 /// A set of session numbers, from 1 to 1,024. It takes no memory beyond its 128 bytes.
@@ -28,14 +28,14 @@ impl Model for Sessions {
 }
 
 impl Sessions {
-    /// No session.
+    /// Returns the empty set.
     pub fn new() -> Sessions
         ensures { result ≡ set.empty }
     {
         Sessions { words: [0; 16] }
     }
 
-    /// Every session.
+    /// Returns the set of all sessions, from 1 to 1,024.
     pub fn all() -> Sessions
         ensures { IsEverySession result }
     {
@@ -56,7 +56,7 @@ impl Sessions {
         words[usize::from(place / 64)] & (1 << (place % 64)) != 0
     }
 
-    /// Puts a session into the set.
+    /// Adds a session to the set.
     pub fn insert(&mut self, session: u16)
         requires positive { 1 ≤ session }
         requires within { session ≤ 1024 }
@@ -66,7 +66,7 @@ impl Sessions {
         self.words[usize::from(place / 64)] |= 1 << (place % 64);
     }
 
-    /// Takes a session out of the set. A session that isn't in it changes nothing.
+    /// Removes a session from the set. If it isn't in the set, nothing changes.
     pub fn remove(&mut self, session: u16)
         ensures { self.new ≡ set.remove self.old session }
     {

@@ -3,7 +3,7 @@ ghost use Rattle.std.specs.Prelude.{◌≡◌};
 
 use mdl_key::Mode;
 
-/// That a session holds the lock in whose book this stands, or waits for it.
+/// A ticket in the book of a lock: its session holds the lock, or waits for it.
 ///
 /// After MySQL 5.7, `MDL_ticket` of `sql/mdl.h`.
 #[derive(Clone, Copy, Debug, PartialEq, Eq)]
@@ -12,11 +12,11 @@ pub struct Ticket {
     pub number: u64,
     /// The session, numbered from 1.
     pub session: u16,
-    /// The mode that is held or wished for.
+    /// The mode that is held or requested.
     pub mode: Mode,
 }
 
-/// What an unused place of a list holds: a ticket of no session.
+/// The value of an unused slot of a list: a ticket of no session.
 impl Default for Ticket {
     ghost is_default = { λ ticket. ticket.session ≡ 0 };
 

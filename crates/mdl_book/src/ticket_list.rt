@@ -1,4 +1,4 @@
-//! A list of tickets that is counted by mode.
+//! A list of tickets, counted by mode.
 ghost use Rattle.std.specs.Prelude.{◌≡◌, ◌+◌, ◌<◌, ◌≤◌, [], ◌∷◌, ◌++◌, length, OnOk, OnErr, IsOk, is_some, None, ◌==◌, if◌then◌else◌, position};
 ghost use Rattle.std.specs.List.{list_any};
 ghost use Rattle.std.specs.Option.{option_map};
@@ -15,8 +15,8 @@ use std::marker::Model;
 
 /// At most 65,535 tickets, in order, counted by mode.
 ///
-/// The counts answer most wishes, however many tickets there are: the tickets are looked at only where a mode among them
-/// stands in the way, to tell the session's own.
+/// The counts decide most requests, however many tickets there are. The tickets are read only if one of their modes blocks
+/// the request, as the session's own tickets don't block it.
 #[derive(Drop)]
 pub(crate) struct TicketList {
     tickets: TicketQueue,
@@ -39,7 +39,7 @@ impl Model for TicketList {
 }
 
 impl TicketList {
-    /// No tickets. It takes no memory.
+    /// Returns an empty list. It takes no memory.
     pub(crate) fn new(alloc: Global) -> TicketList
         ensures { result.tickets ≡ [] }
     {
@@ -49,14 +49,14 @@ impl TicketList {
         }
     }
 
-    /// The tickets, in order.
+    /// Returns the tickets, in order.
     pub(crate) fn as_slice(&self) -> &[Ticket]
         ensures { result.now ≡ self.now.tickets }
     {
         self.tickets.as_slice()
     }
 
-    /// How many tickets there are.
+    /// Returns how many tickets there are.
     pub(crate) fn len(&self) -> usize
         ensures value { result ≡ length self.now.tickets }
         ensures limit { result ≤ 65535 }
@@ -79,7 +79,7 @@ impl TicketList {
         place_of(self.tickets.as_slice(), session, number).is_some()
     }
 
-    /// Makes room for so many tickets more.
+    /// Makes room for that many more tickets.
     #[inline]
     pub(crate) fn reserve(&mut self, more: usize) -> Result<(), AllocError>
         ensures tickets { self.new.tickets ≡ self.old.tickets }
@@ -91,7 +91,7 @@ impl TicketList {
         self.tickets.reserve(more)
     }
 
-    /// Puts a ticket at the end.
+    /// Adds a ticket at the end.
     #[inline]
     pub(crate) fn push(&mut self, ticket: Ticket) -> Result<(), AllocError>
         requires { length self.old.tickets < 65535 }
@@ -105,7 +105,7 @@ impl TicketList {
         Ok(())
     }
 
-    /// Puts a ticket at the end, where there is room. It takes no memory.
+    /// Adds a ticket at the end, where there must be room. It takes no memory.
     #[inline]
     pub(crate) fn push_reserved(&mut self, ticket: Ticket)
         requires limit { length self.old.tickets < 65535 }
@@ -117,7 +117,7 @@ impl TicketList {
         self.tickets.push_reserved(ticket);
     }
 
-    /// Takes the first ticket of this session and number away.
+    /// Removes the first ticket of this session and number, and returns it.
     #[inline]
     pub(crate) fn take(&mut self, session: u16, number: u64) -> Option<Ticket>
         ensures answer { result ≡ ticket_of session number self.old.tickets }
@@ -132,7 +132,7 @@ impl TicketList {
         Some(ticket)
     }
 
-    /// Gives the first ticket of this session and number another mode, and answers the one that it had.
+    /// Changes the mode of the first ticket of this session and number, and returns the mode that it had.
     pub(crate) fn set_mode(&mut self, session: u16, number: u64, mode: Mode) -> Option<Mode>
         ensures answer { result ≡ option_map (λ ticket. ticket.mode) (ticket_of session number self.old.tickets) }
         ensures tickets { self.new.tickets ≡ with_mode session number mode self.old.tickets }
@@ -147,7 +147,7 @@ impl TicketList {
         Some(ticket.mode)
     }
 
-    /// Whether no ticket of another session clashes with a session's wish for a mode.
+    /// Whether a session's request for a mode clashes with no ticket of another session.
     #[inline]
     pub(crate) fn all_stand_beside(&self, kind: Kind, session: u16, mode: Mode) -> bool
         ensures { result ≡ is_compatible kind self.now.tickets session mode }
@@ -157,7 +157,7 @@ impl TicketList {
                 || !conflicts_granted(kind, mode, held.mode))
     }
 
-    /// Whether no ticket of another session makes a session's wish for a mode wait.
+    /// Whether a session's request for a mode waits behind no ticket of another session.
     #[inline]
     pub(crate) fn all_overtaken(&self, kind: Kind, session: u16, mode: Mode) -> bool
         ensures { result ≡ goes_first kind self.now.tickets session mode }
@@ -175,7 +175,7 @@ impl TicketList {
     }
 }
 
-// The place of the first ticket of this session and number.
+// Returns the index of the first ticket of this session and number.
 #[inline]
 fn place_of(tickets: &[Ticket], session: u16, number: u64) -> Option<usize>
     ensures { result ≡ position (is_ticket session number) tickets.now }

@@ -1,4 +1,4 @@
-//! A list of tickets whose first one goes cheaply.
+//! A list of tickets from which the first one is cheap to remove.
 ghost use Rattle.std.specs.Prelude.{◌≡◌, ◌+◌, ◌<◌, ◌≤◌, [], ◌∷◌, ◌++◌, length, drop, slice_set, slice_index_or, OnOk, OnErr, IsOk};
 ghost use Rattle.std.specs.List.{remove};
 ghost use Rattle.smallvec.specs.SmallVec.{small_vec_len};
@@ -8,14 +8,14 @@ use smallvec::SmallVec;
 use std::alloc::{AllocError, Global};
 use std::marker::Model;
 
-// How many tickets a list has room for with no memory of its own.
+// How many tickets a list can have without an allocation.
 const INLINE_TICKETS: usize = 2;
 
-/// Tickets in order. To take the first of many costs no more than to take the only one.
+/// Tickets in order. Removing the first of many costs no more than removing the only one.
 #[derive(Drop)]
 pub(crate) struct TicketQueue {
     tickets: SmallVec<Ticket, INLINE_TICKETS>,
-    // How many tickets at the front are gone, and stand there still.
+    // How many tickets at the front were removed, but are still stored there.
     gone: usize,
 }
 
@@ -32,7 +32,7 @@ impl Model for TicketQueue {
 }
 
 impl TicketQueue {
-    /// No tickets. It takes no memory.
+    /// Returns an empty list. It takes no memory.
     pub(crate) fn new(alloc: Global) -> TicketQueue
         ensures { result.tickets ≡ [] }
     {
@@ -42,7 +42,7 @@ impl TicketQueue {
         }
     }
 
-    /// The tickets, in order.
+    /// Returns the tickets, in order.
     #[inline]
     pub(crate) fn as_slice(&self) -> &[Ticket]
         ensures { result.now ≡ self.now.tickets }
@@ -50,7 +50,7 @@ impl TicketQueue {
         &self.tickets.as_slice()[self.gone..]
     }
 
-    /// How many tickets there are.
+    /// Returns how many tickets there are.
     #[inline]
     pub(crate) fn len(&self) -> usize
         ensures value { result ≡ length self.now.tickets }
@@ -59,7 +59,7 @@ impl TicketQueue {
         self.tickets.len() - self.gone
     }
 
-    /// The ticket at a place.
+    /// Returns the ticket at an index.
     pub(crate) fn get(&self, at: usize) -> Ticket
         requires { at < length self.now.tickets }
         ensures { result ≡ slice_index_or self.now.tickets at result }
@@ -67,7 +67,7 @@ impl TicketQueue {
         self.as_slice()[at]
     }
 
-    /// Makes room for so many tickets more.
+    /// Makes room for that many more tickets.
     #[inline]
     pub(crate) fn reserve(&mut self, more: usize) -> Result<(), AllocError>
         ensures tickets { self.new.tickets ≡ self.old.tickets }
@@ -82,7 +82,7 @@ impl TicketQueue {
         self.tickets.reserve(more)
     }
 
-    /// Puts a ticket at the end, where there is room. It takes no memory.
+    /// Adds a ticket at the end, where there must be room. It takes no memory.
     #[inline]
     pub(crate) fn push_reserved(&mut self, ticket: Ticket)
         requires { length self.old.tickets < self.old.room }
@@ -95,7 +95,7 @@ impl TicketQueue {
         self.tickets.push_reserved(ticket);
     }
 
-    /// Takes the ticket at a place away.
+    /// Removes the ticket at an index, and returns it.
     #[inline]
     pub(crate) fn remove(&mut self, at: usize) -> Ticket
         requires { at < length self.old.tickets }
@@ -112,7 +112,7 @@ impl TicketQueue {
         self.tickets.remove(self.gone + at)
     }
 
-    /// Puts a ticket in the place of another.
+    /// Replaces the ticket at an index.
     pub(crate) fn replace(&mut self, at: usize, ticket: Ticket)
         requires { at < length self.old.tickets }
         ensures tickets { self.new.tickets ≡ slice_set self.old.tickets at ticket }

@@ -7,27 +7,27 @@
        struct { bool ok; void *p; } rattle_realloc(void *old, size_t kept, size_t size, size_t align);       (likewise)
        void rattle_dealloc(void *p);
 
-   A program whose threads share a space holds one mutex of its own round each call. A wait is the program's: where mdl_begin answers
-   MDL_WAITING, call mdl_search, then wait for a condition variable until mdl_poll answers otherwise, and then call mdl_end. These calls may
+   A program whose threads share a space holds one mutex of its own round each call. The program itself does the waiting: if mdl_begin returns
+   MDL_WAITING, call mdl_search, then wait for a condition variable until mdl_poll returns something else, and then call mdl_end. These calls may
    settle another session's wait: mdl_release, mdl_search, mdl_end, mdl_kill, mdl_time_out, mdl_downgrade and mdl_merge. After them wake the sessions
    that mdl_settled lists. The table that threads share can't be called from C: its calls wait for latches, and no function that C calls may wait.
 
-   A session keeps its tickets by their numbers, or a context keeps them, from mdl_context_begin until mdl_context_end: by how long they
-   last, as a server's transactions have them. Then the session's locks are asked for by mdl_acquire and the other calls of contexts below, and those
-   marked "direct" answer MDL_HAS_CONTEXT. Where mdl_acquire or mdl_context_upgrade answers MDL_WAITING, it has searched for deadlocks
-   already: wait until mdl_poll answers otherwise, and then call mdl_resume, which ends the wait. Ask mdl_settled after all calls of contexts
-   but mdl_savepoint, mdl_make_explicit and mdl_make_transactional, and also after refused ones.
+   The program keeps a session's tickets by their numbers, or a context keeps them, from mdl_context_begin until mdl_context_end: by their
+   durations, as a server's transactions need. Then the session requests its locks by mdl_acquire and the other calls of contexts below, and those
+   marked "direct" return MDL_HAS_CONTEXT. If mdl_acquire or mdl_context_upgrade returns MDL_WAITING, it has searched for deadlocks
+   already: wait until mdl_poll returns something else, and then call mdl_resume, which ends the wait. Call mdl_settled after all calls of contexts
+   except mdl_savepoint, mdl_make_explicit and mdl_make_transactional, and also after refused ones.
 
-   What the library takes for granted, and nothing checks:
+   What the library assumes, and nothing checks:
    - `struct mdl_space` begins with zeros (MDL_SPACE_INIT), and C never reads, changes or copies it: a copy would be freed twice.
    - At most one call at a time uses a space: one thread makes all calls, or a mutex of yours is held round each. Any thread may make the
      calls of any session.
-   - What a pointer leads to is other memory than the space and than what the other pointers of the call lead to, and is initialised.
-   - A name is a pointer that isn't null and a length below 2^63, and it stays as it is during the call.
+   - The memory behind a pointer doesn't overlap the space or the memory behind the call's other pointers, and is initialised.
+   - A name is a pointer that isn't null and a length below 2^63, and it doesn't change during the call.
    - Room for a list is a pointer that isn't null, even for no entry, and how many entries fit, whose bytes are below 2^63.
    - No call comes from a signal handler, or from the forked child of a process with threads.
    - malloc, realloc and free are of one allocator, and align to 16.
-   Whatever else a call is passed, it answers by a code: any number may stand for a session, a place, a ticket, a wait or a mode. */
+   For all other arguments a call returns a code: any number may be passed as a session, a place, a ticket, a wait or a mode. */
 #ifndef MDL_H
 #define MDL_H
 
@@ -39,7 +39,7 @@
 extern "C" {
 #endif
 
-/* A manager of locks, or the place for one. */
+/* A manager of locks, or the room for one. */
 struct mdl_space {
     void *at;
     bool is_open;
@@ -90,16 +90,16 @@ struct mdl_mark {
 enum mdl_code {
     /* answers */
     MDL_DONE = 0,            /* done; granted; there is no deadlock */
-    MDL_WOULD_WAIT = 1,      /* the lock can't be had now, and nothing has changed */
+    MDL_WOULD_WAIT = 1,      /* the lock can't be granted now, and nothing has changed */
     MDL_WAITING = 2,         /* the session waits */
     MDL_VICTIM = 3,          /* a deadlock's victim: the wait is lost */
     MDL_TIMEOUT = 4,         /* the wait is lost by mdl_time_out */
     MDL_KILLED = 5,          /* the wait is lost by mdl_kill */
     MDL_NOT_KILLED = 6,      /* no wait of this number is unsettled */
-    /* refusals: nothing has changed, unless the call of a context says otherwise below */
+    /* refusals: nothing has changed, unless a call of a context says otherwise below */
     MDL_CLOSED = 16,         /* there is no manager */
     MDL_IS_OPEN = 17,        /* there is one already */
-    MDL_NO_SESSION = 18,     /* it has no session of this number: sessions count from 1 */
+    MDL_NO_SESSION = 18,     /* the manager has no session of this number: sessions count from 1 */
     MDL_BAD_PLACES = 19,     /* a manager has 1 to 256 places */
     MDL_BAD_SESSIONS = 20,   /* and 1 to 64 sessions */
     MDL_NO_MODE = 21,        /* there is no mode of this number */
@@ -111,7 +111,7 @@ enum mdl_code {
     MDL_SESSION_IN_USE = 27, /* the session holds a ticket or has a wait */
     MDL_NO_DURATION = 28,    /* there is no duration of this number */
     MDL_NO_NAMESPACE = 29,   /* there is no namespace of this number */
-    /* refusals of the space, in the order in which they are looked for */
+    /* refusals of the space, in the order in which they are checked */
     MDL_NO_PLACE = 32,       /* the place has no key, or there is no place for one more key */
     MDL_NOT_HELD = 33,       /* the session holds no such ticket */
     MDL_NOT_UPGRADABLE = 34, /* the held mode can't become the other */
@@ -146,119 +146,119 @@ uint32_t mdl_schema(struct mdl_space *space, uint16_t who, const uint8_t *schema
 uint32_t mdl_global(struct mdl_space *space, uint16_t who, uint16_t *place);
 uint32_t mdl_commit(struct mdl_space *space, uint16_t who, uint16_t *place);
 
-/* ---- direct: not for sessions that have a context, but for mdl_poll, mdl_time_out and mdl_kill */
+/* ---- direct: not for sessions that have a context, except mdl_poll, mdl_time_out and mdl_kill */
 
-/* Asks for a lock, without waiting: DONE and its ticket, or WOULD_WAIT. */
+/* Requests a lock, without waiting: DONE and its ticket, or WOULD_WAIT. */
 uint32_t mdl_try(struct mdl_space *space, uint16_t who, uint16_t place, uint8_t mode, uint64_t *ticket);
 
-/* Asks for a lock, and begins to wait where it can't be had now: DONE and its ticket, or WAITING and the wait's number. */
+/* Requests a lock, and begins to wait if it can't be granted now: DONE and its ticket, or WAITING and the wait's number. */
 uint32_t mdl_begin(struct mdl_space *space, uint16_t who, uint16_t place, uint8_t mode, uint64_t *number);
 
-/* Looks for a deadlock that the session is part of: DONE where there is none, or VICTIM and the session whose wait is settled by this. */
+/* Looks for a deadlock that the session is part of: DONE if there is none, or VICTIM and the session whose wait is settled by this. */
 uint32_t mdl_search(struct mdl_space *space, uint16_t who, uint16_t *victim);
 
 /* The state of the session's wait: WAITING, or how it is settled: DONE (granted), VICTIM, TIMEOUT, KILLED. */
 uint32_t mdl_poll(struct mdl_space *space, uint16_t who);
 
-/* Ends the session's wait, which is settled: DONE and the ticket, or VICTIM, TIMEOUT, KILLED. A lost wait stands in the way of those
+/* Ends the session's wait, which must be settled: DONE and the ticket, or VICTIM, TIMEOUT, KILLED. A lost wait blocks those
    behind it until its session ends it. */
 uint32_t mdl_end(struct mdl_space *space, uint16_t who, uint64_t *ticket);
 
-/* Settles the session's wait as a timeout, unless it is settled. Returns how it is settled then, as mdl_poll. */
+/* Settles the session's wait as a timeout, unless it is settled already. Returns how it is settled then, as mdl_poll. */
 uint32_t mdl_time_out(struct mdl_space *space, uint16_t who);
 
-/* Settles any session's wait of this number as killed, unless it is settled: DONE, or NOT_KILLED. */
+/* Settles the wait of this number of any session as killed, unless it is settled already: DONE, or NOT_KILLED. */
 uint32_t mdl_kill(struct mdl_space *space, uint16_t target, uint64_t number);
 
-/* Gives a ticket up, and grants those behind it what can be granted: DONE. */
+/* Releases a ticket, and grants the waiters that can be granted then: DONE. */
 uint32_t mdl_release(struct mdl_space *space, uint16_t who, uint64_t ticket);
 
-/* A stronger mode of a held ticket, without waiting: DONE, or WOULD_WAIT. */
+/* Upgrades a held ticket to a stronger mode, without waiting: DONE, or WOULD_WAIT. */
 uint32_t mdl_upgrade(struct mdl_space *space, uint16_t who, uint64_t ticket, uint8_t mode);
 
-/* A weaker mode of a held ticket: DONE. */
+/* Downgrades a held ticket to a weaker mode: DONE. */
 uint32_t mdl_downgrade(struct mdl_space *space, uint16_t who, uint64_t ticket, uint8_t mode);
 
-/* A second ticket of a held one's place, in a mode that this one is at least as strong as: DONE and the ticket. */
+/* Grants a second ticket of a held ticket's place, in a mode that the held one is at least as strong as: DONE and the ticket. */
 uint32_t mdl_clone(struct mdl_space *space, uint16_t who, uint64_t ticket, uint8_t mode, uint64_t *copy);
 
-/* Lets a held ticket have the mode of another one of its place, which is at least as strong, and gives that one up: DONE. */
+/* Gives a held ticket the mode of another one of its place, which is at least as strong, and releases that one: DONE. */
 uint32_t mdl_merge(struct mdl_space *space, uint16_t who, uint64_t kept, uint64_t gone);
 
-/* ---- contexts: all but mdl_context_begin answer MDL_NO_CONTEXT for a session that has none. A mode, a duration, a namespace or a name that is none is
+/* ---- contexts: all except mdl_context_begin return MDL_NO_CONTEXT for a session that has none. An invalid mode, duration, namespace or name is
    refused before that. */
 
-/* From here on a context keeps the session's tickets: DONE. The session may hold no ticket and have no wait. */
+/* Begins a context, which keeps the session's tickets from now on: DONE. The session must hold no ticket and have no wait. */
 uint32_t mdl_context_begin(struct mdl_space *space, uint16_t who);
 
-/* The context gives up its wait and all its tickets, and ends: DONE. */
+/* Ends the context, which gives up its wait and releases all its tickets: DONE. */
 uint32_t mdl_context_end(struct mdl_space *space, uint16_t who);
 
 /* Acquires a lock of a key, for this duration: DONE and its ticket, or WAITING and the wait's number, after deadlocks were searched for. A
-   ticket of the key that is strong enough and kept as long is used again, unless it is explicit, and one of another duration is cloned. Of
-   the names only those are read that keys of the namespace have: MDL_GLOBAL and MDL_COMMIT have none, MDL_SCHEMA a schema's, and
-   MDL_USER_LEVEL_LOCK one of its own, which stands for the schema's. Where it is refused, the session's tickets are as they were and it has no wait, but a new key may have got its place, and where memory ran out the waits of
-   victims that were found stay settled. */
+   ticket of the key that is strong enough and has the same duration is used again, unless it is explicit, and one of another duration is cloned.
+   Only the names that keys of the namespace have are read: MDL_GLOBAL and MDL_COMMIT have none, MDL_SCHEMA has a schema's, and the name
+   of a MDL_USER_LEVEL_LOCK is passed as the schema's. If the call is refused, the session's tickets are unchanged and it has no wait, but a
+   new key may have got its place, and if memory ran out the waits of victims that were found stay settled. */
 uint32_t mdl_acquire(struct mdl_space *space, uint16_t who, uint8_t namespace_, const uint8_t *schema, size_t schema_length,
                      const uint8_t *table, size_t table_length, uint8_t mode, uint8_t duration, uint64_t *number);
 
 /* Ends the wait if it is settled: WAITING, DONE and the ticket, or VICTIM, TIMEOUT, KILLED: the wait is lost,
-   and the tickets are as they were. So they are where the call is refused by MDL_NO_MEMORY or MDL_FULL, but then the wait has ended, too:
-   ask for the lock again by mdl_acquire. */
+   and the tickets are unchanged. They are also unchanged if the call is refused with MDL_NO_MEMORY or MDL_FULL, but then the wait has ended, too:
+   request the lock again by mdl_acquire. */
 uint32_t mdl_resume(struct mdl_space *space, uint16_t who, uint64_t *ticket);
 
 /* Gives the wait up, unless it is settled, and ends it: TIMEOUT, or as mdl_resume, but never WAITING. */
 uint32_t mdl_give_up(struct mdl_space *space, uint16_t who, uint64_t *ticket);
 
-/* A stronger mode of a kept ticket, which keeps its number: DONE and the ticket, or WAITING and the wait's number, as mdl_acquire. */
+/* Upgrades a kept ticket to a stronger mode. The ticket keeps its number: DONE and the ticket, or WAITING and the wait's number, as mdl_acquire. */
 uint32_t mdl_context_upgrade(struct mdl_space *space, uint16_t who, uint64_t ticket, uint8_t mode, uint64_t *number);
 
-/* A weaker mode of a kept ticket: DONE. */
+/* Downgrades a kept ticket to a weaker mode: DONE. */
 uint32_t mdl_context_downgrade(struct mdl_space *space, uint16_t who, uint64_t ticket, uint8_t mode);
 
-/* Gives a kept ticket up: DONE. */
+/* Releases a kept ticket: DONE. */
 uint32_t mdl_context_release(struct mdl_space *space, uint16_t who, uint64_t ticket);
 
-/* Gives up all tickets of a key, however long they last: DONE. */
+/* Releases all tickets of a key, of all durations: DONE. */
 uint32_t mdl_release_name(struct mdl_space *space, uint16_t who, uint8_t namespace_, const uint8_t *schema, size_t schema_length,
                           const uint8_t *table, size_t table_length);
 
 /* A mark of how many tickets the context keeps now: DONE and the mark. */
 uint32_t mdl_savepoint(struct mdl_space *space, uint16_t who, struct mdl_mark *mark);
 
-/* Goes back to a mark: DONE. As many tickets of the statement and of the transaction stay as it counted, the earliest ones, and all
-   explicit ones. */
+/* Rolls back to a mark: DONE. Of the statement's and of the transaction's tickets the earliest stay, as many as the mark counted, and all
+   explicit tickets stay. */
 uint32_t mdl_rollback_to(struct mdl_space *space, uint16_t who, struct mdl_mark mark);
 
-/* Gives up the tickets of the statement: DONE. */
+/* Releases the tickets of the statement: DONE. */
 uint32_t mdl_end_statement(struct mdl_space *space, uint16_t who);
 
-/* Gives up the tickets of the statement and of the transaction: DONE. */
+/* Releases the tickets of the statement and of the transaction: DONE. */
 uint32_t mdl_end_transaction(struct mdl_space *space, uint16_t who);
 
-/* Keeps all tickets until they are released: DONE. */
+/* Makes all tickets explicit: they are kept until they are released: DONE. */
 uint32_t mdl_make_explicit(struct mdl_space *space, uint16_t who);
 
-/* Keeps the explicit tickets, but those of user-level locks, until the transaction ends: DONE. */
+/* Keeps the explicit tickets, except those of user-level locks, until the transaction ends: DONE. */
 uint32_t mdl_make_transactional(struct mdl_space *space, uint16_t who);
 
-/* ---- what there is */
+/* ---- lists */
 
 /* The sessions whose waits are settled and not ended: DONE, and a bit for each, 1 << (who - 1). Call it after each call that may settle
    waits, and wake these sessions. */
 uint32_t mdl_settled(struct mdl_space *space, uint64_t *sessions);
 
-/* The calls below list what there is, and change nothing of it. Each writes as many entries as there is room for, from the first on, and
-   leaves the rest of the room as it was. The count is that of all entries. A call that is refused writes nothing. */
+/* The calls below only read the manager. Each writes as many entries as there is room for, from the first on, and
+   leaves the rest of the room unchanged. The count is that of all entries. A call that is refused writes nothing. */
 
-/* The tickets that a session holds, in the order in which it gained them: DONE. Meanwhile it takes memory. */
+/* The tickets that a session holds, in the order in which it got them: DONE. The call allocates memory, and frees it again. */
 uint32_t mdl_held(struct mdl_space *space, uint16_t who, struct mdl_ticket *tickets, size_t room, size_t *count);
 
 /* How many places have keys: DONE. They are those from 1 to this number. */
 uint32_t mdl_places(struct mdl_space *space, size_t *count);
 
 /* The key of a place: DONE, its namespace (enum mdl_namespace), and the names of its schema and its table. A name has 64 bytes at most, and
-   none where the key lacks it. A user-level lock's own name stands for a schema's. */
+   none if the key lacks it. The name of a user-level lock is written as a schema's. */
 uint32_t mdl_key_of(struct mdl_space *space, uint16_t place, uint8_t *namespace_, uint8_t *schema, size_t schema_room,
                     size_t *schema_length, uint8_t *table, size_t table_room, size_t *table_length);
 
@@ -266,7 +266,7 @@ uint32_t mdl_key_of(struct mdl_space *space, uint16_t place, uint8_t *namespace_
    of arrival. The ticket of a granted wait is granted, also before the wait is ended. That of a lost one waits until then. */
 uint32_t mdl_locks(struct mdl_space *space, uint16_t place, struct mdl_lock *locks, size_t room, size_t *count);
 
-/* What a code says, in English: DONE. No 0 is written behind it. It has 80 bytes at most. Of a number that is no code it says that. */
+/* The text of a code, in English: DONE. It has 80 bytes at most, and no 0 is written after it. For a number that is no code it says so. */
 uint32_t mdl_message(uint32_t code, uint8_t *text, size_t room, size_t *length);
 
 #ifdef __cplusplus

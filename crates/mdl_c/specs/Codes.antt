@@ -1,4 +1,5 @@
--- The codes that C is told: below 16 they are answers, and from 16 on refusals. Those from 32 on are the refusals of a lock space, in their order.
+-- The codes that C gets. Those below 16 are answers, the others refusals. Those from 32 on are the refusals of a lock space, in the order of its
+-- errors.
 use Rattle.std.specs.Prelude.{ℕ, ◌==◌, true, false, Option, Some, None, if◌then◌else◌}
 use Rattle.mdl_key.specs.declared.mode.Mode.{Mode}
 use Rattle.mdl_key.specs.declared.mode.Mode.TheVariants.{IX, S, SH, SR, SW, SWLP, SU, SRO, SNW, SNRW, X}
@@ -13,7 +14,7 @@ use Rattle.mdl_calls.specs.declared.space_error.SpaceError.{SpaceError}
 use Rattle.mdl_calls.specs.declared.space_error.SpaceError.TheVariants.{NoPlace, NotHeld, NotUpgradable, NotExclusive, AlreadyWaiting, BadMode, VersionFull, NoWait, Unsettled, CounterFull, Full, Def, WrongKind, OutOfMemory, InUse}
 use Rattle.mdl_calls.specs.Words.{Answer, Refused, At_place, Granted, Would_wait, Waits, Victim_is, Pending, Is_settled, Timed_out, Lost, Has_killed}
 
--- there is no manager; there is one already; it has no such session; there is no such mode
+-- there is no manager (closed), there is one already, it has no such session, there is no such mode
 abbrev pub closed : ℕ
 closed = 16
 
@@ -26,7 +27,7 @@ no_session = 18
 abbrev pub no_mode : ℕ
 no_mode = 21
 
--- the byte of a name is none that names have
+-- a name has a byte that names can't have
 abbrev pub bad_byte : ℕ
 bad_byte = 24
 
@@ -38,7 +39,7 @@ no_place = 32
 abbrev pub no_memory : ℕ
 no_memory = 45
 
--- the mode of a number: their order is that of MySQL 5.7
+-- the mode of a number, in the order of MySQL 5.7
 abbrev pub mode_at : ℕ → Option Mode
 mode_at number =
     if number == 0 then Some IX
@@ -53,20 +54,20 @@ mode_at number =
     else (if number == 9 then Some SNRW
     else (if number == 10 then Some X else None))))))))))
 
--- why a manager can't be made
+-- the code of why a manager can't be made
 abbrev pub new_code : NewError → ℕ
 new_code new.BadPlaces = 19
 new_code new.BadSessions = 20
 new_code new.OutOfMemory = no_memory
 
--- why a key can't be made
+-- the code of why a key can't be made
 abbrev pub name_code : KeyError → ℕ
 name_code name.EmptyName = 22
 name_code name.LongName = 23
 name_code (name.BadByte _) = bad_byte
 name_code name.OutOfMemory = no_memory
 
--- why a call of the space is refused
+-- the code of why the space refuses a call
 abbrev pub cause_code : SpaceError → ℕ
 cause_code NoPlace = no_place
 cause_code NotHeld = 33
@@ -84,14 +85,14 @@ cause_code WrongKind = 44
 cause_code OutOfMemory = no_memory
 cause_code InUse = 46
 
--- how a wait is settled
+-- the code of how a wait is settled
 abbrev pub settled_code : Settled → ℕ
 settled_code settled.Granted = 0
 settled_code settled.Victim = 3
 settled_code settled.Timeout = 4
 settled_code settled.Killed = 5
 
--- what a call of the space answers
+-- the code of an answer of the space
 abbrev pub code_of : Answer → ℕ
 code_of (Refused cause) = cause_code cause
 code_of Would_wait = 1
@@ -105,7 +106,7 @@ code_of (Lost how) = settled_code how
 code_of (Has_killed false) = 6
 code_of _ = 0
 
--- the number that is told with an answer: a place, a ticket, a wait or a session. Where there is none, the old one stays.
+-- the number that is written with an answer: a place, a ticket, a wait or a session. If the answer has none, the old number stays.
 abbrev pub told : Answer → ℕ → ℕ
 told (At_place place) old = place
 told (Granted id) old = id
@@ -113,7 +114,7 @@ told (Waits number) old = number
 told (Victim_is session) old = session
 told _ old = old
 
--- the same, where there may be no such session
+-- the code and the number written, when there may be no such session
 abbrev pub code_at : Option Answer → ℕ
 code_at None = no_session
 code_at (Some answer) = code_of answer

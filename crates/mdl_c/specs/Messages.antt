@@ -1,15 +1,15 @@
--- What each code says, in words. The wording is this project's own.
+-- The text of each code. The wording is this project's own.
 use Rattle.std.specs.Prelude.{ℕ, List, [], ◌∷◌, codes, ◌==◌, nat_lt, if◌then◌else◌}
 
 -- a code and its text
 abbrev pub Row : Type 0
 Row = ℕ × List ℕ
 
--- what is said of a number that is no code
+-- the text of a number that is no code
 abbrev pub unknown : List ℕ
 unknown = codes "There is no such code."
 
--- the answers
+-- the texts of answers
 abbrev pub answer_rows : List Row
 answer_rows =
     (0, codes "The call is done.") ∷
@@ -20,7 +20,7 @@ answer_rows =
     (5, codes "The wait is lost: it was killed.") ∷
     (6, codes "No unsettled wait has this number.") ∷ []
 
--- why a call never came to the space
+-- the texts of refusals before the space is called
 abbrev pub refusal_rows : List Row
 refusal_rows =
     (16, codes "There is no manager.") ∷
@@ -38,7 +38,7 @@ refusal_rows =
     (28, codes "There is no duration of this number.") ∷
     (29, codes "There is no namespace of this number.") ∷ []
 
--- why the space refused a call
+-- the texts of the space's refusals
 abbrev pub cause_rows : List Row
 cause_rows =
     (32, codes "The place has no key, or there is no place for one more key.") ∷
@@ -57,7 +57,7 @@ cause_rows =
     (45, codes "Memory ran out.") ∷
     (46, codes "The session has a ticket or a wait at this place.") ∷ []
 
--- why a context refused a call
+-- the texts of a context's refusals
 abbrev pub context_rows : List Row
 context_rows =
     (48, codes "The context keeps fewer tickets than the mark counted.") ∷
@@ -69,7 +69,7 @@ abbrev pub text_in : List Row → ℕ → List ℕ
 text_in [] code = unknown
 text_in (row ∷ rows) code = if code == row.0 then row.1 else text_in rows code
 
--- what a code says: those below 16 are answers, those from 32 on the space's, and those from 48 on a context's
+-- the text of a code. Codes below 16 are answers, those from 32 on refusals of the space, and those from 48 on refusals of a context
 abbrev pub message_of : ℕ → List ℕ
 message_of code =
     text_in (if nat_lt code 16 then answer_rows

@@ -1,4 +1,4 @@
--- The keys that C names by bytes.
+-- Keys made of names that C passes as bytes.
 use Rattle.std.specs.Prelude.{◌≡◌, ◌⊎◌, ℕ, List, Option, Some, None}
 use Rattle.std.specs.Str.{IsUtf8}
 use Rattle.mdl_key.specs.declared.key_error.KeyError.{KeyError}
@@ -8,16 +8,16 @@ use Rattle.mdl_key.specs.Keys.{KeyName, commit_key, global_key, name_fault, sche
 use Rattle.mdl_c.specs.Codes.{bad_byte, name_code, no_memory}
 use Rattle.mdl_c.specs.ContextCodes.{no_namespace}
 
--- why no key is made of names: one of them isn't text, they are no names, or memory ran out
+-- a code of why no key is made of names: one of them isn't UTF-8, they aren't valid names, or memory ran out
 abbrev pub IsNameCode : Type 0 → Option KeyError → ℕ → Type 0
 IsNameCode are_text fault code =
     ((are_text → ⊥) × (code ≡ bad_byte)) ⊎ ((why : KeyError) × (fault ≡ Some why) × (code ≡ name_code why)) ⊎ (code ≡ no_memory)
 
--- a key is made of names, and this is done with it; or none is made, and this is done with the code
+-- a key is made of names and `Done` holds, or none is made and `Refused` holds of the code
 abbrev pub Named : Type 0 → Option KeyError → Type 0 → (ℕ → Type 0) → Type 0
 Named are_text fault Done Refused = (are_text × (fault ≡ None) × Done) ⊎ ((code : ℕ) × IsNameCode are_text fault code × Refused code)
 
--- the same of a key that is named by a namespace, too, of which only those names are read that its keys have
+-- `Done` holds of the key in this namespace with these names, or `Refused` of a code. Only the names that keys of the namespace have are read
 abbrev pub NamedIn : Option Namespace → List ℕ → List ℕ → (KeyName → Type 0) → (ℕ → Type 0) → Type 0
 NamedIn None schema table Done Refused = Refused no_namespace
 NamedIn (Some Global) schema table Done Refused = Done global_key

@@ -1,5 +1,5 @@
--- What a call of C does to the context of a session behind its handle, and the code that it returns. The calls of contexts are those of
--- `mdl_context`. That a session has a context or makes calls by the numbers of its tickets, and never both, is this project's own choice.
+-- What a call from C does to the context of a session, and the code that it returns. The calls of contexts are those of `mdl_context`. That a session
+-- has a context or makes direct calls by the numbers of its tickets, and never both, is this project's own choice.
 use Rattle.std.specs.Prelude.{◌≡◌, ◌⊎◌, ℕ, ◌-◌, Bool, not, ◌&&◌, ◌==◌, List, [], length, map, slice_set, Option, Some, None, is_some, MatchOption, Result, Ok, if◌then◌else◌}
 use Rattle.std.specs.Option.{option_or}
 use Rattle.mdl_key.specs.declared.mode.Duration.TheVariants.{Explicit}
@@ -25,24 +25,24 @@ use Rattle.mdl_c.specs.declared.seat.Seat.TheVariants.{Direct, Kept}
 use Rattle.mdl_c.specs.declared.unserved.Unserved.{Unserved}
 use Rattle.mdl_c.specs.declared.unserved.Unserved.TheVariants.{InUse}
 
--- with another seat for a session
+-- the manager with another seat for a session
 abbrev pub seating : ℕ → Seat → Managed → Managed
 seating who seat manager = record manager { seats = slice_set manager.seats (who - 1) seat }
 
--- ---- calls of contexts that ask the space for nothing
+-- ---- calls of contexts that make no call of the space
 
--- all tickets are kept until they are released
+-- all tickets become explicit: they are kept until they are released
 abbrev pub making_explicit : ContextView → Program (Outcome (Unit {0}))
 making_explicit context =
     unless (waiting_fault context) context (Give (Ok tt, record context { kept = map (kept_for Explicit) context.kept }))
 
--- the explicit tickets are kept until the transaction ends, but those of user-level locks
+-- the explicit tickets, except those of user-level locks, are kept until the transaction ends
 abbrev pub making_transactional : ContextView → Program (Outcome (Unit {0}))
 making_transactional context = unless (waiting_fault context) context (Give (Ok tt, record context { kept = map (transactional context.known) context.kept }))
 
 -- ---- the call of a session's context
 
--- the context runs this program over the space, and nothing else changes
+-- the session's context runs this program over the space, and nothing else changes
 abbrev pub RunsFor : {A : Type 0} → ℕ → (ContextView → Program (Outcome A)) → Result A ContextError → Managed → Managed → Type 0
 RunsFor who program result before after =
     (context : ContextView) × (next : ContextView) × (space : Core) × (seat_of who before ≡ Some (Kept context))
@@ -53,48 +53,48 @@ RunsFor who program result before after =
 abbrev pub Marks : ℕ → Mark → Managed → Managed → Type 0
 Marks who mark before after = (context : ContextView) × (seat_of who before ≡ Some (Kept context)) × (mark ≡ mark_of context.kept) × (after ≡ before)
 
--- the call of a session's context
+-- a call of a session's context, or its refusal if the session has none
 abbrev pub ServesContext : {A : Type 0} → ℕ → (ContextView → Program (Outcome A)) → (Result A ContextError → ℕ) → Option Managed → ℕ → Option Managed
     → (Option (Result A ContextError) → Type 0) → Type 0
 ServesContext who program code_for before code after beside = Replies context_fault who (RunsFor who program) code_for beside before code after
 
--- this is written in the place of what was there before
+-- the call writes what it reports over what was there before
 abbrev pub Told : {R T : Type 0} → (Option R → T → T) → T → T → Option R → Type 0
 Told told old new answer = new ≡ told answer old
 
--- nothing is written
+-- the call writes nothing
 abbrev pub Untold : {R : Type 0} → Option R → Type 0
 Untold answer = Unit {0}
 
 -- ---- wishes
 
--- this is done with what a number stands for, or that with the code, where it stands for nothing
+-- `Done` holds of what a number names, or `Refused` of the code if it names nothing
 abbrev pub Given : {W : Type 0} → ℕ → Option W → (W → Type 0) → (ℕ → Type 0) → Type 0
 Given wrong None Done Refused = Refused wrong
 Given wrong (Some wish) Done Refused = Done wish
 
--- a lock is wished for by the numbers of its mode and duration, and by the number and the bytes of its key
+-- `Done` holds of the wish (a request) with these numbers of mode and duration, and this number and names of the key, or `Refused` of a code
 abbrev pub Wishes : ℕ → List ℕ → List ℕ → ℕ → ℕ → (Wish → Type 0) → (ℕ → Type 0) → Type 0
 Wishes namespace schema table mode duration Done Refused =
     Given no_mode (mode_at mode) (λ mode. Given no_duration (duration_at duration) (λ duration.
     NamedIn (namespace_at namespace) schema table (λ key. Done (record { key = key; mode = mode; duration = duration })) Refused) Refused) Refused
 
--- ---- how a session's context begins and ends
+-- ---- the begin and end of a session's context
 
 -- the context of a session that has nothing
 abbrev pub new_context : ℕ → ContextView
 new_context who = record { who = who; kept = []; known = []; wait = None }
 
--- whether a session holds no ticket and doesn't wait
+-- whether a session holds no ticket and has no wait
 abbrev pub has_nothing : Own → Bool
 has_nothing own = length own.held == 0 && not (is_some own.wait)
 
--- why a session can't have a context: it isn't there, it has one, or it holds a ticket or waits
+-- why a context can't begin: there is no such session, it has a context, or it holds a ticket or has a wait
 abbrev pub begin_fault : ℕ → Managed → Option Unserved
 begin_fault who manager =
     option_or (direct_fault (seat_of who manager)) (if has_nothing (own_at manager.space who) then None else Some InUse)
 
--- from here on a context keeps the tickets of a session. To list what the session holds may take memory
+-- a context begins for a session. Listing what the session holds may run out of memory
 abbrev pub Begins : ℕ → Option Managed → ℕ → Option Managed → Type 0
 Begins who None code after = Tells closed None code after
 Begins who (Some manager) code after =
@@ -102,12 +102,12 @@ Begins who (Some manager) code after =
     (λ (why : Unserved). Tells (unserved_code why) (Some manager) code after)
     ⊎ ((direct_fault (seat_of who manager) ≡ None) × Tells no_memory (Some manager) code after)
 
--- a context that has this wait gives it up, if there is one, and then all tickets
+-- a context gives up this wait, if there is one, and then releases all tickets
 abbrev pub leaving_from : Option Wanted → ContextView → Program (Outcome (Unit {0}))
 leaving_from None context = giving_up_all context
 leaving_from (Some wanted) context = giving_up_wait context >>= (λ outcome. giving_up_all outcome.1)
 
--- a session's context does so, and the session has none any more
+-- a session's context gives up its wait and releases its tickets, and the session has no context any more
 abbrev pub Leaves : ℕ → Unit {0} → Managed → Managed → Type 0
 Leaves who done before after =
     (context : ContextView) × (next : ContextView) × (space : Core) × (seat_of who before ≡ Some (Kept context))

@@ -1,4 +1,4 @@
-//! The codes that C is told.
+//! The codes that C gets.
 ghost use Rattle.std.specs.Prelude.{◌≡◌, Option};
 ghost use Rattle.std.specs.Option.{option_map};
 ghost use Rattle.std.specs.Result.{result_ok};
@@ -42,7 +42,7 @@ pub const NO_PLACE: u32 = 32;
 
 pub const NO_MEMORY: u32 = 45;
 
-/// The mode of a number.
+/// Returns the mode of a number, if there is one.
 pub fn mode_of(number: u8) -> Option<Mode>
     ensures { result ≡ mode_at number }
 {
@@ -62,7 +62,7 @@ pub fn mode_of(number: u8) -> Option<Mode>
     }
 }
 
-/// Why a manager can't be made.
+/// Returns the code that says why a manager can't be made.
 pub fn new_code(why: NewError) -> u32
     ensures { result ≡ new_code why }
 {
@@ -73,7 +73,7 @@ pub fn new_code(why: NewError) -> u32
     }
 }
 
-/// Why a key can't be made.
+/// Returns the code that says why a key can't be made.
 pub fn name_code(why: KeyError) -> u32
     ensures { result ≡ name_code why }
 {
@@ -85,7 +85,7 @@ pub fn name_code(why: KeyError) -> u32
     }
 }
 
-/// Why a call of the space is refused.
+/// Returns the code that says why the space refuses a call.
 pub fn cause_code(cause: SpaceError) -> u32
     ensures { result ≡ cause_code cause }
 {
@@ -108,7 +108,7 @@ pub fn cause_code(cause: SpaceError) -> u32
     }
 }
 
-/// How a wait is settled.
+/// Returns the code that says how a wait is settled.
 pub fn settled_code(how: Settled) -> u32
     ensures { result ≡ settled_code how }
 {
@@ -120,7 +120,7 @@ pub fn settled_code(how: Settled) -> u32
     }
 }
 
-/// The place of a key.
+/// Writes the place of a key, if the call succeeded, and returns the code.
 pub fn place_code(answer: Option<Result<Place, SpaceError>>, place: &mut u16) -> u32
     ensures code { result ≡ code_at (option_map placed answer) }
     ensures told { place.new ≡ told_at (option_map placed answer) place.old }
@@ -135,7 +135,7 @@ pub fn place_code(answer: Option<Result<Place, SpaceError>>, place: &mut u16) ->
     }
 }
 
-/// A lock, or none.
+/// Writes the ticket, if it was granted, and returns the code.
 pub fn attempt_code(answer: Result<Result<Attempt, SpaceError>, Unserved>, ticket: &mut u64) -> u32
     ensures code { result ≡ served_code code_of (answered attempted answer) }
     ensures told { ticket.new ≡ told_at (result_ok (answered attempted answer)) ticket.old }
@@ -151,7 +151,7 @@ pub fn attempt_code(answer: Result<Result<Attempt, SpaceError>, Unserved>, ticke
     }
 }
 
-/// A lock, or a wait for it.
+/// Writes the number of the granted ticket or of the wait, if there is one, and returns the code.
 pub fn begun_code(answer: Result<Result<Begun, SpaceError>, Unserved>, number: &mut u64) -> u32
     ensures code { result ≡ served_code code_of (answered begun answer) }
     ensures told { number.new ≡ told_at (result_ok (answered begun answer)) number.old }
@@ -170,7 +170,7 @@ pub fn begun_code(answer: Result<Result<Begun, SpaceError>, Unserved>, number: &
     }
 }
 
-/// A deadlock's victim, or none.
+/// Writes the session of a deadlock's victim, if there is one, and returns the code.
 pub fn search_code(answer: Result<Result<Search, SpaceError>, Unserved>, victim: &mut u16) -> u32
     ensures code { result ≡ served_code code_of (answered searched answer) }
     ensures told { victim.new ≡ told_at (result_ok (answered searched answer)) victim.old }
@@ -186,7 +186,7 @@ pub fn search_code(answer: Result<Result<Search, SpaceError>, Unserved>, victim:
     }
 }
 
-/// How a wait stands.
+/// Returns the code of a wait's state.
 pub fn poll_code(answer: Option<Result<Poll, SpaceError>>) -> u32
     ensures { result ≡ code_at (option_map polled answer) }
 {
@@ -198,7 +198,7 @@ pub fn poll_code(answer: Option<Result<Poll, SpaceError>>) -> u32
     }
 }
 
-/// How a wait is settled, at the latest by a timeout.
+/// Returns the code that says how a wait is settled, by this call's timeout or before.
 pub fn timeout_code(answer: Option<Result<TimedOut, SpaceError>>) -> u32
     ensures { result ≡ code_at (option_map timed_out answer) }
 {
@@ -210,7 +210,7 @@ pub fn timeout_code(answer: Option<Result<TimedOut, SpaceError>>) -> u32
     }
 }
 
-/// How a wait has ended, and the ticket where it was granted.
+/// Writes the ticket, if the wait was granted, and returns the code that says how the wait has ended.
 pub fn end_code(answer: Result<Result<Ended, SpaceError>, Unserved>, ticket: &mut u64) -> u32
     ensures code { result ≡ served_code code_of (answered ended answer) }
     ensures told { ticket.new ≡ told_at (result_ok (answered ended answer)) ticket.old }
@@ -228,14 +228,14 @@ pub fn end_code(answer: Result<Result<Ended, SpaceError>, Unserved>, ticket: &mu
     }
 }
 
-/// Whether a wait was killed.
+/// Returns the code that says whether a wait was killed.
 pub fn kill_code(has_killed: bool) -> u32
     ensures { result ≡ code_of (Has_killed has_killed) }
 {
     if has_killed { DONE } else { NOT_KILLED }
 }
 
-/// Done, or refused.
+/// Returns the code of a call that is done or refused.
 pub fn done_code(answer: Result<Result<(), SpaceError>, Unserved>) -> u32
     ensures { result ≡ served_code code_of (answered done answer) }
 {
@@ -246,7 +246,7 @@ pub fn done_code(answer: Result<Result<(), SpaceError>, Unserved>) -> u32
     }
 }
 
-/// A second ticket.
+/// Writes the second ticket, if it was granted, and returns the code.
 pub fn clone_code(answer: Result<Result<TicketId, SpaceError>, Unserved>, ticket: &mut u64) -> u32
     ensures code { result ≡ served_code code_of (answered cloned answer) }
     ensures told { ticket.new ≡ told_at (result_ok (answered cloned answer)) ticket.old }
@@ -261,7 +261,7 @@ pub fn clone_code(answer: Result<Result<TicketId, SpaceError>, Unserved>, ticket
     }
 }
 
-/// A stronger mode, or not yet.
+/// Returns the code of an upgrade: done, not possible without waiting, or refused.
 pub fn upgrade_code(answer: Result<Result<Upgrade, SpaceError>, Unserved>) -> u32
     ensures { result ≡ served_code code_of (answered upgrade_tried answer) }
 {

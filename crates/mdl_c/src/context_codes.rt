@@ -1,4 +1,4 @@
-//! The codes of calls that a context may stand against, and of those of contexts.
+//! The codes of the calls that are refused if a session has a context, and of the calls of contexts.
 ghost use Rattle.std.specs.Prelude.{◌≡◌};
 ghost use Rattle.std.specs.Result.{result_ok};
 ghost use Rattle.mdl_c.specs.ContextCodes.{acquire_code, acquire_told, done_code, duration_at, fault_code, mark_told, namespace_at, resume_code, resume_told, served_code, unserved_code};
@@ -13,7 +13,7 @@ pub const NO_DURATION: u32 = 28;
 
 pub const NO_NAMESPACE: u32 = 29;
 
-/// The duration of a number.
+/// Returns the duration of a number, if there is one.
 pub fn duration_of(number: u8) -> Option<Duration>
     ensures { result ≡ duration_at number }
 {
@@ -25,7 +25,7 @@ pub fn duration_of(number: u8) -> Option<Duration>
     }
 }
 
-/// The namespace of a number.
+/// Returns the namespace of a number, if there is one.
 pub fn namespace_of(number: u8) -> Option<Namespace>
     ensures { result ≡ namespace_at number }
 {
@@ -39,7 +39,7 @@ pub fn namespace_of(number: u8) -> Option<Namespace>
     }
 }
 
-/// Why a session isn't served.
+/// Returns the code that says why a manager refuses a session's call.
 pub fn unserved_code(why: Unserved) -> u32
     ensures { result ≡ unserved_code why }
 {
@@ -52,7 +52,7 @@ pub fn unserved_code(why: Unserved) -> u32
     }
 }
 
-/// Why a call of a context is refused.
+/// Returns the code that says why a context refuses a call.
 pub fn fault_code(fault: ContextError) -> u32
     ensures { result ≡ fault_code fault }
 {
@@ -64,7 +64,7 @@ pub fn fault_code(fault: ContextError) -> u32
     }
 }
 
-/// A lock, or a wait for it.
+/// Writes the number of the ticket or of the wait, if there is one, and returns the code.
 pub fn acquire_code(
     answer: Result<Result<Acquire, ContextError>, Unserved>,
     number: &mut u64,
@@ -86,7 +86,7 @@ pub fn acquire_code(
     }
 }
 
-/// How a wait goes on, and the ticket where it has ended with one.
+/// Writes the ticket, if the wait has ended with one, and returns the code of the wait's state.
 pub fn resume_code(answer: Result<Result<Resume, ContextError>, Unserved>, ticket: &mut u64) -> u32
     ensures code { result ≡ served_code resume_code answer }
     ensures told { ticket.new ≡ resume_told (result_ok answer) ticket.old }
@@ -103,7 +103,7 @@ pub fn resume_code(answer: Result<Result<Resume, ContextError>, Unserved>, ticke
     }
 }
 
-/// Done, or refused.
+/// Returns the code of a call that is done or refused.
 pub fn finish_code(answer: Result<Result<(), ContextError>, Unserved>) -> u32
     ensures { result ≡ served_code done_code answer }
 {
@@ -114,7 +114,7 @@ pub fn finish_code(answer: Result<Result<(), ContextError>, Unserved>) -> u32
     }
 }
 
-/// Where a session stands.
+/// Writes the session's mark, unless the call is refused, and returns the code.
 pub fn mark_code(answer: Result<mdl_context::Mark, Unserved>, mark: &mut Mark) -> u32
     ensures code { result ≡ served_code (λ _. 0) answer }
     ensures told { mark.new ≡ mark_told (result_ok answer) mark.old }
@@ -128,7 +128,7 @@ pub fn mark_code(answer: Result<mdl_context::Mark, Unserved>, mark: &mut Mark) -
     }
 }
 
-/// Done, unless the session isn't served.
+/// Returns the code of a call that is done, unless the manager refuses it.
 pub fn served_code(answer: Result<(), Unserved>) -> u32
     ensures { result ≡ served_code (λ _. 0) answer }
 {

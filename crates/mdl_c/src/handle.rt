@@ -1,4 +1,4 @@
-//! What C keeps of a manager: a pointer to its box, or nothing.
+//! What the C program's memory holds of a manager: a pointer to its box, or null.
 ghost use Rattle.std.specs.Prelude.{◌≡◌, true, None, Some, is_some, Option, MatchOption};
 ghost use Rattle.mdl_c.specs.Handles.{keeps};
 ghost use Rattle.mdl_c.specs.Managers.{Managed};
@@ -10,7 +10,7 @@ use std::alloc::Global;
 use std::marker::Model;
 use std::{mem, ptr};
 
-/// A manager's box, or nothing.
+/// A manager's box, or none.
 #[derive(Drop)]
 #[repr(C)]
 pub struct Handle {
@@ -57,7 +57,7 @@ impl Handle {
 
 unsafe impl Send for Handle {}
 
-/// A manager, or the place for one, in memory of C's: `struct mdl_space` of `mdl.h`. All of its bytes are 0 where there is none.
+/// A manager, or the room for one, in memory of the C program: `struct mdl_space` of `mdl.h`. All of its bytes are 0 if there is none.
 #[derive(Drop)]
 #[repr(C)]
 pub struct Space {
@@ -106,7 +106,7 @@ impl Space {
 
 fn crosses<T: Send>() {}
 
-/// A manager may go from one thread of C's to another: a law, proved as the contract of a function that does nothing.
+/// A manager may be sent from one thread of the C program to another: a law, proved as the contract of a function that does nothing.
 pub fn spaces_cross() {
     crosses::<Space>();
 }

@@ -1,4 +1,4 @@
-//! The places of keys.
+//! The calls that return the place of a key.
 ghost use Rattle.std.specs.Prelude.{◌≡◌};
 ghost use Rattle.std.specs.Str.{IsUtf8};
 ghost use Rattle.mdl_key.specs.Keys.{commit_key, global_key, name_fault, schema_key, table_fault, table_key};
@@ -12,7 +12,7 @@ use crate::names::{schema_of, table_of};
 use mdl_key::Key;
 use std::alloc::Global;
 
-// The place of a key.
+// Writes the place of a key.
 fn resolve(alloc: Global, space: &mut Space, who: u16, key: &Key, place: &mut u16) -> u32
     ensures { Serves who (Resolve who key.now) space.old.handle.manager result space.new.handle.manager (Number place.old place.new) }
 {
@@ -24,7 +24,7 @@ fn resolve(alloc: Global, space: &mut Space, who: u16, key: &Key, place: &mut u1
     code
 }
 
-/// The place of a table's key.
+/// Writes the place of a table's key.
 #[unsafe(no_mangle)]
 pub extern "C" fn mdl_table(
     alloc: Global,
@@ -44,7 +44,7 @@ pub extern "C" fn mdl_table(
     }
 }
 
-/// The place of a schema's key.
+/// Writes the place of a schema's key.
 #[unsafe(no_mangle)]
 pub extern "C" fn mdl_schema(
     alloc: Global,
@@ -63,7 +63,7 @@ pub extern "C" fn mdl_schema(
     }
 }
 
-/// The place of the key of the global read lock.
+/// Writes the place of the key of the global read lock.
 #[unsafe(no_mangle)]
 pub extern "C" fn mdl_global(alloc: Global, space: &mut Space, who: u16, place: &mut u16) -> u32
     ensures { Serves who (Resolve who global_key) space.old.handle.manager result space.new.handle.manager (Number place.old place.new) }
@@ -71,7 +71,7 @@ pub extern "C" fn mdl_global(alloc: Global, space: &mut Space, who: u16, place: 
     resolve(alloc, space, who, &Key::global(alloc), place)
 }
 
-/// The place of the key that commits take.
+/// Writes the place of the key that commits take.
 #[unsafe(no_mangle)]
 pub extern "C" fn mdl_commit(alloc: Global, space: &mut Space, who: u16, place: &mut u16) -> u32
     ensures { Serves who (Resolve who commit_key) space.old.handle.manager result space.new.handle.manager (Number place.old place.new) }

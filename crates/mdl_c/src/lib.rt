@@ -1,10 +1,10 @@
-//! The lock manager for C: a [`CoreSpace`](mdl_space::CoreSpace) behind a handle that lies in memory of C's. The declarations for C, and
-//! what it owes, stand in `include/mdl.h`.
+//! The lock manager for C: a [`CoreSpace`](mdl_space::CoreSpace) behind a handle in memory of the C program. `include/mdl.h` declares the functions,
+//! and lists what a C program must observe.
 //!
-//! Each function answers a code (`specs/Codes`). What it does to the manager behind the handle is that of the call of the space that its
-//! contract names (`specs/Exports`), and C is told the code of that call's answer.
+//! Each function returns a code (`specs/Codes`). Its contract names a call of the lock space (`specs/Exports`): the function does to the manager behind
+//! the handle what that call does, and returns the code of the call's answer.
 //!
-//! A session's tickets are kept by their numbers, or by a [`Context`](mdl_context::Context) (`specs/Transactions`).
+//! The C program keeps a session's tickets by their numbers, or a [`Context`](mdl_context::Context) keeps them (`specs/Transactions`).
 #![tactic(auto)]
 
 mod codes;

@@ -1,4 +1,4 @@
-//! What C is told of the locks, for a host that shows them and that wakes its sessions. Nothing changes.
+//! What C gets to read of the locks, for a host that shows them and wakes its sessions. These calls change nothing.
 ghost use Rattle.std.specs.Prelude.{◌≡◌, MatchOption, length};
 ghost use Rattle.std.specs.Option.{option_copied, option_map};
 ghost use Rattle.mdl_key.specs.Keys.{namespace_rank};
@@ -14,7 +14,7 @@ use mdl_book::Book;
 use mdl_space::{Held, SpaceError};
 use std::alloc::Global;
 
-/// The sessions whose waits are settled and not ended, a bit for each, from the lowest on.
+/// Writes which sessions have waits that are settled and not ended, one bit each. The lowest bit is that of session 1.
 #[unsafe(no_mangle)]
 pub extern "C" fn mdl_settled(alloc: Global, space: &mut Space, sessions: &mut u64) -> u32
     ensures { Shows space.old.handle.manager result space.new.handle.manager (sessions.new ≡ sessions.old) (λ m. (result ≡ 0) × TellsSettled m sessions.new) }
@@ -27,7 +27,7 @@ pub extern "C" fn mdl_settled(alloc: Global, space: &mut Space, sessions: &mut u
     DONE
 }
 
-/// The tickets that a session holds, in the order of gain.
+/// Writes the tickets that a session holds, in the order in which it got them.
 #[unsafe(no_mangle)]
 pub extern "C" fn mdl_held(
     alloc: Global,
@@ -46,7 +46,7 @@ pub extern "C" fn mdl_held(
     code
 }
 
-/// How many places have keys: those from 1 to this number.
+/// Writes how many places have keys. They are those from 1 to this number.
 #[unsafe(no_mangle)]
 pub extern "C" fn mdl_places(alloc: Global, space: &mut Space, count: &mut usize) -> u32
     ensures { Shows space.old.handle.manager result space.new.handle.manager (count.new ≡ count.old) (λ m. (result ≡ 0) × (count.new ≡ length m.space.books)) }
@@ -59,7 +59,7 @@ pub extern "C" fn mdl_places(alloc: Global, space: &mut Space, count: &mut usize
     DONE
 }
 
-/// The key of a place: its namespace by the number, and the names of its schema and its table where it has them.
+/// Writes the key of a place: the number of its namespace, and the names of its schema and its table if it has them.
 #[unsafe(no_mangle)]
 pub extern "C" fn mdl_key_of(
     alloc: Global,
@@ -85,7 +85,7 @@ pub extern "C" fn mdl_key_of(
     code
 }
 
-/// The tickets of a place's lock: those that are granted, in the order in which they were, and then those that wait, in the order of arrival.
+/// Writes the tickets of a place's lock: first the granted ones, in the order in which they were granted, then the waiting ones, in order of arrival.
 #[unsafe(no_mangle)]
 pub extern "C" fn mdl_locks(
     alloc: Global,
@@ -105,7 +105,7 @@ pub extern "C" fn mdl_locks(
     code
 }
 
-// The tickets that a session holds, if there is such a session.
+// Writes the tickets that a session holds, if there is such a session, and returns the code.
 fn held_code(
     answer: Option<Result<Vec<Held>, SpaceError>>,
     room: &mut [HeldRow],
@@ -124,7 +124,7 @@ fn held_code(
     }
 }
 
-// The key of a lock, if there is one.
+// Writes the key of a lock, if there is one, and returns the code.
 fn key_code(
     book: Option<&Book>,
     namespace: &mut u8,
@@ -148,7 +148,7 @@ fn key_code(
     DONE
 }
 
-// The tickets of a lock, if there is one.
+// Writes the tickets of a lock, if there is one, and returns the code.
 fn lock_code(book: Option<&Book>, room: &mut [LockRow], count: &mut usize) -> u32
     ensures { MatchOption (option_copied book.entry)
         ((result ≡ no_place) × IsKept room.old room.new count.old count.new)

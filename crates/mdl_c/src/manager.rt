@@ -1,5 +1,5 @@
-//! A lock space for C: any number may stand for a session there, so each call looks first whether there is such a one, and whether a context
-//! keeps its tickets.
+//! A lock space for C. C may pass any number as a session, so each call first checks whether there is such a session, and whether a context keeps its
+//! tickets.
 ghost use Rattle.std.specs.Prelude.{◌≡◌, ◌≤◌, ◌<◌, ◌+◌, Some, None, length, replicate, MatchOption, MatchResult, IfOk};
 ghost use Rattle.mdl_key.specs.Words.{Refuses};
 ghost use Rattle.mdl_calls.specs.Words.{Begin_wait, Clone_ticket, Downgrade, End_wait, Has_killed, Kill, Merge, Poll_wait, Release, Resolve, Search as Search_by, Settle_timeout, Try_now, Upgrade_now, attempted, begun, cloned, done, ended, new_fault, placed, polled, searched, timed_out, upgrade_tried};
@@ -19,8 +19,8 @@ use std::marker::Model;
 mod contexts;
 mod lists;
 
-/// The space of one thread, how many sessions it has, and who keeps the tickets of each. A call for a session that isn't one of them
-/// answers `None`, or why the session isn't served.
+/// The space of one thread, the number of its sessions, and who keeps the tickets of each. A call of a session that isn't one of them returns `None`,
+/// or an `Unserved`.
 #[derive(Drop)]
 pub struct Manager {
     space: CoreSpace,
@@ -70,7 +70,7 @@ impl Manager {
         Ok(usize::from(who) - 1)
     }
 
-    // That there is such a session, and no context keeps its tickets.
+    // Checks that there is such a session, and that no context keeps its tickets.
     fn check_direct(&self, who: u16) -> Result<(), Unserved>
         ensures { MatchResult result (λ _. direct_fault (seat_of who self.now) ≡ None) (λ why. direct_fault (seat_of who self.now) ≡ Some why) }
     {
@@ -146,7 +146,7 @@ impl Manager {
         Ok(self.space.end_wait(who))
     }
 
-    /// Settles a session's wait of this number as killed, unless it is settled, or there is none.
+    /// Settles a session's wait of this number as killed, unless it is settled already or there is none. Returns whether it did.
     pub fn kill(&mut self, target: u16, number: u64) -> bool
         ensures { Joins (Kill target number) (Has_killed result) self.old self.new }
     {
@@ -213,7 +213,7 @@ impl Manager {
     }
 }
 
-// The seats of so many sessions, of which none has a context.
+// The seats of this number of sessions, none of which has a context.
 fn new_seats(alloc: Global, sessions: u16) -> Result<Vec<Seat>, AllocError>
     ensures { IfOk result (λ seats. seats.items ≡ replicate sessions Direct) }
 {

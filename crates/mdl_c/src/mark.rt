@@ -1,4 +1,4 @@
-//! A point in a session's work, as C keeps it.
+//! The marks of a session's work, as C keeps them.
 ghost use Rattle.std.specs.Prelude.{◌≡◌};
 ghost use Rattle.mdl_c.specs.ContextCodes.{mark_in_c, mark_in_context};
 
@@ -6,14 +6,14 @@ ghost use Rattle.mdl_c.specs.ContextCodes.{mark_in_c, mark_in_context};
 #[derive(Clone, Copy)]
 #[repr(C)]
 pub struct Mark {
-    /// How many tickets of the statement were kept.
+    /// The number of kept tickets of the statement.
     pub statement: usize,
-    /// How many tickets of the transaction were kept.
+    /// The number of kept tickets of the transaction.
     pub transaction: usize,
 }
 
 impl Mark {
-    /// A context's mark.
+    /// Converts a context's mark.
     pub fn of(mark: mdl_context::Mark) -> Mark
         ensures { result ≡ mark_in_c mark }
     {
@@ -23,7 +23,7 @@ impl Mark {
         }
     }
 
-    /// As a context takes it.
+    /// Returns the mark in the form that a context takes.
     pub fn in_context(self) -> mdl_context::Mark
         ensures { result ≡ mark_in_context self }
     {

@@ -1,4 +1,4 @@
-//! What each code says, in words.
+//! The text of each code.
 ghost use Rattle.std.specs.Prelude.{◌≡◌, ◌≤◌};
 ghost use Rattle.mdl_c.specs.Listings.{IsTold};
 ghost use Rattle.mdl_c.specs.Messages.{answer_rows, cause_rows, context_rows, message_of, refusal_rows, text_in};
@@ -8,7 +8,7 @@ use crate::rows::tell_text;
 
 const UNKNOWN: &str = "There is no such code.";
 
-/// What a code says, in words. A number that is no code has a text, too.
+/// Writes the text of a code. A number that is no code has a text, too.
 #[unsafe(no_mangle)]
 pub extern "C" fn mdl_message(code: u32, room: &mut [u8], count: &mut usize) -> u32
     ensures code { result ≡ 0 }

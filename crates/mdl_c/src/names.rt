@@ -1,4 +1,4 @@
-//! Keys of names that are bytes of C's.
+//! Keys made of names that C passes as bytes.
 ghost use Rattle.std.specs.Prelude.{◌≡◌, None, MatchResult};
 ghost use Rattle.std.specs.Str.{IsUtf8};
 ghost use Rattle.mdl_key.specs.Keys.{name_fault, schema_key, table_fault, table_key, user_lock_key};
@@ -11,7 +11,7 @@ use mdl_key::{Key, Namespace};
 use std::alloc::Global;
 use std::str;
 
-/// The key of a table, or the code of why there is none.
+/// Returns the key of a table, or the code that says why it can't be made.
 pub fn table_of(alloc: Global, schema: &[u8], table: &[u8]) -> Result<Key, u32>
     ensures { MatchResult result
         (λ key. (IsUtf8 schema.now × IsUtf8 table.now) × (table_fault schema.now table.now ≡ None) × (key ≡ table_key schema.now table.now))
@@ -29,7 +29,7 @@ pub fn table_of(alloc: Global, schema: &[u8], table: &[u8]) -> Result<Key, u32>
     }
 }
 
-/// The key of a schema, or the code of why there is none.
+/// Returns the key of a schema, or the code that says why it can't be made.
 pub fn schema_of(alloc: Global, schema: &[u8]) -> Result<Key, u32>
     ensures { MatchResult result
         (λ key. IsUtf8 schema.now × (name_fault schema.now ≡ None) × (key ≡ schema_key schema.now))
@@ -44,7 +44,7 @@ pub fn schema_of(alloc: Global, schema: &[u8]) -> Result<Key, u32>
     }
 }
 
-/// The key of a user-level lock, or the code of why there is none.
+/// Returns the key of a user-level lock, or the code that says why it can't be made.
 pub fn user_lock_of(alloc: Global, name: &[u8]) -> Result<Key, u32>
     ensures { MatchResult result
         (λ key. IsUtf8 name.now × (name_fault name.now ≡ None) × (key ≡ user_lock_key name.now))
@@ -59,7 +59,8 @@ pub fn user_lock_of(alloc: Global, name: &[u8]) -> Result<Key, u32>
     }
 }
 
-/// The key of a namespace's number and of those names that its keys have, or the code of why there is none.
+/// Returns the key in the namespace of this number, or the code that says why it can't be made. It reads only the names that keys of the namespace
+/// have. The name of a user-level lock is passed as `schema`.
 pub fn key_of(alloc: Global, namespace: u8, schema: &[u8], table: &[u8]) -> Result<Key, u32>
     ensures { MatchResult result
         (λ key. NamedIn (namespace_at namespace) schema.now table.now (λ name. key ≡ name) (λ _. ⊥))

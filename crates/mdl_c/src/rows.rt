@@ -1,4 +1,4 @@
-//! The rows in which C is told of tickets.
+//! The rows in which C gets tickets.
 ghost use Rattle.std.specs.Prelude.{◌≡◌, Some, map};
 ghost use Rattle.mdl_key.specs.declared.mode.Mode.{Mode};
 ghost use Rattle.mdl_key.specs.Words.{mode_rank};
@@ -57,19 +57,19 @@ impl LockRow {
     }
 }
 
-/// C is told of a mode by the number by which it asks for it: a law, proved as the contract of a function that does nothing.
+/// The number that C gets for a mode is the number by which C requests it: a law, proved as the contract of a function that does nothing.
 pub fn modes_are_told_as_asked()
     ensures { (mode : Mode) → mode_at (mode_rank mode) ≡ Some mode }
 {}
 
-// The number of a mode, by their order.
+// The number of a mode: its rank in the order of modes.
 fn number_of(mode: Mode) -> u8
     ensures { result ≡ mode_rank mode }
 {
     mode as u8
 }
 
-/// Writes as many bytes of a text as there is room for, and tells how many the whole has.
+/// Writes as many bytes of a text as there is room for. `count` gets the length of the whole text.
 pub fn tell_text(text: &str, room: &mut [u8], count: &mut usize)
     ensures { IsTold text.now room.old room.new count.new }
 {
@@ -78,7 +78,7 @@ pub fn tell_text(text: &str, room: &mut [u8], count: &mut usize)
     *count = text.len();
 }
 
-/// Writes as many held tickets as there is room for, and tells how many there are.
+/// Writes as many held tickets as there is room for. `count` gets the number of all.
 pub fn tell_held(tickets: &[Held], room: &mut [HeldRow], count: &mut usize)
     ensures { IsTold (map held_row tickets.now) room.old room.new count.new }
 {
@@ -89,7 +89,7 @@ pub fn tell_held(tickets: &[Held], room: &mut [HeldRow], count: &mut usize)
     *count = tickets.len();
 }
 
-/// Writes as many tickets of a lock as there is room for, the granted ones first, and tells how many there are.
+/// Writes as many tickets of a lock as there is room for, the granted ones first. `count` gets the number of all.
 pub fn tell_lock(book: &Book, room: &mut [LockRow], count: &mut usize)
     ensures { IsTold (lock_rows book.now) room.old room.new count.new }
 {
@@ -101,7 +101,7 @@ pub fn tell_lock(book: &Book, room: &mut [LockRow], count: &mut usize)
     *count = granted.len() + waiting.len();
 }
 
-// Writes as many tickets of this status as there is room for.
+// Writes as many of these tickets as there is room for, with this status.
 fn write_tickets(tickets: &[Ticket], status: u8, room: &mut [LockRow])
     ensures { room.new ≡ written (map (lock_row status) tickets.now) room.old }
 {

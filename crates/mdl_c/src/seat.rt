@@ -5,8 +5,8 @@ use mdl_space::CoreSpace;
 /// Who keeps a session's tickets.
 #[derive(Drop)]
 pub enum Seat {
-    /// The program of C's does, by their numbers.
+    /// The C program, by their numbers.
     Direct,
-    /// A context does, by how long they last.
+    /// A context, by their durations.
     Kept(Context<CoreSpace>),
 }

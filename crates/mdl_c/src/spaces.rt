@@ -1,4 +1,4 @@
-//! A manager is made, and let go.
+//! The calls that make a manager and free it.
 ghost use Rattle.std.specs.Prelude.{◌≡◌};
 ghost use Rattle.mdl_c.specs.Exports.{Closes, Opens};
 
@@ -7,7 +7,7 @@ use crate::handle::Space;
 use crate::manager::Manager;
 use std::alloc::Global;
 
-/// Makes a manager of so many places and sessions, where there is none.
+/// Makes a manager with this number of places and sessions, if there is none yet.
 #[unsafe(no_mangle)]
 pub extern "C" fn mdl_open(alloc: Global, space: &mut Space, places: u16, sessions: u16) -> u32
     ensures { Opens places sessions space.old.handle.manager result space.new.handle.manager }
@@ -28,7 +28,7 @@ pub extern "C" fn mdl_open(alloc: Global, space: &mut Space, places: u16, sessio
     }
 }
 
-/// Lets the manager go, with all that its sessions hold and wait for.
+/// Frees the manager, with all that its sessions hold and wait for.
 #[unsafe(no_mangle)]
 pub extern "C" fn mdl_close(alloc: Global, space: &mut Space) -> u32
     ensures { Closes space.old.handle.manager result space.new.handle.manager }

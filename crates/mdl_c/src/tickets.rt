@@ -1,4 +1,4 @@
-//! Locks that are had at once, and what becomes of held tickets.
+//! The calls that request a lock without waiting, and those that change held tickets.
 ghost use Rattle.std.specs.Prelude.{◌≡◌};
 ghost use Rattle.mdl_calls.specs.Words.{Clone_ticket, Downgrade, Merge, Release, Try_now, Upgrade_now};
 ghost use Rattle.mdl_c.specs.Codes.{mode_at, no_mode};
@@ -8,7 +8,7 @@ use crate::codes::{CLOSED, NO_MODE, attempt_code, clone_code, done_code, mode_of
 use crate::handle::Space;
 use std::alloc::Global;
 
-/// Asks for a lock, without waiting.
+/// Requests a lock, without waiting.
 #[unsafe(no_mangle)]
 pub extern "C" fn mdl_try(
     alloc: Global,
@@ -31,7 +31,7 @@ pub extern "C" fn mdl_try(
     code
 }
 
-/// Gives a ticket up.
+/// Releases a ticket.
 #[unsafe(no_mangle)]
 pub extern "C" fn mdl_release(alloc: Global, space: &mut Space, who: u16, ticket: u64) -> u32
     ensures { ServesDirect who (Release who ticket) space.old.handle.manager result space.new.handle.manager Nothing }
@@ -44,7 +44,7 @@ pub extern "C" fn mdl_release(alloc: Global, space: &mut Space, who: u16, ticket
     code
 }
 
-/// Asks for a stronger mode of a held ticket, without waiting.
+/// Upgrades a held ticket to a stronger mode, without waiting.
 #[unsafe(no_mangle)]
 pub extern "C" fn mdl_upgrade(
     alloc: Global,
@@ -66,7 +66,7 @@ pub extern "C" fn mdl_upgrade(
     code
 }
 
-/// Lets a held ticket have a weaker mode.
+/// Downgrades a held ticket to a weaker mode.
 #[unsafe(no_mangle)]
 pub extern "C" fn mdl_downgrade(
     alloc: Global,
@@ -88,7 +88,7 @@ pub extern "C" fn mdl_downgrade(
     code
 }
 
-/// A second ticket of a held one's place.
+/// Clones a held ticket: grants a second ticket of its place.
 #[unsafe(no_mangle)]
 pub extern "C" fn mdl_clone(
     alloc: Global,
@@ -111,7 +111,7 @@ pub extern "C" fn mdl_clone(
     code
 }
 
-/// Lets a held ticket have the mode of another one of its place, which is given up.
+/// Gives a held ticket the mode of another one of its place, and releases the other.
 #[unsafe(no_mangle)]
 pub extern "C" fn mdl_merge(alloc: Global, space: &mut Space, who: u16, kept: u64, gone: u64) -> u32
     ensures { ServesDirect who (Merge who kept gone) space.old.handle.manager result space.new.handle.manager Nothing }

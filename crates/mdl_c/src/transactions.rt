@@ -1,4 +1,4 @@
-//! Transactions: a context keeps a session's tickets by how long they last.
+//! The calls of contexts, for transactions: a context keeps a session's tickets by their durations.
 ghost use Rattle.std.specs.Prelude.{◌≡◌};
 ghost use Rattle.mdl_context.specs.Releases.{ending_statement, ending_transaction, releasing, releasing_name, rolling_back};
 ghost use Rattle.mdl_context.specs.Requests.{acquiring};
@@ -21,7 +21,7 @@ use crate::names::key_of;
 use mdl_key::{Duration, Key, Mode};
 use std::alloc::Global;
 
-/// From here on a context keeps a session's tickets.
+/// Begins a context, which keeps the session's tickets from now on.
 #[unsafe(no_mangle)]
 pub extern "C" fn mdl_context_begin(alloc: Global, space: &mut Space, who: u16) -> u32
     ensures { Begins who space.old.handle.manager result space.new.handle.manager }
@@ -34,7 +34,7 @@ pub extern "C" fn mdl_context_begin(alloc: Global, space: &mut Space, who: u16) 
     code
 }
 
-/// A session's context gives up its wait and all that it keeps, and ends.
+/// Ends a session's context, which gives up its wait and releases all its tickets.
 #[unsafe(no_mangle)]
 pub extern "C" fn mdl_context_end(alloc: Global, space: &mut Space, who: u16) -> u32
     ensures { Ends who space.old.handle.manager result space.new.handle.manager }
@@ -47,7 +47,7 @@ pub extern "C" fn mdl_context_end(alloc: Global, space: &mut Space, who: u16) ->
     code
 }
 
-// Comes by a lock of a key.
+// Acquires a lock of a key, or begins to wait for it.
 fn acquire(
     alloc: Global,
     space: &mut Space,
@@ -67,7 +67,7 @@ fn acquire(
     code
 }
 
-/// Comes by a lock for as long as is asked, or begins to wait for it.
+/// Acquires a lock for this duration, or begins to wait for it.
 #[unsafe(no_mangle)]
 pub extern "C" fn mdl_acquire(
     alloc: Global,
@@ -96,7 +96,7 @@ pub extern "C" fn mdl_acquire(
     }
 }
 
-/// Sees how the wait of a session's context stands, and ends it once it is settled.
+/// Returns the state of the wait of a session's context, and ends the wait if it is settled.
 #[unsafe(no_mangle)]
 pub extern "C" fn mdl_resume(alloc: Global, space: &mut Space, who: u16, ticket: &mut u64) -> u32
     ensures { ServesContext who resuming resume_code space.old.handle.manager result space.new.handle.manager (Told resume_told ticket.old ticket.new) }
@@ -109,7 +109,7 @@ pub extern "C" fn mdl_resume(alloc: Global, space: &mut Space, who: u16, ticket:
     code
 }
 
-/// Gives the wait of a session's context up, unless it is settled already, and ends it.
+/// Gives up the wait of a session's context, unless it is settled already, and ends it.
 #[unsafe(no_mangle)]
 pub extern "C" fn mdl_give_up(alloc: Global, space: &mut Space, who: u16, ticket: &mut u64) -> u32
     ensures { ServesContext who giving_up_wait resume_code space.old.handle.manager result space.new.handle.manager (Told resume_told ticket.old ticket.new) }
@@ -122,7 +122,7 @@ pub extern "C" fn mdl_give_up(alloc: Global, space: &mut Space, who: u16, ticket
     code
 }
 
-/// Lets a kept ticket have a stronger mode, or begins to wait for that.
+/// Upgrades a kept ticket to a stronger mode, or begins to wait for that.
 #[unsafe(no_mangle)]
 pub extern "C" fn mdl_context_upgrade(
     alloc: Global,
@@ -147,7 +147,7 @@ pub extern "C" fn mdl_context_upgrade(
     code
 }
 
-/// Lets a kept ticket have a weaker mode.
+/// Downgrades a kept ticket to a weaker mode.
 #[unsafe(no_mangle)]
 pub extern "C" fn mdl_context_downgrade(
     alloc: Global,
@@ -171,7 +171,7 @@ pub extern "C" fn mdl_context_downgrade(
     code
 }
 
-/// Gives a kept ticket up.
+/// Releases a kept ticket.
 #[unsafe(no_mangle)]
 pub extern "C" fn mdl_context_release(
     alloc: Global,
@@ -189,7 +189,7 @@ pub extern "C" fn mdl_context_release(
     code
 }
 
-// Gives all tickets of a key up.
+// Releases all tickets of a key that the session's context keeps.
 fn release_name(alloc: Global, space: &mut Space, who: u16, key: &Key) -> u32
     ensures { ServesContext who (releasing_name key.now) done_code space.old.handle.manager result space.new.handle.manager Untold }
 {
@@ -201,7 +201,7 @@ fn release_name(alloc: Global, space: &mut Space, who: u16, key: &Key) -> u32
     code
 }
 
-/// Gives all tickets of a key up.
+/// Releases all tickets of a key that the session's context keeps.
 #[unsafe(no_mangle)]
 pub extern "C" fn mdl_release_name(
     alloc: Global,
@@ -221,7 +221,7 @@ pub extern "C" fn mdl_release_name(
     }
 }
 
-/// Where a session stands: how many tickets it keeps for the statement, and how many for the transaction.
+/// Writes a session's current mark: how many tickets its context keeps for the statement, and how many for the transaction.
 #[unsafe(no_mangle)]
 pub extern "C" fn mdl_savepoint(alloc: Global, space: &mut Space, who: u16, mark: &mut Mark) -> u32
     ensures { Replies context_fault who (Marks who) (λ _. 0) (Told mark_told mark.old mark.new) space.old.handle.manager result space.new.handle.manager }
@@ -234,7 +234,7 @@ pub extern "C" fn mdl_savepoint(alloc: Global, space: &mut Space, who: u16, mark
     code
 }
 
-/// Goes back to a mark: of the tickets of the statement and of the transaction so many stay as it counted, from the earliest on.
+/// Rolls back to a mark: of the statement's and of the transaction's tickets, keeps the earliest, as many as the mark counted, and releases the rest.
 #[unsafe(no_mangle)]
 pub extern "C" fn mdl_rollback_to(alloc: Global, space: &mut Space, who: u16, mark: Mark) -> u32
     ensures { ServesContext who (rolling_back (mark_in_context mark)) done_code space.old.handle.manager result space.new.handle.manager Untold }
@@ -247,7 +247,7 @@ pub extern "C" fn mdl_rollback_to(alloc: Global, space: &mut Space, who: u16, ma
     code
 }
 
-/// Ends a statement: its tickets are given up.
+/// Ends a statement: releases its tickets.
 #[unsafe(no_mangle)]
 pub extern "C" fn mdl_end_statement(alloc: Global, space: &mut Space, who: u16) -> u32
     ensures { ServesContext who ending_statement done_code space.old.handle.manager result space.new.handle.manager Untold }
@@ -260,7 +260,7 @@ pub extern "C" fn mdl_end_statement(alloc: Global, space: &mut Space, who: u16) 
     code
 }
 
-/// Ends a transaction: the tickets of the statement and of the transaction are given up.
+/// Ends a transaction: releases the tickets of the statement and of the transaction.
 #[unsafe(no_mangle)]
 pub extern "C" fn mdl_end_transaction(alloc: Global, space: &mut Space, who: u16) -> u32
     ensures { ServesContext who ending_transaction done_code space.old.handle.manager result space.new.handle.manager Untold }
@@ -273,7 +273,7 @@ pub extern "C" fn mdl_end_transaction(alloc: Global, space: &mut Space, who: u16
     code
 }
 
-/// Keeps all tickets until they are released.
+/// Makes all tickets explicit: the context keeps them until they are released.
 #[unsafe(no_mangle)]
 pub extern "C" fn mdl_make_explicit(alloc: Global, space: &mut Space, who: u16) -> u32
     ensures { ServesContext who making_explicit done_code space.old.handle.manager result space.new.handle.manager Untold }
@@ -286,7 +286,7 @@ pub extern "C" fn mdl_make_explicit(alloc: Global, space: &mut Space, who: u16) 
     code
 }
 
-/// Keeps the explicit tickets until the transaction ends.
+/// Makes the explicit tickets, except those of user-level locks, last until the transaction ends.
 #[unsafe(no_mangle)]
 pub extern "C" fn mdl_make_transactional(alloc: Global, space: &mut Space, who: u16) -> u32
     ensures { ServesContext who making_transactional done_code space.old.handle.manager result space.new.handle.manager Untold }

@@ -1,6 +1,6 @@
 //! Why a session isn't served.
 
-/// Why a session isn't served.
+/// Why the manager itself, and not its space or a context, refuses a session's call.
 #[derive(Clone, Copy)]
 pub enum Unserved {
     /// There is no such session.

@@ -1,4 +1,4 @@
-//! Locks that are waited for.
+//! The calls that begin, settle, end and observe waits.
 ghost use Rattle.std.specs.Prelude.{◌≡◌};
 ghost use Rattle.mdl_calls.specs.Words.{Begin_wait, End_wait, Kill, Poll_wait, Search, Settle_timeout};
 ghost use Rattle.mdl_c.specs.Codes.{mode_at, no_mode};
@@ -10,7 +10,7 @@ use crate::codes::{
 use crate::handle::Space;
 use std::alloc::Global;
 
-/// Asks for a lock, and begins to wait for it where it can't be had now.
+/// Requests a lock, and begins to wait for it if it can't be granted now.
 #[unsafe(no_mangle)]
 pub extern "C" fn mdl_begin(
     alloc: Global,
@@ -33,7 +33,7 @@ pub extern "C" fn mdl_begin(
     code
 }
 
-/// Looks for a deadlock that the session is part of. Where there is one, the wait of its victim is settled, and C is told which that is.
+/// Looks for a deadlock that the session is part of. If there is one, settles the wait of its victim, and writes the victim's session.
 #[unsafe(no_mangle)]
 pub extern "C" fn mdl_search(alloc: Global, space: &mut Space, who: u16, victim: &mut u16) -> u32
     ensures { ServesDirect who (Search who) space.old.handle.manager result space.new.handle.manager (Number victim.old victim.new) }
@@ -46,7 +46,7 @@ pub extern "C" fn mdl_search(alloc: Global, space: &mut Space, who: u16, victim:
     code
 }
 
-/// How a session's wait stands.
+/// Returns the state of a session's wait.
 #[unsafe(no_mangle)]
 pub extern "C" fn mdl_poll(alloc: Global, space: &mut Space, who: u16) -> u32
     ensures { Serves who (Poll_wait who) space.old.handle.manager result space.new.handle.manager Nothing }
@@ -59,7 +59,7 @@ pub extern "C" fn mdl_poll(alloc: Global, space: &mut Space, who: u16) -> u32
     code
 }
 
-/// Ends a session's wait, which is settled.
+/// Ends a session's wait, which must be settled.
 #[unsafe(no_mangle)]
 pub extern "C" fn mdl_end(alloc: Global, space: &mut Space, who: u16, ticket: &mut u64) -> u32
     ensures { ServesDirect who (End_wait who) space.old.handle.manager result space.new.handle.manager (Number ticket.old ticket.new) }
@@ -72,7 +72,7 @@ pub extern "C" fn mdl_end(alloc: Global, space: &mut Space, who: u16, ticket: &m
     code
 }
 
-/// Settles a session's wait as a timeout, unless it is settled. C is told how it is settled then.
+/// Settles a session's wait as a timeout, unless it is settled already. Returns how it is settled then.
 #[unsafe(no_mangle)]
 pub extern "C" fn mdl_time_out(alloc: Global, space: &mut Space, who: u16) -> u32
     ensures { Serves who (Settle_timeout who) space.old.handle.manager result space.new.handle.manager Nothing }
@@ -85,7 +85,7 @@ pub extern "C" fn mdl_time_out(alloc: Global, space: &mut Space, who: u16) -> u3
     code
 }
 
-/// Settles any session's wait of this number as killed, unless it is settled, or there is none.
+/// Settles the wait of this number of any session as killed, unless it is settled already or there is none.
 #[unsafe(no_mangle)]
 pub extern "C" fn mdl_kill(alloc: Global, space: &mut Space, target: u16, number: u64) -> u32
     ensures { ServesAnybody (Kill target number) space.old.handle.manager result space.new.handle.manager }

@@ -23,7 +23,7 @@ use Rattle.mdl_calls.specs.declared.answers.Upgrade.{Upgrade}
 use Rattle.mdl_calls.specs.declared.answers.Upgrade.TheVariants as upgrade_as
 use Rattle.mdl_calls.specs.Calls.{Call, Resolve, Try_now, Begin_wait, Search, Poll_wait, Settle_timeout, End_wait, Wait_of, Kill, Release, Clone_ticket, Upgrade_now, Merge, Downgrade, Read_definition, Change_definition, Tables_of, Key_of, Read_kept, List_held, Unpin}
 
--- what a call answers
+-- the answer of a call: what it returns
 pub data Answer : Type 0 where
   Refused : SpaceError → Answer
   Done : Answer
@@ -46,7 +46,7 @@ pub data Answer : Type 0 where
   Key_is : KeyName → Answer
   Holds : List Held → Answer
 
--- whether a call has answers of this form. Looking after a wait and killing it are never refused.
+-- whether a call can have this answer, by its form. Asking for a wait's number and killing a wait are never refused.
 abbrev pub is_answer_of : Call → Answer → Bool
 is_answer_of (Wait_of _) (Has_wait _) = true
 is_answer_of (Wait_of _) _ = false
@@ -81,12 +81,12 @@ is_answer_of (List_held _) (Holds _) = true
 is_answer_of (Unpin _ _) Done = true
 is_answer_of _ _ = false
 
--- whether memory ran out
+-- whether the call was refused because memory ran out
 abbrev pub finds_no_memory : Answer → Bool
 finds_no_memory (Refused OutOfMemory) = true
 finds_no_memory _ = false
 
--- the answers of the calls, as they are returned
+-- the answers to the calls, by the results that the methods return
 abbrev pub placed : Result ℕ SpaceError → Answer
 placed (Ok place) = At_place place
 placed (Err refusal) = Refused refusal

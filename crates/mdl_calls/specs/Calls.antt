@@ -5,50 +5,52 @@ use Rattle.mdl_key.specs.Keys.{KeyName}
 use Rattle.mdl_defs.specs.declared.change.Change.{Change}
 use Rattle.mdl_defs.specs.declared.change.Change.TheVariants as change
 
--- a call, with who makes it and what is passed
+-- a call, with the session that makes it and its arguments
 pub data Call : Type 0 where
   -- the place of a key
   Resolve : (who : ℕ) (key : KeyName) → Call
-  -- a lock, where it can be had without waiting
+  -- a lock, if it can be granted without waiting
   Try_now : (who place : ℕ) (mode : Mode) → Call
-  -- a lock, or else a wait for it
+  -- a lock, or otherwise a wait for it
   Begin_wait : (who place : ℕ) (mode : Mode) → Call
   -- a deadlock that the caller's wait is part of
   Search : (who : ℕ) → Call
-  -- how the caller's wait stands
+  -- the state of the caller's wait
   Poll_wait : (who : ℕ) → Call
-  -- no more patience with the caller's wait
+  -- the timeout of the caller's wait
   Settle_timeout : (who : ℕ) → Call
   -- the end of the caller's wait, once it is settled
   End_wait : (who : ℕ) → Call
-  -- which wait a session has
+  -- the number of a session's wait
   Wait_of : (target : ℕ) → Call
-  -- the end of a session's wait of this number
+  -- the kill of a session's wait of this number
   Kill : (target number : ℕ) → Call
+  -- the release of a held ticket
   Release : (who id : ℕ) → Call
   -- a second ticket beside a held one
   Clone_ticket : (who id : ℕ) (mode : Mode) → Call
-  -- a stronger mode, where it can be had without waiting
+  -- a stronger mode of a held ticket, if it can be granted without waiting
   Upgrade_now : (who id : ℕ) (mode : Mode) → Call
-  -- two tickets of one place made one
+  -- two held tickets of one place merged into one
   Merge : (who old new : ℕ) → Call
-  -- a weaker mode
+  -- a weaker mode of a held ticket
   Downgrade : (who id : ℕ) (mode : Mode) → Call
-  -- the version and the definition under a held ticket
+  -- the version and the definition at a held ticket's place
   Read_definition : (who id : ℕ) → Call
+  -- a change of the definition at a held ticket's place
   Change_definition : (who id : ℕ) (change : Change) → Call
-  -- the tables of a schema
+  -- the tables of a schema that have a definition
   Tables_of : (who : ℕ) (schema : List ℕ) → Call
   -- the key of a place
   Key_of : (who place : ℕ) → Call
-  -- as a read, by way of the session's cache
+  -- like `Read_definition`, with the session's cache
   Read_kept : (who id : ℕ) → Call
-  -- what the caller holds
+  -- the tickets that the caller holds
   List_held : (who : ℕ) → Call
-  -- the place is no longer needed
+  -- the end of the caller's pin of a place
   Unpin : (who place : ℕ) → Call
 
--- the session that makes a call. Anyone may look after a wait and kill it.
+-- the session that makes a call. Asking for a wait's number and killing a wait have no caller: any session may do that.
 abbrev pub caller : Call → Option ℕ
 caller (Resolve who _) = Some who
 caller (Try_now who _ _) = Some who
@@ -72,12 +74,13 @@ caller (Read_kept who _) = Some who
 caller (List_held who) = Some who
 caller (Unpin who _) = Some who
 
--- whether a change may need memory: dropping a definition doesn't
+-- whether a change of a definition may need memory: dropping the definition doesn't
 abbrev pub change_takes_memory : Change → Bool
 change_takes_memory change.Drop = false
 change_takes_memory _ = true
 
--- whether a call may need memory: what gives up, and what polls, times out, kills or ends a wait, doesn't
+-- whether a call may need memory. Releasing or downgrading a ticket, dropping a definition, ending a pin, and polling, timing out,
+-- ending, killing or asking for a wait need none.
 abbrev pub takes_memory : Call → Bool
 takes_memory (Release _ _) = false
 takes_memory (Downgrade _ _ _) = false

@@ -1,5 +1,5 @@
--- When a lock space refuses a call, as far as the caller's own tickets and wait tell it. Of several causes that these
--- decide, the first in the order of the refusals counts.
+-- When a lock space refuses a call, as far as the caller's own tickets and wait decide it. Of several causes that they
+-- decide, the first in the order of `SpaceError` counts.
 use Rattle.std.specs.Prelude.{◌≡◌, ℕ, Bool, true, false, not, ◌&&◌, ◌||◌, ◌==◌, MatchOption}
 use Rattle.mdl_key.specs.declared.mode.Mode.{Mode}
 use Rattle.mdl_key.specs.declared.mode.Mode.TheVariants.{X}
@@ -13,7 +13,7 @@ use Rattle.mdl_calls.specs.Calls.{Call, Resolve, Try_now, Begin_wait, Search, Po
 use Rattle.mdl_calls.specs.Own.{Own, ticket_held, holds, is_waiting}
 use Rattle.mdl_system.specs.Strength.{covers, may_upgrade, may_downgrade}
 
--- what a session knows: which key is at which place
+-- what a session knows of keys: which key is at which place
 abbrev pub Knowledge : Type 1
 Knowledge = ℕ → KeyName → Type 0
 
@@ -25,51 +25,51 @@ IsUnknown knows place = (key : KeyName) → knows place key → ⊥
 abbrev pub IsUnplaced : Knowledge → KeyName → Type 0
 IsUnplaced knows key = (place : ℕ) → knows place key → ⊥
 
--- the mode is of the kind of the key that the session knows at the place
+-- the mode is one of the kind of the key that the session knows at the place
 abbrev pub IsFit : Knowledge → ℕ → Mode → Type 0
 IsFit knows place mode = (key : KeyName) → knows place key → is_mode_of (kind_of key.namespace) mode ≡ true
 
--- the mode isn't of that kind
+-- the mode isn't one of that kind
 abbrev pub IsUnfit : Knowledge → ℕ → Mode → Type 0
 IsUnfit knows place mode = (key : KeyName) → knows place key → is_mode_of (kind_of key.namespace) mode ≡ false
 
--- a ticket of this number is held, and this is so of it
+-- a ticket of this number is held, and it has the property
 abbrev pub OfHeld : ℕ → Own → (Held → Type 0) → Type 0
 OfHeld id own P = MatchOption (ticket_held id own) ⊥ P
 
--- a held ticket can serve for a second one in the mode
+-- a held ticket may be cloned in the mode: it covers the mode, which is one of the place's kind
 abbrev pub MayClone : Knowledge → Mode → Held → Type 0
 MayClone knows mode ticket = (covers ticket.mode mode ≡ true) × IsFit knows ticket.place mode
 
--- it can't
+-- a held ticket may not be cloned in the mode
 abbrev pub MayNotClone : Knowledge → Mode → Held → Type 0
 MayNotClone knows mode ticket = covers ticket.mode mode ≡ true → IsUnfit knows ticket.place mode
 
--- a held ticket has the mode already, or may be upgraded to it
+-- a held ticket covers the mode already or may be upgraded to it, and the mode is one of the place's kind
 abbrev pub MayUpgrade : Knowledge → Mode → Held → Type 0
 MayUpgrade knows mode ticket = ((covers ticket.mode mode || may_upgrade ticket.mode mode) ≡ true) × IsFit knows ticket.place mode
 
--- it hasn't, and may not
+-- a held ticket may not be upgraded to the mode
 abbrev pub MayNotUpgrade : Knowledge → Mode → Held → Type 0
 MayNotUpgrade knows mode ticket = (covers ticket.mode mode || may_upgrade ticket.mode mode) ≡ true → IsUnfit knows ticket.place mode
 
--- a held ticket may be downgraded to the mode
+-- a held ticket may be downgraded to the mode, which is one of the place's kind
 abbrev pub MayDowngrade : Knowledge → Mode → Held → Type 0
 MayDowngrade knows mode ticket = (may_downgrade ticket.mode mode ≡ true) × IsFit knows ticket.place mode
 
--- it may not
+-- a held ticket may not be downgraded to the mode
 abbrev pub MayNotDowngrade : Knowledge → Mode → Held → Type 0
 MayNotDowngrade knows mode ticket = may_downgrade ticket.mode mode ≡ true → IsUnfit knows ticket.place mode
 
--- a ticket may take the mode of another one of its place, which is at least as strong
+-- whether two tickets may be merged: they are different ones of one place, and the one to be released is at least as strong as the other
 abbrev pub may_merge : Held → Held → Bool
 may_merge kept gone = not (kept.id == gone.id) && kept.place == gone.place && covers gone.mode kept.mode
 
--- the two tickets are held, and whether they may be merged is this
+-- the two tickets are held, and this is whether they may be merged
 abbrev pub Mergeable : Bool → ℕ → ℕ → Own → Type 0
 Mergeable answer old new own = OfHeld old own (λ kept. OfHeld new own (λ gone. may_merge kept gone ≡ answer))
 
--- what has to be so of the caller's tickets and wait for a call not to be refused
+-- what must hold of the caller's tickets and wait for a call not to be refused
 abbrev pub IsClear : Knowledge → Call → Own → Type 0
 IsClear knows (Try_now who place mode) own = (is_waiting own ≡ false) × IsFit knows place mode
 IsClear knows (Begin_wait who place mode) own = (is_waiting own ≡ false) × IsFit knows place mode
@@ -86,7 +86,7 @@ IsClear knows (Read_kept who id) own = holds id own ≡ true
 IsClear knows (Change_definition who id change) own = OfHeld id own (λ ticket. same_mode ticket.mode X ≡ true)
 IsClear knows _ own = Unit {0}
 
--- which refusals a call can have, and what each tells of the caller's tickets and wait
+-- which errors a call can be refused with, and what each says of the caller's tickets and wait
 abbrev pub IsCause : Knowledge → Call → SpaceError → Own → Type 0
 IsCause knows (Resolve who key) NoPlace own = IsUnplaced knows key
 IsCause knows (Resolve who key) OutOfMemory own = Unit {0}
@@ -141,12 +141,12 @@ IsCause knows (Key_of who place) OutOfMemory own = Unit {0}
 IsCause knows (Read_kept who id) NotHeld own = holds id own ≡ false
 IsCause knows (Read_kept who id) OutOfMemory own = Unit {0}
 IsCause knows (List_held who) OutOfMemory own = Unit {0}
--- a session may know the key of a place that it doesn't pin, so this tells nothing: that there was no pin is a law of its own (`unpins_none`)
+-- a session may know the key of a place that it doesn't pin, so this says nothing: that there was no pin is a law of its own (`unpins_none`)
 IsCause knows (Unpin who place) NoPlace own = Unit {0}
 IsCause knows (Unpin who place) InUse own = Unit {0}
 IsCause knows _ _ own = ⊥
 
--- what an answer tells of the caller's tickets and wait: where it is a refusal, its cause, and else that there is none
+-- what an answer says of the caller's tickets and wait: if it is a refusal, its cause; otherwise that there is none
 abbrev pub IsExplained : Knowledge → Call → Answer → Own → Type 0
 IsExplained knows call (Refused refusal) own = IsCause knows call refusal own
 IsExplained knows call _ own = IsClear knows call own

@@ -8,28 +8,28 @@ use Rattle.mdl_calls.specs.Answers.{Answer, Done, Granted, Waits, Lost, Upgraded
 use Rattle.mdl_calls.specs.Calls.{Call, Try_now, Begin_wait, End_wait, Release, Clone_ticket, Upgrade_now, Merge, Downgrade}
 use Rattle.mdl_system.specs.Strength.{covers}
 
--- a wait that isn't ended: its number, and the place and the mode that are waited for
+-- a wait that isn't ended: its number, and the place and the mode that the session waits for
 pub record Wait : Type 0 where
   pub number : ℕ
   pub place : ℕ
   pub mode : Mode
 
--- what a session has: its held tickets in order of gain, and its wait
+-- what a session has: its held tickets, in the order in which it got them, and its wait
 pub record Own : Type 0 where
   pub held : List Held
   pub wait : Option Wait
 
--- the last numbers that a session's tickets and waits were given
+-- the last numbers that were given to a session's tickets and waits
 pub record Numbers : Type 0 where
   pub last_ticket : ℕ
   pub last_wait : ℕ
 
--- the numbers of tickets rise: each is below all later ones
+-- whether the numbers of tickets rise: each is below all later ones
 abbrev pub are_rising : List Held → Bool
 are_rising [] = true
 are_rising (ticket ∷ later) = list_all (λ other. nat_lt ticket.id other.id) later && are_rising later
 
--- those of the held tickets do: no two are the same, and the last one gained has the greatest
+-- the numbers of the session's held tickets rise: no two are the same, and the newest ticket has the greatest
 abbrev pub IsRising : Own → Type 0
 IsRising own = IsTrue (are_rising own.held)
 
@@ -37,7 +37,7 @@ IsRising own = IsTrue (are_rising own.held)
 abbrev pub is_number : ℕ → Held → Bool
 is_number id ticket = ticket.id == id
 
--- the held ticket of a number
+-- the held ticket of a number, if there is one
 abbrev pub ticket_held : ℕ → Own → Option Held
 ticket_held id own = find (is_number id) own.held
 
@@ -45,55 +45,55 @@ ticket_held id own = find (is_number id) own.held
 abbrev pub holds : ℕ → Own → Bool
 holds id own = is_some (ticket_held id own)
 
--- the number of the wait
+-- the number of the session's wait, if it has one
 abbrev pub wait_number : Own → Option ℕ
 wait_number own = option_map (λ wait. wait.number) own.wait
 
--- whether there is a wait
+-- whether the session has a wait
 abbrev pub is_waiting : Own → Bool
 is_waiting own = is_some own.wait
 
--- with one more ticket
+-- what the session has after it got one more ticket
 abbrev pub gaining : ℕ → ℕ → Mode → Own → Own
 gaining id place mode own = record own { held = own.held ++ record { id = id; place = place; mode = mode } ∷ [] }
 
--- with a wait
+-- what it has after a wait began
 abbrev pub waiting : ℕ → ℕ → Mode → Own → Own
 waiting number place mode own = record own { wait = Some (record { number = number; place = place; mode = mode }) }
 
--- without the wait
+-- what it has after its wait ended without a ticket
 abbrev pub ending : Own → Own
 ending own = record own { wait = None }
 
--- without the wait, and with the ticket that was waited for
+-- what it has after its wait ended with the ticket that it waited for
 abbrev pub winning : ℕ → Option Wait → Own → Own
 winning id None own = own
 winning id (Some wait) own = gaining id wait.place wait.mode (ending own)
 
--- without a ticket
+-- what it has after it released a ticket
 abbrev pub giving_up : ℕ → Own → Own
 giving_up id own = record own { held = filter (λ ticket. not (is_number id ticket)) own.held }
 
--- with a second ticket of a held one's place
+-- what it has after it got a second ticket at a held one's place
 abbrev pub cloning : ℕ → Mode → Option Held → Own → Own
 cloning id mode None own = own
 cloning id mode (Some ticket) own = gaining id ticket.place mode own
 
--- with a ticket in another mode
+-- what it has after a ticket's mode was changed
 abbrev pub changing : ℕ → (Mode → Mode) → Own → Own
 changing id change own =
     record own { held = map (λ ticket. if is_number id ticket then record ticket { mode = change ticket.mode } else ticket) own.held }
 
--- the mode of a ticket after it was upgraded to one: what covers that already stays
+-- the mode of a ticket after its upgrade to a mode: a held mode that covers that already stays
 abbrev pub upgraded : Mode → Mode → Mode
 upgraded mode held = if covers held mode then held else mode
 
--- with a ticket in the mode of another, which is given up
+-- what it has after a ticket got the mode of another one, which was released
 abbrev pub merging : ℕ → ℕ → Option Held → Own → Own
 merging old new None own = own
 merging old new (Some ticket) own = changing old (λ _. ticket.mode) (giving_up new own)
 
--- what a call with this answer does to what its caller has. What isn't named here changes nothing.
+-- what the caller has after a call with this answer. Calls and answers that aren't named here change nothing.
 abbrev pub own_after : Call → Answer → Own → Own
 own_after (Try_now who place mode) (Granted id) own = gaining id place mode own
 own_after (Begin_wait who place mode) (Granted id) own = gaining id place mode own
@@ -107,24 +107,24 @@ own_after (Merge who old new) Done own = merging old new (ticket_held new own) o
 own_after (Downgrade who id mode) Done own = changing id (λ _. mode) own
 own_after _ _ own = own
 
--- with a number for a ticket
+-- the last numbers after one more ticket got a number
 abbrev pub ticket_drawn : Numbers → Numbers
 ticket_drawn numbers = record numbers { last_ticket = numbers.last_ticket + 1 }
 
--- with a number for a wait, and one for the ticket that waits
+-- the last numbers after a wait got a number, and the ticket that waits got one
 abbrev pub wait_drawn : Numbers → Numbers
 wait_drawn numbers = record { last_ticket = numbers.last_ticket + 1; last_wait = numbers.last_wait + 1 }
 
--- a ticket is given the next number
+-- a ticket gets the next number
 abbrev pub DrawsTicket : ℕ → Numbers → Numbers → Type 0
 DrawsTicket id before after = (id ≡ before.last_ticket + 1) × (after ≡ ticket_drawn before)
 
--- a wait is
+-- a wait gets the next number, and its ticket gets one
 abbrev pub DrawsWait : ℕ → Numbers → Numbers → Type 0
 DrawsWait number before after = (number ≡ before.last_wait + 1) × (after ≡ wait_drawn before)
 
--- which numbers a call with this answer gives its caller. What isn't named here gives none. The ticket of a wait that is ended
--- has the number that it was given as the wait began, which is still the last one.
+-- which numbers the caller gets by a call with this answer. Calls and answers that aren't named here give none. The ticket of an
+-- ended wait has the number that it got when the wait began, which is still the last one.
 abbrev pub Draws : Call → Answer → Numbers → Numbers → Type 0
 Draws (Try_now who place mode) (Granted id) before after = DrawsTicket id before after
 Draws (Begin_wait who place mode) (Granted id) before after = DrawsTicket id before after

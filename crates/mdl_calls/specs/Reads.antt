@@ -1,4 +1,4 @@
--- What a session reads and changes under its tickets: the definition of a key, with its version. Which tables are told it.
+-- What a session reads and changes under its tickets: the version and definition of a key. And which tables of a schema it is given.
 use Rattle.std.specs.Prelude.{◌≡◌, ◌⊎◌, ℕ, ◌+◌, Bool, true, false, ◌&&◌, List, Option, Some, None, MatchOption, Contains, All, AllPairs}
 use Rattle.std.specs.Option.{option_map}
 use Rattle.std.specs.Str.{bytes_eq}
@@ -27,41 +27,41 @@ HoldsAt place own = (ticket : Held) × Contains own.held ticket × (ticket.place
 abbrev pub AwaitsAt : ℕ → Own → Type 0
 AwaitsAt place own = (wait : Wait) × (own.wait ≡ Some wait) × (wait.place ≡ place)
 
--- the ticket under which a call reads
+-- the number of the ticket under which a call reads, if it does
 abbrev pub read_under : Call → Option ℕ
 read_under (Read_definition who id) = Some id
 read_under (Read_kept who id) = Some id
 read_under _ = None
 
--- the place at which a call with this answer changed what stands there, for its caller
+-- the place whose definition a call with this answer changed, if it changed one
 abbrev pub redefined_place : Call → Answer → Own → Option ℕ
 redefined_place (Change_definition who id change) (Changed version) own = option_map (λ ticket. ticket.place) (ticket_held id own)
 redefined_place _ _ own = None
 
--- as a space says it, why what stands can't be changed so
+-- the error that a space returns if a definition can't be changed for this cause
 abbrev pub cause_of : ChangeError → SpaceError
 cause_of fault.VersionFull = VersionFull
 cause_of fault.WrongKind = WrongKind
 cause_of (fault.Def why) = Def why
 cause_of fault.OutOfMemory = OutOfMemory
 
--- what a change answers where this stood under the key: refused for its cause, if there is one, and else the next version; but
--- memory may run out before
+-- the answer to a change of a key that had this version and definition: a refusal for its cause, if there is one, and otherwise
+-- the next version. But memory may run out before that.
 abbrev pub IsChangeOf : KeyName → Change → Standing → Answer → Type 0
 IsChangeOf key change standing answer =
     (answer ≡ Refused OutOfMemory)
     ⊎ MatchOption (standing_fault key.namespace change standing) (answer ≡ Changed (standing.version + 1)) (λ why. answer ≡ Refused (cause_of why))
 
--- whether keys of a namespace are those of tables
+-- whether the keys of a namespace are those of tables
 abbrev pub is_of_tables : Namespace → Bool
 is_of_tables Table = true
 is_of_tables _ = false
 
--- whether a key is that of a table of this schema
+-- whether a key is a table's in this schema
 abbrev pub is_table_of : List ℕ → KeyName → Bool
 is_table_of schema key = is_of_tables key.namespace && bytes_eq key.schema schema
 
--- a session knows that a table of this schema has the place
+-- a session knows that the key of the place is a table's in this schema
 abbrev pub HasTableOf : Knowledge → List ℕ → ℕ → Type 0
 HasTableOf knows schema place = (table : List ℕ) × knows place (table_key schema table)
 
@@ -69,6 +69,6 @@ HasTableOf knows schema place = (table : List ℕ) × knows place (table_key sch
 abbrev pub ComesBefore : Knowledge → ℕ → ℕ → Type 0
 ComesBefore knows one other = (key later : KeyName) → knows one key → knows other later → key_cmp key later ≡ Less
 
--- tables of this schema, which the session knows, have these places, which are in the order of their keys, each once
+-- these are places of tables of this schema, as the session knows, in the order of their keys, each once
 abbrev pub AreTablesOf : Knowledge → List ℕ → List ℕ → Type 0
 AreTablesOf knows schema places = All (HasTableOf knows schema) places × AllPairs (ComesBefore knows) places

@@ -1,8 +1,8 @@
-//! The words of a lock space: its calls (`specs/Calls`), what they answer (`specs/Answers`), what each does to its caller
-//! (`specs/Own`), why it is refused (`specs/Causes`), how waits are settled (`specs/Waits`), and programs of calls (`specs/Runs`).
-//! The trait [`LockSpace`] is said in them.
+//! The trait [`LockSpace`], and the definitions that its contracts cite: its calls (`specs/Calls`), their answers
+//! (`specs/Answers`), what each call does to its caller (`specs/Own`), why a call is refused (`specs/Causes`), how waits are
+//! settled (`specs/Waits`), and programs of calls (`specs/Runs`).
 //!
-//! They say nothing of any one space: `CoreSpace` of `mdl_space` is one, and a `Session` of `mdl_shared` another.
+//! They apply to every space: `CoreSpace` of `mdl_space` is one, and a `Session` of `mdl_shared` another.
 //!
 //! # Example
 //!

@@ -7,31 +7,33 @@ use thiserror::Error;
 
 /// Why a call of a lock space is refused.
 ///
-/// Of several causes the first in this order is answered, but `WrongKind` goes before `Def`, and `OutOfMemory` may come
-/// before any. A refused call changes no held ticket, no definition and no wait.
+/// Of several causes the first in this order is returned, except that `WrongKind` comes before `Def`, and `OutOfMemory`
+/// may come before any. A refused call changes no held ticket, no definition and no wait.
 #[derive(Clone, Copy, Debug, PartialEq, Eq, Error)]
 pub enum SpaceError {
-    /// The place has no key, or none that the session has looked up (at the table that threads share), or there is no
-    /// place for one more key.
+    /// The place has no key, or (in the table that threads share) the session hasn't looked its key up, or there is no
+    /// place left for a new key.
     #[error("no such place")]
     NoPlace,
     /// The session holds no such ticket.
     #[error("no such ticket is held")]
     NotHeld,
-    /// The held mode can't become the other by an upgrade, or by a downgrade, or the place's kind doesn't have the other.
+    /// The held mode can't be upgraded to the requested one, or can't be downgraded to it, or the requested mode isn't
+    /// one of the place's kind.
     #[error("the held mode can't be changed so")]
     NotUpgradable,
-    /// A definition is changed only under an exclusive lock.
+    /// The ticket isn't held in mode `X`, which a change of the definition requires.
     #[error("not locked exclusively")]
     NotExclusive,
     /// The session has a wait that it hasn't ended.
     #[error("the session has a wait")]
     AlreadyWaiting,
-    /// The mode isn't one of the place's kind, or the held ticket isn't strong enough for it; or two tickets can't be
-    /// merged: they are one, of two places, or the one that goes is the weaker.
+    /// The mode isn't one of the place's kind, or the held ticket isn't strong enough to be cloned in it. Or two tickets
+    /// can't be merged: they are the same ticket, or of different places, or the one to be released isn't as strong as
+    /// the other.
     #[error("not a mode that the ticket can have")]
     BadMode,
-    /// The definition had as many versions as it can have.
+    /// The key has had as many versions as it can have.
     #[error("no version is left")]
     VersionFull,
     /// The session has no wait.
@@ -46,10 +48,10 @@ pub enum SpaceError {
     /// The lock has as many tickets as it can have.
     #[error("the lock has as many tickets as it can have")]
     Full,
-    /// The definition can't be changed so.
+    /// The change can't be made to the key's definition.
     #[error("{0}")]
     Def(DefError),
-    /// Nothing of this kind can stand under the key.
+    /// A key of this kind can't have such a definition.
     #[error("no definition for such a key")]
     WrongKind,
     /// Memory ran out.

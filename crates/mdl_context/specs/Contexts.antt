@@ -1,5 +1,5 @@
--- The tickets of a session by how long it keeps them, after MySQL 5.7: `MDL_context` of sql/mdl.h and sql/mdl.cc. That a mark
--- counts tickets, where MySQL points at the newest ones, is this project's own choice.
+-- The tickets of a session by duration, after MySQL 5.7: `MDL_context` of sql/mdl.h and sql/mdl.cc. MySQL's savepoints point at
+-- the newest tickets. That a mark counts tickets instead is this project's own choice.
 use Rattle.std.specs.Prelude.{◌≡◌, ◌≢◌, ℕ, Bool, true, false, not, ◌&&◌, ◌||◌, ◌==◌, nat_lt, List, ◌++◌, map, filter, find, drop, length, All, Option, None, MatchOption, IsTrue}
 use Rattle.std.specs.List.{last_or, list_any}
 use Rattle.std.specs.Map.{lookup}
@@ -20,21 +20,21 @@ use Rattle.mdl_context.specs.declared.kept.Kept.{Kept}
 use Rattle.mdl_context.specs.declared.kept.Wanted.{Wanted}
 use Rattle.mdl_context.specs.declared.request.Mark.{Mark}
 
--- a context: whose it is, its tickets in order of gain, the keys whose places it knows, in the order in which it came to know
--- them, and the wait that isn't ended
+-- a context: its session, the session's tickets in the order in which it got them, the keys with known places, in the order in
+-- which they became known, and the wait that isn't ended yet
 pub record ContextView : Type 0 where
   pub who : ℕ
   pub kept : List Kept
   pub known : List (KeyName × ℕ)
   pub wait : Option Wanted
 
--- the durations in their order
+-- the rank of a duration: statement, transaction, explicit
 abbrev pub duration_rank : Duration → ℕ
 duration_rank Statement = 0
 duration_rank Transaction = 1
 duration_rank Explicit = 2
 
--- whether a ticket is kept so long
+-- whether a ticket is kept for this duration
 abbrev pub lasts : Duration → Kept → Bool
 lasts duration ticket = duration_rank ticket.duration == duration_rank duration
 
@@ -42,24 +42,24 @@ lasts duration ticket = duration_rank ticket.duration == duration_rank duration
 abbrev pub held_for : Duration → List Kept → List Kept
 held_for duration kept = filter (lasts duration) kept
 
--- where the session stands now: how many tickets of the statement and of the transaction it keeps
+-- the session's current mark: how many tickets of the statement and of the transaction it keeps
 abbrev pub mark_of : List Kept → Mark
 mark_of kept = record { statement = length (held_for Statement kept); transaction = length (held_for Transaction kept) }
 
--- whether fewer are kept than a mark counted
+-- whether a mark is stale: fewer tickets of the statement or of the transaction are kept than it counted
 abbrev pub is_stale : Mark → List Kept → Bool
 is_stale mark kept = nat_lt (length (held_for Statement kept)) mark.statement || nat_lt (length (held_for Transaction kept)) mark.transaction
 
--- the tickets of a duration behind the first so many
+-- the tickets of a duration after the first `most`
 abbrev pub beyond : Duration → ℕ → List Kept → List Kept
 beyond duration most kept = drop most (held_for duration kept)
 
--- the tickets beyond what a mark counts: those of the statement first. Unless tickets have become transactional since, these are
--- the ones that were gained since
+-- the tickets beyond the counts of a mark, those of the statement first. Unless tickets have become transactional since the
+-- mark, these are the ones that were gained since
 abbrev pub beyond_mark : Mark → List Kept → List Kept
 beyond_mark mark kept = beyond Statement mark.statement kept ++ beyond Transaction mark.transaction kept
 
--- the tickets that end with a transaction: those of the statement first
+-- the tickets that end with a transaction, those of the statement first
 abbrev pub of_transaction : List Kept → List Kept
 of_transaction kept = held_for Statement kept ++ held_for Transaction kept
 
@@ -67,15 +67,15 @@ of_transaction kept = held_for Statement kept ++ held_for Transaction kept
 abbrev pub has_number : List Kept → ℕ → Bool
 has_number tickets id = list_any (λ ticket. ticket.id == id) tickets
 
--- the kept ticket of a number
+-- the kept ticket with a number, if there is one
 abbrev pub ticket_kept : ℕ → List Kept → Option Kept
 ticket_kept id kept = find (λ ticket. ticket.id == id) kept
 
--- the tickets that are left without those of these numbers
+-- the tickets of a list whose numbers don't occur in another list
 abbrev pub without : List Kept → List Kept → List Kept
 without gone kept = filter (λ ticket. not (has_number gone ticket.id)) kept
 
--- the place of a key, where it is known
+-- the place of a key, if it is known
 abbrev pub place_known : KeyName → List (KeyName × ℕ) → Option ℕ
 place_known key known = lookup (key_eq key) known
 
@@ -104,7 +104,7 @@ last_at place kept = last_or None (map (λ ticket. ticket.id) (filter (λ ticket
 abbrev pub last_ticket : KeyName → ContextView → Option ℕ
 last_ticket key context = option_and_then (λ place. last_at place context.kept) (place_known key context.known)
 
--- a kept ticket as the lock space holds it
+-- a kept ticket as the lock space shows it, without its duration
 abbrev pub held_of : Kept → Held
 held_of ticket = record { id = ticket.id; place = ticket.place; mode = ticket.mode }
 
@@ -119,23 +119,26 @@ wish_there wait = (wait.place, wait.mode)
 abbrev pub wish_here : Wanted → ℕ × Mode
 wish_here wanted = (wanted.place, wanted.mode)
 
--- a context keeps just the tickets that the session holds in the lock space, and waits for what it waits for there
+-- a context keeps exactly the tickets that the session holds in the lock space, and waits for the same place and mode as the
+-- session does there
 pub record Serves (own : Own) (context : ContextView) : Type 0 where
   pub held : own.held ≡ map held_of context.kept
   pub wait : option_map wish_there own.wait ≡ option_map wish_here context.wait
 
--- a ticket is at the place that is waited for, and the wanted mode is at least as strong as its own
+-- a wait can upgrade a ticket: the ticket is at the place that is waited for, and the wanted mode is at least as strong as its
+-- own
 abbrev pub IsUpgradedBy : Wanted → Kept → Type 0
 IsUpgradedBy wanted ticket = (ticket.place ≡ wanted.place) × (covers wanted.mode ticket.mode ≡ true)
 
--- what is waited for is at a known place, and where it is to upgrade a ticket, that is kept there, in a mode that isn't stronger
+-- a wait is for a known place. If it is to upgrade a ticket, that ticket is kept at this place, and the wanted mode is at least
+-- as strong as its own
 abbrev pub IsAwaited : List (KeyName × ℕ) → List Kept → Wanted → Type 0
 IsAwaited known kept wanted =
     (is_known_place known wanted.place ≡ true) × IfSome wanted.upgrades (λ id. MatchOption (ticket_kept id kept) ⊥ (IsUpgradedBy wanted))
 
--- the lock space speaks for the context's session, and the context keeps what that has there. The session knows each place that
--- the context knows, with its key; and each ticket is at one of these places, and so is what is waited for. The members are what
--- the space gives the trait
+-- the lock space speaks for the context's session, and the context keeps what the session has there. The session knows each
+-- place that the context knows, with its key. Each ticket is at one of these places, and so is the wait. The members are the
+-- space's definitions of the trait `LockSpace`
 pub record Attends {S : Type 0} (members : Ghosts S) (space : S) (context : ContextView) : Type 0 where
   pub speaks : members.speaks_for space context.who
   pub serves : Serves (members.own space context.who) context
@@ -147,14 +150,14 @@ pub record Attends {S : Type 0} (members : Ghosts S) (space : S) (context : Cont
 abbrev pub IsSettled : {S : Type 0} → (S → ℕ → Settled → Type 0) → S → ℕ → Type 0
 IsSettled is_settled space who = (how : Settled) × is_settled space who how
 
--- a lock space goes on to speak for each of its sessions, and what the session has met stays met
+-- a lock space still speaks for each of its sessions, and the standings that a session has met stay met
 abbrev pub KeepsMet : {S : Type 0} → Ghosts S → S → S → Type 0
 KeepsMet members before after =
     (w : ℕ) → members.speaks_for before w →
     members.speaks_for after w × ((place : ℕ) (standing : Standing) → members.has_met before w place standing → members.has_met after w place standing)
 
--- a lock space goes on to speak for all sessions but one, and nothing changes for them: each has what it had, and knows what it
--- knew. What any session has met stays met
+-- a lock space still speaks for all sessions except one, and nothing changes for them: each has what it had, and knows what it
+-- knew. The standings that any session has met stay met
 abbrev pub LeavesOthers : {S : Type 0} → Ghosts S → ℕ → S → S → Type 0
 LeavesOthers members who before after =
     ((w : ℕ) → w ≢ who → members.speaks_for before w →

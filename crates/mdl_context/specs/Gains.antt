@@ -1,5 +1,6 @@
 -- How a space is asked for a lock at a place, after MySQL 5.7: `MDL_context::try_acquire_lock_impl`, `clone_ticket` and
--- `acquire_lock` of sql/mdl.cc. That searches for deadlocks are cut off after so many is this project's own choice.
+-- `acquire_lock` of sql/mdl.cc. That searches for deadlocks are cut off after a number of them is this project's own
+-- choice.
 use Rattle.std.specs.Prelude.{◌≡◌, ℕ, true, false, Option, Some, None, Result, Ok, Err}
 use Rattle.mdl_key.specs.declared.mode.Mode.{Mode}
 use Rattle.mdl_calls.specs.declared.answers.Held.{Held}
@@ -12,84 +13,86 @@ use Rattle.mdl_context.specs.declared.asking.Got.TheVariants as got
 use Rattle.mdl_context.specs.declared.request.Tried.{Tried}
 use Rattle.mdl_context.specs.declared.request.Tried.TheVariants as try_as
 
--- the refusal that an answer is. An answer that is none doesn't come here.
+-- the refusal that an answer is. It is only applied to refusals
 abbrev pub refusal_of : Answer → SpaceError
 refusal_of (Refused refusal) = refusal
 refusal_of _ = WrongKind
 
--- the end of a wait that isn't wanted any more is answered: a ticket that it gained is released
+-- the rest of giving up a wait, once its end is answered: a ticket that it gained is released
 abbrev pub unwanted_end_answered : ℕ → Answer → Program (Unit {0})
 unwanted_end_answered who (Granted id) = Ask (Release who id) (λ _. Give tt)
 unwanted_end_answered who _ = Give tt
 
--- a wait is given up, unless it was settled before, and ended without a ticket
+-- the session's wait is given up, unless it is settled already, and ended without a ticket
 abbrev pub abandoning : ℕ → Program (Unit {0})
 abandoning who = Ask (Settle_timeout who) (λ _. Ask (End_wait who) (unwanted_end_answered who))
 
--- the copy of a ticket is answered
+-- the result of cloning a ticket, from what the space answered
 abbrev pub copy_answered : Answer → Program (Result Got SpaceError)
 copy_answered (Granted id) = Give (Ok (got.Granted id))
 copy_answered answer = Give (Err (refusal_of answer))
 
--- deadlocks were searched for after a wait began: where a search was refused, there is no wait
+-- the result of the searches that follow the start of a wait. If a search was refused, the wait is given up
 abbrev pub wish_sought : ℕ → ℕ → SearchEnd → Program (Result Got SpaceError)
 wish_sought who number Over = Give (Ok (got.Waits number true))
 wish_sought who number Cut_off = Give (Ok (got.Waits number false))
 wish_sought who number (Failed refusal) = abandoning who >> Give (Err refusal)
 
--- a wait has begun, and deadlocks are searched for
+-- a wait has begun, and the session searches for deadlocks
 abbrev pub waiting_on : ℕ → ℕ → Program (Result Got SpaceError)
 waiting_on who number = seeking most_searches who >>= wish_sought who number
 
--- the wish for a ticket is answered: where it begins a wait, deadlocks are searched for
+-- the rest of a request once the space has answered it: if it begins a wait, the session searches for deadlocks
 abbrev pub wish_answered : ℕ → Answer → Program (Result Got SpaceError)
 wish_answered who (Granted id) = Give (Ok (got.Granted id))
 wish_answered who (Waits number) = waiting_on who number
 wish_answered who answer = Give (Err (refusal_of answer))
 
--- the ticket is asked for, and waited for where it can't be had at once
+-- a ticket is requested, and waited for if it can't be granted at once
 abbrev pub waiting_at : ℕ → ℕ → Mode → Program (Result Got SpaceError)
 waiting_at who place mode = Ask (Begin_wait who place mode) (wish_answered who)
 
--- whether it can be had at once is answered
+-- the rest of a request once the space has answered whether it can be granted at once: if it can't, the session begins
+-- to wait
 abbrev pub try_answered : ℕ → ℕ → Mode → Answer → Program (Result Got SpaceError)
 try_answered who place mode (Granted id) = Give (Ok (got.Granted id))
 try_answered who place mode Would_wait = waiting_at who place mode
 try_answered who place mode answer = Give (Err (refusal_of answer))
 
--- the ticket is asked for, without waiting first: that is where a space has its fast path
+-- a ticket is requested, at first without waiting: this call is where a space has its fast path
 abbrev pub asking_at : ℕ → ℕ → Mode → Program (Result Got SpaceError)
 asking_at who place mode = Ask (Try_now who place mode) (try_answered who place mode)
 
--- a ticket is cloned where there is one, and else a new one is asked for
+-- a given ticket is cloned. If there is none, a new one is requested
 abbrev pub gaining_from : Option Held → ℕ → ℕ → Mode → Program (Result Got SpaceError)
 gaining_from (Some ticket) who place mode = Ask (Clone_ticket who ticket.id mode) copy_answered
 gaining_from None who place mode = asking_at who place mode
 
--- whether a ticket can be had at once is answered, where the session doesn't wait
+-- the result of a request that doesn't wait, from what the space answered
 abbrev pub tried_answered : Answer → Program (Result Tried SpaceError)
 tried_answered (Granted id) = Give (Ok (try_as.Acquired id))
 tried_answered Would_wait = Give (Ok try_as.WouldWait)
 tried_answered answer = Give (Err (refusal_of answer))
 
--- a ticket is cloned where there is one, and else a new one is asked for, and not waited for
+-- a given ticket is cloned. If there is none, a new one is requested, and not waited for
 abbrev pub trying_from : Option Held → ℕ → ℕ → Mode → Program (Result Tried SpaceError)
 trying_from (Some ticket) who place mode = Ask (Clone_ticket who ticket.id mode) tried_answered
 trying_from None who place mode = Ask (Try_now who place mode) tried_answered
 
--- what the session has after a lock at a place was asked for
+-- what the session has after a request for a lock at a place
 abbrev pub own_got : ℕ → Mode → Result Got SpaceError → Own → Own
 own_got place mode (Ok (got.Granted id)) own = owned.gaining id place mode own
 own_got place mode (Ok (got.Waits number searched)) own = owned.waiting number place mode own
 own_got place mode (Err refusal) own = own
 
--- and what it has that waited meanwhile, by a wait of this number
+-- what the session has after the searches that follow the start of a wait with this number: the wait, or after a
+-- refusal none
 abbrev pub OwnWaited : ℕ → Result Got SpaceError → Own → Own → Type 0
 OwnWaited number (Ok (got.Granted id)) before after = ⊥
 OwnWaited number (Ok (got.Waits n searched)) before after = (n ≡ number) × (after ≡ before)
 OwnWaited number (Err refusal) before after = after ≡ owned.ending before
 
--- what the session has after it asked for a lock and didn't wait
+-- what the session has after a request that doesn't wait
 abbrev pub own_tried : ℕ → Mode → Result Tried SpaceError → Own → Own
 own_tried place mode (Ok (try_as.Acquired id)) own = owned.gaining id place mode own
 own_tried place mode _ own = own

@@ -1,4 +1,4 @@
--- Which tickets are given up, as the code of a context tells it.
+-- Which tickets are released, as the code of a context represents it.
 use Rattle.std.specs.Prelude.{Bool, ◌&&◌, nat_le}
 use Rattle.mdl_context.specs.declared.kept.Kept.{Kept}
 use Rattle.mdl_context.specs.declared.going.Going.{Going}
@@ -6,7 +6,7 @@ use Rattle.mdl_context.specs.declared.going.Going.TheVariants.{From, At}
 use Rattle.mdl_context.specs.Contexts.{lasts}
 use Rattle.mdl_context.specs.Holdings.{is_at}
 
--- whether a ticket is given up
+-- whether a ticket is to be released
 abbrev pub goes : Going → Kept → Bool
 goes (From duration id) ticket = lasts duration ticket && nat_le id ticket.id
 goes (At place) ticket = is_at place ticket

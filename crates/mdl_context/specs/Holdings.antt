@@ -1,4 +1,4 @@
--- What a context keeps of its session's tickets and wait, as its own code sees it.
+-- A context's tickets and wait, as its own code represents them.
 use Rattle.std.specs.Prelude.{◌≡◌, ℕ, Bool, true, not, ◌&&◌, ◌==◌, List, [], ◌∷◌, ◌++◌, map, filter, find, Option, Some, None, if◌then◌else◌}
 use Rattle.std.specs.Option.{option_map}
 use Rattle.mdl_key.specs.declared.mode.Mode.{Mode}
@@ -12,8 +12,8 @@ use Rattle.mdl_context.specs.Wishes.{Wish}
 use Rattle.mdl_context.specs.Contexts.{ContextView, held_of, is_user_lock}
 use Rattle.mdl_context.specs.Indexes.{Index, numbers_of, has_room_for}
 
--- the kept tickets in order of gain, the known places, the tickets' numbers by place, the wait, and whether there is a place for
--- one more ticket
+-- the kept tickets in the order in which the session got them, the known places, the tickets' numbers by place, the wait, and
+-- whether the list has room for one more ticket
 pub record HoldingsView : Type 0 where
   pub kept : List Kept
   pub known : List (KeyName × ℕ)
@@ -21,7 +21,7 @@ pub record HoldingsView : Type 0 where
   pub wait : Option Wanted
   pub has_place : Bool
 
--- the context that keeps this for a session
+-- a session's context with these tickets, places and wait
 abbrev pub context_of : ℕ → HoldingsView → ContextView
 context_of who holdings = record { who = who; kept = holdings.kept; known = holdings.known; wait = holdings.wait }
 
@@ -33,7 +33,7 @@ is_ticket id ticket = ticket.id == id
 abbrev pub without_number : ℕ → List Kept → List Kept
 without_number id kept = filter (λ ticket. not (is_ticket id ticket)) kept
 
--- the tickets, with another mode for that of a number
+-- the tickets, with the mode of the one with this number changed
 abbrev pub in_mode : ℕ → (Mode → Mode) → List Kept → List Kept
 in_mode id change kept = map (λ ticket. if is_ticket id ticket then record ticket { mode = change ticket.mode } else ticket) kept
 
@@ -41,11 +41,11 @@ in_mode id change kept = map (λ ticket. if is_ticket id ticket then record tick
 abbrev pub is_at : ℕ → Kept → Bool
 is_at place ticket = ticket.place == place
 
--- the numbers of a place's tickets, in order of gain
+-- the numbers of a place's tickets, in the order in which the session got them
 abbrev pub numbers_among : ℕ → List Kept → List ℕ
 numbers_among place kept = map (λ ticket. ticket.id) (filter (is_at place) kept)
 
--- an index has just the tickets' numbers, at their places
+-- an index has exactly the tickets' numbers, at their places
 abbrev pub IsIndexOf : List Kept → Index → Type 0
 IsIndexOf kept index = (place : ℕ) → numbers_of place index ≡ numbers_among place kept
 
@@ -53,25 +53,25 @@ IsIndexOf kept index = (place : ℕ) → numbers_of place index ≡ numbers_amon
 abbrev pub has_room : ℕ → HoldingsView → Bool
 has_room place holdings = holdings.has_place && has_room_for place holdings.index
 
--- the earliest ticket that passes a test, as the lock space holds it
+-- the earliest ticket that passes a test, as the lock space shows it
 abbrev pub earliest : (Kept → Bool) → List Kept → Option Held
 earliest test kept = option_map held_of (find test kept)
 
--- a ticket that is kept for another duration
+-- a ticket with its duration replaced
 abbrev pub kept_for : Duration → Kept → Kept
 kept_for duration ticket = record ticket { duration = duration }
 
--- how long a ticket lasts where it ends with the transaction
+-- the duration of a ticket once it may last no longer than the transaction
 abbrev pub in_transaction : Duration → Duration
 in_transaction Explicit = Transaction
 in_transaction duration = duration
 
--- a ticket that ends with the transaction, unless it is of a user-level lock: that stays as it is
+-- a ticket once it may last no longer than the transaction. A ticket of a user-level lock is unchanged
 abbrev pub transactional : List (KeyName × ℕ) → Kept → Kept
 transactional known ticket =
     if is_user_lock known ticket.place then ticket else kept_for (in_transaction ticket.duration) ticket
 
--- the ticket that a request gains
+-- the ticket that a request gets
 abbrev pub kept_of : ℕ → ℕ → Wish → Kept
 kept_of id place request = record { id = id; place = place; mode = request.mode; duration = request.duration }
 
@@ -79,17 +79,17 @@ kept_of id place request = record { id = id; place = place; mode = request.mode;
 abbrev pub wanted_of : ℕ → Wish → Bool → Wanted
 wanted_of place request searched = record { place = place; mode = request.mode; duration = request.duration; upgrades = None; searched = searched }
 
--- the ticket by which another one is to be upgraded
+-- the wait for the second ticket of an upgrade
 abbrev pub wanted_upgrade : Kept → Mode → Bool → Wanted
 wanted_upgrade ticket mode searched =
     record { place = ticket.place; mode = mode; duration = ticket.duration; upgrades = Some ticket.id; searched = searched }
 
--- which ticket a wait is to upgrade, and to which mode, where it is
+-- the ticket that a wait is to upgrade, and the new mode, if the wait is for an upgrade
 abbrev pub upgrade_of : Option Wanted → Option (ℕ × Mode)
 upgrade_of None = None
 upgrade_of (Some wanted) = option_map (λ id. (id, wanted.mode)) wanted.upgrades
 
--- the same wish, for which the searches are over
+-- the same wait, noting that its searches are over
 abbrev pub search_over : Wanted → Wanted
 search_over wanted = record wanted { searched = true }
 

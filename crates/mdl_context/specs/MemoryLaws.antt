@@ -1,6 +1,6 @@
--- What want of memory does to the calls of a context. Once memory was wanting, a wish for a lock answers that and nothing else,
--- and so do an upgrade and a wait that goes on; all that gives something up takes no memory, but for a wait that upgrades a ticket. So over the space of one thread each answer that
--- isn't want of memory is the one that the definitions name.
+-- What happens to the calls of a context if memory runs out. A request for a lock then reports that and nothing else, and so do an upgrade
+-- and a wait that goes on. Calls that release or weaken tickets, or give up a wait, take no memory, unless the wait is for an upgrade. So
+-- over the space of one thread each answer other than out of memory is the one that the definitions name.
 use Rattle.std.specs.Prelude.{◌≡◌, ℕ, true, List, Some, None, Err}
 use Rattle.mdl_key.specs.declared.mode.Mode.{Mode}
 use Rattle.mdl_key.specs.Keys.{KeyName}
@@ -20,12 +20,12 @@ use Rattle.mdl_context.specs.Requests.{Outcome, acquiring, trying}
 use Rattle.mdl_context.specs.Upgrades.{upgrading, downgrading}
 use Rattle.mdl_context.specs.Waits.{is_searched, resuming, giving_up_wait}
 
--- a call of a context was refused for want of memory
+-- a call of a context was refused because memory ran out
 abbrev pub IsStarved : {A : Type 0} → Outcome A → Type 0
 IsStarved outcome = outcome.0 ≡ Err (Space OutOfMemory)
 
--- this is so of each program by which a context gives up its wait, unless that is for an upgrade, since a merge may follow then; its
--- tickets, whether it may be refused or not; or the strength of one
+-- a property holds of each program by which a context gives up its wait (unless the wait is for an upgrade, since a merge may follow
+-- then), releases tickets, whether it may be refused or not, or weakens one
 abbrev pub EachEnding : ((A : Type 0) → Program A → Type 0) → ContextView → Type 0
 EachEnding P context =
     (upgrade_of context.wait ≡ None → P _ (giving_up_wait context))
@@ -37,32 +37,32 @@ EachEnding P context =
     × ((gone : List Kept) → P _ (giving_up gone context))
     × ((id : ℕ) (mode : Mode) → P _ (downgrading id mode context))
 
--- once memory was wanting, a wish for a lock answers that, whether it is waited for or not
+-- a request for a lock that runs out of memory reports that, whether it waits or not
 abbrev pub WishesTellOfWant : Type 0
 WishesTellOfWant =
     (request : Wish) (context : ContextView) → IsFaithful IsStarved (acquiring request context) × IsFaithful IsStarved (trying request context)
 
--- so does an upgrade
+-- an upgrade that runs out of memory reports that
 abbrev pub UpgradesTellOfWant : Type 0
 UpgradesTellOfWant = (id : ℕ) (mode : Mode) (context : ContextView) → IsFaithful IsStarved (upgrading id mode context)
 
--- so does a wait that goes on or is given up. To go on takes no memory where its searches for deadlocks are over and it isn't for an
--- upgrade
+-- a wait that goes on or is given up and runs out of memory reports that. To go on takes no memory if its searches for deadlocks are over
+-- and it isn't for an upgrade
 abbrev pub WaitsTellOfWant : Type 0
 WaitsTellOfWant =
     (context : ContextView) →
     IsFaithful IsStarved (resuming context) × IsFaithful IsStarved (giving_up_wait context)
     × (is_searched context.wait ≡ Some true → upgrade_of context.wait ≡ None → IsFrugal (resuming context))
 
--- to give up a wait that isn't for an upgrade, tickets or their strength takes no memory
+-- giving up a wait that isn't for an upgrade, releasing tickets and weakening them take no memory
 abbrev pub EndingsTakeNoMemory : Type 0
 EndingsTakeNoMemory = (context : ContextView) → EachEnding (λ A program. IsFrugal program) context
 
--- a call is made for this session, and one that the space of one thread has
+-- a call is made for this session, and is one that the space of one thread has
 abbrev pub IsOwnCall : ℕ → Call → Type 0
 IsOwnCall who call = (caller call ≡ Some who) × (has_call call ≡ true)
 
--- all calls of a context are such ones, of its session
+-- all calls of a context are such calls, for its session
 abbrev pub ContextsCallForTheirSession : Type 0
 ContextsCallForTheirSession =
     (context : ContextView) →
@@ -77,24 +77,24 @@ abbrev pub IsSure : {A : Type 0} → Program A → Type 0
 IsSure {A} program =
     (a b : Core) (reply : A) → Runs Joins a program reply b → outcome_of outcome program a ≡ (reply, b)
 
--- each run is, unless its reply is such a fault
+-- over the space of one thread each run of a program is its outcome, unless its reply is such a fault
 abbrev pub IsSureUnless : {A : Type 0} → (A → Type 0) → Program A → Type 0
 IsSureUnless {A} IsFault program =
     (a b : Core) (reply : A) → Runs Joins a program reply b → (IsFault reply → ⊥) → outcome_of outcome program a ≡ (reply, b)
 
--- what a wish for a lock answers, the context and the space after it are the outcome, unless memory was wanting
+-- the answer to a request for a lock, the context and the space after it are the outcome, unless memory ran out
 abbrev pub SureWishes : Type 0
 SureWishes =
     (request : Wish) (context : ContextView) → IsSureUnless IsStarved (acquiring request context) × IsSureUnless IsStarved (trying request context)
 
--- and so for an upgrade
+-- the same for an upgrade
 abbrev pub SureUpgrades : Type 0
 SureUpgrades = (id : ℕ) (mode : Mode) (context : ContextView) → IsSureUnless IsStarved (upgrading id mode context)
 
--- and so for a wait that goes on or is given up
+-- the same for a wait that goes on or is given up
 abbrev pub SureWaits : Type 0
 SureWaits = (context : ContextView) → IsSureUnless IsStarved (resuming context) × IsSureUnless IsStarved (giving_up_wait context)
 
--- where a wait that isn't for an upgrade, tickets or their strength are given up, they always are
+-- giving up a wait that isn't for an upgrade, releasing tickets and weakening them always have that outcome
 abbrev pub SureEndings : Type 0
 SureEndings = (context : ContextView) → EachEnding (λ A program. IsSure program) context

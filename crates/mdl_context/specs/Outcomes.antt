@@ -1,4 +1,4 @@
--- What an upgrade and a wait come to, whatever the lock space answers, after MySQL 5.7: `MDL_context::upgrade_shared_lock` and
+-- What an upgrade and a wait result in, whatever the lock space answers, after MySQL 5.7: `MDL_context::upgrade_shared_lock` and
 -- `MDL_context::acquire_lock` of sql/mdl.cc.
 use Rattle.std.specs.Prelude.{◌≡◌, ℕ, Bool, true, Option, Some, None, Ok, Err}
 use Rattle.mdl_key.specs.declared.mode.Mode.{Mode}
@@ -15,38 +15,38 @@ use Rattle.mdl_context.specs.Requests.{Outcome}
 use Rattle.mdl_context.specs.Upgrades.{with_mode, awaiting_upgrade, upgrading}
 use Rattle.mdl_context.specs.Waits.{without_wait, taking_up, resuming, giving_up_wait}
 
--- one ticket has another mode, at least as strong as this one, and nothing else changed: it keeps its number and its duration
+-- one ticket has a mode at least as strong as this one, and nothing else changed: it keeps its number and its duration
 abbrev pub IsRaised : ℕ → Mode → ContextView → ContextView → Type 0
 IsRaised id mode before after =
     (change : Mode → Mode) × ((held : Mode) → covers (change held) mode ≡ true) × (after ≡ with_mode id change before)
 
--- what an upgrade comes to: the ticket is as strong as was wished; or the session waits to have it so, and nothing else changed; or it
--- is refused, and nothing changed at all
+-- the result of an upgrade: the ticket is as strong as the request asks, or the session waits for that, and nothing else changed, or the
+-- upgrade is refused, and nothing changed at all
 abbrev pub UpgradeComesTo : ℕ → Mode → ContextView → Outcome Acquire → Type 0
 UpgradeComesTo id mode before (Ok (Acquired told), after) = (told ≡ id) × IsRaised id mode before after
 UpgradeComesTo id mode before (Ok (MustWait number), after) =
     (ticket : Kept) × (searched : Bool) × (ticket_kept id before.kept ≡ Some ticket) × (after ≡ awaiting_upgrade ticket mode searched before)
 UpgradeComesTo id mode before (Err error, after) = after ≡ before
 
--- a granted wait: the ticket that was waited for is kept; or that which it was to upgrade has the mode that was waited for, and nothing
--- else changed
+-- a granted wait: the ticket that was waited for is kept, or the ticket to upgrade has the mode that was waited for, and nothing else
+-- changed
 abbrev pub IsWon : Option (ℕ × Mode) → ℕ → ContextView → ContextView → Type 0
 IsWon None told before after = after ≡ taking_up told before
 IsWon (Some (id, mode)) told before after = (told ≡ id) × (after ≡ with_mode id (λ _. mode) (without_wait before))
 
--- what a wait comes to: while it stands, and where it is lost, all tickets are kept as they were, each for as long as before; where it
--- is granted, it is won. Where it fails, they are kept as well
+-- the result of a wait: while it isn't settled, and if it is lost or fails, all tickets and their durations are unchanged. If it is
+-- granted, `IsWon` says what changed
 abbrev pub WaitComesTo : ContextView → Outcome Resume → Type 0
 WaitComesTo before (Ok resume_as.Waiting, after) = without_wait after ≡ without_wait before
 WaitComesTo before (Ok (resume_as.Acquired told), after) = IsWon (upgrade_of before.wait) told before after
 WaitComesTo before (Ok (resume_as.Lost how), after) = after ≡ without_wait before
 WaitComesTo before (Err error, after) = without_wait after ≡ without_wait before
 
--- each upgrade comes to that
+-- each upgrade has such a result
 abbrev pub UpgradesAreMet : Type 0
 UpgradesAreMet = (id : ℕ) (mode : Mode) (context : ContextView) → Each (UpgradeComesTo id mode context) (upgrading id mode context)
 
--- and each wait, whether the session goes on with it or gives it up
+-- each wait has such a result, whether the session goes on with it or gives it up
 abbrev pub WaitsAreMet : Type 0
 WaitsAreMet =
     (context : ContextView) → Each (WaitComesTo context) (resuming context) × Each (WaitComesTo context) (giving_up_wait context)

@@ -1,7 +1,8 @@
--- How a session gives tickets up, after MySQL 5.7: `MDL_context::release_lock`, `release_all_locks_for_name`,
--- `rollback_to_savepoint`, `release_statement_locks` and `release_transactional_locks` of sql/mdl.cc. That the tickets of each
--- duration go in order of gain, where MySQL's go the other way round, that those of a key go whatever their duration, and each
--- refusal, is this project's own choice.
+-- How a session releases tickets, after MySQL 5.7: `MDL_context::release_lock`, `release_all_locks_for_name`,
+-- `rollback_to_savepoint`, `release_statement_locks` and `release_transactional_locks` of sql/mdl.cc. Three things are
+-- this project's own choice. The tickets of each duration are released in the order in which the session got them, where
+-- MySQL releases them in reverse order. The tickets of a key are released whatever their duration. All refusals are its
+-- own.
 use Rattle.std.specs.Prelude.{ℕ, List, [], ◌∷◌, filter, not, Option, Some, None, is_some, Ok, Err, if◌then◌else◌}
 use Rattle.mdl_key.specs.declared.mode.Duration.TheVariants.{Statement}
 use Rattle.mdl_key.specs.Keys.{KeyName}
@@ -14,59 +15,59 @@ use Rattle.mdl_context.specs.Contexts.{ContextView, held_for, is_stale, beyond_m
 use Rattle.mdl_context.specs.Holdings.{is_at, without_number}
 use Rattle.mdl_context.specs.Requests.{Outcome}
 
--- tickets are released, one after the other
+-- the program that releases tickets, one after the other
 abbrev pub releasing_all : ℕ → List Kept → Program (Unit {0})
 releasing_all who [] = Give tt
 releasing_all who (ticket ∷ tickets) = Ask (Release who ticket.id) (λ _. releasing_all who tickets)
 
--- a context gives tickets up, and keeps the others
+-- the program by which a context releases tickets and keeps the others
 abbrev pub giving_up : List Kept → ContextView → Program (Outcome (Unit {0}))
 giving_up gone context = releasing_all context.who gone >> Give (Ok tt, record context { kept = without gone context.kept })
 
--- refused by the fault, where there is one
+-- a program, or if there is a fault, a refusal for it
 abbrev pub unless : {A : Type 0} → Option ContextError → ContextView → Program (Outcome A) → Program (Outcome A)
 unless (Some fault) context program = Give (Err fault, context)
 unless None context program = program
 
--- why a context that waits is refused
+-- why a call that a waiting context can't make is refused, if the context waits
 abbrev pub waiting_fault : ContextView → Option ContextError
 waiting_fault context = if is_some context.wait then Some Waiting else None
 
--- why a ticket can't be released
+-- why a ticket can't be released, if it can't
 abbrev pub release_fault : ℕ → ContextView → Option ContextError
 release_fault id context = if not (has_number context.kept id) then Some NotHeld else waiting_fault context
 
--- why the session can't go back to a mark
+-- why the session can't go back to a mark, if it can't
 abbrev pub rollback_fault : Mark → ContextView → Option ContextError
 rollback_fault mark context = if is_stale mark context.kept then Some StaleSavepoint else waiting_fault context
 
--- a ticket is released
+-- the program that releases one ticket
 abbrev pub releasing : ℕ → ContextView → Program (Outcome (Unit {0}))
 releasing id context =
     unless (release_fault id context) context
     (Ask (Release context.who id) (λ _. Give (Ok tt, record context { kept = without_number id context.kept })))
 
--- the tickets at the place of a key: none where that isn't known
+-- the tickets at the place of a key, none if the place isn't known
 abbrev pub at_known_place : Option ℕ → List Kept → List Kept
 at_known_place None kept = []
 at_known_place (Some place) kept = filter (is_at place) kept
 
--- all tickets of a key are released
+-- the program that releases all tickets of a key
 abbrev pub releasing_name : KeyName → ContextView → Program (Outcome (Unit {0}))
 releasing_name key context = unless (waiting_fault context) context (giving_up (at_known_place (place_known key context.known) context.kept) context)
 
--- the session goes back to a mark
+-- the program that goes back to a mark
 abbrev pub rolling_back : Mark → ContextView → Program (Outcome (Unit {0}))
 rolling_back mark context = unless (rollback_fault mark context) context (giving_up (beyond_mark mark context.kept) context)
 
--- a statement ends
+-- the program that ends a statement
 abbrev pub ending_statement : ContextView → Program (Outcome (Unit {0}))
 ending_statement context = unless (waiting_fault context) context (giving_up (held_for Statement context.kept) context)
 
--- a transaction ends
+-- the program that ends a transaction
 abbrev pub ending_transaction : ContextView → Program (Outcome (Unit {0}))
 ending_transaction context = unless (waiting_fault context) context (giving_up (of_transaction context.kept) context)
 
--- all tickets are given up: those that end with the transaction first, and then the others
+-- the program that releases all tickets: those that end with the transaction first, and then the others
 abbrev pub giving_up_all : ContextView → Program (Outcome (Unit {0}))
 giving_up_all context = giving_up (of_transaction context.kept) context >>= (λ outcome. giving_up outcome.1.kept outcome.1)

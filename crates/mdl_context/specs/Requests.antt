@@ -1,6 +1,6 @@
--- How a session comes by its tickets, after MySQL 5.7: `MDL_context::try_acquire_lock_impl`, `find_ticket` and
--- `acquire_lock` of sql/mdl.cc. That the place of a key is looked up once, that the earliest ticket there which serves is taken,
--- and that a wait is seen through by calls of its own, is this project's own choice.
+-- How a session gets its tickets, after MySQL 5.7: `MDL_context::try_acquire_lock_impl`, `find_ticket` and `acquire_lock` of
+-- sql/mdl.cc. This project's own choice is that the place of a key is looked up once, that the earliest suitable ticket there is
+-- taken, and that a wait is continued by separate calls.
 use Rattle.std.specs.Prelude.{◌≡◌, ◌⊎◌, ℕ, Bool, not, ◌&&◌, [], ◌∷◌, ◌++◌, Option, Some, None, IsSome, is_some, Result, Ok, Err, if◌then◌else◌}
 use Rattle.mdl_key.specs.declared.mode.Duration.TheVariants.{Explicit}
 use Rattle.mdl_key.specs.Keys.{KeyName}
@@ -25,117 +25,117 @@ use Rattle.mdl_context.specs.Contexts.{ContextView, lasts, place_known}
 use Rattle.mdl_context.specs.Gains.{refusal_of, gaining_from, trying_from}
 use Rattle.mdl_context.specs.Holdings.{is_at, earliest, kept_of, wanted_of}
 
--- what a call of a context comes to: its answer, and the context then
+-- the outcome of a call of a context: its answer, and the context after it
 abbrev pub Outcome : Type 0 → Type 0
 Outcome A = Result A ContextError × ContextView
 
--- memory ran out, and the context is this
+-- the program that reports that memory ran out, with this context
 abbrev pub starved : {A : Type 0} → ContextView → Program (Outcome A)
 starved context = Give (Err (Space OutOfMemory), context)
 
--- whether a ticket is at the place of the wanted key, in a mode at least as strong as the wanted one, which is one of the key's
--- kind
+-- whether a ticket suffices for a request: it is at the place of the key, in a mode at least as strong as the requested one, and
+-- that is a mode of the key's kind
 abbrev pub suffices : ℕ → Wish → Kept → Bool
 suffices place request ticket = is_at place ticket && covers ticket.mode request.mode && is_mode_of (kind_of request.key.namespace) request.mode
 
--- whether such a ticket can be used again: it is kept so long, and no explicit ticket serves twice
+-- whether a ticket can be used again for a request: it suffices and has the requested duration, which isn't explicit
 abbrev pub is_reusable : ℕ → Wish → Kept → Bool
 is_reusable place request ticket = suffices place request ticket && lasts request.duration ticket && not (lasts Explicit ticket)
 
--- with the wanted ticket
+-- the context with the requested ticket added
 abbrev pub keeping : ℕ → ℕ → Wish → ContextView → ContextView
 keeping id place request context = record context { kept = context.kept ++ kept_of id place request ∷ [] }
 
--- with a wait for the wanted ticket, and whether the searches for deadlocks are over
+-- the context with a wait for the requested ticket, which says whether the searches for deadlocks are over
 abbrev pub awaiting : ℕ → Wish → Bool → ContextView → ContextView
 awaiting place request searched context = record context { wait = Some (wanted_of place request searched) }
 
--- with the place of a key
+-- the context with a known place added for a key
 abbrev pub remembering : KeyName → ℕ → ContextView → ContextView
 remembering key place context = record context { known = context.known ++ (key, place) ∷ [] }
 
--- what a space's answer comes to
+-- the outcome of a request, from what the space answered
 abbrev pub outcome_got : ℕ → Wish → ContextView → Result Got SpaceError → Outcome Acquire
 outcome_got place request context (Ok (got.Granted id)) = (Ok (Acquired id), keeping id place request context)
 outcome_got place request context (Ok (got.Waits number searched)) = (Ok (MustWait number), awaiting place request searched context)
 outcome_got place request context (Err refusal) = (Err (Space refusal), context)
 
--- a ticket that can be used again is; where there is none, there has to be room for one more, and then the earliest that suffices
--- is cloned, or a new one asked for
+-- a ticket that can be used again is returned. If there is none, room is made for one more. Then the earliest ticket that
+-- suffices is cloned, or a new one requested
 abbrev pub reusing : Option Held → ℕ → Wish → ContextView → Program (Outcome Acquire)
 reusing (Some ticket) place request context = Give (Ok (Acquired ticket.id), context)
 reusing None place request context =
     Grow (starved context)
     (gaining_from (earliest (suffices place request) context.kept) context.who place request.mode >>= (λ end. Give (outcome_got place request context end)))
 
--- a lock at a place is wished for
+-- a request for a lock at a place
 abbrev pub acquiring_at : ℕ → Wish → ContextView → Program (Outcome Acquire)
 acquiring_at place request context = reusing (earliest (is_reusable place request) context.kept) place request context
 
--- the place of the key is answered. It is remembered, which takes memory
+-- the rest of a request once the space has answered the key's place: the place is remembered, which takes memory
 abbrev pub place_answered : Wish → ContextView → Answer → Program (Outcome Acquire)
 place_answered request context (At_place place) = Grow (starved context) (acquiring_at place request (remembering request.key place context))
 place_answered request context answer = Give (Err (Space (refusal_of answer)), context)
 
--- the place of the key is known, or asked for
+-- a request whose key's place is known, or else looked up in the space
 abbrev pub finding : Option ℕ → Wish → ContextView → Program (Outcome Acquire)
 finding (Some place) request context = acquiring_at place request context
 finding None request context = Ask (Resolve context.who request.key) (place_answered request context)
 
--- a lock is wished for
+-- a request for a lock
 abbrev pub acquiring : Wish → ContextView → Program (Outcome Acquire)
 acquiring request context =
     if is_some context.wait then Give (Err Waiting, context) else finding (place_known request.key context.known) request context
 
 -- ---- without a wait
 
--- what a space's answer comes to, where the session doesn't wait
+-- the outcome of a request that doesn't wait, from what the space answered
 abbrev pub outcome_tried : ℕ → Wish → ContextView → Result Tried SpaceError → Outcome Tried
 outcome_tried place request context (Ok (try_as.Acquired id)) = (Ok (try_as.Acquired id), keeping id place request context)
 outcome_tried place request context (Ok try_as.WouldWait) = (Ok try_as.WouldWait, context)
 outcome_tried place request context (Err refusal) = (Err (Space refusal), context)
 
--- a ticket that can be used again is; where there is none, there has to be room for one more, and then the earliest that suffices
--- is cloned, or a new one asked for
+-- a ticket that can be used again is returned. If there is none, room is made for one more. Then the earliest ticket that
+-- suffices is cloned, or a new one requested
 abbrev pub trying_again : Option Held → ℕ → Wish → ContextView → Program (Outcome Tried)
 trying_again (Some ticket) place request context = Give (Ok (try_as.Acquired ticket.id), context)
 trying_again None place request context =
     Grow (starved context)
     (trying_from (earliest (suffices place request) context.kept) context.who place request.mode >>= (λ end. Give (outcome_tried place request context end)))
 
--- a lock at a place is tried
+-- a request that doesn't wait, for a lock at a place
 abbrev pub trying_at : ℕ → Wish → ContextView → Program (Outcome Tried)
 trying_at place request context = trying_again (earliest (is_reusable place request) context.kept) place request context
 
--- the place of the key is answered, and remembered
+-- the rest of a request that doesn't wait, once the space has answered the key's place, which is remembered
 abbrev pub trying_placed : Wish → ContextView → Answer → Program (Outcome Tried)
 trying_placed request context (At_place place) = Grow (starved context) (trying_at place request (remembering request.key place context))
 trying_placed request context answer = Give (Err (Space (refusal_of answer)), context)
 
--- the place of the key is known, or asked for
+-- a request whose key's place is known, or else looked up in the space
 abbrev pub trying_found : Option ℕ → Wish → ContextView → Program (Outcome Tried)
 trying_found (Some place) request context = trying_at place request context
 trying_found None request context = Ask (Resolve context.who request.key) (trying_placed request context)
 
--- a lock is wished for, and not waited for: all goes as with a wish, but a lock that can't be had now isn't had
+-- a request for a lock that doesn't wait: as `acquiring`, but if the lock can't be granted now, the context gets none
 abbrev pub trying : Wish → ContextView → Program (Outcome Tried)
 trying request context =
     if is_some context.wait then Give (Err Waiting, context) else trying_found (place_known request.key context.known) request context
 
--- ---- what is so afterwards
+-- ---- the state afterwards
 
--- a context is as it was, or has come to know the place of a key that it didn't know
+-- a context is unchanged, or has learnt the place of a key that it didn't know
 abbrev pub LearnsAtMost : KeyName → ContextView → ContextView → Type 0
 LearnsAtMost key before after =
     (after ≡ before) ⊎ ((place : ℕ) × (place_known key before.known ≡ None) × (after ≡ remembering key place before))
 
--- the wait after a wish: there is one only where the session has to wait, and a refusal leaves it as it was
+-- the wait after a request: there is one only if the session has to wait, and a refusal leaves it unchanged
 abbrev pub WaitsAfter : Result Acquire ContextError → Option Wanted → Option Wanted → Type 0
 WaitsAfter (Ok (Acquired id)) before after = after ≡ None
 WaitsAfter (Ok (MustWait number)) before after = IsSome after
 WaitsAfter (Err error) before after = after ≡ before
 
--- this is so, unless a ticket was acquired
+-- a property holds, unless a ticket was acquired
 abbrev pub UnlessAcquired : Result Tried ContextError → Type 0 → Type 0
 UnlessAcquired (Ok (try_as.Acquired id)) P = Unit {0}
 UnlessAcquired _ P = P

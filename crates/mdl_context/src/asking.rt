@@ -1,4 +1,4 @@
-//! Locks asked for in a lock space, of any kind.
+//! Requests for locks in a lock space of any kind.
 ghost use Rattle.std.specs.Prelude.{◌≡◌, ℕ, Some, None, true};
 ghost use Rattle.std.specs.Option.{IfSome};
 ghost use Rattle.mdl_key.specs.Keys.{KeyName};
@@ -10,16 +10,16 @@ use crate::searches::{abandon, seek};
 use mdl_key::Mode;
 use mdl_space::{Attempt, Begun, Held, LockSpace, Place, SpaceError, TicketId};
 
-/// What comes of asking for a lock.
+/// The result of asking a space for a lock.
 #[derive(Clone, Copy)]
 pub enum Got {
-    /// It is held, by the ticket of this number.
+    /// The lock is held, by the ticket of this number.
     Granted(TicketId),
     /// The session waits. This is the number of its wait, and whether the searches for deadlocks are over.
     Waits(u64, bool),
 }
 
-/// Comes by a lock at a place: where there is a ticket to clone, by a clone of it.
+/// Gets a lock at a place, or begins to wait for it. If there is a ticket to clone, the lock is a clone of it.
 pub(crate) fn gain<S: LockSpace>(
     space: &mut S,
     who: u16,
@@ -44,7 +44,7 @@ pub(crate) fn gain<S: LockSpace>(
     }
 }
 
-/// Comes by a lock at a place if that needs no wait: where there is a ticket to clone, by a clone of it.
+/// Gets a lock at a place if that needs no wait. If there is a ticket to clone, the lock is a clone of it.
 pub(crate) fn try_gain<S: LockSpace>(
     space: &mut S,
     who: u16,
@@ -68,7 +68,7 @@ pub(crate) fn try_gain<S: LockSpace>(
     }
 }
 
-// Asks for a lock, and for nothing more where it can't be had now.
+// Asks for a lock, and does nothing more if it can't be granted now.
 fn try_ask<S: LockSpace>(
     space: &mut S,
     who: u16,
@@ -88,7 +88,7 @@ fn try_ask<S: LockSpace>(
     }
 }
 
-// Asks for a lock, and begins to wait for it where it can't be had now.
+// Asks for a lock, and begins to wait for it if it can't be granted now.
 fn ask<S: LockSpace>(space: &mut S, who: u16, place: Place, mode: Mode) -> Result<Got, SpaceError>
     requires speaks { S.speaks_for space.old who }
     requires idle { (S.own space.old who).wait ≡ None }
@@ -104,7 +104,7 @@ fn ask<S: LockSpace>(space: &mut S, who: u16, place: Place, mode: Mode) -> Resul
     }
 }
 
-/// Begins to wait for a lock, unless it can be had now after all.
+/// Begins to wait for a lock, unless it can be granted now after all.
 pub(crate) fn wait_at<S: LockSpace>(
     space: &mut S,
     who: u16,
@@ -125,7 +125,7 @@ pub(crate) fn wait_at<S: LockSpace>(
     }
 }
 
-// Searches for deadlocks once the session waits. It waits on, unless a search is refused.
+// Searches for deadlocks once the session waits. The wait stays, unless a search is refused.
 fn wait_on<S: LockSpace>(space: &mut S, who: u16, number: u64) -> Result<Got, SpaceError>
     requires speaks { S.speaks_for space.old who }
     requires waits { is_waiting (S.own space.old who) ≡ true }

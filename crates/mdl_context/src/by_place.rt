@@ -7,7 +7,7 @@ use smallvec::SmallVec;
 use std::alloc::{AllocError, Global};
 use std::marker::Model;
 
-/// The numbers of the tickets at each place, in order of gain.
+/// The numbers of the tickets at each place, in the order in which the session got them.
 #[derive(Drop)]
 pub(crate) struct ByPlace {
     lists: Vec<SmallVec<TicketId, 1>>,
@@ -23,7 +23,7 @@ impl Model for ByPlace {
 }
 
 impl ByPlace {
-    /// No place at all. It takes no memory.
+    /// Creates an index without places. Takes no memory.
     pub(crate) fn new(alloc: Global) -> ByPlace
         ensures { result ≡ [] }
     {
@@ -56,7 +56,7 @@ impl ByPlace {
         }
     }
 
-    /// Puts a number last among those at a place. It takes no memory.
+    /// Adds a number after those at a place. Takes no memory.
     pub(crate) fn push(&mut self, place: Place, id: TicketId)
         requires { has_room_for place self.old ≡ true }
         ensures { (q : ℕ) → numbers_of q self.new ≡ (if place == q then numbers_of place self.old ++ id ∷ [] else numbers_of q self.old) }
@@ -66,7 +66,7 @@ impl ByPlace {
         }
     }
 
-    /// Takes a number out of those at a place. It takes no memory.
+    /// Removes a number from those at a place. Takes no memory.
     pub(crate) fn remove(&mut self, place: Place, id: TicketId)
         requires { IsTrue (rises (numbers_of place self.old)) }
         ensures numbers { (q : ℕ) → numbers_of q self.new ≡ (if place == q then without_one id (numbers_of place self.old) else numbers_of q self.old) }
@@ -78,7 +78,7 @@ impl ByPlace {
     }
 }
 
-// Adds lists without numbers until there is one of this place.
+// Adds empty lists until this place has one.
 fn list_up_to(
     lists: &mut Vec<SmallVec<TicketId, 1>>,
     place: Place,
@@ -94,7 +94,7 @@ fn list_up_to(
     Ok(())
 }
 
-// Takes a number out of those that rise. It takes no memory.
+// Removes a number from a list of rising numbers. Takes no memory.
 fn take_out(list: &mut SmallVec<TicketId, 1>, id: TicketId)
     requires { IsTrue (rises list.old.items) }
     ensures numbers { list.new.items ≡ without_one id list.old.items }

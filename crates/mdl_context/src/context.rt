@@ -1,4 +1,4 @@
-//! A session's tickets by how long they last.
+//! A session's tickets by duration.
 ghost use Rattle.std.specs.Prelude.{◌≡◌, None, [], map, OnOk, OnErr};
 ghost use Rattle.mdl_key.specs.declared.mode.Duration.TheVariants.{Explicit};
 ghost use Rattle.mdl_key.specs.Refusals.{RefusesJust};
@@ -19,7 +19,7 @@ mod try_acquire;
 mod upgrades;
 mod waits;
 
-/// A session's tickets in a lock space by how long they last, and its wait.
+/// A session's tickets in a lock space, by duration, and its wait.
 ///
 /// After MySQL 5.7, `MDL_context` of `sql/mdl.h`.
 #[derive(Drop)]
@@ -39,7 +39,7 @@ impl<S: LockSpace> Model for Context<S> {
 }
 
 impl<S: LockSpace> Context<S> {
-    /// The context of a session that has nothing. It takes no memory.
+    /// Creates the context of a session that has no tickets and no wait. Takes no memory.
     pub fn new(alloc: Global, who: u16) -> Context<S>
         ensures { result ≡ record { who = who; kept = []; known = []; wait = None } }
     {
@@ -57,14 +57,14 @@ impl<S: LockSpace> Context<S> {
         self.who
     }
 
-    /// The tickets that the session holds, in order of gain.
+    /// The tickets that the session holds, in the order in which it got them.
     pub fn kept(&self) -> &[Kept]
         ensures { result.now ≡ self.now.kept }
     {
         self.holdings.tickets()
     }
 
-    /// What the session waits for, if it has a wait that isn't ended.
+    /// What the session waits for, if it has a wait that it hasn't ended.
     pub fn wish(&self) -> Option<Wanted>
         ensures { result ≡ self.now.wait }
     {
@@ -81,9 +81,10 @@ impl<S: LockSpace> Context<S> {
         self.holdings.is_user_lock(wanted.place)
     }
 
-    /// The ticket of a key that the session gained last, if it holds one.
+    /// The ticket of a key that the session got last, if it holds one.
     ///
-    /// It is found by the key's place, without a walk over the tickets. It takes no memory, and asks nothing of the space.
+    /// Finds the ticket by the key's place, without a walk over the tickets. Takes no memory, and makes no call of the
+    /// space.
     pub fn last_ticket(&self, key: &Key) -> Option<TicketId>
         ensures { result ≡ last_ticket key.now self.now }
     {
@@ -91,10 +92,10 @@ impl<S: LockSpace> Context<S> {
         self.holdings.last_at(place)
     }
 
-    /// Where the session stands now: how many tickets it keeps for the statement, and how many for the transaction.
+    /// The session's current mark: how many tickets it keeps for the statement, and how many for the transaction.
     ///
-    /// The mark names no ticket, and holds nothing. It stays good as long as the session keeps so many of both; where
-    /// some were released and others gained meanwhile, it stands for others than it counted.
+    /// The mark names no ticket, and holds nothing. It is valid as long as the session keeps at least that many of both.
+    /// If some were released and others gained meanwhile, it applies to other tickets than those it counted.
     ///
     /// After MySQL 5.7, `MDL_context::mdl_savepoint` of `sql/mdl.h`.
     pub fn savepoint(&self) -> Mark
@@ -106,7 +107,7 @@ impl<S: LockSpace> Context<S> {
         }
     }
 
-    /// Keeps all tickets until they are released.
+    /// Makes all tickets explicit: they are kept until they are released.
     ///
     /// After MySQL 5.7, `MDL_context::set_explicit_duration_for_all_locks` of `sql/mdl.cc`.
     pub fn make_explicit(&mut self) -> Result<(), ContextError>
@@ -123,7 +124,7 @@ impl<S: LockSpace> Context<S> {
         Ok(())
     }
 
-    /// Keeps the explicit tickets until the transaction ends, but for those of user-level locks: they stay explicit.
+    /// Keeps the explicit tickets until the transaction ends, except those of user-level locks, which stay explicit.
     ///
     /// After MySQL 5.7, `MDL_context::set_transaction_duration_for_all_locks` of `sql/mdl.cc`.
     pub fn make_transactional(&mut self) -> Result<(), ContextError>

@@ -2,10 +2,10 @@
 use mdl_space::SpaceError;
 use thiserror::Error;
 
-/// Why a call of a context is refused. Of several causes the first in this order is answered.
+/// Why a call of a context is refused. If there are several causes, the call returns the first in this order.
 ///
-/// A refused call leaves the tickets that the context keeps, and its wait. In two cases the wait is gone: where a search for deadlocks
-/// finds no memory, and where the second ticket of an upgrade is granted, but can't be merged into the first.
+/// A refused call leaves the kept tickets and the wait unchanged, except in two cases, in which it ends the wait: a search for
+/// deadlocks runs out of memory, or the second ticket of an upgrade is granted but can't be merged into the first.
 #[derive(Clone, Copy, Debug, PartialEq, Eq, Error)]
 pub enum ContextError {
     /// The context keeps fewer tickets of a duration than the mark counted.

@@ -1,4 +1,4 @@
-//! Which tickets a context gives up.
+//! Which tickets a context releases.
 ghost use Rattle.std.specs.Prelude.{◌≡◌};
 ghost use Rattle.mdl_context.specs.Goings.{goes};
 
@@ -6,17 +6,17 @@ use crate::Kept;
 use mdl_key::Duration;
 use mdl_space::{Place, TicketId};
 
-/// Which tickets are given up.
+/// Which tickets to release.
 #[derive(Clone, Copy)]
 pub(crate) enum Going {
-    /// Those of a duration from a number on.
+    /// The tickets of a duration, from this number on.
     From(Duration, TicketId),
-    /// Those at a place.
+    /// The tickets at a place.
     At(Place),
 }
 
 impl Going {
-    /// Whether a ticket is given up.
+    /// Whether a ticket is to be released.
     pub(crate) fn names(&self, ticket: &Kept) -> bool
         ensures { result ≡ goes self.now ticket.now }
     {

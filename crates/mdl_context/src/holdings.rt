@@ -22,11 +22,12 @@ use mdl_space::{Held, Place, TicketId};
 use std::alloc::{AllocError, Global};
 use std::marker::Model;
 
-/// The tickets that a context keeps, in order of gain, the keys whose places it knows, and its wait.
+/// The tickets that a context keeps, in the order in which the session got them, the keys whose places it knows, and its
+/// wait.
 ///
-/// A key is looked up once for each request, and never hashed after: tickets go by their places. The tickets at a place are
-/// found by an index, and a ticket by its number by a search by halves, so neither walks all tickets. While there is a wait,
-/// there is room for the ticket that is waited for, so taking it up takes no memory.
+/// Each request looks up its key once. From then on tickets are found by place, not by key. An index gives the tickets at a
+/// place, and a binary search the ticket of a number, so neither walks all tickets. While there is a wait, room is reserved
+/// for its ticket, so taking it up takes no memory.
 #[derive(Drop)]
 pub(crate) struct Holdings {
     tickets: Vec<Kept>,
@@ -57,7 +58,7 @@ impl Model for Holdings {
 }
 
 impl Holdings {
-    /// Nothing. It takes no memory.
+    /// Creates holdings without tickets, known places or wait. Takes no memory.
     pub(crate) fn new(alloc: Global) -> Holdings
         ensures kept { result.kept ≡ [] }
         ensures known { result.known ≡ [] }
@@ -71,7 +72,7 @@ impl Holdings {
         }
     }
 
-    /// The tickets, in order of gain.
+    /// The tickets, in the order in which the session got them.
     pub(crate) fn tickets(&self) -> &[Kept]
         ensures { result.now ≡ self.now.kept }
     {
@@ -92,7 +93,7 @@ impl Holdings {
         self.wait.is_some()
     }
 
-    /// Which ticket the wait is to upgrade, and to which mode, if it is.
+    /// The ticket that the wait is to upgrade, and the new mode, if there is a wait for an upgrade.
     pub(crate) fn upgrade(&self) -> Option<(TicketId, Mode)>
         ensures { result ≡ upgrade_of self.now.wait }
     {
@@ -108,7 +109,7 @@ impl Holdings {
         self.wait.as_ref().map(|wanted| wanted.searched)
     }
 
-    /// The searches for deadlocks are over, if there is a wait.
+    /// Notes that the searches for deadlocks are over, if there is a wait.
     pub(crate) fn end_searches(&mut self)
         ensures kept { self.new.kept ≡ self.old.kept }
         ensures known { self.new.known ≡ self.old.known }
@@ -133,7 +134,7 @@ impl Holdings {
         has_user_lock(&self.known, place)
     }
 
-    /// Knows the place of a new key from now on.
+    /// Remembers the place of a new key.
     pub(crate) fn remember(&mut self, key: &Key, place: Place) -> Result<(), AllocError>
         requires { place_known key.now self.old.known ≡ None }
         ensures done { OnOk result (self.new.known ≡ self.old.known ++ (key.now, place) ∷ []) }
@@ -157,7 +158,7 @@ impl Holdings {
         self.by_place.reserve(place)
     }
 
-    /// Puts a new ticket last. It takes no memory.
+    /// Adds a new ticket at the end. Takes no memory.
     pub(crate) fn keep(&mut self, ticket: Kept)
         requires room { has_room ticket.place self.old ≡ true }
         requires idle { self.old.wait ≡ None }
@@ -179,7 +180,7 @@ impl Holdings {
         self.wait = Some(wanted);
     }
 
-    /// Ends the wait, if there is one, with the ticket of this number. It takes no memory.
+    /// Ends the wait, if there is one, and keeps the ticket of this number for it. Takes no memory.
     pub(crate) fn take_up(&mut self, id: TicketId)
         ensures kept { self.new.kept ≡ with_wanted id self.old.wait self.old.kept }
         ensures known { self.new.known ≡ self.old.known }
@@ -206,7 +207,7 @@ impl Holdings {
         self.wait = None;
     }
 
-    /// Where the ticket of a number stands, if there is one.
+    /// The index of the ticket with a number, if there is one.
     pub(crate) fn position(&self, id: TicketId) -> Option<usize>
         requires { AreRising self.now.kept }
         ensures here { result ≡ position (is_ticket id) self.now.kept }
@@ -215,7 +216,7 @@ impl Holdings {
         place_of(&self.tickets, id)
     }
 
-    /// The wish by which the ticket of a number is upgraded, if there is one. No deadlock was searched for.
+    /// The wait by which the ticket of a number is upgraded, if there is one. No search for deadlocks was made for it yet.
     pub(crate) fn upgrade_wish(&self, id: TicketId, mode: Mode) -> Option<Wanted>
         requires { AreRising self.now.kept }
         ensures { result ≡ option_map (λ ticket. wanted_upgrade ticket mode false) (ticket_kept id self.now.kept) }
@@ -224,7 +225,7 @@ impl Holdings {
         Some(ticket.upgrade_wish(mode))
     }
 
-    /// Lets the ticket of a number, if there is one, have this mode. It takes no memory.
+    /// Sets the mode of the ticket of a number, if there is one. Takes no memory.
     pub(crate) fn set_mode(&mut self, id: TicketId, mode: Mode)
         requires { AreRising self.old.kept }
         ensures kept { self.new.kept ≡ in_mode id (λ _. mode) self.old.kept }
@@ -236,7 +237,7 @@ impl Holdings {
         }
     }
 
-    /// The same, unless its own mode is at least as strong.
+    /// Sets the mode of the ticket of a number, if there is one and its own mode isn't at least as strong.
     pub(crate) fn strengthen(&mut self, id: TicketId, mode: Mode)
         requires { AreRising self.old.kept }
         ensures kept { self.new.kept ≡ in_mode id (upgraded mode) self.old.kept }
@@ -251,7 +252,7 @@ impl Holdings {
         }
     }
 
-    /// How many tickets are kept so long.
+    /// The number of tickets of a duration.
     pub(crate) fn count(&self, duration: Duration) -> usize
         ensures { result ≡ length (held_for duration self.now.kept) }
     {
@@ -261,7 +262,7 @@ impl Holdings {
             .count()
     }
 
-    /// The ticket behind so many of a duration.
+    /// The number of the ticket after the first `most` of a duration, if there is one.
     pub(crate) fn nth_for(&self, duration: Duration, most: usize) -> Option<TicketId>
         ensures { result ≡ option_map (λ ticket. ticket.id) (slice_get (held_for duration self.now.kept) most) }
     {
@@ -277,7 +278,7 @@ impl Holdings {
         None
     }
 
-    /// Takes the ticket of a number out, which stands here. It takes no memory.
+    /// Removes the ticket of a number, which is at index `at`. Takes no memory.
     pub(crate) fn remove(&mut self, at: usize, id: TicketId)
         requires rising { AreRising self.old.kept }
         requires here { position (is_ticket id) self.old.kept ≡ Some at }
@@ -289,7 +290,7 @@ impl Holdings {
         self.by_place.remove(ticket.place, id);
     }
 
-    /// Takes out the tickets that are given up. It takes no memory.
+    /// Removes the tickets that `going` names. Takes no memory.
     pub(crate) fn remove_all(&mut self, going: &Going)
         requires { AreRising self.old.kept }
         ensures kept { self.new.kept ≡ filter (λ ticket. not (goes going.now ticket)) self.old.kept }
@@ -300,7 +301,7 @@ impl Holdings {
         keep_others(&mut self.tickets, going);
     }
 
-    /// Keeps all tickets until they are released.
+    /// Makes all tickets explicit.
     pub(crate) fn make_explicit(&mut self)
         ensures kept { self.new.kept ≡ map (kept_for Explicit) self.old.kept }
         ensures known { self.new.known ≡ self.old.known }
@@ -309,7 +310,7 @@ impl Holdings {
         make_all_explicit(&mut self.tickets);
     }
 
-    /// Keeps the explicit tickets until the transaction ends, but for those of user-level locks.
+    /// Keeps the explicit tickets until the transaction ends, except those of user-level locks.
     pub(crate) fn make_transactional(&mut self)
         ensures kept { self.new.kept ≡ map (transactional self.old.known) self.old.kept }
         ensures known { self.new.known ≡ self.old.known }
@@ -318,7 +319,7 @@ impl Holdings {
         make_all_transactional(&mut self.tickets, &self.known);
     }
 
-    /// The number of the ticket at a place that was gained last.
+    /// The number of the last-gained ticket at a place.
     pub(crate) fn last_at(&self, place: Place) -> Option<TicketId>
         ensures { result ≡ last_at place self.now.kept }
     {
@@ -354,7 +355,7 @@ impl Holdings {
     }
 }
 
-// Where the ticket of a number stands, among tickets whose numbers rise.
+// The index of the ticket with a number, among tickets whose numbers rise.
 fn place_of(tickets: &[Kept], id: TicketId) -> Option<usize>
     requires { AreRising tickets.now }
     ensures { result ≡ position (is_ticket id) tickets.now }
@@ -362,7 +363,7 @@ fn place_of(tickets: &[Kept], id: TicketId) -> Option<usize>
     tickets.binary_search_by_key(&id, |ticket| ticket.id).ok()
 }
 
-// The ticket of a number, among tickets whose numbers rise.
+// The ticket with a number, among tickets whose numbers rise.
 fn numbered(tickets: &[Kept], id: TicketId) -> Option<&Kept>
     requires { AreRising tickets.now }
     ensures { option_copied result ≡ find (is_ticket id) tickets.now }
@@ -371,7 +372,7 @@ fn numbered(tickets: &[Kept], id: TicketId) -> Option<&Kept>
     Some(&tickets[at])
 }
 
-// Keeps tickets until they are released.
+// Makes tickets explicit.
 fn make_all_explicit(tickets: &mut [Kept])
     ensures { tickets.new ≡ map (kept_for Explicit) tickets.old }
 {
@@ -380,7 +381,7 @@ fn make_all_explicit(tickets: &mut [Kept])
     }
 }
 
-// Keeps those that are explicit until the transaction ends, but for those of user-level locks.
+// Keeps the explicit tickets until the transaction ends, except those of user-level locks.
 fn make_all_transactional(tickets: &mut [Kept], known: &IndexMap<Key, Place>)
     ensures { tickets.new ≡ map (transactional known.now.entries) tickets.old }
 {
@@ -389,7 +390,7 @@ fn make_all_transactional(tickets: &mut [Kept], known: &IndexMap<Key, Place>)
     }
 }
 
-// Keeps one until the transaction ends, if it is explicit and not of a user-level lock.
+// Keeps a ticket until the transaction ends, if it is explicit and not of a user-level lock.
 fn make_one_transactional(ticket: &mut Kept, known: &IndexMap<Key, Place>)
     ensures { ticket.new ≡ transactional known.now.entries ticket.old }
 {
@@ -405,7 +406,7 @@ fn has_user_lock(known: &IndexMap<Key, Place>, place: Place) -> bool
     known.iter().any(|(key, at)| *at == place && key.namespace() == Namespace::UserLevelLock)
 }
 
-// How long a ticket lasts where it ends with the transaction.
+// The duration of a ticket once it may last no longer than the transaction.
 fn in_transaction(duration: Duration) -> Duration
     ensures { result ≡ in_transaction duration }
 {
@@ -415,7 +416,7 @@ fn in_transaction(duration: Duration) -> Duration
     }
 }
 
-// Keeps the tickets that aren't given up.
+// Keeps the tickets that `going` doesn't name.
 fn keep_others(tickets: &mut Vec<Kept>, going: &Going)
     ensures kept { tickets.new.items ≡ filter (λ ticket. not (goes going.now ticket)) tickets.old.items }
     ensures bound { length tickets.new.items ≤ length tickets.old.items }
@@ -424,7 +425,7 @@ fn keep_others(tickets: &mut Vec<Kept>, going: &Going)
     tickets.retain(|ticket| !going.names(ticket));
 }
 
-// Takes the numbers of the tickets that are given up out of the index.
+// Removes from the index the numbers of the tickets that `going` names.
 fn drop_numbers(by_place: &mut ByPlace, tickets: &[Kept], going: &Going)
     requires rising { AreRising tickets.now }
     requires index { IsIndexOf tickets.now by_place.old }

@@ -1,4 +1,4 @@
-//! What a context keeps of a ticket, and of a wait.
+//! A context's entries for a ticket and for a wait.
 ghost use Rattle.std.specs.Prelude.{◌≡◌, false};
 ghost use Rattle.mdl_context.specs.Contexts.{held_of, lasts};
 ghost use Rattle.mdl_context.specs.Holdings.{wanted_upgrade};
@@ -6,7 +6,7 @@ ghost use Rattle.mdl_context.specs.Holdings.{wanted_upgrade};
 use mdl_key::{Duration, Mode};
 use mdl_space::{Held, Place, TicketId};
 
-/// A ticket that a session holds, and how long it keeps it.
+/// A ticket that a session holds, with its duration.
 #[derive(Drop)]
 pub struct Kept {
     /// The number that the session gave the ticket.
@@ -20,7 +20,7 @@ pub struct Kept {
 }
 
 impl Kept {
-    /// As the lock space holds it.
+    /// The ticket as the lock space shows it.
     pub(crate) fn held(&self) -> Held
         ensures { result ≡ held_of self.now }
     {
@@ -31,7 +31,7 @@ impl Kept {
         }
     }
 
-    /// The wish by which it is upgraded to a mode. No deadlock was searched for.
+    /// The wait by which this ticket is upgraded to a mode. No search for deadlocks was made for it yet.
     pub(crate) fn upgrade_wish(&self, mode: Mode) -> Wanted
         ensures { result ≡ wanted_upgrade self.now mode false }
     {
@@ -44,7 +44,7 @@ impl Kept {
         }
     }
 
-    /// Whether the ticket is kept so long.
+    /// Whether the ticket is kept for this duration.
     pub(crate) fn lasts(&self, duration: Duration) -> bool
         ensures { result ≡ lasts duration self.now }
     {
@@ -55,14 +55,16 @@ impl Kept {
 /// A ticket that a session waits for.
 #[derive(Clone, Copy, Debug, PartialEq, Eq)]
 pub struct Wanted {
-    /// The place of the key that is to be locked.
+    /// The place of the key to lock.
     pub place: Place,
-    /// The mode in which it is to be locked.
+    /// The mode in which to lock it.
     pub mode: Mode,
-    /// How long the ticket is to be kept.
+    /// How long to keep the ticket.
     pub duration: Duration,
-    /// The held ticket that is to have the mode, where the wait is for an upgrade. The new ticket is merged into it then.
+    /// The held ticket to upgrade, if the wait is for an upgrade. Once the new ticket is granted, it is merged into this
+    /// one.
     pub upgrades: Option<TicketId>,
-    /// Whether the searches for deadlocks are over. Else they were cut off, and go on with the next look at the wait.
+    /// Whether the searches for deadlocks are over. If not, they were cut off, and the next `Context::resume` continues
+    /// them.
     pub searched: bool,
 }

@@ -4,28 +4,28 @@ ghost use Rattle.mdl_context.specs.NameLaws.{NamesAreGivenUp};
 
 use mdl_space::LockSpace;
 
-/// Going back gives up the newest tickets of the statement and of the transaction beyond the two counts of the mark, and no
-/// explicit ones.
+/// Going back to a mark releases the newest tickets of the statement and of the transaction, beyond the mark's two counts,
+/// and no explicit ones.
 pub fn going_back_keeps_fronts()
     ensures { GoingBackKeepsFronts }
 {}
 
-/// To go back to where the session stands gives up nothing.
+/// Going back to the session's current mark releases nothing.
 pub fn going_back_to_now_keeps_all()
     ensures { GoingBackToNowKeepsAll }
 {}
 
-/// The end of a statement takes the statement's tickets, and no others.
+/// The end of a statement releases the statement's tickets, and no others.
 pub fn statements_end_alone()
     ensures { StatementsEndAlone }
 {}
 
-/// The end of a transaction leaves just the explicit tickets.
+/// The end of a transaction leaves only the explicit tickets.
 pub fn ending_leaves_explicit()
     ensures { EndingLeavesExplicit }
 {}
 
-/// Once the tickets of a key are given up by its name, none is left at any place that the session knows to be the key's.
+/// Once the tickets of a key are released by its name, none is left at any place that the session knows to be the key's.
 pub fn names_are_given_up<S: LockSpace>()
     ensures { NamesAreGivenUp S.LockSpace }
 {}

@@ -1,4 +1,4 @@
-//! Merges of tickets in a lock space, of any kind.
+//! Merges of tickets in a lock space of any kind.
 ghost use Rattle.std.specs.Prelude.{◌≡◌, ℕ, true, false, IfErr};
 ghost use Rattle.mdl_key.specs.Keys.{KeyName};
 ghost use Rattle.mdl_calls.specs.Causes.{Mergeable};
@@ -8,7 +8,8 @@ ghost use Rattle.mdl_context.specs.Upgrades.{merging, own_merged, is_merge_refus
 use crate::releasing::release;
 use mdl_space::{LockSpace, SpaceError, TicketId};
 
-/// Gives a held ticket the mode of a new one of its place, which is gone then. Where that is refused, the new one is released.
+/// Merges a new ticket into a held one of the same place: the held ticket gets the new one's mode, and the new one is removed.
+/// If that is refused, the new ticket is released.
 pub(crate) fn merge<S: LockSpace>(
     space: &mut S,
     who: u16,

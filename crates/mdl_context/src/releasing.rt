@@ -1,4 +1,4 @@
-//! Tickets released in a lock space, of any kind.
+//! Releases of tickets in a lock space of any kind.
 ghost use Rattle.std.specs.Prelude.{◌≡◌, ℕ, true, not, map, filter};
 ghost use Rattle.mdl_key.specs.Keys.{KeyName};
 ghost use Rattle.mdl_calls.specs.Words.{Done, Release, holds, giving_up, Runs};
@@ -10,7 +10,7 @@ use crate::going::Going;
 use crate::holdings::Holdings;
 use mdl_space::{LockSpace, TicketId};
 
-/// Releases a ticket that the session holds. It takes no memory.
+/// Releases a ticket that the session holds. Takes no memory.
 pub(crate) fn release<S: LockSpace>(space: &mut S, who: u16, id: TicketId)
     requires speaks { S.speaks_for space.old who }
     requires held { holds id (S.own space.old who) ≡ true }
@@ -22,7 +22,7 @@ pub(crate) fn release<S: LockSpace>(space: &mut S, who: u16, id: TicketId)
     space.release(who, id).unwrap();
 }
 
-/// Releases the tickets that are given up, in order of gain. It takes no memory.
+/// Releases the tickets that `going` names, in the order in which the session got them. Takes no memory.
 pub(crate) fn release_all<S: LockSpace>(
     space: &mut S,
     who: u16,

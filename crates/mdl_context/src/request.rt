@@ -1,32 +1,32 @@
-//! What a context is asked for, and what it answers.
+//! Requests for locks, and the answers to them.
 use mdl_key::{Duration, Key, Mode};
 use mdl_space::{Settled, TicketId};
 
-/// A wish for a lock.
+/// A request for a lock.
 ///
 /// After MySQL 5.7, `MDL_request` of `sql/mdl.h`.
 #[derive(Clone, Copy)]
 pub struct Request<'a> {
-    /// What is to be locked.
+    /// The key to lock.
     pub key: &'a Key,
-    /// How strongly.
+    /// The mode in which to lock it.
     pub mode: Mode,
-    /// For how long.
+    /// How long to keep the ticket.
     pub duration: Duration,
 }
 
-/// A point in a session's work to which it can go back: how many tickets it kept then, by duration.
+/// A point in a session's work to which it can go back: the number of tickets it kept then, by duration.
 ///
 /// After MySQL 5.7, `MDL_savepoint` of `sql/mdl.h`.
 #[derive(Clone, Copy, Debug, PartialEq, Eq)]
 pub struct Mark {
-    /// How many tickets of the statement.
+    /// The number of tickets kept for the statement.
     pub statement: usize,
-    /// How many tickets of the transaction.
+    /// The number of tickets kept for the transaction.
     pub transaction: usize,
 }
 
-/// What comes of a wish for a lock.
+/// The result of a request for a lock.
 #[derive(Clone, Copy, Debug, PartialEq, Eq)]
 pub enum Acquire {
     /// The lock is held, by the ticket of this number.
@@ -35,16 +35,16 @@ pub enum Acquire {
     MustWait(u64),
 }
 
-/// What comes of a wish for a lock for which the session doesn't wait.
+/// The result of a request for a lock for which the session doesn't wait.
 #[derive(Clone, Copy, Debug, PartialEq, Eq)]
 pub enum Tried {
     /// The lock is held, by the ticket of this number.
     Acquired(TicketId),
-    /// It can't be had now.
+    /// The lock can't be granted now.
     WouldWait,
 }
 
-/// How a wait went on.
+/// The result of continuing or giving up a wait.
 #[derive(Clone, Copy, Debug, PartialEq, Eq)]
 pub enum Resume {
     /// The wait isn't settled.

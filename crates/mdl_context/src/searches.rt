@@ -1,4 +1,4 @@
-//! Searches of a lock space for deadlocks, of any kind of space, and waits that are given up.
+//! Searches for deadlocks in a lock space of any kind, and waits that are given up.
 ghost use Rattle.std.specs.Prelude.{◌≡◌, ℕ, true, IsOkUnless};
 ghost use Rattle.mdl_key.specs.Keys.{KeyName};
 ghost use Rattle.mdl_calls.specs.Words.{is_waiting, ending, Runs, seeking, most_searches};
@@ -8,11 +8,11 @@ ghost use Rattle.mdl_context.specs.SearchEnds.{sought};
 use crate::releasing::release;
 use mdl_space::{Ended, LockSpace, Search, SpaceError};
 
-// The most searches that are made at once.
+// The greatest number of searches that are made at once.
 const MOST_SEARCHES: u32 = 1024;
 
-/// Searches for deadlocks until there is none left for which the session waits, the session is the victim itself, or it has
-/// searched often enough. Whether the searches are over.
+/// Searches for deadlocks until there is none left in which the session waits, the session itself is the victim, or 1,024
+/// searches were made. Returns whether the searches are over.
 pub(crate) fn seek<S: LockSpace>(space: &mut S, who: u16) -> Result<bool, SpaceError>
     requires { S.speaks_for space.old who }
     ensures refused { IsOkUnless result SpaceError.OutOfMemory }
@@ -31,7 +31,7 @@ pub(crate) fn seek<S: LockSpace>(space: &mut S, who: u16) -> Result<bool, SpaceE
     Ok(false)
 }
 
-/// Gives the session's wait up and ends it: a grant that came first is released. It takes no memory.
+/// Gives up the session's wait and ends it. If the lock was granted before, its ticket is released. Takes no memory.
 pub(crate) fn abandon<S: LockSpace>(space: &mut S, who: u16)
     requires speaks { S.speaks_for space.old who }
     requires waits { is_waiting (S.own space.old who) ≡ true }

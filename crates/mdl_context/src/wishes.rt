@@ -1,4 +1,4 @@
-//! What a request asks of tickets.
+//! Which tickets a request (a wish) can use, and which it gets.
 ghost use Rattle.std.specs.Prelude.{◌≡◌};
 ghost use Rattle.mdl_system.specs.Strength.{covers};
 ghost use Rattle.mdl_context.specs.Holdings.{kept_of, wanted_of};
@@ -10,7 +10,7 @@ use mdl_key::{Duration, Kind, Mode, at_least};
 use mdl_space::{Place, TicketId};
 
 impl Request<'_> {
-    /// Whether a ticket suffices for the request, whose key is at this place.
+    /// Whether a ticket suffices for the request. The request's key is at this place.
     pub(crate) fn is_met_by(&self, place: Place, ticket: &Kept) -> bool
         ensures { result ≡ suffices place (wish_of self.now) ticket.now }
     {
@@ -19,7 +19,7 @@ impl Request<'_> {
             && self.key.kind().has_mode(self.mode)
     }
 
-    /// Whether a ticket can be used again for the request, whose key is at this place.
+    /// Whether a ticket can be used again for the request. The request's key is at this place.
     pub(crate) fn can_reuse(&self, place: Place, ticket: &Kept) -> bool
         ensures { result ≡ is_reusable place (wish_of self.now) ticket.now }
     {
@@ -28,7 +28,7 @@ impl Request<'_> {
             && !ticket.lasts(Duration::Explicit)
     }
 
-    /// The ticket that the request gains.
+    /// The ticket that the request gets.
     pub(crate) fn kept(&self, id: TicketId, place: Place) -> Kept
         ensures { result ≡ kept_of id place (wish_of self.now) }
     {

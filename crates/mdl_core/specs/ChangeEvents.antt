@@ -10,17 +10,17 @@ use Rattle.mdl_core.specs.Cores.{Core, seat_at, key_at}
 use Rattle.mdl_core.specs.CoreSystems.{system_of, state_of, waiter_of, waiter_in}
 use Rattle.mdl_system.specs.Words.{Event, Grant, Clone, BeginWait, GrantWaiter, SettleLost, EndGrantedWait, EndLostWait, Release, Upgrade, Merge, Downgrade, ChangeDefinition, Unsettled, Holding, lock_kind, IsGrantable, may_upgrade, may_downgrade}
 
--- a held ticket as a granted one of the system
+-- a held ticket as a holding in the system
 abbrev pub holding_of : ℕ → Held → Core → Holding
 holding_of who ticket core = record { session = who; number = ticket.id; key = key_at ticket.place core; mode = ticket.mode }
 
--- the ticket that waits, for a wait
+-- the waiting ticket of a wait
 abbrev pub waiting_ticket : ℕ → Pending → Ticket
 waiting_ticket who wait = record { session = who; number = wait.id; mode = wait.mode }
 
--- the event that a change is, and what the event asks beyond what the change asks: a new ticket has a grantable wish, or is a
--- clone of a held one that is at least as strong, a wait that ends is settled, and a held ticket gets a stronger mode, where the
--- wish for it is grantable and the session has no wait, or a weaker one
+-- the event that a change is, and what the event requires beyond what the change requires: the request for a new ticket is grantable,
+-- or the ticket is a clone of a held one that is at least as strong; a wait that ends is settled; and a held ticket gets a weaker mode,
+-- or a stronger one, for which the request is grantable while the session has no wait
 abbrev pub IsChangeEvent : ℕ → ℕ → Change → Core → Event Redefinition → Type 0
 IsChangeEvent who place (Gain mode) core event =
     ((event ≡ Grant (record { session = who; number = (seat_at who core).last_ticket + 1; key = key_at place core; mode = mode }))

@@ -18,15 +18,15 @@ use Rattle.mdl_core.specs.Cores.{Core, book_at, seat_at, has_key, has_session, i
 
 -- ---- one change
 
--- what changes for a session at a place
+-- a change for a session at a place
 pub data Change : Type 0 where
   -- a new ticket in this mode is granted
   Gain : Mode → Change
-  -- a held ticket is given up
+  -- a held ticket is released
   Lose : Held → Change
   -- a wait begins, for a new ticket in this mode
   Queue : Mode → Change
-  -- the ticket that is waited for is granted; its wait isn't ended yet
+  -- a waiting ticket is granted; its wait isn't ended yet
   Admit : Ticket → Change
   -- the wait is lost
   Settle : Settled → Change
@@ -36,16 +36,16 @@ pub data Change : Type 0 where
   Take_up : Pending → Change
   -- a held ticket gets another mode
   Alter : Held → Mode → Change
-  -- two held tickets become one: the first takes the mode of the second, which goes
+  -- two held tickets become one: the first takes the mode of the second, which is removed
   Fold : Held → Held → Change
-  -- what stands under the key is changed, under a held ticket
+  -- the key's definition is changed, under a held ticket
   Redefine : Held → Redefinition → Change
 
--- the next ticket that a session gains or waits for
+-- the next ticket that a session of this seat gains or waits for
 abbrev pub ticket_after : ℕ → Mode → SeatView → Ticket
 ticket_after who mode seat = record { session = who; number = seat.last_ticket + 1; mode = mode }
 
--- the session's seat after it
+-- the session's seat after a change
 abbrev pub seat_after : ℕ → Change → SeatView → SeatView
 seat_after place (Gain mode) seat = holding place mode seat
 seat_after place (Lose ticket) seat = without_ticket ticket.id seat
@@ -58,7 +58,7 @@ seat_after place (Alter ticket mode) seat = with_ticket_in ticket.id mode seat
 seat_after place (Fold old new) seat = with_ticket_in old.id new.mode (without_ticket new.id seat)
 seat_after place (Redefine ticket change) seat = seat
 
--- the place's book after it
+-- the place's book after a change
 abbrev pub book_after : ℕ → SeatView → Change → BookView → BookView
 book_after who seat (Gain mode) book = granting (ticket_after who mode seat) book
 book_after who seat (Lose ticket) book = removing who ticket.id book
@@ -71,23 +71,24 @@ book_after who seat (Alter ticket mode) book = changing_mode who ticket.id mode 
 book_after who seat (Fold old new) book = changing_mode who old.id new.mode (removing who new.id book)
 book_after who seat (Redefine ticket change) book = redefining change book
 
--- whether it is one of the book, too, and not of the seat alone
+-- whether a change changes the book, too, and not only the seat
 abbrev pub is_of_book : Change → Bool
 is_of_book (Settle how) = false
 is_of_book (Take_up wait) = false
 is_of_book _ = true
 
+-- the space with another book at a place, if the flag says so
 abbrev pub booked_if : Bool → ℕ → BookView → Core → Core
 booked_if true place book core = booking place book core
 booked_if false place book core = core
 
--- the space after it
+-- the space after a change
 abbrev pub changing : ℕ → ℕ → Change → Core → Core
 changing who place change core =
     booked_if (is_of_book change) place (book_after who (seat_at who core) change (book_at place core))
     (seating who (seat_after place change (seat_at who core)) core)
 
--- what a change asks of the session's seat and of the place's book
+-- what a change requires of the session's seat and of the place's book
 abbrev pub Allows : ℕ → ℕ → Change → SeatView → BookView → Type 0
 Allows who place (Gain mode) seat book = (seat.wait ≡ None) × (is_mode_of (lock_kind book) mode ≡ true)
 Allows who place (Lose ticket) seat book = Contains seat.held ticket × (ticket.place ≡ place)
@@ -107,7 +108,7 @@ Allows who place (Redefine ticket change) seat book =
     Contains seat.held ticket × (ticket.place ≡ place) × (ticket.mode ≡ X)
     × (standing_fault book.key.namespace change book.standing ≡ None)
 
--- it may be made
+-- a change may be made: there are such a session and such a place, and the seat and the book are as it requires
 pub record May (who place : ℕ) (change : Change) (core : Core) : Type 0 where
   pub session : has_session who core ≡ true
   pub key : has_key place core ≡ true
@@ -119,49 +120,49 @@ pub record May (who place : ℕ) (change : Change) (core : Core) : Type 0 where
 abbrev pub next_ticket : ℕ → Mode → Core → Ticket
 next_ticket who mode core = ticket_after who mode (seat_at who core)
 
--- a key is given the next place
+-- the space with the next place given to a key
 abbrev pub opening : KeyName → Core → Core
 opening key core = record core { books = core.books ++ empty_book key ∷ [] }
 
--- a lock is granted to a session
+-- the space with a lock granted to a session
 abbrev pub granting_to : ℕ → ℕ → Mode → Core → Core
 granting_to who place mode core = changing who place (Gain mode) core
 
--- a session begins to wait for a lock
+-- the space in which a session has begun to wait for a lock
 abbrev pub queueing : ℕ → ℕ → Mode → Core → Core
 queueing who place mode core = changing who place (Queue mode) core
 
--- a session's wait is lost
+-- the space in which a session's wait is settled, as lost
 abbrev pub losing : ℕ → Settled → Core → Core
 losing who how core = seating who (settling how (seat_at who core)) core
 
--- a session takes up the ticket that its wait was granted
+-- the space in which a session has ended its granted wait, and holds the ticket
 abbrev pub taking_up : ℕ → Pending → Core → Core
 taking_up who wait core = changing who wait.place (Take_up wait) core
 
--- a session ends its lost wait: its ticket no longer stands among those that wait
+-- the space in which a session has ended its lost wait: its ticket is no longer among the waiting ones
 abbrev pub leaving : ℕ → Pending → Core → Core
 leaving who wait core = changing who wait.place (Leave wait) core
 
--- a session gives up a ticket, which it holds at its place
+-- the space in which a session has released a ticket
 abbrev pub freeing : ℕ → Held → Core → Core
 freeing who ticket core = changing who ticket.place (Lose ticket) core
 
--- a ticket of a session gets another mode, at its place
+-- the space in which a session's ticket has got another mode
 abbrev pub altering : ℕ → Held → Mode → Core → Core
 altering who ticket mode core = changing who ticket.place (Alter ticket mode) core
 
--- of two tickets of a session at a place the first takes the mode of the second, which goes
+-- the space in which the first of a session's two tickets has got the mode of the second, which is removed
 abbrev pub folding : ℕ → Held → Held → Core → Core
 folding who old new core = changing who old.place (Fold old new) core
 
--- what stands under the key of a place is changed
+-- the space with the definition of a place's key changed
 abbrev pub redefining_at : ℕ → Redefinition → Core → Core
 redefining_at place change core = booking place (redefining change (book_at place core)) core
 
 -- ---- waiters
 
--- a waiting ticket is granted to its session, which hasn't ended its wait yet
+-- the space with a waiting ticket granted to its session, which hasn't ended its wait yet
 abbrev pub admitting_at : ℕ → Ticket → Core → Core
 admitting_at place ticket core = changing ticket.session place (Admit ticket) core
 
@@ -169,24 +170,24 @@ admitting_at place ticket core = changing ticket.session place (Admit ticket) co
 abbrev pub is_unsettled : ℕ → Core → Bool
 is_unsettled who core = has_session who core && is_open (seat_at who core).wait
 
--- whether a waiting ticket's wait is unsettled and its wish can be granted
+-- whether a waiting ticket's wait is unsettled and the ticket can be granted
 abbrev pub is_ready : ℕ → Core → Ticket → Bool
 is_ready place core ticket = is_unsettled ticket.session core && is_free ticket.session place ticket.mode core
 
--- the first such ticket, in order of arrival
+-- the first waiting ticket, in order of arrival, that is unsettled and can be granted
 abbrev pub next_ready : ℕ → Core → Option Ticket
 next_ready place core = find (is_ready place core) (book_at place core).waiting
 
--- that one is granted, if there is one
+-- the space with this waiting ticket granted, if there is one
 abbrev pub admitting_if : ℕ → Option Ticket → Core → Core
 admitting_if place None core = core
 admitting_if place (Some ticket) core = admitting_at place ticket core
 
--- so many times
+-- the space after up to this number of grants at a place, each of the first ticket that can be granted
 unfoldable pub admitting_up_to : ℕ → ℕ → Core → Core
 admitting_up_to zero place core = core
 admitting_up_to (suc more) place core = admitting_up_to more place (admitting_if place (next_ready place core) core)
 
--- the waiters of a place are granted, as long as there is one that can be
+-- the space with the place served: waiters are granted, each time the first that can be granted, until there is none
 abbrev pub serving : ℕ → Core → Core
 serving place core = admitting_up_to (length (book_at place core).waiting) place core

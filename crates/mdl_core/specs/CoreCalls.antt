@@ -24,22 +24,22 @@ use Rattle.mdl_core.specs.Changes.{opening, granting_to, queueing, losing, takin
 use Rattle.mdl_core.specs.Seats.{is_open, is_closed}
 use Rattle.mdl_system.specs.Strength.{covers, may_upgrade, may_downgrade}
 
--- the first of these causes that stands
+-- the error of the first of these causes that holds, if one does
 abbrev pub first_cause : List (Bool × SpaceError) → Option SpaceError
 first_cause [] = None
 first_cause (cause ∷ causes) = if cause.0 then Some cause.1 else first_cause causes
 
--- refused by a cause, where there is one, and else this
+-- a refusal that leaves the space unchanged, if there is a cause, and otherwise this outcome
 abbrev pub refused_or : Option SpaceError → Core → Answer × Core → Answer × Core
 refused_or (Some refusal) core outcome = (Refused refusal, core)
 refused_or None core outcome = outcome
 
--- as a space says it, why a book can't take a ticket of a wish that can be granted
+-- the error of a space for a book that can't take a ticket: it is full, or otherwise memory ran out
 abbrev pub cause_in : BookError → SpaceError
 cause_in book_error.Full = Full
 cause_in _ = OutOfMemory
 
--- whether a session has used up its numbers
+-- whether a session has used up the numbers of its tickets
 abbrev pub is_counted_out : ℕ → Core → Bool
 is_counted_out who core = nat_le (2 ^ 60 - 1) (seat_at who core).last_ticket
 
@@ -49,27 +49,27 @@ is_full place core = nat_le 65535 (ticket_count (book_at place core))
 
 -- ---- places
 
--- with the key at its place
+-- the outcome for a key whose book has this index, or of giving it the next place
 abbrev pub placing : KeyName → Option ℕ → Core → Answer × Core
 placing key (Some index) core = (At_place (index + 1), core)
 placing key None core =
     if nat_le core.places (length core.books) then (Refused NoPlace, core) else (At_place (length core.books + 1), opening key core)
 
--- the place of a key: the one that it has, or the next
+-- the outcome of resolving a key: the place that it has, or the next one
 abbrev pub resolving : KeyName → Core → Answer × Core
 resolving key core = placing key (index_of key core.books) core
 
--- the key of a place, if it has one
+-- the outcome of asking for the key of a place
 abbrev pub naming : ℕ → Core → Answer × Core
 naming place core = if not (has_key place core) then (Refused NoPlace, core) else (Key_is (key_at place core), core)
 
--- the tables of a schema
+-- the outcome of listing the tables of a schema
 abbrev pub telling_tables : List ℕ → Core → Answer × Core
 telling_tables schema core = (Tables (tables_in schema core), core)
 
 -- ---- locks
 
--- why a lock can't be asked for, in the order of the refusals
+-- why a request for a lock is refused, in the order in which the causes count
 abbrev pub request_causes : ℕ → ℕ → Mode → Core → List (Bool × SpaceError)
 request_causes who place mode core =
     (not (has_key place core), NoPlace)
@@ -78,29 +78,29 @@ request_causes who place mode core =
     ∷ (is_counted_out who core, CounterFull)
     ∷ []
 
--- granted, where the book takes one more ticket
+-- the outcome of granting a lock, if the book takes one more ticket
 abbrev pub granted_unless_full : ℕ → ℕ → Mode → Core → Answer × Core
 granted_unless_full who place mode core =
     if is_full place core then (Refused Full, core) else (Granted ((seat_at who core).last_ticket + 1), granting_to who place mode core)
 
--- a wait, where the book takes one more ticket
+-- the outcome of beginning a wait, if the book takes one more ticket
 abbrev pub queued_unless_full : ℕ → ℕ → Mode → Core → Answer × Core
 queued_unless_full who place mode core =
     if is_full place core then (Refused Full, core) else (Waits ((seat_at who core).last_wait + 1), queueing who place mode core)
 
--- a lock, where it can be had without waiting
+-- the outcome of a request for a lock without waiting
 abbrev pub trying : ℕ → ℕ → Mode → Core → Answer × Core
 trying who place mode core =
     refused_or (first_cause (request_causes who place mode core)) core
     (if not (is_free who place mode core) then (Would_wait, core) else granted_unless_full who place mode core)
 
--- a lock, or else a wait for it
+-- the outcome of a request for a lock that waits if it can't be granted
 abbrev pub beginning : ℕ → ℕ → Mode → Core → Answer × Core
 beginning who place mode core =
     refused_or (first_cause (request_causes who place mode core)) core
     (if not (is_free who place mode core) then queued_unless_full who place mode core else granted_unless_full who place mode core)
 
--- why a held ticket can't be cloned
+-- why cloning a held ticket is refused, in the order in which the causes count
 abbrev pub clone_causes : ℕ → Mode → Held → Core → List (Bool × SpaceError)
 clone_causes who mode ticket core =
     (is_some (seat_at who core).wait, AlreadyWaiting)
@@ -108,141 +108,143 @@ clone_causes who mode ticket core =
     ∷ (is_counted_out who core, CounterFull)
     ∷ []
 
--- a second ticket beside this one
+-- the outcome of cloning this ticket, if it is held
 abbrev pub cloning_of : ℕ → Mode → Option Held → Core → Answer × Core
 cloning_of who mode None core = (Refused NotHeld, core)
 cloning_of who mode (Some ticket) core =
     refused_or (first_cause (clone_causes who mode ticket core)) core (granted_unless_full who ticket.place mode core)
 
--- the held ticket of a number
+-- the ticket of a number that a session holds, if there is one
 abbrev pub held_ticket : ℕ → ℕ → Core → Option Held
 held_ticket who id core = find (is_number id) (seat_at who core).held
 
--- a second ticket beside the one of this number
+-- the outcome of cloning the ticket of a number
 abbrev pub cloning : ℕ → ℕ → Mode → Core → Answer × Core
 cloning who id mode core = cloning_of who mode (held_ticket who id core) core
 
--- this ticket is given up, and then waiters of its place are granted
+-- the outcome of releasing this ticket, if it is held: then waiters of its place are granted
 abbrev pub releasing_of : ℕ → Option Held → Core → Answer × Core
 releasing_of who None core = (Refused NotHeld, core)
 releasing_of who (Some ticket) core = (Done, serving ticket.place (freeing who ticket core))
 
--- the ticket of a number is given up
+-- the outcome of releasing the ticket of a number
 abbrev pub releasing : ℕ → ℕ → Core → Answer × Core
 releasing who id core = releasing_of who (held_ticket who id core) core
 
 -- ---- modes of held tickets
 
--- why a held ticket can't be upgraded
+-- why an upgrade of a held ticket is refused, in the order in which the causes count
 abbrev pub upgrade_causes : ℕ → Mode → Held → Core → List (Bool × SpaceError)
 upgrade_causes who mode ticket core =
     (not ((covers ticket.mode mode || may_upgrade ticket.mode mode) && is_mode_of (lock_kind (book_at ticket.place core)) mode), NotUpgradable)
     ∷ (is_some (seat_at who core).wait, AlreadyWaiting)
     ∷ []
 
--- this ticket in a stronger mode, where it can be had without waiting; one that is as strong already stays as it is
+-- the outcome of giving a held ticket a stronger mode, if that can be granted now. A ticket that is as strong already is unchanged.
 abbrev pub upgraded_if_free : ℕ → Mode → Held → Core → Answer × Core
 upgraded_if_free who mode ticket core =
     if covers ticket.mode mode then (Upgraded, core)
     else (if not (is_free who ticket.place mode core) then (Would_wait, core) else (Upgraded, altering who ticket mode core))
 
--- if it is held
+-- the outcome of upgrading this ticket, if it is held
 abbrev pub upgrading_of : ℕ → Mode → Option Held → Core → Answer × Core
 upgrading_of who mode None core = (Refused NotHeld, core)
 upgrading_of who mode (Some ticket) core =
     refused_or (first_cause (upgrade_causes who mode ticket core)) core (upgraded_if_free who mode ticket core)
 
--- the ticket of a number in a stronger mode
+-- the outcome of upgrading the ticket of a number
 abbrev pub upgrading : ℕ → ℕ → Mode → Core → Answer × Core
 upgrading who id mode core = upgrading_of who mode (held_ticket who id core) core
 
--- whether a held ticket may be brought down to a mode
+-- whether a held ticket may be downgraded to a mode, which is one of the place's kind
 abbrev pub is_lower : Mode → Held → Core → Bool
 is_lower mode ticket core = may_downgrade ticket.mode mode && is_mode_of (lock_kind (book_at ticket.place core)) mode
 
--- this ticket in a weaker mode, and then waiters of its place are granted
+-- the outcome of downgrading this ticket, if it is held: then waiters of its place are granted
 abbrev pub downgrading_of : ℕ → Mode → Option Held → Core → Answer × Core
 downgrading_of who mode None core = (Refused NotHeld, core)
 downgrading_of who mode (Some ticket) core =
     if not (is_lower mode ticket core) then (Refused NotUpgradable, core) else (Done, serving ticket.place (altering who ticket mode core))
 
--- the ticket of a number in a weaker mode
+-- the outcome of downgrading the ticket of a number
 abbrev pub downgrading : ℕ → ℕ → Mode → Core → Answer × Core
 downgrading who id mode core = downgrading_of who mode (held_ticket who id core) core
 
--- why two held tickets can't become one
+-- why a merge of two held tickets is refused, in the order in which the causes count
 abbrev pub merge_causes : ℕ → Held → Held → Core → List (Bool × SpaceError)
 merge_causes who old new core = (is_some (seat_at who core).wait, AlreadyWaiting) ∷ (not (may_merge old new), BadMode) ∷ []
 
--- the first of two tickets takes the mode of the second, which goes, and then waiters of their place are granted
+-- the outcome of merging two tickets, if both are held: the first takes the mode of the second, which is removed, and then waiters of
+-- their place are granted
 abbrev pub merging_of : ℕ → Option Held → Option Held → Core → Answer × Core
 merging_of who (Some old) (Some new) core =
     refused_or (first_cause (merge_causes who old new core)) core (Done, serving old.place (folding who old new core))
 merging_of who _ _ core = (Refused NotHeld, core)
 
--- the tickets of two numbers become one
+-- the outcome of merging the tickets of two numbers
 abbrev pub merging : ℕ → ℕ → ℕ → Core → Answer × Core
 merging who old new core = merging_of who (held_ticket who old core) (held_ticket who new core) core
 
 -- ---- waits
 
--- how a wait stands
+-- the answer to polling a wait that is settled in this way, if it is settled
 abbrev pub standing : Option Settled → Answer
 standing None = Is_pending
 standing (Some how) = Is_settled how
 
--- how the wait stands, if there is one
+-- the outcome of polling a wait, if there is one
 abbrev pub polling_of : Option Pending → Core → Answer × Core
 polling_of None core = (Refused NoWait, core)
 polling_of (Some wait) core = (standing wait.settled, core)
 
--- how the session's wait stands
+-- the outcome of polling a session's wait
 abbrev pub polling : ℕ → Core → Answer × Core
 polling who core = polling_of (seat_at who core).wait core
 
--- a wait that stands so is lost, unless it was settled before
+-- the outcome of timing out a session's wait that is settled in this way, if it is: it is settled as a timeout unless it was settled before
 abbrev pub timing_out_at : ℕ → Option Settled → Core → Answer × Core
 timing_out_at who None core = (Timed_out ByThisCall, losing who settled_as.Timeout core)
 timing_out_at who (Some how) core = (Timed_out (Already how), core)
 
--- if there is a wait
+-- the outcome of timing out a session's wait, if there is one
 abbrev pub timing_out_of : ℕ → Option Pending → Core → Answer × Core
 timing_out_of who None core = (Refused NoWait, core)
 timing_out_of who (Some wait) core = timing_out_at who wait.settled core
 
--- the session's patience ends
+-- the outcome of timing out the wait that a session has
 abbrev pub timing_out : ℕ → Core → Answer × Core
 timing_out who core = timing_out_of who (seat_at who core).wait core
 
--- a wait that stands so is ended: its ticket is taken up, or leaves those that wait, and then waiters of its place are granted
+-- the outcome of ending a session's wait that is settled in this way, if it is: the session holds the ticket; or the ticket is removed from
+-- the waiting ones, and then waiters of its place are granted
 abbrev pub ending_at : ℕ → Pending → Option Settled → Core → Answer × Core
 ending_at who wait None core = (Refused Unsettled, core)
 ending_at who wait (Some settled_as.Granted) core = (Granted wait.id, taking_up who wait core)
 ending_at who wait (Some how) core = (Lost how, serving wait.place (leaving who wait core))
 
--- if there is a wait
+-- the outcome of ending a session's wait, if there is one
 abbrev pub ending_of : ℕ → Option Pending → Core → Answer × Core
 ending_of who None core = (Refused NoWait, core)
 ending_of who (Some wait) core = ending_at who wait wait.settled core
 
--- the session's wait is ended
+-- the outcome of ending the wait that a session has
 abbrev pub ending : ℕ → Core → Answer × Core
 ending who core = ending_of who (seat_at who core).wait core
 
--- the wait that any session has
+-- the wait of any session, if there is such a session and it has one
 abbrev pub wait_at : ℕ → Core → Option Pending
 wait_at target core = if has_session target core then (seat_at target core).wait else None
 
--- its number
+-- the outcome of asking for the number of any session's wait
 abbrev pub looking_after : ℕ → Core → Answer × Core
 looking_after target core = (Has_wait (option_map (λ (wait : Pending). wait.number) (wait_at target core)), core)
 
--- whether there is an unsettled wait of this number
+-- whether there is a wait, which is unsettled and has this number
 abbrev pub is_open_wait : ℕ → Option Pending → Bool
 is_open_wait number None = false
 is_open_wait number (Some wait) = wait.number == number && is_open (Some wait)
 
--- the unsettled wait of this number is killed
+-- the outcome of a kill: an unsettled wait of this number is settled as killed
 abbrev pub killing : ℕ → ℕ → Core → Answer × Core
 killing target number core =
     if is_open_wait number (wait_at target core) then (Has_killed true, losing target settled_as.Killed core) else (Has_killed false, core)
@@ -253,59 +255,59 @@ killing target number core =
 abbrev pub has_settled : Core → ℕ → Bool
 has_settled core who = is_closed (wait_at who core)
 
--- a deadlock's victim loses its wait
+-- the outcome of a search that found this victim: its wait is settled as lost
 abbrev pub searching_of : Option ℕ → Core → Answer × Core
 searching_of None core = (No_cycle, core)
 searching_of (Some victim) core = (Victim_is victim, losing victim settled_as.Victim core)
 
--- the victim of the deadlock that a session waits in, if it waits in one
+-- the victim of the deadlock that a session is part of, if it is part of one
 abbrev pub victim_at : ℕ → Core → Option ℕ
 victim_at who core = victim_in (has_settled core) core.books who
 
--- a deadlock is looked for that the session waits in
+-- the outcome of a search for a deadlock that the session is part of
 abbrev pub searching : ℕ → Core → Answer × Core
 searching who core = searching_of (victim_at who core) core
 
 -- ---- definitions
 
--- what stands under the key of this ticket
+-- the outcome of reading under this ticket, if it is held
 abbrev pub reading_of : Option Held → Core → Answer × Core
 reading_of None core = (Refused NotHeld, core)
 reading_of (Some ticket) core = (Reads (standing_at ticket.place core).version (standing_at ticket.place core).definition, core)
 
--- what stands under the key of the ticket of this number
+-- the outcome of reading under the ticket of a number
 abbrev pub reading : ℕ → ℕ → Core → Answer × Core
 reading who id core = reading_of (held_ticket who id core) core
 
--- why what stands under the key of a place can't be changed so
+-- why the definition of a place's key can't be changed so, if it can't
 abbrev pub redefining_fault : ℕ → Change → Core → Option ChangeError
 redefining_fault place change core = standing_fault (key_at place core).namespace change (standing_at place core)
 
--- refused for this cause, where there is one, and else changed, to the next version
+-- the outcome of a change at a place: a refusal for this cause, if there is one, and otherwise the change to the next version
 abbrev pub redefined_unless : Option ChangeError → ℕ → Change → Core → Answer × Core
 redefined_unless (Some why) place change core = (Refused (cause_of why), core)
 redefined_unless None place change core = (Changed ((standing_at place core).version + 1), redefining_at place change core)
 
--- what stands under the key of this ticket is changed, where the ticket is exclusive
+-- the outcome of a change of the definition under this ticket, if it is held, and held in mode X
 abbrev pub redefining_of : Option Held → Change → Core → Answer × Core
 redefining_of None change core = (Refused NotHeld, core)
 redefining_of (Some ticket) change core =
     if not (same_mode ticket.mode X) then (Refused NotExclusive, core)
     else redefined_unless (redefining_fault ticket.place change core) ticket.place change core
 
--- what stands under the key of the ticket of this number is changed
+-- the outcome of a change of the definition under the ticket of a number
 abbrev pub redefining : ℕ → ℕ → Change → Core → Answer × Core
 redefining who id change core = redefining_of (held_ticket who id core) change core
 
 -- ---- lists
 
--- what a session holds
+-- the outcome of listing a session's held tickets
 abbrev pub listing : ℕ → Core → Answer × Core
 listing who core = (Holds (seat_at who core).held, core)
 
 -- ---- all calls
 
--- whether the space has a call. The others are still to come.
+-- whether the space has a call. The others have no method yet.
 abbrev pub has_call : Call → Bool
 has_call (Resolve _ _) = true
 has_call (Try_now _ _ _) = true
@@ -329,7 +331,7 @@ has_call (Tables_of _ _) = true
 has_call (List_held _) = true
 has_call _ = false
 
--- what a call answers, and the space after it
+-- the outcome of a call: its answer, and the space after it
 abbrev pub outcome : Call → Core → Answer × Core
 outcome (Resolve who key) core = resolving key core
 outcome (Try_now who place mode) core = trying who place mode core
@@ -353,7 +355,7 @@ outcome (Tables_of who schema) core = telling_tables schema core
 outcome (List_held who) core = listing who core
 outcome _ core = (Refused OutOfMemory, core)
 
--- a call with this step was refused for want of memory, where it may need some, and changed nothing; or it made the step
+-- a call with this step made the step; or, if it takes memory, it was refused because memory ran out, and changed nothing
 abbrev pub Makes : Bool → (Core → Answer × Core) → Core → Answer → Core → Type 0
 Makes takes_memory step before answer after =
     ((takes_memory ≡ true) × (answer ≡ Refused OutOfMemory) × (after ≡ before)) ⊎ (step before ≡ (answer, after))

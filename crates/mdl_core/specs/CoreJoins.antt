@@ -1,4 +1,4 @@
--- How a call joins the space of one thread before it to the space after it, and what a session has and knows there.
+-- The relation of a call to the space of one thread before it and after it, and what a session has and knows there.
 use Rattle.std.specs.Prelude.{◌≡◌, ◌≤◌, ℕ, true, Some, MatchOption}
 use Rattle.std.specs.Option.{IfSome}
 use Rattle.mdl_key.specs.Keys.{KeyName}
@@ -11,15 +11,15 @@ use Rattle.mdl_core.specs.Cores.{Core, seat_at, has_key, has_session, key_at, st
 use Rattle.mdl_core.specs.Seats.{own_of, numbers_of}
 use Rattle.mdl_core.specs.Ties.{IsSound}
 
--- the space speaks for each of its sessions
+-- the space speaks for each of its sessions: for any of them a call may be made, and the space is sound
 abbrev pub SpeaksFor : Core → ℕ → Type 0
 SpeaksFor core who = (has_session who core ≡ true) × IsSound core
 
--- what a session has
+-- a session's held tickets and its wait
 abbrev pub own_at : Core → ℕ → Own
 own_at core who = own_of (seat_at who core)
 
--- the last numbers that its tickets and waits were given
+-- the last numbers that were given to a session's tickets and waits
 abbrev pub numbers_at : Core → ℕ → Numbers
 numbers_at core who = numbers_of (seat_at who core)
 
@@ -27,23 +27,23 @@ numbers_at core who = numbers_of (seat_at who core)
 abbrev pub Knows : Core → ℕ → ℕ → KeyName → Type 0
 Knows core who place key = (has_key place core ≡ true) × (key_at place core ≡ key)
 
--- a session's wait is settled so
+-- a session's wait is settled in this way
 abbrev pub IsSettledAs : Core → ℕ → Settled → Type 0
 IsSettledAs core who how = MatchOption (wait_at who core) ⊥ (λ (wait : Pending). wait.settled ≡ Some how)
 
--- this stands at a place where a session holds a ticket
+-- a place has this version and definition, and the session holds a ticket there
 abbrev pub HasRead : Core → ℕ → ℕ → Standing → Type 0
 HasRead core who place standing = HoldsAt place (own_at core who) × (has_key place core ≡ true) × (standing_at place core ≡ standing)
 
--- what stands at a place has this version or a later one
+-- a place's version is this one or a later one
 abbrev pub HasSeen : Core → ℕ → ℕ → ℕ → Type 0
 HasSeen core who place version = (has_key place core ≡ true) × (version ≤ (standing_at place core).version)
 
--- a place that has a key keeps it, whoever needs it
+-- a place that has a key keeps it, for every session
 abbrev pub Pins : Core → ℕ → ℕ → Type 0
 Pins core who place = has_key place core ≡ true
 
--- the call has just its outcome, but that memory may run out
+-- the call has exactly its outcome, or is refused because memory ran out if it takes memory
 abbrev pub Joins : Core → Call → Answer → Core → Type 0
 Joins a call answer b =
     IfSome (caller call) (SpeaksFor a) × (has_call call ≡ true) × Makes (takes_memory call) (outcome call) a answer b

@@ -1,5 +1,4 @@
--- Laws of the lock space of one thread: its calls are events of the system of locks, whose definitions are those of schemas and
--- tables.
+-- Laws of the lock space of one thread: its calls are events of the system of locks, in which schemas and tables are defined.
 use Rattle.std.specs.Prelude.{◌≡◌, ◌⊎◌, ℕ, Bool, true, false, not, List, [], ◌∷◌, ◌++◌, Option, Some, None, Contains}
 use Rattle.mdl_key.specs.Keys.{KeyName}
 use Rattle.mdl_key.specs.declared.mode.Mode.{Mode}
@@ -15,12 +14,12 @@ use Rattle.mdl_core.specs.Cores.{Core, empty_core, key_at}
 use Rattle.mdl_core.specs.CoreSystems.{system_of, state_of, applies}
 use Rattle.mdl_core.specs.Ties.{IsSound}
 
--- whether a ticket, where there is one, isn't as strong as a mode
+-- whether there is a ticket, and it isn't as strong as a mode
 abbrev pub is_weaker : Mode → Option Held → Bool
 is_weaker mode None = false
 is_weaker mode (Some ticket) = not (covers ticket.mode mode)
 
--- whether a call with this answer changes who holds what, who waits for what, how a wait is settled, or what is defined
+-- whether a call with this answer changes the held tickets, the waiting ones, how a wait is settled, or a definition
 abbrev pub is_change : Core → Call → Answer → Bool
 is_change a (Try_now _ _ _) (Granted _) = true
 is_change a (Begin_wait _ _ _) (Granted _) = true
@@ -38,7 +37,7 @@ is_change a (Downgrade _ _ _) Done = true
 is_change a (Change_definition _ _ _) (Changed _) = true
 is_change a _ _ = false
 
--- the event that such a call is
+-- the event that a call with this answer is, if it changes something
 abbrev pub IsEventOf : Core → Call → Answer → Event Change → Type 0
 IsEventOf a (Try_now who place mode) (Granted id) event =
     event ≡ Grant (record { session = who; number = id; key = key_at place a; mode = mode })
@@ -71,20 +70,20 @@ IsEventOf a (Change_definition who id change) (Changed version) event =
     (ticket : Holding) × (ticket.session ≡ who) × (ticket.number ≡ id) × (event ≡ ChangeDefinition ticket change)
 IsEventOf a _ _ event = ⊥
 
--- a waiter of a key before whom none waits there whose wait is unsettled and whose wish is grantable
+-- a waiter of a key such that no earlier one of that key is unsettled and grantable
 abbrev pub IsFirst : {D : Type 0} → System D → KeyName → Waiter → Type 0
 IsFirst a key waiter =
     (before : List Waiter) × (after : List Waiter) × (a.waiting key ≡ before ++ waiter ∷ after)
     × ((earlier : Waiter) → Contains before earlier → earlier.state ≡ Unsettled → IsGrantable a earlier.ticket.session key earlier.ticket.mode → ⊥)
 
--- waiters of a key are granted, each time the first that can be
+-- waiters of a key are granted, each time the first that can be granted
 abbrev pub GrantsInOrder : {C D : Type 0} → (KeyName → C → Option D → Option (Option D)) → KeyName → List (Event C) → System D → System D → Type 0
 GrantsInOrder apply key [] a b = SameSystem a b
 GrantsInOrder {C} {D} apply key (event ∷ events) a b =
     (waiter : Waiter) × (between : System D) × (event ≡ GrantWaiter key waiter) × IsFirst a key waiter
     × Happens apply event a between × GrantsInOrder apply key events between b
 
--- a call changes nothing in the system, or it is an event there, after which waiters of that event's key are granted
+-- a call changes nothing in the system, or it is an event there, and then waiters of the event's key are granted
 abbrev pub CallsAreEvents : Type 0
 CallsAreEvents =
     (a b : Core) (call : Call) (answer : Answer) → IsSound a → Joins a call answer b →
@@ -93,12 +92,12 @@ CallsAreEvents =
     × IsEventOf a call answer event × ((other : KeyName) → IsAbout event other → other ≡ key)
     × Happens applies event (system_of a) between × GrantsInOrder applies key grants between (system_of b))
 
--- after each call books and sessions tell the same, what stands under a key may stand there, the system is lawful, and nobody
--- is forgotten
+-- each call keeps the space sound: the books and the seats agree, each key's version and definition are valid for it, the system is
+-- lawful, and nobody is forgotten
 abbrev pub CallsKeepSound : Type 0
 CallsKeepSound = (a b : Core) (call : Call) (answer : Answer) → IsSound a → Joins a call answer b → IsSound b
 
--- a lock is had at once exactly where the wish for it is grantable
+-- a lock is granted at once exactly if the request for it is grantable
 abbrev pub GrantsWhatIsGrantable : Type 0
 GrantsWhatIsGrantable =
     (a b : Core) (who place : ℕ) (mode : Mode) →
@@ -107,7 +106,7 @@ GrantsWhatIsGrantable =
     × ((id : ℕ) → Joins a (Begin_wait who place mode) (Granted id) b → IsGrantable (system_of a) who (key_at place a) mode)
     × ((number : ℕ) → Joins a (Begin_wait who place mode) (Waits number) b → IsGrantable (system_of a) who (key_at place a) mode → ⊥)
 
--- a held ticket has another mode at once exactly where it is as strong already or the wish for the mode is grantable
+-- a held ticket gets another mode at once exactly if it is as strong already or the request for the mode is grantable
 abbrev pub UpgradesWhatIsGrantable : Type 0
 UpgradesWhatIsGrantable =
     (a b : Core) (who id : ℕ) (mode : Mode) (ticket : Held) → held_ticket who id a ≡ Some ticket →
@@ -115,13 +114,13 @@ UpgradesWhatIsGrantable =
     × (Joins a (Upgrade_now who id mode) Would_wait b →
     (covers ticket.mode mode ≡ false) × (IsGrantable (system_of a) who (key_at ticket.place a) mode → ⊥))
 
--- calls, each with its answer, lead from one space to another
+-- the calls, each with its answer, lead from the one space to the other
 abbrev pub Joined : List (Call × Answer) → Core → Core → Type 0
 Joined [] a b = a ≡ b
 Joined ((call, answer) ∷ calls) a b = (between : Core) × Joins a call answer between × Joined calls between b
 
--- so whatever is asked of an empty space, a run of events leads from the empty system to what it is in the end; that is lawful,
--- and nobody is forgotten in it
+-- whatever calls are made on an empty space, a run of events leads from the empty system to the system that it is in the end, which is
+-- lawful, and in which nobody is forgotten
 abbrev pub CallsLeadByEvents : Type 0
 CallsLeadByEvents =
     (places sessions : ℕ) (calls : List (Call × Answer)) (b : Core) → Joined calls (empty_core places sessions) b →

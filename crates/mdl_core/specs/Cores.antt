@@ -11,14 +11,14 @@ use Rattle.mdl_defs.specs.declared.standing.Standing.{Standing}
 use Rattle.mdl_calls.specs.Reads.{is_table_of}
 use Rattle.mdl_core.specs.Seats.{SeatView, empty_seat}
 
--- the books of the places that have a key, from place 1, what is kept of the sessions, from session 1, and how many places
--- there can be
+-- the space: the books of the places that have a key, from place 1, the seats of the sessions, from session 1, and the greatest
+-- number of places
 pub record Core : Type 0 where
   pub books : List BookView
   pub seats : List SeatView
   pub places : ℕ
 
--- nobody has asked for anything
+-- the space of this number of places and sessions, before any call
 abbrev pub empty_core : ℕ → ℕ → Core
 empty_core places sessions = record { books = []; seats = replicate sessions empty_seat; places = places }
 
@@ -26,7 +26,7 @@ empty_core places sessions = record { books = []; seats = replicate sessions emp
 abbrev pub book_at : ℕ → Core → BookView
 book_at place core = slice_index_or core.books (place - 1) (empty_book global_key)
 
--- what is kept of a session
+-- the seat of a session
 abbrev pub seat_at : ℕ → Core → SeatView
 seat_at who core = slice_index_or core.seats (who - 1) empty_seat
 
@@ -34,11 +34,11 @@ seat_at who core = slice_index_or core.seats (who - 1) empty_seat
 abbrev pub has_key : ℕ → Core → Bool
 has_key place core = nat_le 1 place && nat_le place (length core.books)
 
--- whether there is such a session
+-- whether the space has a session of this number
 abbrev pub has_session : ℕ → Core → Bool
 has_session who core = nat_le 1 who && nat_le who (length core.seats)
 
--- where the book of a key stands
+-- the index of a key's book, if the key has one
 abbrev pub index_of : KeyName → List BookView → Option ℕ
 index_of key books = position (λ book. key_eq book.key key) books
 
@@ -46,11 +46,11 @@ index_of key books = position (λ book. key_eq book.key key) books
 abbrev pub key_at : ℕ → Core → KeyName
 key_at place core = (book_at place core).key
 
--- what stands under the key of a place
+-- the version and the definition of a place's key
 abbrev pub standing_at : ℕ → Core → Standing
 standing_at place core = (book_at place core).standing
 
--- whether a session's wish for a lock can be granted
+-- whether a session's request for a lock can be granted now
 abbrev pub is_free : ℕ → ℕ → Mode → Core → Bool
 is_free who place mode core =
     let book = book_at place core in is_grantable (lock_kind book) book.granted book.waiting who mode
@@ -59,18 +59,18 @@ is_free who place mode core =
 abbrev pub comes_before : Core → ℕ → ℕ → Bool
 comes_before core one other = is_lt (key_cmp (key_at one core) (key_at other core))
 
--- a place put before the first of these whose key comes after its own
+-- the list with a place put before the first place whose key comes after its own, or at the end
 abbrev pub put_in_order : Core → ℕ → List ℕ → List ℕ
 put_in_order core place [] = place ∷ []
 put_in_order core place (other ∷ others) =
     if comes_before core place other then place ∷ other ∷ others else other ∷ put_in_order core place others
 
--- places in the order of their keys
+-- these places in the order of their keys
 abbrev pub in_key_order : Core → List ℕ → List ℕ
 in_key_order core [] = []
 in_key_order core (place ∷ places) = put_in_order core place (in_key_order core places)
 
--- whether a table of this schema that has a definition has the place
+-- whether a place's key is that of a table of this schema, and has a definition
 abbrev pub has_defined_table : List ℕ → Core → ℕ → Bool
 has_defined_table schema core place = is_table_of schema (key_at place core) && is_some (standing_at place core).definition
 
@@ -78,10 +78,10 @@ has_defined_table schema core place = is_table_of schema (key_at place core) && 
 abbrev pub tables_in : List ℕ → Core → List ℕ
 tables_in schema core = in_key_order core (filter (has_defined_table schema core) (range_with_len 1 (length core.books)))
 
--- with another book at a place
+-- the space with another book at a place
 abbrev pub booking : ℕ → BookView → Core → Core
 booking place book core = record core { books = slice_set core.books (place - 1) book }
 
--- with another seat for a session
+-- the space with another seat for a session
 abbrev pub seating : ℕ → SeatView → Core → Core
 seating who seat core = record core { seats = slice_set core.seats (who - 1) seat }

@@ -1,5 +1,5 @@
--- What each call is answered, by the system of locks: who holds what, who waits for what and what is defined; by the places of its
--- keys; and by the numbers that were given last. How the space of one thread is kept doesn't stand here but in the laws at the end.
+-- The answer to each call, by the system of locks (who holds what, who waits for what, and what is defined), by the places of its
+-- keys, and by the last numbers given. The data of the space of one thread occur only in the laws at the end.
 use Rattle.std.specs.Prelude.{◌≡◌, ◌≢◌, ◌⊎◌, ◌↔◌, ℕ, zero, suc, ◌+◌, ◌-◌, ◌<◌, ◌^◌, true, false, ◌||◌, List, [], ◌∷◌, ◌++◌, length, map, slice_get, Option, Some, None, MatchOption, IsSome, Contains, AllPairs}
 use Rattle.std.specs.declared.cmp.Ordering.TheVariants.{Less}
 use Rattle.mdl_key.specs.Keys.{table_key, key_cmp}
@@ -33,21 +33,21 @@ use Rattle.mdl_system.specs.Systems.{Holding, System, Versioned, Held as IsHeld,
 abbrev pub Right : Type 1
 Right = Answer → Type 0
 
--- this one alone
+-- only this answer is right
 abbrev pub Only : Answer → Right
 Only right answer = answer ≡ right
 
--- those, where something is so, and else these
+-- the first answers are right if the condition holds, and otherwise the second ones
 abbrev pub Where : Type 0 → Right → Right → Right
 Where P Then Else answer = (P × Then answer) ⊎ ((P → ⊥) × Else answer)
 
--- a call asks that something be so, and is refused for this cause where it isn't; of causes that are nested the first is told
+-- a call requires a condition, and is refused with this error if it doesn't hold. Of nested conditions the first one that fails counts.
 abbrev pub Needs : Type 0 → SpaceError → Right → Right
 Needs P refusal Then = Where P Then (Only (Refused refusal))
 
 -- ---- places
 
--- the keys that have places, in their order from place 1 on, and how many places there can be
+-- the keys that have places, in the order of the places from 1 on, and the greatest number of places
 pub record Places : Type 0 where
   pub keys : List KeyName
   pub most : ℕ
@@ -57,17 +57,17 @@ abbrev pub key_of : Places → ℕ → Option KeyName
 key_of places zero = None
 key_of places (suc index) = slice_get places.keys index
 
--- right by the key of a place; refused where it has none
+-- the right answers by the key of a place: a refusal if it has none
 abbrev pub AtPlace : Places → ℕ → (KeyName → Right) → Right
 AtPlace places place Then answer = MatchOption (key_of places place) (answer ≡ Refused NoPlace) (λ key. Then key answer)
 
--- the place of a key: the one that it has, or else the next, as long as there can be more
+-- the right answers to resolving a key: the place that it has, or otherwise the next place, as long as one is left
 abbrev pub ToResolve : Places → KeyName → Right
 ToResolve places key answer =
     ((place : ℕ) × (key_of places place ≡ Some key) × (answer ≡ At_place place))
     ⊎ ((Contains places.keys key → ⊥) × Needs (length places.keys < places.most) NoPlace (Only (At_place (length places.keys + 1))) answer)
 
--- a table of this schema that has a definition has the place
+-- the key of the place is that of a table of this schema, and has a definition
 abbrev pub HasDefinedTable : System Definition → Places → List ℕ → ℕ → Type 0
 HasDefinedTable system places schema place =
     (table : List ℕ) × (key_of places place ≡ Some (table_key schema table)) × IsSome (system.definitions (table_key schema table)).definition
@@ -77,7 +77,7 @@ abbrev pub ComesBefore : Places → ℕ → ℕ → Type 0
 ComesBefore places one other =
     (key later : KeyName) × (key_of places one ≡ Some key) × (key_of places other ≡ Some later) × (key_cmp key later ≡ Less)
 
--- all tables of the schema that have a definition, in the order of their keys
+-- the right answer to listing a schema's tables: the places of all that have a definition, in the order of their keys
 abbrev pub ToTellTables : System Definition → Places → List ℕ → Right
 ToTellTables system places schema answer =
     (tables : List ℕ) × (answer ≡ Tables tables)
@@ -86,8 +86,7 @@ ToTellTables system places schema answer =
 
 -- ---- locks
 
--- the lock of a key has room for a ticket: whatever granted tickets of the key are counted, each once, with those that wait they are
--- fewer than 65,535
+-- the lock of a key has room for a ticket: its granted tickets, each counted once, and its waiting ones are fewer than 65,535
 abbrev pub HasRoom : {D : Type 0} → System D → KeyName → Type 0
 HasRoom system key =
     (tickets : List Holding) → AllPairs (λ one other. one ≢ other) tickets
@@ -98,12 +97,12 @@ HasRoom system key =
 abbrev pub HasNumber : Numbers → Type 0
 HasNumber numbers = numbers.last_ticket < 2 ^ 60 - 1
 
--- a lock is granted by the next number, where there is room
+-- the right answers when a lock is granted: the ticket's number, which is the next one, if there is room
 abbrev pub ToGrant : {D : Type 0} → System D → Numbers → KeyName → Right
 ToGrant system numbers key = Needs (HasRoom system key) Full (Only (Granted (numbers.last_ticket + 1)))
 
--- a lock is asked for: at a place that has a key, by a session that has no wait, in a mode of the key's kind; granted where
--- the wish for it is grantable
+-- the right answers to a request for a lock: at a place that has a key, by a session that has no wait and has a number left, in a
+-- mode of the key's kind. The lock is granted if the request is grantable.
 abbrev pub ToAsk : {D : Type 0} → System D → Places → Numbers → ℕ → ℕ → Mode → (KeyName → Right) → Right
 ToAsk system places numbers who place mode Otherwise =
     AtPlace places place (λ key.
@@ -112,64 +111,65 @@ ToAsk system places numbers who place mode Otherwise =
     Needs (HasNumber numbers) CounterFull (
     Where (IsGrantable system who key mode) (ToGrant system numbers key) (Otherwise key)))))
 
--- a wait begins by the next number, where there is room
+-- the right answers when a wait begins: the wait's number, which is the next one, if there is room
 abbrev pub ToWait : {D : Type 0} → System D → Numbers → KeyName → Right
 ToWait system numbers key = Needs (HasRoom system key) Full (Only (Waits (numbers.last_wait + 1)))
 
 -- ---- held tickets
 
--- right by the ticket of this number that the session holds; refused where it holds none
+-- the right answers by the ticket of this number that the session holds: a refusal if it holds none
 abbrev pub OfTicket : {D : Type 0} → System D → ℕ → ℕ → (Holding → Right) → Right
 OfTicket system who id Then answer =
     ((ticket : Holding) × IsHeld system who ticket × (ticket.number ≡ id) × Then ticket answer)
     ⊎ (((ticket : Holding) → IsHeld system who ticket → ticket.number ≢ id) × (answer ≡ Refused NotHeld))
 
--- a second ticket beside a held one, which overtakes those that wait: by a session that has no wait, in a mode of the key's kind
--- that the held one is at least as strong as
+-- the right answers to cloning a held ticket, which overtakes waiters: by a session that has no wait and has a number left, in a mode
+-- of the key's kind that the held ticket covers
 abbrev pub ToClone : {D : Type 0} → System D → Numbers → ℕ → Mode → Holding → Right
 ToClone system numbers who mode ticket =
     Needs (HasNoWait system who) AlreadyWaiting (
     Needs ((covers ticket.mode mode ≡ true) × (is_mode_of (lock_kind ticket.key) mode ≡ true)) BadMode (
     Needs (HasNumber numbers) CounterFull (ToGrant system numbers ticket.key)))
 
--- a held ticket in another mode: one that it may be upgraded to or is as strong as already, and of the key's kind; by a session
--- that has no wait; had at once where the ticket is as strong already or the wish for the mode is grantable
+-- the right answers to an upgrade: to a mode of the key's kind that the ticket covers already or may be upgraded to, by a session that
+-- has no wait. The mode is granted at once if the ticket covers it already or the request for it is grantable.
 abbrev pub ToUpgrade : {D : Type 0} → System D → ℕ → Mode → Holding → Right
 ToUpgrade system who mode ticket =
     Needs (((covers ticket.mode mode || may_upgrade ticket.mode mode) ≡ true) × (is_mode_of (lock_kind ticket.key) mode ≡ true)) NotUpgradable (
     Needs (HasNoWait system who) AlreadyWaiting (
     Where ((covers ticket.mode mode ≡ true) ⊎ IsGrantable system who ticket.key mode) (Only Upgraded) (Only Would_wait)))
 
--- a held ticket in a weaker mode: one that it may be downgraded to, and of the key's kind
+-- the right answers to a downgrade: to a mode of the key's kind that the ticket may be downgraded to
 abbrev pub ToDowngrade : Mode → Holding → Right
 ToDowngrade mode ticket =
     Needs ((may_downgrade ticket.mode mode ≡ true) × (is_mode_of (lock_kind ticket.key) mode ≡ true)) NotUpgradable (Only Done)
 
--- two held tickets made one: by a session that has no wait; two of one key, the one that goes at least as strong as the other
+-- the right answers to a merge: by a session that has no wait, of two different tickets of one key, if the one to be released is at
+-- least as strong as the other
 abbrev pub ToMerge : {D : Type 0} → System D → ℕ → Holding → Holding → Right
 ToMerge system who kept gone =
     Needs (HasNoWait system who) AlreadyWaiting (
     Needs ((kept.number ≢ gone.number) × (gone.key ≡ kept.key) × (covers gone.mode kept.mode ≡ true)) BadMode (Only Done))
 
--- what is defined under a key, with its version
+-- the right answer to a read: the key's version and definition
 abbrev pub ToRead : Versioned Definition → Right
 ToRead standing = Only (Reads standing.version standing.definition)
 
--- a change of it, which tells the next version: where a version is left, where such a definition can stand under the key, and where
--- what stands there lets it be changed so
+-- the right answers to a change of a key's definition: the next version, if one is left, if the change suits the key, and if the
+-- definition that the key has can be changed so
 abbrev pub ToChange : KeyName → Change → Versioned Definition → Right
 ToChange key change standing =
     Needs (standing.version < 1000000) VersionFull (
     Needs (suits key.namespace change ≡ true) WrongKind (λ answer.
     MatchOption (change_fault standing.definition change) (answer ≡ Changed (standing.version + 1)) (λ why. answer ≡ Refused (Def why))))
 
--- a session holds this in the system, at the key of its place
+-- in the system a session holds this ticket, on the key of the ticket's place
 abbrev pub HasInHand : {D : Type 0} → System D → Places → ℕ → Held → Type 0
 HasInHand system places who ticket =
     (key : KeyName) × (key_of places ticket.place ≡ Some key)
     × IsHeld system who (record { session = who; number = ticket.id; key = key; mode = ticket.mode })
 
--- all that the session holds, in rising number
+-- the right answer to listing a session's tickets: all that it holds, in the order of their numbers
 abbrev pub ToList : {D : Type 0} → System D → Places → ℕ → Right
 ToList system places who answer =
     (tickets : List Held) × (answer ≡ Holds tickets)
@@ -178,37 +178,37 @@ ToList system places who answer =
 
 -- ---- waits
 
--- a session's wait has this number and its ticket that one, and this is how it is settled, if it is: granted and not ended, or the
--- ticket still waits somewhere
+-- a session has a wait of this number, with a ticket of this number, which is settled in this way, if it is: the wait is granted and not
+-- ended, or the ticket still waits for some key
 abbrev pub IsWait : {D : Type 0} → System D → ℕ → ℕ → ℕ → Option Settled → Type 0
 IsWait system who number id (Some settled_as.Granted) = Contains system.unended (record { session = who; wait = number; ticket = id })
 IsWait system who number id settled =
     (key : KeyName) × (mode : Mode)
     × Contains (system.waiting key) (record { ticket = record { session = who; number = id; mode = mode }; wait = number; state = state_of settled })
 
--- right by the session's wait; or as said for one that has none
+-- the right answers by the session's wait, or those for a session that has none
 abbrev pub OfWait : {D : Type 0} → System D → ℕ → Right → (ℕ → ℕ → Option Settled → Right) → Right
 OfWait system who Without Then answer =
     ((number id : ℕ) × (settled : Option Settled) × IsWait system who number id settled × Then number id settled answer)
     ⊎ (HasNoWait system who × Without answer)
 
--- how a wait stands
+-- the answer to polling a wait
 abbrev pub to_poll : Option Settled → Answer
 to_poll None = Pending
 to_poll (Some how) = Is_settled how
 
--- the session's patience ends: its wait is lost so, unless it was settled before
+-- the answer to timing out a wait: it is settled by this, unless it was settled before
 abbrev pub to_time_out : Option Settled → Answer
 to_time_out None = Timed_out ByThisCall
 to_time_out (Some how) = Timed_out (Already how)
 
--- a wait ends: with its ticket, or lost
+-- the answer to ending a wait: a refusal if it isn't settled, its ticket's number if it was granted, and otherwise how it was lost
 abbrev pub to_end : ℕ → Option Settled → Answer
 to_end id None = Refused Unsettled
 to_end id (Some settled_as.Granted) = Granted id
 to_end id (Some how) = Lost how
 
--- a deadlock that the session is part of is found exactly where there is one: the victim of the one that is chosen is told
+-- the right answers to a search: if the session is part of a deadlock, the victim of the chosen one, and otherwise that there is none
 abbrev pub ToSearch : {D : Type 0} → System D → ℕ → Right
 ToSearch system who =
     Where ((cycle : List ℕ) × IsDeadlock system who cycle)
@@ -217,7 +217,7 @@ ToSearch system who =
 
 -- ---- all calls
 
--- what a call is answered. Those that aren't named here are still to come.
+-- the right answers to a call. Calls that aren't named here have no method yet, and no right answer.
 abbrev pub Determines : System Definition → Places → (ℕ → Numbers) → Call → Right
 Determines system places numbers (Resolve who key) = ToResolve places key
 Determines system places numbers (Try_now who place mode) = ToAsk system places (numbers who) who place mode (λ key. Only Would_wait)
@@ -246,27 +246,27 @@ Determines system places numbers _ = λ answer. ⊥
 
 -- ---- the space of one thread
 
--- the places of its keys
+-- the places of the space's keys
 abbrev pub places_of : Core → Places
 places_of core = record { keys = map (λ (book : BookView). book.key) core.books; most = core.places }
 
--- what a call of the space is answered, but for want of memory, is what its system determines, by the places of its keys and the
--- numbers that sessions were given last; and they determine no other answer
+-- the answer to a call of the space, except that memory ran out, is the one that is determined by its system, the places of its keys
+-- and the last numbers that sessions got, and they determine no other answer
 abbrev pub AnswersAreDetermined : Type 0
 AnswersAreDetermined =
     (a b : Core) (call : Call) (answer other : Answer) → IsSound a → Joins a call answer b → finds_no_memory answer ≡ false →
     Determines (system_of a) (places_of a) (numbers_at a) call other ↔ (other ≡ answer)
 
--- the places after a call with this answer: a key that was given a place is the last that has one, or had it before; no other call
--- changes them
+-- the places after a call with this answer: a key that was resolved had a place before, or has now got the last one. No other call
+-- changes the places.
 abbrev pub PlacesAfter : Call → Answer → Places → Places → Type 0
 PlacesAfter (Resolve who key) (At_place place) before after =
     (Contains before.keys key × (after ≡ before))
     ⊎ ((Contains before.keys key → ⊥) × (after ≡ record before { keys = before.keys ++ key ∷ [] }))
 PlacesAfter _ _ before after = after ≡ before
 
--- the places after a call, and each session's last numbers, follow from those before it, the call and its answer; so does the
--- system, as is said of all calls that are events
+-- the places after a call, and each session's last numbers, follow from those before it, the call and its answer. For the system, see
+-- `CallsAreEvents`.
 abbrev pub PlacesAndNumbersFollow : Type 0
 PlacesAndNumbersFollow =
     (a b : Core) (call : Call) (answer : Answer) → IsSound a → Joins a call answer b →

@@ -1,4 +1,5 @@
--- Which refusal the space of one thread answers where more than one could be: the first cause in the order of the refusals.
+-- Which error the space of one thread returns if there are several causes: the first in the order of `SpaceError`, but `WrongKind`
+-- before `Def`.
 use Rattle.std.specs.Prelude.{◌≡◌, ◌≢◌, ◌⊎◌, ℕ, Bool, true, false, ◌&&◌, ◌||◌, Some, None}
 use Rattle.mdl_key.specs.declared.mode.Mode.{Mode}
 use Rattle.mdl_key.specs.declared.mode.Mode.TheVariants.{X}
@@ -17,11 +18,11 @@ use Rattle.mdl_core.specs.Cores.{Core, seat_at, has_key, key_at, standing_at}
 use Rattle.mdl_core.specs.SessionLaws.{HasWait, HasNoNumber, HasNoRoom, HasNoVersion}
 use Rattle.mdl_system.specs.Strength.{covers, may_upgrade}
 
--- the call is refused so, and nothing changes
+-- the call is refused with this error, and nothing changes
 abbrev pub IsRefused : Core → Call → SpaceError → Type 0
 IsRefused core call refusal = outcome call core ≡ (Refused refusal, core)
 
--- the call asks for a lock, and would wait for it or not
+-- the call requests a lock, with waiting or without
 abbrev pub AsksFor : ℕ → ℕ → Mode → Call → Type 0
 AsksFor who place mode call = (call ≡ Try_now who place mode) ⊎ (call ≡ Begin_wait who place mode)
 
@@ -33,9 +34,8 @@ IsIdle core who = (seat_at who core).wait ≡ None
 abbrev pub is_mode_at : ℕ → Mode → Core → Bool
 is_mode_at place mode core = is_mode_of (kind_of (key_at place core).namespace) mode
 
--- a lock that is asked for is refused for want of its place before all else, also to a session that waits; then to one that
--- waits, in whatever mode; then in a mode that isn't of the place's kind; then to one that has used up its numbers, also where
--- the lock is full
+-- a request for a lock is refused first if its place has no key, even if the session waits; then if the session waits, whatever the
+-- mode; then if the mode isn't one of the place's kind; and then if the session has used up its numbers, even if the lock is full
 abbrev pub RefusesWishesInOrder : Type 0
 RefusesWishesInOrder =
     (core : Core) (who place : ℕ) (mode : Mode) (call : Call) → AsksFor who place mode call →
@@ -45,12 +45,12 @@ RefusesWishesInOrder =
     × (has_key place core ≡ true → IsIdle core who → is_mode_at place mode core ≡ true → HasNoNumber core who →
     IsRefused core call CounterFull)
 
--- whether a held ticket can serve for a second one in the mode
+-- whether a held ticket can be cloned in the mode
 abbrev pub serves_for : Held → Mode → Core → Bool
 serves_for ticket mode core = covers ticket.mode mode && is_mode_at ticket.place mode core
 
--- a second ticket is refused where the first isn't held; then to a session that waits; then in a mode for which that one can't
--- serve; then to a session that has used up its numbers; and last where the lock is full
+-- a clone is refused first if the ticket isn't held; then if the session waits; then if the ticket can't be cloned in the mode; then
+-- if the session has used up its numbers; and last if the lock is full
 abbrev pub RefusesClonesInOrder : Type 0
 RefusesClonesInOrder =
     (core : Core) (who id : ℕ) (mode : Mode) → let call = Clone_ticket who id mode in
@@ -62,12 +62,12 @@ RefusesClonesInOrder =
     × (IsIdle core who → serves_for ticket mode core ≡ true → (HasNoNumber core who → ⊥) → HasNoRoom core ticket.place →
     IsRefused core call Full))
 
--- whether a held ticket has a mode already or may be upgraded to it, and the place's kind has it
+-- whether a held ticket covers a mode already or may be upgraded to it, and the mode is one of the place's kind
 abbrev pub is_upgradable : Held → Mode → Core → Bool
 is_upgradable ticket mode core = (covers ticket.mode mode || may_upgrade ticket.mode mode) && is_mode_at ticket.place mode core
 
--- another mode is refused where the ticket isn't held; then where it may not become that; and an upgrade then to a session that
--- waits. A downgrade is made also for one that waits
+-- an upgrade or a downgrade is refused first if the ticket isn't held, and then if it may not get the mode. An upgrade is then
+-- refused if the session waits. A downgrade is made even if it waits.
 abbrev pub RefusesNewModesInOrder : Type 0
 RefusesNewModesInOrder =
     (core : Core) (who id : ℕ) (mode : Mode) → let up = Upgrade_now who id mode in let down = Downgrade who id mode in
@@ -78,8 +78,8 @@ RefusesNewModesInOrder =
     × (is_lower mode ticket core ≡ false → IsRefused core down NotUpgradable)
     × (is_lower mode ticket core ≡ true → (outcome down core).0 ≡ Done))
 
--- a merge is refused where one of the two tickets isn't held; then to a session that waits; and last of tickets that may not
--- become one
+-- a merge is refused first if one of the two tickets isn't held; then if the session waits; and last if the tickets may not be
+-- merged
 abbrev pub RefusesMergesInOrder : Type 0
 RefusesMergesInOrder =
     (core : Core) (who old new : ℕ) → let call = Merge who old new in
@@ -90,16 +90,16 @@ RefusesMergesInOrder =
     × (IsIdle core who → may_merge kept gone ≡ false → IsRefused core call BadMode)
     × (IsIdle core who → may_merge kept gone ≡ true → (outcome call core).0 ≡ Done))
 
--- a change of what stands under the key of a ticket's place isn't refused for the ticket's mode, nor for want of a version
+-- a change of the definition at a ticket's place isn't refused because of the ticket's mode, nor because no version is left
 abbrev pub MayChangeThere : Core → Held → Type 0
 MayChangeThere core ticket = (ticket.mode ≡ X) × (HasNoVersion core ticket.place → ⊥)
 
--- whether a change can be asked for under the key of a place
+-- whether a change suits the kind of a place's key
 abbrev pub suits_place : ℕ → Change → Core → Bool
 suits_place place change core = suits (key_at place core).namespace change
 
--- a change of a definition is refused where the ticket isn't held; then where that isn't exclusive; then where no version is
--- left; then where nothing of the kind can stand under the key; and last for what stands there
+-- a change of a definition is refused first if the ticket isn't held; then if it isn't held in mode X; then if no version is left;
+-- then if the key can't have such a definition; and last because of the definition that the key has
 abbrev pub RefusesChangesInOrder : Type 0
 RefusesChangesInOrder =
     (core : Core) (who id : ℕ) (change : Change) → let call = Change_definition who id change in

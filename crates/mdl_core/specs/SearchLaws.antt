@@ -8,8 +8,8 @@ use Rattle.mdl_core.specs.CoreSystems.{system_of}
 use Rattle.mdl_system.specs.Deadlocks.{IsDeadlock, IsChosenDeadlock, IsVictimOf, DeadlocksGoThrough, HasNoDeadlock}
 use Rattle.mdl_core.specs.Ties.{IsSound}
 
--- a search finds no cycle where the session is part of no deadlock, and else it names the victim of the chosen one; nothing but
--- memory can be wanting for it. That the victim alone then loses its wait is said of all calls that are events
+-- a search finds no cycle if the session is part of no deadlock, and otherwise it returns the victim of the chosen one. It fails only if
+-- memory runs out. That only the victim then loses its wait is part of `CallsAreEvents`.
 abbrev pub SearchesFindDeadlocks : Type 0
 SearchesFindDeadlocks =
     (a b : Core) (who : ℕ) →
@@ -19,11 +19,11 @@ SearchesFindDeadlocks =
     × ((answer : Answer) → Joins a (Search who) answer b → finds_no_memory answer ≡ false →
     (answer ≡ No_cycle) ⊎ ((victim : ℕ) × (answer ≡ Victim_is victim)))
 
--- a thousand and twenty-four searches are always enough where there are no more sessions
+-- 1,024 searches are always enough if there are at most 1,024 sessions
 abbrev pub SearchesSuffice : Type 0
 SearchesSuffice = (a b : Core) (who : ℕ) → length a.seats ≤ 1024 → SpeaksFor a who → Runs Joins a (seeking most_searches who) Cut_off b → ⊥
 
--- once they are over, the session is part of no deadlock: it waits in none, or is a victim itself
+-- once a session's searches are over, it is part of no deadlock: it is in none, or was a victim itself
 abbrev pub SearchesLeaveNoDeadlock : Type 0
 SearchesLeaveNoDeadlock =
     (a b : Core) (who : ℕ) → SpeaksFor a who → Runs Joins a (seeking most_searches who) Over b → (cycle : List ℕ) → IsDeadlock (system_of b) who cycle → ⊥
@@ -33,22 +33,22 @@ abbrev pub begins_wait : Call → Answer → ℕ → Bool
 begins_wait (Begin_wait who place mode) (Waits number) session = session == who
 begins_wait _ _ session = false
 
--- no call makes a deadlock but by a wait that it begins: where all deadlocks go through some sessions, after it they go through
--- these or through the one that began to wait by it
+-- no call makes a deadlock except by a wait that it begins: if all deadlocks go through some set of sessions, then after the call all
+-- go through these or through the session that began to wait by it
 abbrev pub OnlyNewWaitsMakeDeadlocks : Type 0
 OnlyNewWaitsMakeDeadlocks =
     (a b : Core) (call : Call) (answer : Answer) (sessions : ℕ → Bool) → IsSound a → Joins a call answer b →
     DeadlocksGoThrough sessions (system_of a) →
     DeadlocksGoThrough (λ session. sessions session || begins_wait call answer session) (system_of b)
 
--- once a session's searches are over, all deadlocks go through these sessions but itself
+-- if all deadlocks go through some set of sessions, then once a session's searches are over all go through the others of the set
 abbrev pub SearchingEndsDeadlocks : Type 0
 SearchingEndsDeadlocks =
     (a b : Core) (who : ℕ) (sessions : ℕ → Bool) → SpeaksFor a who → Runs Joins a (seeking most_searches who) Over b →
     DeadlocksGoThrough sessions (system_of a) →
     DeadlocksGoThrough (λ session. sessions session && not (session == who)) (system_of b)
 
--- so where there is no deadlock, and a session begins to wait and searches until that is over, there is none
+-- if there is no deadlock, and a session begins to wait and searches until its searches are over, then there is no deadlock
 abbrev pub WaitingLeavesNoDeadlock : Type 0
 WaitingLeavesNoDeadlock =
     (a b c : Core) (who place number : ℕ) (mode : Mode) →

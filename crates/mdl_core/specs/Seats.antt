@@ -7,36 +7,37 @@ use Rattle.mdl_calls.specs.declared.answers.Settled.{Settled}
 use Rattle.mdl_core.specs.declared.pending.Pending.{Pending}
 use Rattle.mdl_calls.specs.Own.{Own, Numbers, is_number}
 
--- the held tickets in order of gain, the wait that isn't ended, and the last numbers that tickets and waits were given
+-- a seat: the held tickets in the order in which the session got them, the wait that isn't ended, and the last numbers that were
+-- given to its tickets and waits
 pub record SeatView : Type 0 where
   pub held : List Held
   pub wait : Option Pending
   pub last_ticket : ℕ
   pub last_wait : ℕ
 
--- of a session that never asked for anything
+-- the seat of a session that never requested a lock
 abbrev pub empty_seat : SeatView
 empty_seat = record { held = []; wait = None; last_ticket = 0; last_wait = 0 }
 
--- what the session has
+-- the held tickets and the wait, as callers see them
 abbrev pub own_of : SeatView → Own
 own_of seat = record {
   held = seat.held;
   wait = option_map (λ wait. record { number = wait.number; place = wait.place; mode = wait.mode }) seat.wait;
 }
 
--- the last numbers that the session was given
+-- the last numbers that were given to the session's tickets and waits
 abbrev pub numbers_of : SeatView → Numbers
 numbers_of seat = record { last_ticket = seat.last_ticket; last_wait = seat.last_wait }
 
--- with a new ticket
+-- the seat with a new ticket
 abbrev pub holding : ℕ → Mode → SeatView → SeatView
 holding place mode seat = record seat {
   held = seat.held ++ record { id = seat.last_ticket + 1; place = place; mode = mode } ∷ [];
   last_ticket = seat.last_ticket + 1;
 }
 
--- without the ticket of a number
+-- the seat without the ticket of a number
 abbrev pub without_ticket : ℕ → SeatView → SeatView
 without_ticket id seat = record seat { held = filter (λ ticket. not (is_number id ticket)) seat.held }
 
@@ -44,13 +45,13 @@ without_ticket id seat = record seat { held = filter (λ ticket. not (is_number 
 abbrev pub held_in : Mode → Held → Held
 held_in mode ticket = record ticket { mode = mode }
 
--- with the ticket of a number in another mode
+-- the seat with the ticket of a number in another mode
 abbrev pub with_ticket_in : ℕ → Mode → SeatView → SeatView
 with_ticket_in id mode seat = record seat {
   held = map (λ ticket. if is_number id ticket then held_in mode ticket else ticket) seat.held;
 }
 
--- with a wait for a new ticket
+-- the seat with a wait for a new ticket
 abbrev pub beginning_wait : ℕ → Mode → SeatView → SeatView
 beginning_wait place mode seat = record seat {
   wait = Some (record { number = seat.last_wait + 1; id = seat.last_ticket + 1; place = place; mode = mode; settled = None });
@@ -58,28 +59,28 @@ beginning_wait place mode seat = record seat {
   last_wait = seat.last_wait + 1;
 }
 
--- whether a wait, if there is one, is unsettled
+-- whether there is a wait, and it is unsettled
 abbrev pub is_open : Option Pending → Bool
 is_open None = false
 is_open (Some wait) = not (is_some wait.settled)
 
--- whether a wait, if there is one, is settled
+-- whether there is a wait, and it is settled
 abbrev pub is_closed : Option Pending → Bool
 is_closed None = false
 is_closed (Some wait) = is_some wait.settled
 
--- with the wait settled
+-- the seat with its wait settled in this way
 abbrev pub settling : Settled → SeatView → SeatView
 settling how seat = record seat { wait = option_map (λ (wait : Pending). record wait { settled = Some how }) seat.wait }
 
--- without the wait
+-- the seat without its wait
 abbrev pub without_wait : SeatView → SeatView
 without_wait seat = record seat { wait = None }
 
--- the ticket that is waited for
+-- the ticket that a wait is for
 abbrev pub ticket_of_wait : Pending → Held
 ticket_of_wait wait = record { id = wait.id; place = wait.place; mode = wait.mode }
 
--- without the wait, and with the ticket that was waited for
+-- the seat without its wait, and with the ticket that the wait was for
 abbrev pub with_ticket_of : Pending → SeatView → SeatView
 with_ticket_of wait seat = record seat { held = seat.held ++ ticket_of_wait wait ∷ []; wait = None }

@@ -1,5 +1,5 @@
--- What a session has in the lock space of one thread is what the system of locks says of it, and what the calls say of a
--- session's wait and of the space's limits is so.
+-- A session has in the lock space of one thread what it has in the system of locks, and what the calls return about a session's
+-- wait and about the space's limits is true.
 use Rattle.std.specs.Prelude.{◌≡◌, ◌≢◌, ◌↔◌, ℕ, ◌+◌, ◌-◌, ◌≤◌, ◌^◌, Bool, true, false, List, length, map, Option, Some, None, Contains}
 use Rattle.mdl_key.specs.Keys.{KeyName}
 use Rattle.mdl_key.specs.declared.mode.Mode.TheVariants.{X}
@@ -20,7 +20,7 @@ use Rattle.mdl_core.specs.Ties.{IsSound}
 
 -- ---- what a session has
 
--- the tickets that a session holds, in order of gain, each with the key of its place
+-- the tickets that a session holds, in the order in which it got them, each with the key of its place
 abbrev pub holdings_of : ℕ → Core → List Holding
 holdings_of who core =
     map (λ (ticket : Held). record { session = who; number = ticket.id; key = key_at ticket.place core; mode = ticket.mode }) (seat_at who core).held
@@ -29,7 +29,7 @@ holdings_of who core =
 abbrev pub HasWait : Core → ℕ → Pending → Type 0
 HasWait core who wait = (seat_at who core).wait ≡ Some wait
 
--- a session's wait, as those that wait stand in the system
+-- a session's wait as a waiter in the system
 abbrev pub waiter_for : ℕ → Pending → Waiter
 waiter_for who wait = record {
   ticket = record { session = who; number = wait.id; mode = wait.mode };
@@ -37,35 +37,35 @@ waiter_for who wait = record {
   state = state_of wait.settled;
 }
 
--- a session's wait is of this number, it is granted, and for the ticket of this number
+-- a session's wait has this number, is granted, and is for the ticket of this number
 abbrev pub HasWon : Core → ℕ → ℕ → ℕ → Type 0
 HasWon core who number id =
     (wait : Pending) × HasWait core who wait × (wait.settled ≡ Some settled_as.Granted) × (wait.number ≡ number) × (wait.id ≡ id)
 
--- a session's wait isn't granted, it is at a place of this key, and this is how it stands there
+-- a session's wait isn't granted, it is at the place of this key, and this is its waiter
 abbrev pub WaitsAt : Core → ℕ → KeyName → Waiter → Type 0
 WaitsAt core who key waiter =
     (wait : Pending) × HasWait core who wait × (wait.settled ≢ Some settled_as.Granted) × (key_at wait.place core ≡ key) × (waiter ≡ waiter_for who wait)
 
--- the seat of a session says what the system says of it
+-- the seat of a session agrees with the system
 pub record HasWhatTheSystemSays (core : Core) (who : ℕ) : Type 0 where
-  -- what it lists as held is what the session holds in the system, in rising number
+  -- its held tickets are those that the session holds in the system, in the order of their numbers
   pub held : ListsHeld (system_of core) who (holdings_of who core)
-  -- it has no wait exactly where the session has none in the system
+  -- it has no wait exactly if the session has none in the system
   pub free : ((seat_at who core).wait ≡ None) ↔ HasNoWait (system_of core) who
-  -- its wait is settled as granted exactly where the system has a granted wait of the session that isn't ended, of that number
-  -- and for that ticket
+  -- its wait is settled as granted exactly if the system has a granted wait of the session that isn't ended, with this number and for
+  -- this ticket
   pub won : (number id : ℕ) → HasWon core who number id ↔ Contains (system_of core).unended (record { session = who; wait = number; ticket = id })
-  -- its wait isn't granted exactly where in the system a ticket of the session waits, at the key of its place, with that
-  -- number and as it stands
+  -- it has a wait that isn't granted exactly if the session has a waiter in the system, for the key of the wait's place, with the wait's
+  -- number and state
   pub waits : (key : KeyName) (waiter : Waiter)
       → WaitsAt core who key waiter ↔ (Contains ((system_of core).waiting key) waiter × (waiter.ticket.session ≡ who))
 
--- what is no session has nothing in the system
+-- a number that is no session's has nothing in the system
 abbrev pub HasNothing : {D : Type 0} → System D → ℕ → Type 0
 HasNothing system who = ((held : Holding) → Contains system.granted held → held.session ≢ who) × HasNoWait system who
 
--- each session's seat says what the system says of it, and nothing there is of what is no session
+-- each session's seat agrees with the system, and a number that is no session's has nothing there
 abbrev pub SessionsHaveWhatTheSystemSays : Type 0
 SessionsHaveWhatTheSystemSays =
     (core : Core) (who : ℕ) → IsSound core →
@@ -73,20 +73,20 @@ SessionsHaveWhatTheSystemSays =
 
 -- ---- waits of others
 
--- there is such a session, and its wait has this number and is unsettled
+-- the space has this session, and its wait has this number and is unsettled
 abbrev pub WaitsUnsettled : Core → ℕ → ℕ → Type 0
 WaitsUnsettled core target number =
     (has_session target core ≡ true) × (wait : Pending) × HasWait core target wait × (wait.number ≡ number) × (wait.settled ≡ None)
 
--- in the system a ticket of the session waits somewhere, with this number of its wait and unsettled
+-- in the system the session has an unsettled waiter for some key, with this number of its wait
 abbrev pub WaitsSomewhere : {D : Type 0} → System D → ℕ → ℕ → Type 0
 WaitsSomewhere system target number =
     (key : KeyName) × (waiter : Waiter) × Contains (system.waiting key) waiter
     × (waiter.ticket.session ≡ target) × (waiter.wait ≡ number) × (waiter.state ≡ Unsettled)
 
--- a kill says that it killed exactly where the wait of this number was there and unsettled, which is where it waits in the
--- system, and else it changes nothing. The number that is told of a wait is that of the session's wait, and of what is no
--- session none is told
+-- a kill returns that it killed exactly if the session had an unsettled wait of this number, as it then has in the system, and otherwise
+-- it changes nothing. The number that is returned for a session's wait is the wait's, and for a number that is no session's there
+-- is none
 abbrev pub KillsJustThatWait : Type 0
 KillsJustThatWait =
     ((a b : Core) (target number : ℕ) (killed : Bool) → Joins a (Kill target number) (Has_killed killed) b
@@ -97,11 +97,11 @@ KillsJustThatWait =
 
 -- ---- definitions
 
--- a session holds this ticket by the system, and by that number
+-- in the system the session holds this ticket, which has this number
 abbrev pub HoldsBy : Core → ℕ → ℕ → Holding → Type 0
 HoldsBy core who id ticket = Holds (system_of core) who ticket × (ticket.number ≡ id)
 
--- what is read under a ticket is what the system says is defined under its key; and reading changes nothing, also where it is
+-- a read under a ticket returns the version and the definition that its key has in the system, and changes nothing, even if it is
 -- refused
 abbrev pub ReadsTellWhatStands : Type 0
 ReadsTellWhatStands =
@@ -110,8 +110,8 @@ ReadsTellWhatStands =
     (ticket : Holding) × HoldsBy a who id ticket × ((system_of a).definitions ticket.key ≡ record { version = version; definition = definition }))
     × ((answer : Answer) → Joins a (Read_definition who id) answer b → b ≡ a)
 
--- a change is made under a ticket that is held exclusively, and tells the version that the system then has under its key; one
--- that is refused changes nothing
+-- a change is made under a ticket that is held in mode X, and returns the version that its key then has in the system. A refused
+-- change changes nothing.
 abbrev pub ChangesTellTheVersion : Type 0
 ChangesTellTheVersion =
     (a b : Core) (who id : ℕ) (change : Change) →
@@ -125,7 +125,7 @@ ChangesTellTheVersion =
 abbrev pub IsNowhere : Core → KeyName → Type 0
 IsNowhere core key = (place : ℕ) → has_key place core ≡ true → key_at place core ≢ key
 
--- the book of a place has no room: it has as many tickets as it can, granted and waiting
+-- the book of a place has no room: it has as many tickets as it can have, granted and waiting together
 abbrev pub HasNoRoom : Core → ℕ → Type 0
 HasNoRoom core place = 65535 ≤ length (book_at place core).granted + length (book_at place core).waiting
 
@@ -133,7 +133,7 @@ HasNoRoom core place = 65535 ≤ length (book_at place core).granted + length (b
 abbrev pub HasNoNumber : Core → ℕ → Type 0
 HasNoNumber core who = 2 ^ 60 - 1 ≤ (seat_at who core).last_ticket
 
--- why there is no place: as many places as there can be have keys, all of them others, or this place has none
+-- why there is no place: all places that there can be have other keys, or this place has no key
 abbrev pub LacksPlace : Core → Call → Type 0
 LacksPlace core (Resolve who key) = (core.places ≤ length core.books) × IsNowhere core key
 LacksPlace core (Try_now who place mode) = has_key place core ≡ false
@@ -155,7 +155,7 @@ LacksNumber core (Begin_wait who place mode) = HasNoNumber core who
 LacksNumber core (Clone_ticket who id mode) = HasNoNumber core who
 LacksNumber core _ = ⊥
 
--- what stands under the key of a place had all the versions that it can have
+-- the key of a place has had all the versions that it can have
 abbrev pub HasNoVersion : Core → ℕ → Type 0
 HasNoVersion core place = 1000000 ≤ (standing_at place core).version
 
@@ -165,7 +165,7 @@ LacksVersion core (Change_definition who id change) =
     (ticket : Held) × (held_ticket who id core ≡ Some ticket) × HasNoVersion core ticket.place
 LacksVersion core _ = ⊥
 
--- the limit that a refusal names is met
+-- the limit that an error names is reached
 abbrev pub MeetsLimit : Core → Call → SpaceError → Type 0
 MeetsLimit core call NoPlace = LacksPlace core call
 MeetsLimit core call Full = LacksRoom core call
@@ -173,6 +173,6 @@ MeetsLimit core call CounterFull = LacksNumber core call
 MeetsLimit core call VersionFull = LacksVersion core call
 MeetsLimit core call _ = Unit {0}
 
--- no call is refused by a limit that isn't met
+-- no call is refused because of a limit that isn't reached
 abbrev pub RefusesForCause : Type 0
 RefusesForCause = (a b : Core) (call : Call) (refusal : SpaceError) → Joins a call (Refused refusal) b → MeetsLimit a call refusal

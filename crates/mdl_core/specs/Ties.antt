@@ -1,5 +1,5 @@
--- What is always so in the lock space of one thread: books and sessions tell the same tickets and waits, what stands under a key
--- may stand there, the system that they are is lawful, and nobody is forgotten in it.
+-- What always holds in the lock space of one thread: the books and the seats agree on the tickets and waits, each key's version and
+-- definition are valid for it, the space's system of locks is lawful, and nobody is forgotten in it.
 use Rattle.std.specs.Prelude.{◌≡◌, ◌≢◌, ◌⊎◌, ◌↔◌, ℕ, ◌<◌, ◌≤◌, true, Some, MatchOption, Contains, AllPairs, IsTrue}
 use Rattle.mdl_key.specs.Modes.{is_mode_of}
 use Rattle.mdl_book.specs.declared.ticket.Ticket.{Ticket}
@@ -15,7 +15,7 @@ use Rattle.mdl_calls.specs.Own.{IsRising}
 use Rattle.mdl_core.specs.Seats.{SeatView, own_of, ticket_of_wait}
 use Rattle.mdl_system.specs.Systems.{IsLawful, NoneForgotten}
 
--- a session has a granted ticket: it holds it, or its wait for it is granted and not ended
+-- a session has a granted ticket: it holds the ticket, or its wait for the ticket is granted and not ended
 abbrev pub Has : SeatView → Held → Type 0
 Has seat ticket =
     Contains seat.held ticket
@@ -25,47 +25,47 @@ Has seat ticket =
 abbrev pub Awaits : SeatView → Held → Type 0
 Awaits seat ticket = MatchOption seat.wait ⊥ (λ (wait : Pending). (wait.settled ≢ Some settled_as.Granted) × (ticket ≡ ticket_of_wait wait))
 
--- the ticket of a session as it stands in a book
+-- the ticket of a session as it is in a book
 abbrev pub in_book_of : ℕ → Held → Ticket
 in_book_of who ticket = record { session = who; number = ticket.id; mode = ticket.mode }
 
--- the numbers of a session's tickets and waits: those of held tickets rise, none is above the last one given, and that of a
--- ticket waited for is the last one and above theirs
+-- the numbers of a session's tickets and waits: those of held tickets rise, none is above the last number given, and the ticket of
+-- a wait has the last one, which is above those of the held tickets
 pub record IsNumbered (seat : SeatView) : Type 0 where
   pub rising : IsRising (own_of seat)
   pub held : (ticket : Held) → Contains seat.held ticket → ticket.id ≤ seat.last_ticket
   pub wait : MatchOption seat.wait (Unit {0}) (λ (wait : Pending).
       (wait.id ≡ seat.last_ticket) × (wait.number ≤ seat.last_wait) × ((ticket : Held) → Contains seat.held ticket → ticket.id < wait.id))
 
--- books and sessions tell the same
+-- the books and the seats agree
 pub record IsTied (core : Core) : Type 0 where
-  -- two places have two keys
+  -- different places have different keys
   pub keys : (one other : ℕ) → has_key one core ≡ true → has_key other core ≡ true → key_at one core ≡ key_at other core → one ≡ other
-  -- what stands in a book is of a session, and in a mode of the lock's kind
+  -- each ticket in a book is a session's, in a mode of the lock's kind
   pub granted_by : (place : ℕ) → has_key place core ≡ true → (ticket : Ticket) → Contains (book_at place core).granted ticket
       → (has_session ticket.session core ≡ true) × IsTrue (is_mode_of (lock_kind (book_at place core)) ticket.mode)
   pub waiting_by : (place : ℕ) → has_key place core ≡ true → (ticket : Ticket) → Contains (book_at place core).waiting ticket
       → (has_session ticket.session core ≡ true) × IsTrue (is_mode_of (lock_kind (book_at place core)) ticket.mode)
-  -- granted tickets are what sessions have, and waiting ones what they wait for
+  -- the granted tickets are those that sessions have, and the waiting ones those that they wait for
   pub granted : (who : ℕ) (ticket : Held) → has_session who core ≡ true → has_key ticket.place core ≡ true
       → Contains (book_at ticket.place core).granted (in_book_of who ticket) ↔ Has (seat_at who core) ticket
   pub waiting : (who : ℕ) (ticket : Held) → has_session who core ≡ true → has_key ticket.place core ≡ true
       → Contains (book_at ticket.place core).waiting (in_book_of who ticket) ↔ Awaits (seat_at who core) ticket
-  -- at places that have keys
+  -- the sessions' tickets are at places that have keys
   pub placed : (who : ℕ) (ticket : Held) → has_session who core ≡ true → Has (seat_at who core) ticket ⊎ Awaits (seat_at who core) ticket
       → has_key ticket.place core ≡ true
-  -- each stands there once, and a session waits once at most
+  -- each granted ticket is in a book once, and each session waits at most once in a book
   pub granted_once : (place : ℕ) → has_key place core ≡ true
       → AllPairs (λ (one other : Ticket). ticket_id one ≢ ticket_id other) (book_at place core).granted
   pub waiting_once : (place : ℕ) → has_key place core ≡ true
       → AllPairs (λ (one other : Ticket). one.session ≢ other.session) (book_at place core).waiting
   pub numbered : (who : ℕ) → has_session who core ≡ true → IsNumbered (seat_at who core)
 
--- what stands under the key of each place may stand there
+-- the version and the definition of each place are valid for its key
 abbrev pub AllMayStand : Core → Type 0
 AllMayStand core = (place : ℕ) → has_key place core ≡ true → MayStand (key_at place core).namespace (standing_at place core)
 
--- all that is always so
+-- all that always holds of the space
 pub record IsSound (core : Core) : Type 0 where
   pub tied : IsTied core
   pub standing : AllMayStand core

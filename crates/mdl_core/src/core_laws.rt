@@ -4,20 +4,20 @@ ghost use Rattle.mdl_core.specs.CoreLaws.{CallsAreEvents, CallsKeepSound, Grants
 ghost use Rattle.mdl_core.specs.Determined.{AnswersAreDetermined, PlacesAndNumbersFollow};
 ghost use Rattle.mdl_core.specs.SearchLaws.{SearchesFindDeadlocks, SearchesSuffice, SearchesLeaveNoDeadlock, OnlyNewWaitsMakeDeadlocks, SearchingEndsDeadlocks, WaitingLeavesNoDeadlock};
 
-/// A call changes nothing in the system of locks, or it is an event there, after which waiters of that event's key are granted,
-/// each time the first that can be.
+/// A call changes nothing in the system of locks, or it is an event there. After the event waiters of its key are granted, each
+/// time the first that can be granted.
 pub fn calls_are_events()
     ensures { CallsAreEvents }
 {}
 
-/// After each call books and sessions tell the same, what stands under a key may stand there, no two sessions hold clashing
-/// tickets of one key, and no waiter is forgotten.
+/// After each call the books and the seats agree, each key's version and definition are valid for it, no two sessions hold
+/// clashing tickets of one key, and no waiter is forgotten.
 pub fn calls_keep_sound()
     ensures { CallsKeepSound }
 {}
 
-/// Each answer, but want of memory, is the one that the system of locks determines, with the places of its keys and the numbers
-/// that sessions were given last.
+/// Each answer, except that memory ran out, is the one that the system of locks determines, with the places of its keys and the
+/// last numbers that sessions got.
 pub fn answers_are_determined()
     ensures { AnswersAreDetermined }
 {}
@@ -27,47 +27,48 @@ pub fn places_and_numbers_follow()
     ensures { PlacesAndNumbersFollow }
 {}
 
-/// A lock is had at once exactly where the wish for it is grantable.
+/// A lock is granted at once exactly if the request for it is grantable.
 pub fn grants_what_is_grantable()
     ensures { GrantsWhatIsGrantable }
 {}
 
-/// A held ticket has another mode at once exactly where it is as strong already or the wish for the mode is grantable.
+/// A held ticket gets another mode at once exactly if it is as strong already or the request for the mode is grantable.
 pub fn upgrades_what_is_grantable()
     ensures { UpgradesWhatIsGrantable }
 {}
 
-/// Whatever is asked of an empty space, events have led from the empty system to what it is in the end.
+/// Whatever calls are made on an empty space, events lead from the empty system to the system that it is in the end. That system
+/// is lawful, and nobody is forgotten in it.
 pub fn calls_lead_by_events()
     ensures { CallsLeadByEvents }
 {}
 
-/// A search finds no cycle exactly where the session is part of no deadlock; else it names the victim of the chosen one.
+/// A search finds no cycle exactly if the session is part of no deadlock. Otherwise it returns the victim of the chosen one.
 pub fn searches_find_deadlocks()
     ensures { SearchesFindDeadlocks }
 {}
 
-/// A thousand and twenty-four searches are enough for a session, in a space of no more sessions.
+/// For a session in a space of at most 1,024 sessions, 1,024 searches are enough.
 pub fn searches_suffice()
     ensures { SearchesSuffice }
 {}
 
-/// Where none of them was refused, the session is then part of no deadlock.
+/// Once a session's searches are over, and none of them was refused, the session is part of no deadlock.
 pub fn searches_leave_no_deadlock()
     ensures { SearchesLeaveNoDeadlock }
 {}
 
-/// No call makes a deadlock but by a wait that it begins, and then its session is part of it.
+/// A call makes a deadlock only by a wait that it begins, and the waiting session is then part of the deadlock.
 pub fn only_new_waits_make_deadlocks()
     ensures { OnlyNewWaitsMakeDeadlocks }
 {}
 
-/// Once a session's searches are over, no deadlock goes through it, and the others are old.
+/// If all deadlocks go through some set of sessions, then once a session's searches are over all go through the others of the set.
 pub fn searching_ends_deadlocks()
     ensures { SearchingEndsDeadlocks }
 {}
 
-/// So where there was no deadlock, there is none after a session began to wait and its searches are over.
+/// If there was no deadlock, there is none after a session began to wait and its searches are over.
 pub fn waiting_leaves_no_deadlock()
     ensures { WaitingLeavesNoDeadlock }
 {}

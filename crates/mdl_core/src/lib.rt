@@ -1,8 +1,8 @@
-//! The lock space of one thread as data: books by place and seats by session (`specs/Cores`), what a call changes of them
+//! The lock space of one thread as data: books by place and seats by session (`specs/Cores`), what a call changes in them
 //! (`specs/Changes`), and what each call answers and does (`specs/CoreCalls`).
 //!
-//! Its laws say that this is the system of locks that a reader believes: each call is an event of it, and grants of waiters.
-//! The program that keeps such a space is `CoreSpace` of `mdl_space`.
+//! Its laws say that this space follows the system of locks, the model for readers: each call is an event of it, and then grants
+//! of waiters. The program that keeps such a space is `CoreSpace` of `mdl_space`.
 //!
 //! # Example
 //!

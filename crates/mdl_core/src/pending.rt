@@ -9,9 +9,9 @@ pub struct Pending {
     pub number: u64,
     /// The number of the ticket that waits.
     pub id: TicketId,
-    /// The place that is waited for.
+    /// The place that the session waits at.
     pub place: Place,
-    /// The mode that is waited for.
+    /// The mode that the session waits for.
     pub mode: Mode,
     /// How the wait is settled, if it is.
     pub settled: Option<Settled>,

@@ -2,7 +2,7 @@
 //! function that does nothing.
 ghost use Rattle.mdl_core.specs.RunLaws.{SureRuns, FrugalRuns, OutcomesAreRuns};
 
-/// A run of a program that replies a fault wherever memory was wanting is the program's outcome, unless its reply is such a
+/// A run of a program that replies a fault whenever memory runs out is the program's outcome, unless its reply is such a
 /// fault.
 pub fn sure_runs<A>()
     ensures { SureRuns A }
@@ -13,8 +13,8 @@ pub fn frugal_runs<A>()
     ensures { FrugalRuns A }
 {}
 
-/// The outcome of a program is a run of it, where its calls are made for one session, which the space speaks for, or for nobody.
-/// For whom the space spoke before, it speaks then too.
+/// The outcome of a program is a run of it, if each of its calls has no caller or the same session as caller, and the space
+/// speaks for that session. The space still speaks for the same sessions afterwards.
 pub fn outcomes_are_runs<A>()
     ensures { OutcomesAreRuns A }
 {}

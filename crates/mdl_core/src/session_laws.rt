@@ -1,63 +1,63 @@
-//! Laws of what a session has in the space of one thread, and of what its calls are told. Each is proved as the contract of a
+//! Laws of what a session has in the space of one thread, and of what its calls return. Each is proved as the contract of a
 //! function that does nothing.
 ghost use Rattle.mdl_core.specs.SessionLaws.{SessionsHaveWhatTheSystemSays, KillsJustThatWait, ReadsTellWhatStands, ChangesTellTheVersion, RefusesForCause};
 ghost use Rattle.mdl_core.specs.RefusalLaws.{RefusesWishesInOrder, RefusesClonesInOrder, RefusesNewModesInOrder, RefusesMergesInOrder, RefusesChangesInOrder};
 
-/// What a session holds, and how its wait stands, is what the system of locks says of it, and nothing there is of what is no
-/// session.
+/// A session's held tickets and the state of its wait are those that it has in the system of locks. A number that is no session's
+/// has nothing there.
 pub fn sessions_have_what_the_system_says()
     ensures { SessionsHaveWhatTheSystemSays }
 {}
 
-/// A kill says that it killed exactly where the session's wait has the number and is unsettled, as it then stands in the system
-/// of locks, and else changes nothing. The number that is told of a wait is that of the session's wait.
+/// A kill returns that it killed exactly if the session's wait has the number and is unsettled, which is then so in the system of
+/// locks, too. Otherwise it changes nothing. The number that is returned for a session's wait is the wait's.
 pub fn kills_just_that_wait()
     ensures { KillsJustThatWait }
 {}
 
-/// What is read under a ticket is what the system of locks says is defined under its key. Reading changes nothing, also where it
-/// is refused.
+/// A read under a ticket returns the version and the definition that its key has in the system of locks. Reading changes nothing,
+/// even if it is refused.
 pub fn reads_tell_what_stands()
     ensures { ReadsTellWhatStands }
 {}
 
-/// A change of a definition is made under a ticket that is held exclusively, and tells the version that the system of locks then
-/// has under its key. One that is refused changes nothing.
+/// A change of a definition is made under a ticket that is held in mode X, and returns the version that its key then has in the
+/// system of locks. A refused change changes nothing.
 pub fn changes_tell_the_version()
     ensures { ChangesTellTheVersion }
 {}
 
-/// No call is refused for want of a place or of a version, for a full lock or for a full counter where that limit isn't met.
+/// A call is refused because no place, no version, no room in the lock or no number is left only if that limit is reached.
 pub fn refuses_for_cause()
     ensures { RefusesForCause }
 {}
 
-/// A lock that is asked for is refused for want of its place before all else; then where the session waits; then in a mode that
-/// isn't of the place's kind; then where the session has used up its numbers, also of a full lock.
+/// A request for a lock is refused first if its place has no key, then if the session waits, then if the mode isn't one of the
+/// place's kind, and then if the session has used up its numbers, even if the lock is full.
 pub fn refuses_wishes_in_order()
     ensures { RefusesWishesInOrder }
 {}
 
-/// A second ticket is refused where the first isn't held; then where the session waits; then in a mode for which that one can't
-/// serve; then where the session has used up its numbers; and last of a full lock.
+/// A clone is refused first if the ticket isn't held, then if the session waits, then if the ticket can't be cloned in the mode,
+/// then if the session has used up its numbers, and last if the lock is full.
 pub fn refuses_clones_in_order()
     ensures { RefusesClonesInOrder }
 {}
 
-/// An upgrade or a downgrade is refused where the ticket isn't held; then where it may not become that; and an upgrade then where
-/// the session waits.
+/// An upgrade or a downgrade is refused first if the ticket isn't held, and then if it may not get the mode. An upgrade is then
+/// refused if the session waits.
 pub fn refuses_new_modes_in_order()
     ensures { RefusesNewModesInOrder }
 {}
 
-/// A merge is refused where one of the two tickets isn't held; then where the session waits; and last of tickets that may not
-/// become one.
+/// A merge is refused first if one of the two tickets isn't held, then if the session waits, and last if the tickets may not be
+/// merged.
 pub fn refuses_merges_in_order()
     ensures { RefusesMergesInOrder }
 {}
 
-/// A change of a definition is refused where the ticket isn't held; then where that isn't exclusive; then where no version is
-/// left; then where nothing of the kind can stand under the key; and last for what stands there.
+/// A change of a definition is refused first if the ticket isn't held, then if it isn't held in mode X, then if no version is left,
+/// then if the key can't have such a definition, and last because of the definition that the key has.
 pub fn refuses_changes_in_order()
     ensures { RefusesChangesInOrder }
 {}

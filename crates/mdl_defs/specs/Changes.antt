@@ -9,17 +9,17 @@ use Rattle.mdl_defs.specs.declared.definition.Definition.TheVariants.{Schema, Ta
 use Rattle.mdl_defs.specs.Columns.{has_column, without_column}
 use Rattle.mdl_defs.specs.Definitions.{definition_fault, most_columns}
 
--- why a table can't gain a column: it has it, or has no room for another
+-- why a column can't be added to a table: the table has it already, or has `most_columns` columns
 abbrev pub gain_fault : List ℕ → List (List ℕ) → Option DefError
 gain_fault column columns =
     if has_column column columns then Some DuplicateColumn else (if nat_le most_columns (length columns) then Some ManyColumns else None)
 
--- why a table can't lose a column: it hasn't it, or has no other
+-- why a column can't be dropped from a table: the table doesn't have it, or has no other
 abbrev pub loss_fault : List ℕ → List (List ℕ) → Option DefError
 loss_fault column columns =
     if not (has_column column columns) then Some NoColumn else (if length columns == 1 then Some LastColumn else None)
 
--- why what stands can't be changed so
+-- why a change of a definition is refused
 abbrev pub change_fault : Option Definition → Change → Option DefError
 change_fault None (Create definition) = definition_fault definition
 change_fault (Some _) (Create definition) = Some Exists
@@ -33,7 +33,7 @@ change_fault (Some Schema) (DropColumn column) = Some WrongKind
 change_fault (Some (Table columns)) (DropColumn column) = loss_fault column columns
 change_fault standing (Put definition) = definition_fault definition
 
--- what stands after a change
+-- the definition after a change, if there is one then
 abbrev pub changed : Option Definition → Change → Option Definition
 changed standing (Create definition) = Some definition
 changed standing Drop = None

@@ -3,15 +3,15 @@ use Rattle.std.specs.Prelude.{ℕ, Bool, false, not, ◌||◌, ◌==◌, List, [
 use Rattle.std.specs.List.{filter, list_any}
 use lib.Pointwise.{pointwise}
 
--- columns are one where their names have the same bytes
+-- whether two columns are the same: their names have the same bytes
 abbrev pub same_column : List ℕ → List ℕ → Bool
 same_column = pointwise ◌==◌
 
--- whether a column is among these
+-- whether the list has this column
 abbrev pub has_column : List ℕ → List (List ℕ) → Bool
 has_column column columns = list_any (λ other. same_column other column) columns
 
--- whether a column is named twice
+-- whether two columns have the same name
 abbrev pub names_twice : List (List ℕ) → Bool
 names_twice [] = false
 names_twice (column ∷ rest) = has_column column rest || names_twice rest

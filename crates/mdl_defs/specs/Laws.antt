@@ -1,4 +1,4 @@
--- Laws of changes. What may stand is this project's own choice.
+-- Laws of changes. Which definitions are valid is this project's own choice.
 use Rattle.std.specs.Prelude.{◌≡◌, Option, None}
 use Rattle.mdl_key.specs.declared.namespace.Namespace.{Namespace}
 use Rattle.mdl_defs.specs.declared.change.Change.{Change}
@@ -8,7 +8,7 @@ use Rattle.mdl_defs.specs.Changes.{change_fault, changed}
 use Rattle.mdl_defs.specs.Definitions.{IsWellFormed}
 use Rattle.mdl_defs.specs.Standings.{standing_fault, standing_after, MayStand}
 
--- after any change that isn't refused, what stands may stand, where what stood before might
+-- if a definition is well formed, so is the one after any change that isn't refused
 abbrev pub ChangesKeepWellFormed : Type 0
 ChangesKeepWellFormed =
     (standing : Option Definition) (change : Change) →
@@ -16,7 +16,7 @@ ChangesKeepWellFormed =
     change_fault standing change ≡ None →
     IsWellFormed (changed standing change)
 
--- so what stands under a key may stand there after any change that isn't refused, where what stood before might
+-- if a version and definition are valid for a key, so are those after any change that isn't refused
 abbrev pub ChangesKeepStanding : Type 0
 ChangesKeepStanding =
     (namespace : Namespace) (standing : Standing) (change : Change) →

@@ -1,5 +1,5 @@
--- What stands under a key, and how that is changed, after MySQL 5.7: the Reference Manual, "CREATE TABLE Statement". That a
--- schema stands under the key of a schema alone and a table under that of a table, and the limit, are this project's own.
+-- A key's version and definition, and how they change, after MySQL 5.7: the Reference Manual, "CREATE TABLE Statement". That
+-- only the key of a schema can have a schema, and only that of a table a table, and the limit, are this project's own.
 use Rattle.std.specs.Prelude.{◌≡◌, ◌+◌, ◌≤◌, Bool, true, false, not, ◌&&◌, nat_le, is_some, if◌then◌else◌, Option, Some, None}
 use Rattle.std.specs.Option.{option_map, IfSome}
 use Rattle.mdl_key.specs.declared.namespace.Namespace.{Namespace}
@@ -14,46 +14,46 @@ use Rattle.mdl_defs.specs.declared.standing.Standing.{Standing}
 use Rattle.mdl_defs.specs.Changes.{change_fault, changed}
 use Rattle.mdl_defs.specs.Definitions.{IsWellFormed}
 
--- nothing stands, and nothing ever did
+-- version 0, without a definition
 abbrev pub nothing_yet : Standing
 nothing_yet = record { version = 0; definition = None }
 
--- whether a definition can stand under a key of this namespace
+-- whether a definition is valid for a key of this namespace
 abbrev pub fits : Namespace → Definition → Bool
 fits of.Schema Schema = true
 fits of.Table (Table _) = true
 fits _ _ = false
 
--- whether anything can
+-- whether a key of this namespace can have a definition
 abbrev pub is_defined : Namespace → Bool
 is_defined of.Schema = true
 is_defined of.Table = true
 is_defined _ = false
 
--- whether a change can be asked for there
+-- whether a change is of a kind that a key of this namespace can have
 abbrev pub suits : Namespace → Change → Bool
 suits namespace (Create definition) = fits namespace definition
 suits namespace (Put definition) = fits namespace definition
 suits namespace _ = is_defined namespace
 
--- why what stands there can't be changed so: it had all its versions, the change doesn't suit the key, or what stands doesn't
--- let it be changed so
+-- why a change of a key's definition is refused: the key has the greatest version, the change doesn't suit the key, or the
+-- definition can't be changed in this way
 abbrev pub standing_fault : Namespace → Change → Standing → Option ChangeError
 standing_fault namespace change standing =
     if nat_le 1000000 standing.version then Some VersionFull
     else (if not (suits namespace change) then Some WrongKind else option_map Def (change_fault standing.definition change))
 
--- what stands after a change: one version more
+-- the version and definition after a change: the version is greater by one
 abbrev pub standing_after : Change → Standing → Standing
 standing_after change standing = record { version = standing.version + 1; definition = changed standing.definition change }
 
--- what comes to stand under a key of this namespace by a change of what stood, if it can be made
+-- the definition of a key of this namespace after a change, if the change can be made
 abbrev pub applied : Namespace → Change → Option Definition → Option (Option Definition)
 applied namespace change standing =
     if suits namespace change && not (is_some (change_fault standing change)) then Some (changed standing change) else None
 
--- what may stand under a key of this namespace: at most 1,000,000 changes have led there, what is defined is well formed and
--- of its kind, and nothing is before the first change
+-- a version and definition that a key of this namespace can have: the version is at most 1,000,000, version 0 has no
+-- definition, and the definition is well formed and of the key's kind
 pub record MayStand (namespace : Namespace) (standing : Standing) : Type 0 where
   pub limit : standing.version ≤ 1000000
   pub unchanged : standing.version ≡ 0 → standing.definition ≡ None

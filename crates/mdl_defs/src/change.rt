@@ -9,18 +9,18 @@ use crate::definition::MOST_COLUMNS;
 use crate::{Column, Columns, DefError, Definition};
 use std::alloc::{AllocError, Global};
 
-/// A change of what stands under a name.
+/// A change of the definition of a schema or a table.
 #[derive(Drop, PartialEq, Eq)]
 pub enum Change {
-    /// Lets a definition stand where none stands.
+    /// Adds a definition if there is none.
     Create(Definition),
-    /// Lets none stand where one stands.
+    /// Removes the definition.
     Drop,
-    /// Gives a table a column, which goes last.
+    /// Adds a column to a table, at the end.
     AddColumn(Column),
-    /// Takes a column from a table.
+    /// Removes a column from a table.
     DropColumn(Column),
-    /// Lets a definition stand, whatever stood.
+    /// Sets the definition, whether there is one or not.
     Put(Definition),
 }
 
@@ -38,7 +38,8 @@ impl Clone for Change {
     }
 }
 
-/// What stands after a change of what stood, or why it can't be changed so. `Drop` takes no memory.
+/// Returns the definition after a change, `None` if there is none then, or why the change is refused. `Drop` takes no
+/// memory.
 ///
 /// After MySQL 5.7, the Reference Manual, "CREATE TABLE Statement" and "ALTER TABLE Statement".
 pub fn apply(
@@ -67,7 +68,7 @@ pub fn apply(
     }
 }
 
-// Lets a definition stand.
+// Returns a copy of a definition if it is valid.
 fn put(definition: &Definition) -> Result<Option<Definition>, DefError>
     ensures done { IfOk result (λ after. after ≡ Some definition.now) }
     ensures refused { Refuses (definition_fault definition.now) DefError.OutOfMemory result }
@@ -79,7 +80,7 @@ fn put(definition: &Definition) -> Result<Option<Definition>, DefError>
     }
 }
 
-// Gives a table a column.
+// Returns a table with one column more, at the end.
 fn add_column(columns: &Columns, column: &Column) -> Result<Option<Definition>, DefError>
     ensures done { IfOk result (λ after. after ≡ Some (Definition.Table (columns.now ++ column.now ∷ []))) }
     ensures refused { Refuses (gain_fault column.now columns.now) DefError.OutOfMemory result }
@@ -93,7 +94,7 @@ fn add_column(columns: &Columns, column: &Column) -> Result<Option<Definition>, 
     table(columns.with(column))
 }
 
-// Takes a column from a table.
+// Returns a table without a column.
 fn drop_column(
     alloc: Global,
     columns: &Columns,
@@ -111,7 +112,7 @@ fn drop_column(
     table(columns.without(alloc, column))
 }
 
-// A table of these columns, where there was memory for them.
+// Returns a table of these columns, if there was memory for them.
 fn table(columns: Result<Columns, AllocError>) -> Result<Option<Definition>, DefError>
     ensures { result ≡ elim columns [ Ok columns ↦ Ok (Some (Definition.Table columns)) | Err _ ↦ Err DefError.OutOfMemory ] }
 {

@@ -1,18 +1,18 @@
-//! Why what stands under a key can't be changed.
+//! Why a key's definition can't be changed.
 use crate::DefError;
 use thiserror::Error;
 
-/// Why what stands under a key can't be changed. Of several causes the first in this order is answered, but `OutOfMemory`
-/// may come before `Def`. A refused call changes nothing.
+/// Why a key's definition can't be changed. Of several causes [`Standing::change`](crate::Standing::change) returns the first
+/// in this order. A refused call changes nothing.
 #[derive(Clone, Copy, Debug, PartialEq, Eq, Error)]
 pub enum ChangeError {
-    /// It had as many versions as it can have.
+    /// The key already has the greatest version that it can have.
     #[error("no version is left")]
     VersionFull,
-    /// Nothing of this kind can stand under the key.
+    /// The key can't have a definition of this kind.
     #[error("no definition for such a key")]
     WrongKind,
-    /// What stands can't be changed so.
+    /// The definition can't be changed in this way.
     #[error("{0}")]
     Def(DefError),
     /// Memory ran out.

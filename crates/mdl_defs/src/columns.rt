@@ -26,7 +26,7 @@ impl Model for Column {
 }
 
 impl Column {
-    /// The column of a name. What is no name is refused as in the key of a table.
+    /// Creates a column with this name. A text that isn't a name is refused as in the key of a table.
     pub fn new(alloc: Global, name: &str) -> Result<Column, KeyError>
         ensures made { IfOk result (λ column. column ≡ name.now) }
         ensures refused { Refuses (name_fault name.now) KeyError.OutOfMemory result }
@@ -38,7 +38,7 @@ impl Column {
         }
     }
 
-    /// The column's name.
+    /// Returns the column's name.
     pub fn name(&self) -> &str
         ensures { result.now ≡ self.now }
     {
@@ -70,7 +70,7 @@ impl Eq for Column {
     ghost laws = { Prim.search (comparing, rules) depth 9 };
 }
 
-/// Columns in order. Whether a table can have them is seen where it is created.
+/// A list of columns, in order. Whether a table can have them is checked when a definition is created or put.
 #[derive(Drop)]
 pub struct Columns {
     list: Vec<Column>,
@@ -85,7 +85,7 @@ impl Model for Columns {
 }
 
 impl Columns {
-    /// No columns. It takes no memory.
+    /// Returns an empty list. It takes no memory.
     pub fn new(alloc: Global) -> Columns
         ensures { result ≡ [] }
     {
@@ -94,7 +94,7 @@ impl Columns {
         }
     }
 
-    /// Puts a column last.
+    /// Adds a column at the end.
     pub fn push(&mut self, column: Column) -> Result<(), AllocError>
         ensures pushed { OnOk result (self.new ≡ self.old ++ column ∷ []) }
         ensures unchanged { OnErr result (self.new ≡ self.old) }
@@ -103,21 +103,21 @@ impl Columns {
         Ok(())
     }
 
-    /// The columns, in order.
+    /// Returns the columns, in order.
     pub fn as_slice(&self) -> &[Column]
         ensures { result.now ≡ self.now }
     {
         &self.list
     }
 
-    // Whether a column is among these.
+    // Whether the list has this column.
     pub(crate) fn contains(&self, column: &Column) -> bool
         ensures { result ≡ has_column column.now self.now }
     {
         self.list.contains(column)
     }
 
-    /// Whether a column is named twice.
+    /// Whether two columns have the same name.
     pub fn names_twice(&self) -> bool
         ensures { result ≡ names_twice self.now }
     {
@@ -129,7 +129,7 @@ impl Columns {
         false
     }
 
-    // These columns, and one more, which goes last.
+    // Returns a copy of these columns with one more at the end.
     pub(crate) fn with(&self, column: &Column) -> Result<Columns, AllocError>
         ensures { IfOk result (λ columns. columns ≡ self.now ++ column.now ∷ []) }
     {
@@ -138,7 +138,7 @@ impl Columns {
         Ok(columns)
     }
 
-    // These columns without one, in order.
+    // Returns a copy of these columns without this one, in order.
     pub(crate) fn without(&self, alloc: Global, column: &Column) -> Result<Columns, AllocError>
         ensures { IfOk result (λ columns. columns ≡ without_column column.now self.now) }
     {

@@ -11,10 +11,10 @@ use std::marker::Model;
 use std::num::NonZeroUsize;
 use thiserror::Error;
 
-/// How many definitions a cache keeps at most.
+/// The most definitions that a cache can keep.
 pub const MOST_KEPT: u16 = 4096;
 
-/// Why there is no cache.
+/// Why a cache can't be made.
 #[derive(Clone, Copy, Debug, PartialEq, Eq, Error)]
 pub enum CacheError {
     /// The capacity isn't 1 to [`MOST_KEPT`].
@@ -25,9 +25,9 @@ pub enum CacheError {
     OutOfMemory,
 }
 
-/// A cache of definitions, each of a version of a place. It keeps the most recently used ones.
+/// A cache of definitions, each of one version of one place. It keeps the most recently used ones.
 ///
-/// Memory is taken as definitions are kept, and not before.
+/// It takes memory as definitions are kept, not before.
 ///
 /// After MySQL 5.7, the table definition cache (`table_definition_cache`) of `sql/table_cache.h`, which is shared by all sessions.
 #[derive(Drop)]
@@ -46,7 +46,7 @@ impl Model for DefCache {
 impl DefCache {
     ghost use Rattle.mdl_defs.specs.CacheLends.{EndsLookedAt};
 
-    /// A cache that keeps nothing yet, and at most so many definitions.
+    /// Creates an empty cache of at most `capacity` definitions.
     pub fn new(alloc: Global, capacity: u16) -> Result<DefCache, CacheError>
         ensures made { IfOk result (λ cache. (cache.kept ≡ []) × (cache.capacity ≡ capacity)) }
         ensures refused { Refuses (if nat_le 1 capacity && nat_le capacity most_kept then None else Some CacheError.BadCapacity) CacheError.OutOfMemory result }
@@ -63,7 +63,8 @@ impl DefCache {
         }
     }
 
-    /// The definition that is kept of this version of this place, if there is one. It comes first then. This takes no memory.
+    /// Returns the definition that is kept of this version of this place, if there is one, and moves it to the front. This
+    /// takes no memory.
     pub fn look(&mut self, place: u16, version: u64) -> Option<&Definition>
         ensures* order { sem 𝓛 (EndsLookedAt self.entry place version) }
         ensures found { option_copied result ≡ kept_of place version self.old.kept }
@@ -71,7 +72,7 @@ impl DefCache {
         self.map.get(&(place, version))
     }
 
-    /// How many definitions are kept.
+    /// Returns how many definitions are kept.
     pub fn len(&self) -> usize
         ensures len { result ≡ length self.now.kept }
         ensures within { IsCache self.now }
@@ -79,7 +80,8 @@ impl DefCache {
         self.map.len()
     }
 
-    /// Keeps the definition of a version of a place, and puts it first. Where no more can be kept, the last one is dropped.
+    /// Keeps the definition of a version of a place, and puts it first. It replaces the one that was kept of that version. If
+    /// there was none and the cache is full, the last one is dropped.
     pub fn keep(
         &mut self,
         place: u16,

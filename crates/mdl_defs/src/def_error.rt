@@ -1,23 +1,23 @@
 //! Why a definition can't be changed.
 use thiserror::Error;
 
-/// Why a definition can't be changed. Of several causes the first in this order is answered. A refused call changes
+/// Why a definition can't be changed. Of several causes the first in this order is returned. A refused call changes
 /// nothing.
 ///
 /// After the errors of the same causes in MySQL 5.7, the Reference Manual, "CREATE TABLE Statement" and "ALTER TABLE
 /// Statement".
 #[derive(Clone, Copy, Debug, PartialEq, Eq, Error)]
 pub enum DefError {
-    /// One of that name stands.
+    /// There is already a definition of that name.
     #[error("already exists")]
     Exists,
-    /// None of that name stands.
+    /// There is no definition of that name.
     #[error("doesn't exist")]
     Missing,
     /// A column is named twice, or is added to a table that has it.
     #[error("duplicate column name")]
     DuplicateColumn,
-    /// The table hasn't the column that is to be dropped.
+    /// The table doesn't have the column that is to be dropped.
     #[error("no such column")]
     NoColumn,
     /// The column that is to be dropped is the only one.

@@ -1,4 +1,4 @@
-//! Definitions: what stands under a name.
+//! Definitions of schemas and tables.
 ghost use Rattle.std.specs.Prelude.{◌≡◌};
 ghost use Rattle.mdl_key.specs.Refusals.{RefusesJust};
 ghost use Rattle.mdl_defs.specs.Definitions.{columns_fault, definition_fault};
@@ -6,13 +6,13 @@ ghost use Rattle.mdl_defs.specs.Definitions.{columns_fault, definition_fault};
 use crate::{Columns, DefError};
 use std::alloc::AllocError;
 
-/// How many columns a table has at most.
+/// The most columns that a table can have.
 pub const MOST_COLUMNS: usize = 64;
 
-/// What stands under the name of a schema or a table.
+/// The definition of a schema or a table.
 ///
-/// Any columns can be written here. [`apply`](crate::apply) lets a table stand only with 1 to [`MOST_COLUMNS`] columns, no two of one
-/// name.
+/// A value can have any columns. [`apply`](crate::apply) accepts a new table only if it has 1 to [`MOST_COLUMNS`] columns, no two of
+/// one name.
 #[derive(Drop, PartialEq, Eq)]
 pub enum Definition {
     /// A schema. Its tables have definitions of their own.
@@ -22,7 +22,7 @@ pub enum Definition {
 }
 
 impl Definition {
-    // Looks whether this can stand.
+    // Checks whether this is a valid definition.
     pub(crate) fn check(&self) -> Result<(), DefError>
         ensures { RefusesJust (definition_fault self.now) result }
     {
@@ -44,7 +44,7 @@ impl Clone for Definition {
     }
 }
 
-// Looks whether these can be the columns of a table.
+// Checks whether a table can have these columns.
 fn check_columns(columns: &Columns) -> Result<(), DefError>
     ensures { RefusesJust (columns_fault columns.now) result }
 {

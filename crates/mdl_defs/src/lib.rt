@@ -1,8 +1,8 @@
 //! Definitions of schemas and tables, and how they are changed.
 //!
-//! Under a name stands a [`Definition`], or none: a schema, or a table with its [`Columns`] in order. A statement that
-//! creates, drops or alters asks for a [`Change`], and [`apply`] gives what stands after it, or why it is refused. A [`Standing`]
-//! counts the changes of what stands under one key.
+//! A [`Definition`] is a schema, or a table with its [`Columns`] in order. A statement that creates, drops or alters one
+//! asks for a [`Change`]. [`apply`] returns the definition after the change, or why the change is refused. A [`Standing`]
+//! is a key's version, with its definition if there is one. Each change raises the version by one.
 //!
 //! # Example
 //!

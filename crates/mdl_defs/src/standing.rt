@@ -1,4 +1,4 @@
-//! What stands under a key.
+//! A key's version and definition.
 ghost use Rattle.std.specs.Prelude.{◌≡◌, IfOk, OnErr};
 ghost use Rattle.mdl_key.specs.Refusals.{Refuses, RefusesJust};
 ghost use Rattle.mdl_defs.specs.Standings.{nothing_yet, standing_fault, standing_after, suits, fits};
@@ -7,20 +7,20 @@ use crate::{Change, ChangeError, DefError, Definition, apply};
 use mdl_key::Namespace;
 use std::alloc::{AllocError, Global};
 
-// The most versions of what stands under a key.
+// The greatest version that a key can have.
 const MOST_VERSIONS: u64 = 1_000_000;
 
-/// What stands under a key, and how often that was changed.
+/// A key's version, with its definition if there is one.
 #[derive(Drop, PartialEq, Eq)]
 pub struct Standing {
-    /// How often it was changed: at most 1,000,000 times.
+    /// How often the definition was changed: at most 1,000,000 times.
     pub version: u64,
-    /// The definition, if one stands.
+    /// The definition, if there is one.
     pub definition: Option<Definition>,
 }
 
 impl Standing {
-    /// Nothing stands, and nothing ever did.
+    /// Returns version 0, without a definition.
     pub fn new() -> Standing
         ensures { result ≡ nothing_yet }
     {
@@ -30,9 +30,9 @@ impl Standing {
         }
     }
 
-    /// Makes a change under a key of this namespace, and answers the new version. `Drop` takes no memory.
+    /// Changes the definition of a key of this namespace, and returns the new version. `Drop` takes no memory.
     ///
-    /// A schema stands under the key of a schema, a table under that of a table, and nothing under other keys.
+    /// The key of a schema can have a schema as its definition, the key of a table a table, and other keys nothing.
     pub fn change(
         &mut self,
         alloc: Global,
@@ -73,7 +73,7 @@ impl Clone for Standing {
     }
 }
 
-// Whether a change can be asked for under a key of this namespace.
+// Whether a change is of a kind that a key of this namespace can have.
 fn suits(namespace: Namespace, change: &Change) -> bool
     ensures { result ≡ suits namespace change.now }
 {
@@ -85,7 +85,7 @@ fn suits(namespace: Namespace, change: &Change) -> bool
     }
 }
 
-// Whether a definition can stand under a key of this namespace.
+// Whether a definition is valid for a key of this namespace.
 fn fits(namespace: Namespace, definition: &Definition) -> bool
     ensures { result ≡ fits namespace definition.now }
 {

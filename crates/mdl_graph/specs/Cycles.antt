@@ -1,6 +1,6 @@
 -- Cycles of sessions each of which waits for the next, and the one of them that is chosen. That it is the shortest, and of
--- those the first in the order of dictionaries, is this project's own choice; MySQL 5.7 takes the first that it meets, and gives up
--- where its search is too deep.
+-- those the first in lexicographic order, is this project's own choice. MySQL 5.7 takes the first that it finds, and gives up
+-- if its search is too deep.
 use Rattle.std.specs.Prelude.{ℕ, zero, suc, Bool, true, false, not, ◌&&◌, ◌||◌, ◌==◌, nat_lt, List, [], ◌∷◌, filter, flat_map, map, length, Option, Some, None, IsTrue, if◌then◌else◌}
 use Rattle.std.specs.List.{list_any}
 
@@ -9,7 +9,7 @@ abbrev pub leads : (ℕ → ℕ → Bool) → ℕ → ℕ → List ℕ → Bool
 leads waits target session [] = waits session target
 leads waits target session (next ∷ rest) = waits session next && leads waits target next rest
 
--- whether no session stands twice in a list
+-- whether no session is in a list twice
 abbrev pub are_distinct : List ℕ → Bool
 are_distinct [] = true
 are_distinct (session ∷ rest) = not (list_any (λ other. session == other) rest) && are_distinct rest
@@ -20,17 +20,17 @@ abbrev pub is_cycle_through : (ℕ → ℕ → Bool) → ℕ → List ℕ → Bo
 is_cycle_through waits from [] = false
 is_cycle_through waits from (first ∷ rest) = first == from && are_distinct (first ∷ rest) && leads waits from first rest
 
--- the same as a fact
+-- a list is a cycle through a session
 abbrev pub IsCycleThrough : (ℕ → ℕ → Bool) → ℕ → List ℕ → Type 0
 IsCycleThrough waits from cycle = IsTrue (is_cycle_through waits from cycle)
 
--- whether a list comes first in the order of dictionaries, or is the other one
+-- whether a list comes before another in lexicographic order, or is the other one
 abbrev pub in_order : List ℕ → List ℕ → Bool
 in_order [] other = true
 in_order (x ∷ xs) [] = false
 in_order (x ∷ xs) (y ∷ ys) = nat_lt x y || (x == y && in_order xs ys)
 
--- whether a cycle is chosen before another one, or is it: it is shorter, or as long and first in order
+-- whether a cycle is chosen before another one, or is it: it is shorter, or of equal length and first in order
 abbrev pub is_chosen_before : List ℕ → List ℕ → Bool
 is_chosen_before one other = nat_lt (length one) (length other) || (length one == length other && in_order one other)
 
@@ -44,7 +44,7 @@ abbrev pub first_chosen : List (List ℕ) → Option (List ℕ)
 first_chosen [] = None
 first_chosen (cycle ∷ cycles) = Some (first_of cycle (first_chosen cycles))
 
--- all lists of at most so many of these sessions
+-- all lists of these sessions of at most this length
 abbrev pub lists_of : List ℕ → ℕ → List (List ℕ)
 lists_of sessions zero = [] ∷ []
 lists_of sessions (suc n) = [] ∷ flat_map (λ rest. map (λ session. session ∷ rest) sessions) (lists_of sessions n)

@@ -1,4 +1,4 @@
--- What the definitions of deadlocks come to, in words of their own.
+-- What the definitions of deadlocks mean, stated without them.
 use Rattle.std.specs.Prelude.{◌≡◌, ◌≢◌, ◌↔◌, ◌⊎◌, ℕ, Bool, ◌+◌, ◌<◌, ◌≤◌, ◌%◌, List, [], map, length, take, IsTrue, IsFalse, All, Any, AllPairs, MatchOption, get_or}
 use Rattle.std.specs.FinSet as set
 use Rattle.std.specs.Ordering.{nat_cmp}
@@ -14,24 +14,24 @@ use Rattle.mdl_graph.specs.Graphs.{GraphView, IsGraphOf, empty_graph, deadlock, 
 
 -- ---- who waits for whom
 
--- a session holds a ticket of the lock that clashes with a wish
+-- a session holds a ticket of the lock that clashes with a requested mode
 abbrev pub HoldsAgainst : BookView → Mode → ℕ → Type 0
 HoldsAgainst book wish session = Any (λ held. (held.session ≡ session) × Clashes (lock_kind book) wish held.mode) book.granted
 
--- a session is unsettled and waits there in a mode that the wish waits behind
+-- a session is unsettled and waits at the lock in a mode that the requested one waits behind
 abbrev pub WaitsAhead : SessionTest → BookView → Mode → ℕ → Type 0
 WaitsAhead settled book wish session =
     IsFalse (settled session)
     × Any (λ pending. (pending.session ≡ session) × WaitsBehind (lock_kind book) wish pending.mode) book.waiting
 
--- a session waits at the lock by a ticket which another one stands against
+-- a session waits at the lock with a ticket that another session blocks
 abbrev pub IsBlockedAt : SessionTest → ℕ → ℕ → BookView → Type 0
 IsBlockedAt settled waiter other book =
     Any (λ wish. (wish.session ≡ waiter) × (HoldsAgainst book wish.mode other ⊎ WaitsAhead settled book wish.mode other)) book.waiting
 
--- one session waits for another exactly where they are two, the one is unsettled, and it waits at one of the locks by a
--- ticket with which a granted ticket of the other clashes, or that waits behind a waiting ticket of the other, which is
--- unsettled too
+-- one session waits for another exactly if they are two, the first is unsettled, and it waits at one of the locks with a
+-- ticket that clashes with a granted ticket of the other, or that waits behind a waiting ticket of the other, which is
+-- unsettled, too
 abbrev pub WaitingIsBeingBlocked : Type 0
 WaitingIsBeingBlocked =
     (settled : SessionTest) (books : List BookView) (waiter other : ℕ) →
@@ -40,13 +40,13 @@ WaitingIsBeingBlocked =
 
 -- ---- cycles
 
--- a list begins with a session, none stands in it twice, and each waits for the next one, the last for the first
+-- a list begins with a session and has no session twice; each waits for the next one, and the last for the first
 pub record IsRound (waits : ℕ → ℕ → Type 0) (from : ℕ) (cycle : List ℕ) : Type 0 where
   pub begins : (0 < length cycle) × (get_or cycle 0 0 ≡ from)
   pub distinct : AllPairs (λ one other. one ≢ other) cycle
   pub round : (i : ℕ) → i < length cycle → waits (get_or cycle i 0) (get_or cycle ((i + 1) % length cycle) 0)
 
--- these are the cycles
+-- the cycles through a session are exactly these lists
 abbrev pub CyclesAreRounds : Type 0
 CyclesAreRounds =
     (waits : ℕ → ℕ → Bool) (from : ℕ) (cycle : List ℕ) →
@@ -56,7 +56,7 @@ CyclesAreRounds =
 abbrev pub sessions_of : List Member → List ℕ
 sessions_of members = map (λ member. member.session) members
 
--- the chosen cycle of some locks: a cycle of two at least, that comes before all others
+-- the chosen cycle of some locks: a cycle of at least two sessions that is chosen before all others
 pub record IsChosen (settled : SessionTest) (books : List BookView) (from : ℕ) (members : List Member) : Type 0 where
   pub cycle : IsCycleThrough (waits_for settled books) from (sessions_of members)
   pub two : 2 ≤ length members
@@ -66,47 +66,47 @@ pub record IsChosen (settled : SessionTest) (books : List BookView) (from : ℕ)
 abbrev pub IsFree : SessionTest → List BookView → ℕ → Type 0
 IsFree settled books from = (cycle : List ℕ) → IsCycleThrough (waits_for settled books) from cycle → ⊥
 
--- where a deadlock is found, it is the cycle that comes before all others; where none is, there is no cycle
+-- if a deadlock is found, it is the chosen cycle; if none is found, there is no cycle
 abbrev pub DeadlocksAreChosenCycles : Type 0
 DeadlocksAreChosenCycles =
     (settled : SessionTest) (books : List BookView) (from : ℕ) →
     MatchOption (deadlock_in settled books from) (IsFree settled books from) (IsChosen settled books from)
 
--- a session is unsettled, and a ticket of it waits at one of the locks
+-- a session is unsettled, and one of its tickets waits at one of the locks
 abbrev pub HasWish : SessionTest → List BookView → ℕ → Type 0
 HasWish settled books session = IsFalse (settled session) × Any (λ book. Any (λ ticket. ticket.session ≡ session) book.waiting) books
 
--- so it is with each member of a cycle
+-- each member of a cycle is unsettled and has such a ticket
 abbrev pub MembersOfCyclesWait : Type 0
 MembersOfCyclesWait =
     (settled : SessionTest) (books : List BookView) (from : ℕ) (cycle : List ℕ) →
     IsCycleThrough (waits_for settled books) from cycle → All (HasWish settled books) cycle
 
--- where those who are settled were all settled before, a cycle stays one
+-- a cycle stays one if fewer sessions are settled, all of which were settled before
 abbrev pub FewerSettledKeepCycles : Type 0
 FewerSettledKeepCycles =
     (settled fewer : SessionTest) (books : List BookView) (from : ℕ) (cycle : List ℕ) →
     ((session : ℕ) → IsTrue (fewer session) → IsTrue (settled session)) →
     IsCycleThrough (waits_for settled books) from cycle → IsCycleThrough (waits_for fewer books) from cycle
 
--- a member is unsettled, and waits at one of the locks by a ticket that weighs as much
+-- a member is unsettled, and waits at one of the locks with a ticket of its weight
 abbrev pub IsWaiting : SessionTest → List BookView → Member → Type 0
 IsWaiting settled books member =
     IsFalse (settled member.session) × Any (λ book. Any (λ ticket. member ≡ wish_of book ticket) book.waiting) books
 
--- so it is with each member of a deadlock
+-- each member of a deadlock is unsettled and has such a ticket
 abbrev pub MembersOfDeadlocksWait : Type 0
 MembersOfDeadlocksWait =
     (settled : SessionTest) (books : List BookView) (from : ℕ) →
     MatchOption (deadlock_in settled books from) (Unit {0}) (All (IsWaiting settled books))
 
--- at the first place where two lists differ, the one is less
+-- at the first position where two lists differ, the first list has the lower number
 abbrev pub IsLessAtFirst : List ℕ → List ℕ → Type 0
 IsLessAtFirst one other =
     (k : ℕ) × (k < length one) × (k < length other) × (take k one ≡ take k other) × (get_or one k 0 < get_or other k 0)
 
--- one list comes before another exactly where it is the other one, or shorter, or as long and less at the first place where
--- they differ
+-- one list is chosen before another exactly if it is the other one, or shorter, or of equal length and has the lower number
+-- at the first position where they differ
 abbrev pub ShorterCyclesComeFirst : Type 0
 ShorterCyclesComeFirst =
     (one other : List ℕ) →
@@ -115,12 +115,12 @@ ShorterCyclesComeFirst =
 
 -- ---- victims
 
--- of these members this one weighs least, and of those that weigh as much its number is the greatest
+-- of these members this one weighs least, and of those that weigh the same its number is the greatest
 abbrev pub FallsAmong : List Member → Member → Type 0
 FallsAmong members member =
     All (λ other. (member.weight < other.weight) ⊎ ((member.weight ≡ other.weight) × (other.session ≤ member.session))) members
 
--- the victim is a member's session: of the one that weighs least, and of equal weights the one of the greatest number
+-- the victim is the session of the member that weighs least, and of equal weights the one of the greatest number
 abbrev pub VictimsWeighLeast : Type 0
 VictimsWeighLeast =
     (members : List Member) → 0 < length members →
@@ -128,7 +128,7 @@ VictimsWeighLeast =
 
 -- ---- graphs
 
--- the empty graph is that of no lock
+-- the empty graph is the graph of no locks
 abbrev pub GraphsBeginEmpty : Type 0
 GraphsBeginEmpty = (settled : set.FinSet nat_cmp) → IsGraphOf (set.contains settled) [] (empty_graph settled)
 

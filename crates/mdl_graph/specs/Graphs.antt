@@ -14,7 +14,7 @@ use Rattle.mdl_graph.specs.Cycles.{chosen_cycle}
 use Rattle.mdl_graph.specs.Victims.{victim_of}
 use Rattle.mdl_graph.specs.WaitsFor.{SessionTest, waits_for, wishes_in}
 
--- the settled sessions, what the others wish for, and who waits for whom, in pairs
+-- the value of a graph: the settled sessions, the requests (wishes) of the others, and who waits for whom, in pairs
 pub record GraphView : Type 0 where
   pub settled : set.FinSet nat_cmp
   pub wishes : List Member
@@ -49,27 +49,27 @@ is_settled graph session = set.contains graph.settled session
 abbrev pub waits : GraphView → ℕ → ℕ → Bool
 waits graph waiter other = list_any (λ tie. tie.0 == waiter && tie.1 == other) graph.ties
 
--- no lock was added yet
+-- the graph to which no lock was added yet
 abbrev pub empty_graph : set.FinSet nat_cmp → GraphView
 empty_graph settled = record { settled = settled; wishes = []; ties = [] }
 
--- the graph of these locks, where these sessions are settled
+-- the graph is that of these locks, and these sessions are settled
 pub record IsGraphOf (settled : SessionTest) (books : List BookView) (graph : GraphView) : Type 0 where
   pub same_settled : (session : ℕ) → is_settled graph session ≡ settled session
   pub same_wishes : graph.wishes ≡ wishes_in settled books
   pub same_waits : (waiter other : ℕ) → waits graph waiter other ≡ waits_for settled books waiter other
 
--- the weight of a wish, the first one of its session: a session waits at one lock at most. Without a wish it is 0
+-- the weight of a request, the first one of its session: a session waits at one lock at most. Without a request it is 0
 abbrev pub weight_found : Option Member → ℕ
 weight_found None = 0
 weight_found (Some wish) = wish.weight
 
--- a session with the weight of its wish
+-- a session with the weight of its request
 abbrev pub member_of : List Member → ℕ → Member
 member_of wishes session =
     record { session = session; weight = weight_found (find (λ wish. wish.session == session) wishes) }
 
--- the chosen cycle through a session, with the weights of its members' wishes
+-- the chosen cycle through a session, with the weights of its members' requests
 abbrev pub cycle_found : List Member → (ℕ → ℕ → Bool) → ℕ → Option (List Member)
 cycle_found wishes waits from = option_map (map (member_of wishes)) (chosen_cycle waits (map (λ wish. wish.session) wishes) from)
 
@@ -77,7 +77,7 @@ cycle_found wishes waits from = option_map (map (member_of wishes)) (chosen_cycl
 abbrev pub deadlock : GraphView → ℕ → Option (List Member)
 deadlock graph from = cycle_found graph.wishes (waits graph) from
 
--- and that of these locks
+-- the chosen cycle of these locks through a session
 abbrev pub deadlock_in : SessionTest → List BookView → ℕ → Option (List Member)
 deadlock_in settled books from = cycle_found (wishes_in settled books) (waits_for settled books) from
 

@@ -1,4 +1,4 @@
--- How a graph keeps who waits for whom, and a search how far the sessions are from the one that was asked for.
+-- How a graph stores who waits for whom, and how a search stores how far each session is from the one that it starts at.
 use Rattle.std.specs.Prelude.{◌≡◌, ℕ, zero, suc, ◌<◌, ◌≤◌, Bool, true, false, not, ◌&&◌, ◌||◌, ◌==◌, List, [], ◌∷◌, length, map, flat_map, slice_index, slice_index_or, filter, Option, Some, None, if◌then◌else◌}
 use Rattle.std.specs.FinSet as set
 use Rattle.std.specs.Ordering.{nat_cmp}
@@ -10,22 +10,22 @@ use Rattle.mdl_key.specs.Modes.{mode_rank}
 use Rattle.mdl_graph.specs.declared.cycle.Member.{Member}
 use Rattle.mdl_graph.specs.WaitsFor.{SessionTest, holds_against, waits_ahead}
 
--- ---- rows: who waits at a lock with wishes for one mode, and who stands against such a wish
+-- ---- rows: the sessions that wait at a lock with requests for one mode, and those that block such a request
 
--- some keys, each with a value
+-- pairs of a key and a value
 abbrev pub Pairs : Type 0
 Pairs = List (ℕ × ℕ)
 
--- whether a value is there under a key
+-- whether the pairs have this value for this key
 abbrev pub holds : Pairs → ℕ → ℕ → Bool
 holds pairs key value = list_any (λ pair. pair.0 == key && pair.1 == value) pairs
 
--- whether one session waits for another, by pairs of a row and who waits in it, and of a session and a row that it stands against
+-- whether one session waits for another, by pairs of a row and a session that waits in it, and of a session and a row that it blocks
 abbrev pub are_joined : Pairs → Pairs → ℕ → ℕ → Bool
 are_joined waits stands waiter other =
     list_any (λ wait. wait.1 == waiter && (not (wait.1 == other) && holds stands other wait.0)) waits
 
--- who waits for whom by such pairs
+-- the pairs of who waits for whom, by such pairs
 abbrev pub ties_of : Pairs → Pairs → Pairs
 ties_of waits stands =
     flat_map (λ wait. map (λ stand. (wait.1, stand.0)) (filter (λ stand. stand.1 == wait.0 && not (wait.1 == stand.0)) stands)) waits
@@ -34,49 +34,49 @@ ties_of waits stands =
 abbrev pub AreRows : ℕ → Pairs → Type 0
 AreRows count waits = (i : ℕ) → i < length waits → (slice_index_or waits i (0, 0)).0 < count
 
--- each session that waits has a wish, and all rows are known
+-- each session that waits for another has a request, and all rows are below `rows`
 pub record AreWished (wishes : List Member) (rows : ℕ) (waits stands : Pairs) : Type 0 where
   pub wished : (waiter other : ℕ) → are_joined waits stands waiter other ≡ true → Contains (map (λ wish. wish.session) wishes) waiter
   pub known : (row session : ℕ) → rows ≤ row → holds waits row session ≡ false
   pub fresh : (row session : ℕ) → rows ≤ row → holds stands session row ≡ false
 
--- whether a session stands against a wish at a lock
+-- whether a session blocks a request for a mode at a lock
 abbrev pub stands_against : SessionTest → BookView → Mode → ℕ → Bool
 stands_against settled book mode session = holds_against book mode session || waits_ahead settled book mode session
 
--- the rows of a lock, from the first one on, have those who stand against a wish for their mode
+-- the rows of a lock, from the first one on, have exactly the sessions that block a request for their mode
 abbrev pub AreOfModes : SessionTest → BookView → ℕ → List ℕ → Pairs → Type 0
 AreOfModes settled book first ranks stands =
     (row : ℕ) → first ≤ row → row < length ranks → (mode : Mode) → mode_rank mode ≡ slice_index ranks row → (session : ℕ)
     → holds stands session row ≡ stands_against settled book mode session
 
--- each of these sessions is known to stand against a row
+-- each of these sessions is known to block a row
 abbrev pub AreSeen : set.FinSet nat_cmp → ℕ → Pairs → Type 0
 AreSeen seen row stands = (session : ℕ) → set.contains seen session ≡ true → holds stands session row ≡ true
 
 -- ---- pairs with the place of the one before under the same key
 
--- the key at a place
+-- the key of the pair at an index
 abbrev pub key_at : Pairs → ℕ → ℕ
 key_at pairs place = (slice_index_or pairs place (0, 0)).0
 
--- and the value
+-- the value of the pair at an index
 abbrev pub value_at : Pairs → ℕ → ℕ
 value_at pairs place = (slice_index_or pairs place (0, 0)).1
 
--- this is one more than the place of the last pair under a key, of those before an end; 0 where there is none
+-- `at` is one more than the index of the last pair of a key, of those before `end`; it is 0 if there is none
 pub record IsLast (pairs : Pairs) (key end at : ℕ) : Type 0 where
   pub inside : at ≤ end
   pub here : (place : ℕ) → at ≡ suc place → key_at pairs place ≡ key
   pub none : (place : ℕ) → at ≤ place → place < end → key_at pairs place ≡ key → ⊥
 
--- the last place of each key, and that before each place
+-- the links are right: that of each key to its last pair, and that of each pair to the previous one of its key
 pub record AreLinked (lasts : List ℕ) (pairs : Pairs) (befores : List ℕ) : Type 0 where
   pub same : length befores ≡ length pairs
   pub last : (key : ℕ) → IsLast pairs key (length pairs) (slice_index lasts key)
   pub before : (place : ℕ) → place < length pairs → IsLast pairs (key_at pairs place) place (slice_index befores place)
 
--- the span of each row, from a place to one behind its last, has all pairs of the row
+-- the span of each row, from its first index to one after its last, has all pairs of the row
 pub record AreSpanned (spans pairs : Pairs) : Type 0 where
   pub order : (row : ℕ) → key_at spans row ≤ value_at spans row
   pub inside : (row : ℕ) → value_at spans row ≤ length pairs
@@ -88,7 +88,7 @@ AreBelow count pairs = (place : ℕ) → place < length pairs → value_at pairs
 
 -- ---- how far sessions are
 
--- how many steps a session is away; 0 where it wasn't reached
+-- how many steps a session is away; 0 if it wasn't reached
 abbrev pub level_of : List ℕ → ℕ → ℕ
 level_of levels session = slice_index levels session
 
@@ -96,11 +96,11 @@ level_of levels session = slice_index levels session
 abbrev pub unreached : List ℕ → ℕ
 unreached levels = count_by (λ level. level == 0) levels
 
--- whether a session stands in a list
+-- whether a session is in a list
 abbrev pub stands_in : List ℕ → ℕ → Bool
 stands_in sessions session = list_any (λ other. session == other) sessions
 
--- what is known of a session that a step is open to, or isn't
+-- how many steps a session is known to be away after a step that leads to it or not: a number that was known before stays
 abbrev pub opened : ℕ → Bool → ℕ → ℕ
 opened steps is_open known = if (known == 0) && is_open then steps else known
 
@@ -108,44 +108,44 @@ opened steps is_open known = if (known == 0) && is_open then steps else known
 abbrev pub waits_in : Pairs → ℕ → ℕ → ℕ → Bool
 waits_in waits row other session = not (session == other) && holds waits row session
 
--- whether a session waits for another, found from the other one on
+-- whether a session waits for another, found by the rows that the other one blocks
 abbrev pub waits_by : Pairs → Pairs → ℕ → ℕ → Bool
 waits_by waits stands waiter other = list_any (λ stand. stand.0 == other && waits_in waits stand.1 other waiter) stands
 
--- all who wait in a row that is done were reached
+-- all sessions that wait in a row that is done were reached
 abbrev pub AreDone : List Bool → Pairs → List ℕ → Type 0
 AreDone done waits levels =
     (row session : ℕ) → slice_index_or done row false ≡ true → holds waits row session ≡ true → 0 < level_of levels session
 
--- whether a session is so many steps from the one that was asked for
+-- whether a session is this number of steps from the one that the search starts at
 abbrev pub is_at : List ℕ → ℕ → ℕ → ℕ → Bool
 is_at levels from zero session = session == from
 is_at levels from (suc n) session = level_of levels session == suc n
 
--- the sessions of up to so many steps were reached
+-- the sessions of up to `reach` steps were reached, each by the fewest steps
 pub record IsSearched (waits : ℕ → ℕ → Bool) (from : ℕ) (levels : List ℕ) (reach : ℕ) : Type 0 where
   pub sound : (session m : ℕ) → level_of levels session ≡ suc m → (next : ℕ) × (waits session next ≡ true) × (is_at levels from m next ≡ true)
   pub within : (session : ℕ) → level_of levels session ≤ reach
   pub best : (m next session : ℕ) → m < reach → is_at levels from m next ≡ true → waits session next ≡ true
       → (0 < level_of levels session) × (level_of levels session ≤ suc m)
 
--- the session that was asked for was reached, or can't be
+-- the search is over: the session that it starts at was reached again, or can't be
 pub record IsOver (waits : ℕ → ℕ → Bool) (from : ℕ) (levels : List ℕ) : Type 0 where
   pub reach : ℕ
   pub searched : IsSearched waits from levels reach
   pub over : level_of levels from ≡ 0 → (m session : ℕ) → is_at levels from m session ≡ true → m < reach
 
--- the first number below another one that passes
+-- the first number below another one that passes the test
 abbrev pub first_below : (ℕ → Bool) → ℕ → Option ℕ
 first_below test zero = None
 first_below test (suc n) = option_or (first_below test n) (if test n then Some n else None)
 
--- the least session that one waits for of those so many steps away, or itself where there is none
+-- the least session that a session waits for, of those this number of steps away; the session itself if there is none
 abbrev pub next_of : (ℕ → ℕ → Bool) → ℕ → List ℕ → ℕ → ℕ → ℕ
 next_of waits from levels steps session =
     unwrap_or (first_below (λ next. is_at levels from steps next && waits session next) (length levels)) session
 
--- the sessions on the way of one that is so many steps away
+-- the path of a session that is this number of steps away, without its end
 abbrev pub walk : (ℕ → ℕ → Bool) → ℕ → List ℕ → ℕ → ℕ → List ℕ
 walk waits from levels zero session = []
 walk waits from levels (suc n) session = session ∷ walk waits from levels n (next_of waits from levels n session)

@@ -1,8 +1,8 @@
-//! How many numbers of sessions there are.
+//! A bound on the numbers of sessions.
 ghost use Rattle.std.specs.Prelude.{◌≤◌};
 ghost use Rattle.mdl_graph.specs.Searches.{AreBelow, AreRows};
 
-/// One more than the greatest number of a session that waits or stands against a row.
+/// Returns one more than the greatest number of a session that waits in a row or blocks one.
 pub(crate) fn session_count(waits: &[(usize, u16)], stands: &[(u16, usize)]) -> usize
     ensures waits { AreBelow result waits.now }
     ensures stands { AreRows result stands.now }

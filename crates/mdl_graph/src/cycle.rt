@@ -9,11 +9,11 @@ use std::marker::Model;
 pub struct Member {
     /// The session, numbered from 1.
     pub session: u16,
-    /// The weight of its wish, as [`mdl_key::weight`] tells it.
+    /// The weight of its request, as [`mdl_key::weight`] returns it.
     pub weight: u8,
 }
 
-/// Sessions each of which waits for the next, and the last for the first. There are at least two.
+/// Sessions, each of which waits for the next, and the last for the first. There are at least two.
 #[derive(Drop)]
 pub struct Cycle {
     members: Vec<Member>,
@@ -31,7 +31,7 @@ impl Model for Cycle {
 }
 
 impl Cycle {
-    /// A cycle of these members.
+    /// Creates a cycle of these members.
     pub(crate) fn new(members: Vec<Member>) -> Cycle
         requires { 2 ≤ length members.items }
         ensures { result ≡ members.items }
@@ -39,7 +39,7 @@ impl Cycle {
         Cycle { members }
     }
 
-    /// The members, beginning with the session that was asked for.
+    /// Returns the members, beginning with the session that was asked for.
     pub fn members(&self) -> &[Member]
         ensures members { result.now ≡ self.now }
         ensures many { 2 ≤ length result.now }
@@ -48,7 +48,7 @@ impl Cycle {
     }
 }
 
-/// The member that has to give up its wish, by its session's number: that of the least weight, and of equal weights the one
+/// Returns the session of the member that has to give up its wait: that of the least weight, and of equal weights the one
 /// of the greatest number. It takes no memory.
 ///
 /// After MySQL 5.7, `Deadlock_detection_visitor` of `sql/mdl.cc`.
@@ -66,7 +66,7 @@ pub fn victim(cycle: &Cycle) -> u16
 }
 
 impl Member {
-    // Whether this member falls rather than another one.
+    // Whether this member is the victim rather than another one.
     fn falls_before(self, other: Member) -> bool
         ensures { result ≡ falls_before self other }
     {

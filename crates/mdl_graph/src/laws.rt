@@ -1,37 +1,38 @@
 //! Laws of deadlocks. Each is proved as the contract of a function that does nothing.
 ghost use Rattle.mdl_graph.specs.GraphLaws.{WaitingIsBeingBlocked, CyclesAreRounds, DeadlocksAreChosenCycles, MembersOfCyclesWait, FewerSettledKeepCycles, MembersOfDeadlocksWait, ShorterCyclesComeFirst, VictimsWeighLeast, GraphsBeginEmpty, GraphsFindDeadlocks};
 
-/// One session waits for another where it is unsettled and a ticket of the other stands against its wish, and nowhere else.
+/// One session waits for another exactly if it is unsettled and a ticket of the other blocks its request.
 pub fn waiting_is_being_blocked()
     ensures { WaitingIsBeingBlocked }
 {}
 
-/// A cycle begins with a session, has no session twice, and each waits for the next one, the last for the first.
+/// A cycle through a session begins with it and has no session twice. Each waits for the next one, and the last for the first.
 pub fn cycles_are_rounds()
     ensures { CyclesAreRounds }
 {}
 
-/// Of two cycles the shorter one is chosen, and of two as long the one that is less at the first place where they differ.
+/// Of two cycles the shorter one is chosen, and of two of equal length the one with the lower number at the first position
+/// where they differ.
 pub fn shorter_cycles_come_first()
     ensures { ShorterCyclesComeFirst }
 {}
 
-/// A deadlock that is found is the cycle chosen before all others, of two sessions at least. Where none is found, none is.
+/// A deadlock that is found is the cycle chosen before all others, of at least two sessions. If none is found, there is none.
 pub fn deadlocks_are_chosen_cycles()
     ensures { DeadlocksAreChosenCycles }
 {}
 
-/// Each member of a cycle is unsettled, and a ticket of it waits at one of the locks.
+/// Each member of a cycle is unsettled, and one of its tickets waits at one of the locks.
 pub fn members_of_cycles_wait()
     ensures { MembersOfCyclesWait }
 {}
 
-/// A cycle stays one where fewer sessions are settled: where those who are were all settled before.
+/// A cycle stays one if fewer sessions are settled, all of which were settled before.
 pub fn fewer_settled_keep_cycles()
     ensures { FewerSettledKeepCycles }
 {}
 
-/// Each member of a deadlock is unsettled and waits at one of the locks, by a ticket of its weight.
+/// Each member of a deadlock is unsettled and waits at one of the locks, with a ticket of its weight.
 pub fn members_of_deadlocks_wait()
     ensures { MembersOfDeadlocksWait }
 {}
@@ -41,7 +42,7 @@ pub fn victims_weigh_least()
     ensures { VictimsWeighLeast }
 {}
 
-/// The empty graph is that of no lock.
+/// The empty graph is the graph of no locks.
 pub fn graphs_begin_empty()
     ensures { GraphsBeginEmpty }
 {}

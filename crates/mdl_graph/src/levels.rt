@@ -1,4 +1,4 @@
-//! How many steps the sessions are from one of them.
+//! How many steps each session is from a given one. A step leads from a session to one that it waits for.
 ghost use Rattle.std.specs.Prelude.{◌≡◌, ℕ, ◌<◌, ◌≤◌, ◌+◌, ◌||◌, ◌&&◌, ◌==◌, true, not, length, OnOk, IfOk};
 ghost use Rattle.std.specs.List.{list_any};
 ghost use Rattle.mdl_graph.specs.Searches.{IsOver, AreBelow, AreDone, AreRows, are_joined, holds, is_at, level_of, opened, next_of, stands_in, unreached, waits_by, waits_in, walk};
@@ -8,7 +8,7 @@ use crate::waits::Waits;
 use std::alloc::{AllocError, Global};
 use std::mem;
 
-/// How many steps a session is away, 0 where it wasn't reached.
+/// Returns how many steps a session is away, or 0 if it wasn't reached.
 pub(crate) fn level_at(levels: &[usize], session: usize) -> usize
     ensures { result ≡ level_of levels.now session }
 {
@@ -18,7 +18,7 @@ pub(crate) fn level_at(levels: &[usize], session: usize) -> usize
     }
 }
 
-// A session is so many steps away, unless it was reached before.
+// Sets how many steps a session is away, unless it was reached before.
 fn offer(
     levels: &mut Vec<usize>,
     reached: &mut Vec<usize>,
@@ -40,7 +40,7 @@ fn offer(
     Ok(())
 }
 
-// Goes one step back from a session to those that wait in a row.
+// Goes one step back from a session to the others that wait in a row.
 fn reach(
     levels: &mut Vec<usize>,
     reached: &mut Vec<usize>,
@@ -66,7 +66,7 @@ fn reach(
     Ok(())
 }
 
-// Goes one step back from a session to those that wait for it. A row whose waiters were all reached is passed over.
+// Goes one step back from a session to those that wait for it. A row whose waiters were all reached is skipped.
 fn turn(
     levels: &mut Vec<usize>,
     reached: &mut Vec<usize>,
@@ -129,7 +129,7 @@ fn spread(
     Ok(())
 }
 
-/// How many steps the sessions are from one of them, up to its own way back to itself.
+/// Returns how many steps each session is from one of them. The search ends once it is back at that session itself.
 pub(crate) fn levels_back(
     alloc: Global,
     waits: &Waits<'_>,

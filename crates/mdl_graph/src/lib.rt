@@ -1,7 +1,7 @@
 //! Deadlocks among sessions that wait for locks, and their victims.
 //!
-//! A [`WaitGraph`] is built of the books of all locks ([`WaitGraph::add`]). It tells whether a session waits in a cycle
-//! ([`WaitGraph::find_cycle`]), and [`victim`] says which member of the cycle has to give up its wish.
+//! A [`WaitGraph`] is built from the books of all locks ([`WaitGraph::add`]). [`WaitGraph::find_cycle`] finds a cycle through a
+//! session, if there is one, and [`victim`] says which member of the cycle has to give up its wait.
 //!
 //! # Example
 //!

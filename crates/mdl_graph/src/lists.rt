@@ -1,4 +1,4 @@
-//! The lists of a lock, wherever they are kept.
+//! The lists of a lock, wherever they are stored.
 ghost use Rattle.std.specs.Prelude.{◌≡◌};
 ghost use Rattle.mdl_graph.specs.Graphs.{lock_of};
 
@@ -24,7 +24,7 @@ impl<'a> Model for Lists<'a> {
 }
 
 impl<'a> Lists<'a> {
-    /// These lists.
+    /// Returns a lock of this namespace and these lists.
     pub(crate) fn new(
         namespace: Namespace,
         granted: &'a [Ticket],
@@ -39,21 +39,21 @@ impl<'a> Lists<'a> {
         }
     }
 
-    /// The lock's namespace.
+    /// Returns the lock's namespace.
     pub(crate) fn namespace(&self) -> Namespace
         ensures { result ≡ self.now.key.namespace }
     {
         self.namespace
     }
 
-    /// The granted tickets.
+    /// Returns the granted tickets.
     pub(crate) fn granted(&self) -> &[Ticket]
         ensures { result.now ≡ self.now.granted }
     {
         self.granted
     }
 
-    /// The waiting tickets.
+    /// Returns the waiting tickets.
     pub(crate) fn waiting(&self) -> &[Ticket]
         ensures { result.now ≡ self.now.waiting }
     {

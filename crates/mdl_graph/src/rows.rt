@@ -1,4 +1,4 @@
-//! Who waits at a lock, and who stands against them: a row for each mode that is wished for there.
+//! Which sessions wait at a lock, and which block them: a row for each mode that is requested there.
 ghost use Rattle.std.specs.Prelude.{◌≡◌, ℕ, ◌≤◌, ◌<◌, true, false, ◌||◌, ◌&&◌, ◌==◌, ◌++◌, length, take, OnOk, IfOk, MatchOption, slice_index};
 ghost use Rattle.std.specs.FinSet as set;
 ghost use Rattle.std.specs.List.{list_any};
@@ -12,10 +12,10 @@ use mdl_book::Sessions;
 use mdl_key::{Mode, conflicts_granted, conflicts_waiting, weight};
 use std::alloc::AllocError;
 
-// What a graph has room for at least, once somebody waits.
+// What a graph has room for at least, once a session waits.
 const LEAST_ROOM: usize = 64;
 
-/// Makes room for those who wait at a lock and those who hold it. Where nobody waits it takes no memory.
+/// Makes room for the sessions that wait at a lock and those that hold it. If no session waits, it takes no memory.
 pub(crate) fn make_room(
     wishes: &mut Vec<Member>,
     ranks: &mut Vec<usize>,
@@ -47,14 +47,14 @@ pub(crate) fn waits_in_some(waits: &[(usize, u16)], session: u16) -> bool
     waits.iter().any(|wait| wait.1 == session)
 }
 
-/// Whether a session stands against some row.
+/// Whether a session blocks some row.
 pub(crate) fn stands_in_some(stands: &[(u16, usize)], session: u16) -> bool
     ensures { result ≡ list_any (λ stand. stand.0 == session) stands.now }
 {
     stands.iter().any(|stand| stand.0 == session)
 }
 
-/// Puts the wishes of the unsettled sessions that wait at a lock, and their rows, behind those that there are.
+/// Adds the requests of the unsettled sessions that wait at a lock, and their rows, at the end. Such a request is a wish here.
 pub(crate) fn add_waiters(
     wishes: &mut Vec<Member>,
     ranks: &mut Vec<usize>,
@@ -90,7 +90,7 @@ pub(crate) fn add_waiters(
     Ok(())
 }
 
-// The row of those who wish for a mode, which is made where there is none.
+// Returns the row of a requested mode, and makes it if there is none.
 fn row_of(
     ranks: &mut Vec<usize>,
     stands: &mut Vec<(u16, usize)>,
@@ -123,7 +123,7 @@ fn row_of(
     Ok(row)
 }
 
-// The row of a mode, from the first one on.
+// Returns the row of a mode, from the first one on, if there is one.
 fn known_row(ranks: &[usize], first: usize, mode: Mode) -> Option<usize>
     ensures { MatchOption result (Unit {0}) (λ row. (first ≤ row) × (row < length ranks.now) × (mode_rank mode ≡ slice_index ranks.now row)) }
 {
@@ -135,7 +135,7 @@ fn known_row(ranks: &[usize], first: usize, mode: Mode) -> Option<usize>
     None
 }
 
-// Puts those who hold a ticket against a wish for a mode into its row.
+// Adds to a mode's row the sessions that hold a ticket which clashes with a request for the mode.
 fn stand_holders(
     stands: &mut Vec<(u16, usize)>,
     seen: &mut Sessions,
@@ -159,7 +159,7 @@ fn stand_holders(
     Ok(())
 }
 
-// Puts those who wait ahead of it into the row.
+// Adds to a mode's row the unsettled sessions with a waiting ticket that a request for the mode waits behind.
 fn stand_waiters(
     stands: &mut Vec<(u16, usize)>,
     seen: &mut Sessions,
@@ -183,7 +183,7 @@ fn stand_waiters(
     Ok(())
 }
 
-// Puts a session into a row, unless it is known to stand there: one that holds many tickets stands there once.
+// Adds a session to a row, unless it is known to be there: a session that holds many tickets is there once.
 fn stand_once(
     stands: &mut Vec<(u16, usize)>,
     seen: &mut Sessions,
@@ -205,7 +205,7 @@ fn stand_once(
     Ok(())
 }
 
-// Notes that a session was seen, where the set has room for its number.
+// Notes that a session was seen, if the set can have its number.
 fn note(seen: &mut Sessions, session: u16)
     ensures { (other : ℕ) → set.contains seen.new other ≡ true → (set.contains seen.old other || session == other) ≡ true }
 {

@@ -1,11 +1,11 @@
-//! Which rows each session stands against.
+//! Which rows each session blocks.
 ghost use Rattle.std.specs.Prelude.{◌≡◌, ℕ, ◌≤◌, ◌<◌, ◌-◌, ◌++◌, [], ◌∷◌, length, slice_index, OnOk, IfOk};
 ghost use Rattle.mdl_graph.specs.Searches.{Pairs, AreRows, AreLinked, IsLast, key_at, value_at};
 
 use std::alloc::{AllocError, Global};
 use std::marker::Model;
 
-/// Each session with a row that it stands against, and for each session the way from its last pair to its first.
+/// Pairs of a session and a row that it blocks, and links from each session's last pair back to its first.
 #[derive(Drop)]
 pub(crate) struct Stands<'a> {
     pairs: &'a [(u16, usize)],
@@ -25,7 +25,7 @@ impl<'a> Model for Stands<'a> {
 }
 
 impl<'a> Stands<'a> {
-    /// These pairs, of sessions below a number.
+    /// Links these pairs, whose sessions are below `count`.
     pub(crate) fn new(
         alloc: Global,
         count: usize,
@@ -46,7 +46,7 @@ impl<'a> Stands<'a> {
         })
     }
 
-    /// One more than the place of a session's last pair, 0 where it has none.
+    /// Returns one more than the index of a session's last pair, or 0 if it has none.
     pub(crate) fn last(&self, session: usize) -> usize
         ensures { IsLast self.now session (length self.now) result }
     {
@@ -56,7 +56,7 @@ impl<'a> Stands<'a> {
         }
     }
 
-    /// The row at a place.
+    /// Returns the row of the pair at an index.
     pub(crate) fn row(&self, place: usize) -> usize
         requires { place < length self.now }
         ensures { result ≡ value_at self.now place }
@@ -65,7 +65,7 @@ impl<'a> Stands<'a> {
         pairs[place].1
     }
 
-    /// One more than the place of the session's pair before.
+    /// Returns one more than the index of the same session's previous pair, or 0 if there is none.
     pub(crate) fn before(&self, place: usize) -> usize
         requires { place < length self.now }
         ensures { IsLast self.now (key_at self.now place) place result }
@@ -74,7 +74,7 @@ impl<'a> Stands<'a> {
     }
 }
 
-// Links the next pair, which is a session's.
+// Links the next pair, which is one of this session.
 fn link(lasts: &mut Vec<usize>, befores: &mut Vec<usize>, session: usize) -> Result<(), AllocError>
     requires { session < length lasts.old.items }
     ensures len { OnOk result (length lasts.new.items ≡ length lasts.old.items) }

@@ -17,19 +17,19 @@ use mdl_key::Namespace;
 use std::alloc::{AllocError, Global};
 use std::marker::Model;
 
-/// Which session waits for which at the locks whose books were added.
+/// A graph of which session waits for which at the locks that were added.
 ///
-/// A session that is settled waits no more, though its ticket may still stand among those that wait. After MySQL 5.7,
+/// A session that is settled no longer waits, though its ticket may still be in a waiting list. After MySQL 5.7,
 /// `MDL_lock::visit_subgraph` of `sql/mdl.cc`, which looks at the locks as it goes.
 #[derive(Drop)]
 pub struct WaitGraph {
     settled: Sessions,
     wishes: Vec<Member>,
-    // The place of each row's mode in the order of the modes.
+    // The index of each row's mode in the order of modes.
     ranks: Vec<usize>,
-    // Each row with who waits in it.
+    // Pairs of a row and a session that waits in it.
     waits: Vec<(usize, u16)>,
-    // Each session with a row that it stands against.
+    // Pairs of a session and a row that it blocks.
     stands: Vec<(u16, usize)>,
 }
 
@@ -52,7 +52,7 @@ impl Model for WaitGraph {
 }
 
 impl WaitGraph {
-    /// The graph of no lock, these sessions' waits being settled. It takes no memory.
+    /// Creates a graph of no locks. `settled` are the sessions whose waits are settled. It takes no memory.
     pub fn new(alloc: Global, settled: Sessions) -> WaitGraph
         ensures { result ≡ empty_graph settled }
     {
@@ -65,7 +65,7 @@ impl WaitGraph {
         }
     }
 
-    /// Adds a lock: who waits there, and for whom. A refused growth leaves the graph as it was.
+    /// Adds a lock: who waits there, and for whom. If memory runs out, the graph is unchanged.
     pub fn add(&mut self, book: &Book) -> Result<(), AllocError>
         ensures settled { self.new.settled ≡ self.old.settled }
         ensures wishes { OnOk result (self.new.wishes ≡ self.old.wishes ++ wishes_at (is_settled self.old) book.now) }
@@ -78,7 +78,7 @@ impl WaitGraph {
         self.add_lists(book.key().namespace(), book.granted(), book.waiting())
     }
 
-    /// Adds a lock by its namespace and its two lists, each in order. A refused growth leaves the graph as it was.
+    /// Adds a lock by its namespace and its two lists, each in order. If memory runs out, the graph is unchanged.
     pub fn add_lists(
         &mut self,
         namespace: Namespace,
@@ -105,7 +105,7 @@ impl WaitGraph {
         self.add_reserved(&lists)
     }
 
-    // Likewise, where there is room for most of what is added.
+    // Adds a lock, once there is room for most of what is added.
     fn add_reserved(&mut self, book: &Lists) -> Result<(), AllocError>
         ensures settled { self.new.settled ≡ self.old.settled }
         ensures wishes { OnOk result (self.new.wishes ≡ self.old.wishes ++ wishes_at (is_settled self.old) book.now) }
@@ -139,8 +139,9 @@ impl WaitGraph {
         }
     }
 
-    /// The shortest cycle of unsettled sessions through one of them, and of equal length the one whose list of numbers,
-    /// beginning with that session, is least. It takes time by the number of sessions and rows.
+    /// Returns the shortest cycle of unsettled sessions through one of them, if there is one. Of equal length it is the one
+    /// whose list of numbers, beginning with that session, is first in lexicographic order. The time that it takes depends on
+    /// the number of sessions and rows.
     pub fn find_cycle(&self, from: u16) -> Result<Option<Cycle>, AllocError>
         ensures { IfOk result (λ found. found ≡ deadlock self.now from) }
     {
@@ -150,14 +151,14 @@ impl WaitGraph {
         self.search(from)
     }
 
-    // Whether a session waits, and another one for it. Else it stands in no cycle.
+    // Whether a session waits and blocks some row. Otherwise it is in no cycle.
     fn is_between(&self, from: u16) -> bool
         ensures { result ≡ false → deadlock self.now from ≡ None }
     {
         waits_in_some(&self.waits, from) && stands_in_some(&self.stands, from)
     }
 
-    // The cycle by the steps that others are away from the session.
+    // Finds the cycle by how many steps the others are away from the session.
     fn search(&self, from: u16) -> Result<Option<Cycle>, AllocError>
         ensures { IfOk result (λ found. found ≡ deadlock self.now from) }
     {

@@ -1,4 +1,4 @@
-//! Who waits in each row.
+//! Which sessions wait in each row.
 ghost use Rattle.std.specs.Prelude.{◌≡◌, ℕ, ◌≤◌, ◌-◌, ◌&&◌, ◌==◌, length, take, drop, IfOk};
 ghost use Rattle.std.specs.List.{list_any};
 ghost use Rattle.mdl_graph.specs.Searches.{AreBelow, AreRows, AreSpanned, holds};
@@ -6,11 +6,11 @@ ghost use Rattle.mdl_graph.specs.Searches.{AreBelow, AreRows, AreSpanned, holds}
 use std::alloc::{AllocError, Global};
 use std::marker::Model;
 
-/// Each row with who waits in it. A row's own pairs stand near one another, as they came with one lock.
+/// Pairs of a row and a session that waits in it. The pairs of one row are near each other, as they came with one lock.
 #[derive(Drop)]
 pub(crate) struct Waits<'a> {
     pairs: &'a [(usize, u16)],
-    // The place of each row's first pair, and that behind its last one.
+    // The index of each row's first pair, and that after its last one.
     spans: Vec<(usize, usize)>,
 }
 
@@ -26,7 +26,7 @@ impl<'a> Model for Waits<'a> {
 }
 
 impl<'a> Waits<'a> {
-    /// These pairs, of so many rows.
+    /// Finds the spans of these pairs, whose rows are below `rows`.
     pub(crate) fn new(
         alloc: Global,
         rows: usize,
@@ -45,7 +45,7 @@ impl<'a> Waits<'a> {
         Ok(Waits { pairs, spans })
     }
 
-    // The place of a row's first pair, and that behind its last one.
+    // Returns the index of a row's first pair, and that after its last one.
     fn span(&self, row: usize) -> (usize, usize)
         ensures order { result.0 ≤ result.1 }
         ensures inside { result.1 ≤ length self.now }
@@ -58,7 +58,7 @@ impl<'a> Waits<'a> {
         }
     }
 
-    /// Some of the pairs, among them all of a row.
+    /// Returns some of the pairs, among them all of a row.
     pub(crate) fn near(&self, row: usize) -> &[(usize, u16)]
         ensures row { (session : ℕ) → holds result.now row session ≡ holds self.now row session }
         ensures within { (count : ℕ) → AreBelow count self.now → AreBelow count result.now }

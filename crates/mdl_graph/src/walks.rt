@@ -1,4 +1,4 @@
-//! The way back to a session, by how many steps the others are from it.
+//! The path back to a session, found by how many steps the others are from it.
 ghost use Rattle.std.specs.Prelude.{◌≡◌, ℕ, ◌<◌, ◌≤◌, ◌⊎◌, ◌||◌, ◌&&◌, ◌==◌, not, length, map, find, IfOk};
 ghost use Rattle.std.specs.List.{list_any};
 ghost use Rattle.mdl_graph.specs.Graphs.{member_of, weight_found};
@@ -9,7 +9,7 @@ use crate::stands::Stands;
 use crate::waits::Waits;
 use std::alloc::{AllocError, Global};
 
-// The weight of a session's first wish, 0 where it has none.
+// Returns the weight of a session's first request, or 0 if it has none.
 fn weight_of(wishes: &[Member], session: u16) -> u8
     ensures { result ≡ weight_found (find (λ wish. wish.session == session) wishes.now) }
 {
@@ -21,7 +21,7 @@ fn weight_of(wishes: &[Member], session: u16) -> u8
     0
 }
 
-// Whether one session waits for another, found from the other one on.
+// Whether one session waits for another, found by the rows that the other one blocks.
 fn waits_for(waits: &Waits<'_>, stands: &Stands<'_>, waiter: usize, other: usize) -> bool
     ensures { result ≡ waits_by waits.now stands.now waiter other }
 {
@@ -36,7 +36,8 @@ fn waits_for(waits: &Waits<'_>, stands: &Stands<'_>, waiter: usize, other: usize
     false
 }
 
-// The least session that one waits for of those so many steps away from the one that was asked for.
+// Returns the least session that a session waits for, of those `steps` steps away from the start of the search. It is the
+// session itself if there is none.
 fn next_of(
     levels: &[usize],
     waits: &Waits<'_>,
@@ -56,7 +57,7 @@ fn next_of(
     session
 }
 
-/// The first sessions on the way of one that is so many steps away. Each has the weight of its wish.
+/// Returns the path of `steps` steps from a session back to itself, without its end. Each member has the weight of its request.
 pub(crate) fn walk(
     alloc: Global,
     levels: &[usize],

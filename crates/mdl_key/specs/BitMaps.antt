@@ -5,7 +5,7 @@ use Rattle.std.specs.Int.{bit_at}
 use Rattle.mdl_key.specs.declared.mode.Mode.{Mode}
 use Rattle.mdl_key.specs.Modes.{mode_rank}
 
--- the number that stands for a set of modes, each listed once
+-- the bit map of a set of modes, each listed once
 abbrev pub bit_map : List Mode → ℕ
 bit_map modes = sum (map (λ mode. 2 ^ mode_rank mode) modes)
 

@@ -11,7 +11,8 @@ use Rattle.mdl_key.specs.declared.mode.Mode.TheVariants.{IX, S, SH, SR, SW, SWLP
 use Rattle.mdl_key.specs.Modes.{mode_rank}
 use Rattle.mdl_key.specs.Matrices.{clashes, granted_conflicts}
 
--- the class in which tickets of a mode are counted together, for IX of scoped locks and S, SH, SR, SW, SWLP of object locks
+-- the class in which tickets of a mode are counted, if they are: those in IX of scoped locks and in S, SH, SR, SW, SWLP of
+-- object locks
 abbrev pub class_of : Kind → Mode → Option ℕ
 class_of Scoped IX = Some 0
 class_of Scoped _ = None
@@ -22,20 +23,20 @@ class_of Object SW = Some 2
 class_of Object SWLP = Some 2
 class_of Object _ = None
 
--- all other modes are obtrusive: such a ticket has to be looked at by all who ask, and is never merely counted
+-- whether a mode is obtrusive, as all other modes are: its tickets are never merely counted, and every request has to check them
 abbrev pub is_obtrusive : Kind → Mode → Bool
 is_obtrusive kind mode = not (is_some (class_of kind mode))
 
--- a is at least as strong as b, both being modes of the kind: whatever clashes with b clashes with a
+-- a is at least as strong as b: whatever clashes with b clashes with a. Both are to be modes of the kind
 abbrev pub IsAtLeast : Kind → Mode → Mode → Type 0
 IsAtLeast kind a b = (held : Mode) → IsTrue (clashes kind b held) → IsTrue (clashes kind a held)
 
--- the same as a test, by the rows of the granted matrix
+-- whether a is at least as strong as b, by the rows of the granted matrix
 abbrev pub is_at_least : Kind → Mode → Mode → Bool
 is_at_least kind a b = list_all (clashes kind a) (granted_conflicts kind b)
 
--- the weight of a wish: 100 in the namespace of the global lock, 50 in that of user-level locks, whatever its mode; elsewhere 100
--- for a mode from SU upwards in the order of modes, else 0
+-- the weight of a request: 100 in the namespace of the global lock and 50 in that of user-level locks, for every mode. Elsewhere
+-- it is 100 for SU and the modes after it in the order of modes, and 0 for the others
 abbrev pub weight_of : Namespace → Mode → ℕ
 weight_of Global mode = 100
 weight_of UserLevelLock mode = 50

@@ -1,4 +1,4 @@
--- The names of locks, after MySQL 5.7: `MDL_key` of sql/mdl.h. What a name is made of is this project's own choice.
+-- The names of locks, after MySQL 5.7: `MDL_key` of sql/mdl.h. Which bytes a name can have is this project's own choice.
 use Rattle.std.specs.Prelude.{ℕ, Bool, not, ◌&&◌, ◌||◌, List, [], ◌++◌, length, codes, ◌==◌, nat_lt, nat_le, if◌then◌else◌, Option, Some, position}
 use Rattle.std.specs.Option.{option_map, option_or}
 use Rattle.std.specs.Ordering.{nat_cmp, on, then_cmp, eq_of_both}
@@ -11,17 +11,17 @@ use Rattle.mdl_key.specs.declared.key_error.KeyError.{KeyError}
 use Rattle.mdl_key.specs.declared.key_error.KeyError.TheVariants.{EmptyName, LongName, BadByte}
 use Rattle.mdl_key.specs.Limits.{longest_name}
 
--- a letter from a to z, a digit, or an underscore
+-- whether a byte can be part of a name: a letter from a to z, a digit, or an underscore
 abbrev pub is_name_byte : ℕ → Bool
 is_name_byte b = (nat_le 97 b && nat_le b 122) || (nat_le 48 b && nat_le b 57) || b == 95
 
--- why a text is no name, if it is none: a name has such bytes alone, at least one and at most `longest_name`
+-- why a text isn't a name, if it isn't: a name has only such bytes, at least one and at most `longest_name`
 abbrev pub name_fault : List ℕ → Option KeyError
 name_fault text =
     if length text == 0 then Some EmptyName
     else (if nat_lt longest_name (length text) then Some LongName else option_map (λ at. BadByte at) (position (λ b. not (is_name_byte b)) text))
 
--- what a key says: its namespace, and the names of its schema and its table where it has them
+-- the value of a key: its namespace, and the names of its schema and its table if it has them
 pub record KeyName : Type 0 where
   pub namespace : Namespace
   pub schema : List ℕ
@@ -47,7 +47,7 @@ table_key schema table = record { namespace = Table; schema = schema; table = ta
 abbrev pub user_lock_key : List ℕ → KeyName
 user_lock_key name = record { namespace = UserLevelLock; schema = name; table = [] }
 
--- the fault of a table's two names: the schema is looked at first
+-- the fault of a table's two names: the schema's name is checked first
 abbrev pub table_fault : List ℕ → List ℕ → Option KeyError
 table_fault schema table = option_or (name_fault schema) (name_fault table)
 
@@ -66,7 +66,7 @@ key_cmp =
     (then_cmp (on (λ k. k.schema) (slice_cmp nat_cmp))
     (on (λ k. k.table) (slice_cmp nat_cmp)))
 
--- keys are equal where all three are
+-- keys are equal if their namespaces, schemas and tables are
 abbrev pub key_eq : KeyName → KeyName → Bool
 key_eq =
     eq_of_both (on (λ k. namespace_rank k.namespace) ◌==◌)

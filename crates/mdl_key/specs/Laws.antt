@@ -4,11 +4,11 @@ use Rattle.mdl_key.specs.declared.mode.Mode.{Mode}
 use Rattle.mdl_key.specs.Matrices.{Clashes, WaitsBehind}
 use Rattle.mdl_key.specs.Classes.{IsAtLeast}
 
--- a request for one mode clashes with a lock in another just where a request for the other clashes with a lock in the one
+-- if a request for one mode clashes with a lock in another, a request for the other clashes with a lock in the first
 abbrev pub ClashingIsSymmetric : Type 0
 ClashingIsSymmetric = (kind : Kind) (a b : Mode) → Clashes kind a b → Clashes kind b a
 
--- a request waits behind no other that it could stand beside once both are granted
+-- a request waits behind another only if it clashes with the other's mode
 abbrev pub WaitsOnlyWhereItClashes : Type 0
 WaitsOnlyWhereItClashes = (kind : Kind) (ask pending : Mode) → WaitsBehind kind ask pending → Clashes kind ask pending
 

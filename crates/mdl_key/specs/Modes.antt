@@ -10,7 +10,7 @@ use Rattle.mdl_key.specs.declared.namespace.Kind.TheVariants.{Scoped, Object}
 use Rattle.mdl_key.specs.declared.mode.Mode.{Mode}
 use Rattle.mdl_key.specs.declared.mode.Mode.TheVariants.{IX, S, SH, SR, SW, SWLP, SU, SRO, SNW, SNRW, X}
 
--- a table and a user-level lock are locked as objects, all else as a scope
+-- the kind of a namespace's locks: tables and user-level locks are objects, all others are scopes
 abbrev pub kind_of : Namespace → Kind
 kind_of namespace.Global = Scoped
 kind_of namespace.Schema = Scoped
@@ -32,7 +32,7 @@ mode_rank SNW = 8
 mode_rank SNRW = 9
 mode_rank X = 10
 
--- whether two modes are one
+-- whether two modes are the same
 abbrev pub same_mode : Mode → Mode → Bool
 same_mode a b = mode_rank a == mode_rank b
 
@@ -45,7 +45,7 @@ abbrev pub is_mode_of : Kind → Mode → Bool
 is_mode_of Scoped mode = list_any (same_mode mode) (IX ∷ S ∷ X ∷ [])
 is_mode_of Object mode = not (same_mode mode IX)
 
--- a mode as it is written
+-- the name of a mode
 abbrev pub mode_name : Mode → List ℕ
 mode_name IX = codes "IX"
 mode_name S = codes "S"
@@ -59,6 +59,6 @@ mode_name SNW = codes "SNW"
 mode_name SNRW = codes "SNRW"
 mode_name X = codes "X"
 
--- a text read as the name of a mode: the mode of that name, and refused where no mode has it
+-- the result of reading a text as a mode: the mode of that name, or an error if no mode has that name
 abbrev pub NamesMode : {E : Type 0} → List ℕ → Result Mode E → Type 0
 NamesMode text r = MatchResult r (λ mode. mode_name mode ≡ text) (λ _. (mode : Mode) → mode_name mode ≡ text → ⊥)

@@ -25,7 +25,7 @@ use std::marker::Model;
 #[derive(Drop)]
 pub struct Key {
     namespace: Namespace,
-    // The schema's name and behind it the table's, so that a key takes one piece of memory.
+    // The schema's name, followed by the table's, so that a key needs only one allocation.
     names: String,
     // Where the table's name begins.
     cut: u8,
@@ -68,7 +68,7 @@ impl Key {
         Key::named(alloc, Namespace::Schema, schema, "")
     }
 
-    /// The key of a table. The schema's name is looked at first.
+    /// The key of a table. The schema's name is checked first.
     pub fn table(alloc: Global, schema: &str, table: &str) -> Result<Key, KeyError>
         ensures made { IfOk result (λ key. key ≡ table_key schema.now table.now) }
         ensures refused { Refuses (table_fault schema.now table.now) KeyError.OutOfMemory result }
@@ -114,28 +114,28 @@ impl Key {
         })
     }
 
-    /// Where the key lives.
+    /// Returns the key's namespace.
     pub fn namespace(&self) -> Namespace
         ensures { result ≡ self.now.namespace }
     {
         self.namespace
     }
 
-    /// How the key is locked.
+    /// Returns the kind of the key's lock.
     pub fn kind(&self) -> Kind
         ensures { result ≡ kind_of self.now.namespace }
     {
         self.namespace.kind()
     }
 
-    /// The name of the key's schema, or of the user-level lock. It is empty for a key that has none.
+    /// Returns the name of the key's schema or of the user-level lock. It is empty if the key has none.
     pub fn schema_name(&self) -> &str
         ensures { result.now ≡ self.now.schema }
     {
         self.parts().0
     }
 
-    /// The name of the key's table. It is empty for a key that has none.
+    /// Returns the name of the key's table. It is empty if the key has none.
     pub fn table_name(&self) -> &str
         ensures { result.now ≡ self.now.table }
     {
@@ -205,7 +205,8 @@ impl Ord for Key {
     }
 }
 
-/// A key is hashed by the bytes of its names alone: the two keys without a name are hashed alike, and a schema and a user-level lock of one name.
+/// Only the bytes of its names are hashed, not the namespace. The two keys without a name have the same hash, and so do a schema and a user-level
+/// lock of one name.
 impl Hash for Key {
     ghost hash_input = { λ key. fed.str key.schema ++ fed.str key.table };
 
@@ -233,7 +234,7 @@ impl fmt::Display for Key {
     }
 }
 
-/// Looks whether a text is a name: 1 to [`LONGEST_NAME`] bytes of `a-z 0-9 _`. The causes are looked for in the order of `KeyError`.
+/// Checks whether a text is a name: 1 to [`LONGEST_NAME`] bytes of `a-z 0-9 _`. Of several faults it returns the first in the order of `KeyError`.
 pub fn check_name(name: &str) -> Result<(), KeyError>
     ensures { RefusesJust (name_fault name.now) result }
 {
@@ -249,7 +250,7 @@ pub fn check_name(name: &str) -> Result<(), KeyError>
     }
 }
 
-// The place of the first byte that no name has.
+// Returns the index of the first byte that no name can have.
 fn first_bad_byte(name: &[u8]) -> Option<usize>
     ensures { result ≡ position (λ b. not (is_name_byte b)) name.now }
 {
@@ -262,7 +263,7 @@ fn is_name_byte(byte: u8) -> bool
     matches!(byte, b'a'..=b'z' | b'0'..=b'9' | b'_')
 }
 
-// Two names, one behind the other.
+// Returns the two names, one after the other.
 fn joined(alloc: Global, schema: &str, table: &str) -> Result<String, KeyError>
     ensures both { IfOk result (λ text. string_bytes text ≡ schema.now ++ table.now) }
     ensures memory { IsOkUnless result KeyError.OutOfMemory }

@@ -1,7 +1,7 @@
 //! Why a key can't be made.
 use thiserror::Error;
 
-/// Why a key can't be made of the names given.
+/// Why a key can't be made from the names given.
 #[derive(Clone, Copy, Debug, PartialEq, Eq, Error)]
 pub enum KeyError {
     /// A name is empty.
@@ -10,7 +10,7 @@ pub enum KeyError {
     /// A name has more than [`LONGEST_NAME`](crate::LONGEST_NAME) bytes.
     #[error("name of more than 64 bytes")]
     LongName,
-    /// The byte of a name at this place, counted from 0, is none of `a-z 0-9 _`.
+    /// The byte of a name at this index, counted from 0, is none of `a-z 0-9 _`.
     #[error("bad byte at {0} of a name")]
     BadByte(usize),
     /// Memory ran out.

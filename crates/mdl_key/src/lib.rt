@@ -1,9 +1,10 @@
-//! Keys and modes of metadata locks: what can be locked, how strongly, and which locks stand beside each other.
+//! Keys and modes of metadata locks: what can be locked, in which modes, and which modes conflict.
 //!
-//! A lock is named by a [`Key`], whose [`Namespace`] says whether it is locked as a scope or as an object ([`Kind`]).
-//! A request asks for a [`Mode`]. [`conflicts_granted`] and [`conflicts_waiting`] are the two matrices of metadata
-//! locking in MySQL 5.7: what a request may not stand beside, and what it waits behind. [`at_least`] compares modes by
-//! strength, [`is_obtrusive`] tells which of them no lock merely counts, and [`weight`] how much a wish weighs in a deadlock.
+//! A [`Key`] names a lock. Its [`Namespace`] says whether it is locked as a scope or as an object ([`Kind`]). A request
+//! asks for a [`Mode`]. [`conflicts_granted`] and [`conflicts_waiting`] are the two matrices of metadata locking in
+//! MySQL 5.7: which held modes a request clashes with, and which pending ones it waits behind. [`at_least`] compares modes
+//! by strength, [`is_obtrusive`] says which of them a lock's word can't count, and [`weight`] what a request weighs when the
+//! victim of a deadlock is chosen.
 //!
 //! # Example
 //!

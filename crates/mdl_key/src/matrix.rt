@@ -26,15 +26,15 @@ pub fn conflicts_waiting(kind: Kind, ask: Mode, pending: Mode) -> bool
     contains(waiting_row(kind, ask), pending)
 }
 
-/// The modes that, granted to another session, clash with the one asked for, as a bit map: bit n stands for the mode at
-/// place n of [`Mode::ALL`].
+/// Returns the modes that clash with a request for `ask` when another session holds them, as a bit map: bit n is the mode
+/// at index n of [`Mode::ALL`].
 pub fn granted_row(kind: Kind, ask: Mode) -> u16
     ensures { result ≡ bit_map (granted_conflicts kind ask) }
 {
     GRANTED[kind as usize][ask as usize]
 }
 
-/// The modes that, pending for another session, the one asked for waits behind, as a bit map likewise.
+/// Returns the modes that a request for `ask` waits behind when another session waits for them, as such a bit map.
 pub fn waiting_row(kind: Kind, ask: Mode) -> u16
     ensures { result ≡ bit_map (waiting_conflicts kind ask) }
 {

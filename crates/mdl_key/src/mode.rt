@@ -1,4 +1,4 @@
-//! Lock modes, and for how long a lock is kept.
+//! Lock modes, and how long a lock is kept.
 ghost use Rattle.std.specs.Prelude.{◌≡◌, Some, MatchResult};
 ghost use Rattle.std.specs.Fmt.{padded};
 ghost use Rattle.mdl_key.specs.Modes.{mode_name, NamesMode};
@@ -7,10 +7,10 @@ use std::fmt;
 use std::str::FromStr;
 use thiserror::Error;
 
-/// The mode of a lock. A scoped lock takes IX, S and X, an object lock all modes but IX.
+/// The mode of a lock. A scoped lock uses IX, S and X, an object lock all modes but IX.
 ///
 /// After MySQL 5.7, `enum_mdl_type` of `sql/mdl.h`, in whose order they stand. This is not the order of strength: of SU and
-/// SRO, for one, neither is as strong as the other.
+/// SRO, for example, neither is as strong as the other.
 #[derive(Clone, Copy, Debug, PartialEq, Eq, PartialOrd, Ord, Hash)]
 pub enum Mode {
     /// Intention exclusive: something within the scope is to be changed.
@@ -27,18 +27,18 @@ pub enum Mode {
     SWLP,
     /// Shared upgradable: a change of the definition is prepared while others read and write.
     SU,
-    /// Shared read only: rows are read and nobody writes.
+    /// Shared read only: rows are read while no session writes.
     SRO,
-    /// Shared no write: a change of the definition is at work while others read.
+    /// Shared no write: the definition is being changed while others read.
     SNW,
-    /// Shared no read, no write: only the definition may be read meanwhile.
+    /// Shared no read, no write: others may only read the definition.
     SNRW,
     /// Exclusive.
     X,
 }
 
 impl Mode {
-    /// Every mode, in their order.
+    /// All modes, in order.
     pub const ALL: [Mode; 11] = [
         Mode::IX,
         Mode::S,
@@ -53,7 +53,7 @@ impl Mode {
         Mode::X,
     ];
 
-    /// The mode's name, in capitals.
+    /// Returns the mode's name, in capitals.
     pub fn as_str(self) -> &'static str
         ensures { result.now ≡ mode_name self }
     {
@@ -106,7 +106,7 @@ impl FromStr for Mode {
     }
 }
 
-/// The text names no lock mode.
+/// The text isn't the name of a lock mode.
 #[derive(Clone, Copy, Debug, PartialEq, Eq, Error)]
 #[error("no such lock mode")]
 pub struct ModeError;

@@ -1,4 +1,4 @@
-//! Where a key lives, and how what lives there is locked.
+//! The namespaces of keys, and how the keys of each are locked.
 ghost use Rattle.std.specs.Prelude.{◌≡◌};
 ghost use Rattle.mdl_key.specs.Modes.{kind_of, is_mode_of};
 
@@ -13,7 +13,7 @@ pub enum Namespace {
     Global,
     /// Schemas, each by its name.
     Schema,
-    /// Tables, each by the names of its schema and its own.
+    /// Tables, each by the name of its schema and its own name.
     Table,
     /// The one key that commits take.
     Commit,
@@ -22,7 +22,7 @@ pub enum Namespace {
 }
 
 impl Namespace {
-    /// How the keys of this namespace are locked.
+    /// Returns the kind of this namespace's locks.
     pub fn kind(self) -> Kind
         ensures { result ≡ kind_of self }
     {
@@ -36,9 +36,9 @@ impl Namespace {
 /// The kind of a lock: each has modes and matrices of its own.
 #[derive(Clone, Copy, Debug, PartialEq, Eq, PartialOrd, Ord, Hash)]
 pub enum Kind {
-    /// A scope that holds other things, as a schema holds tables: locked in IX, S and X.
+    /// A scope that contains other things, as a schema contains tables. It is locked in IX, S and X.
     Scoped,
-    /// A single thing, as a table: locked in all modes but IX.
+    /// A single thing, such as a table. It is locked in all modes but IX.
     Object,
 }
 

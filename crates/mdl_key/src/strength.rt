@@ -1,4 +1,4 @@
-//! How strong modes are, which of them are looked at by all, and what a wish for one weighs.
+//! The strength of modes, which of them are obtrusive, and the weight of a request.
 ghost use Rattle.std.specs.Prelude.{◌≡◌, ◌↔◌, IsTrue, filter};
 ghost use Rattle.mdl_key.specs.BitMaps.{bit_map};
 ghost use Rattle.mdl_key.specs.Modes.{all_modes};
@@ -13,8 +13,8 @@ const USER_LOCK_WEIGHT: u8 = 50;
 
 const DML_WEIGHT: u8 = 0;
 
-/// Whether tickets of the mode have to be looked at by all who ask, and are never merely counted: all but IX of scoped locks
-/// and S, SH, SR, SW and SWLP of object locks. A mode that is none of the kind counts as obtrusive.
+/// Whether the mode is obtrusive: its tickets are never merely counted, and every request has to check them. All modes are
+/// except IX of scoped locks and S, SH, SR, SW and SWLP of object locks. A mode that the kind doesn't use is obtrusive.
 ///
 /// After MySQL 5.7, `MDL_lock::is_obtrusive_lock` of `sql/mdl.cc`.
 pub fn is_obtrusive(kind: Kind, mode: Mode) -> bool
@@ -26,7 +26,7 @@ pub fn is_obtrusive(kind: Kind, mode: Mode) -> bool
     }
 }
 
-/// The modes that are obtrusive, as a bit map: bit n stands for the mode at place n of [`Mode::ALL`].
+/// Returns the obtrusive modes as a bit map: bit n is the mode at index n of [`Mode::ALL`].
 pub fn obtrusive_row(kind: Kind) -> u16
     ensures { result ≡ bit_map (filter (is_obtrusive kind) all_modes) }
 {
@@ -36,8 +36,8 @@ pub fn obtrusive_row(kind: Kind) -> u16
     }
 }
 
-/// Whether `a` is at least as strong as `b`: whatever clashes with `b` clashes with `a`. Of two modes, each can be at least
-/// as strong as the other, as S and SH are, or neither, as SU and SRO.
+/// Whether `a` is at least as strong as `b`: whatever clashes with `b` clashes with `a`. Two modes can each be at least as
+/// strong as the other, like S and SH, or neither, like SU and SRO.
 ///
 /// After MySQL 5.7, `MDL_ticket::has_stronger_or_equal_type` of `sql/mdl.cc`.
 pub fn at_least(kind: Kind, a: Mode, b: Mode) -> bool
@@ -47,15 +47,16 @@ pub fn at_least(kind: Kind, a: Mode, b: Mode) -> bool
     covers(kind, a, b)
 }
 
-// Whether the row of `b` in the granted matrix is part of the row of `a`.
+// Whether the row of `b` in the granted matrix is a subset of the row of `a`.
 fn covers(kind: Kind, a: Mode, b: Mode) -> bool
     ensures { result ≡ is_at_least kind a b }
 {
     granted_row(kind, b) & !granted_row(kind, a) == 0
 }
 
-/// What a wish for the mode weighs where a search for deadlocks chooses its victim: 100 in the namespace of the global lock, 50
-/// in that of user-level locks, whatever its mode; elsewhere 100 for a mode from SU upwards in the order of modes, else 0.
+/// Returns the weight of a request for the mode, by which a search for deadlocks chooses its victim. It is 100 in the
+/// namespace of the global lock and 50 in that of user-level locks, for every mode. Elsewhere it is 100 for SU and the
+/// modes after it in the order of modes, and 0 for the others.
 ///
 /// After MySQL 5.7, `MDL_ticket::get_deadlock_weight` of `sql/mdl.cc`.
 pub fn weight(namespace: Namespace, mode: Mode) -> u8

@@ -1,4 +1,4 @@
-//! Reading all that a reader gives, and writing all of a text.
+//! Reading all of a reader's bytes, and writing all of a text.
 ghost use Rattle.std.specs.Prelude.{◌≡◌, ◌⊎◌, OnOk, OnErr, IfOk, IfErr, IfSome, IsOkUnless, ◌≤◌, length, take, []};
 ghost use Rattle.std.specs.Io.KnownBytes.{Appends, IsAtEnd};
 ghost use Rattle.mdl_lines.specs.Devices.{AppendsPart};
@@ -7,7 +7,7 @@ use crate::fault::Fault;
 use std::alloc::Global;
 use std::io::{ErrorKind, Read, Write};
 
-/// Reads all that is left. A read that fails is `Read`, and want of memory is `Memory`.
+/// Reads all that is left. Fails with `Read` if a read fails, and with `Memory` if memory runs out.
 pub fn read_all<R: Read>(alloc: Global, reader: &mut R) -> Result<Vec<u8>, Fault>
     ensures all { IfOk result (λ input. IfSome (R.remaining reader.old) (λ bytes. input.items ≡ bytes)) }
     ensures end { OnOk result (IsAtEnd (R.remaining reader.new)) }
@@ -26,8 +26,8 @@ pub fn read_all<R: Read>(alloc: Global, reader: &mut R) -> Result<Vec<u8>, Fault
     }
 }
 
-/// Writes all of a text. A write that fails, or that takes nothing, is `Write`; what went before it stays written, and is
-/// never all of the text.
+/// Writes all of a text. Fails with `Write` if a write fails or takes nothing. What was written before that stays written, and
+/// is never all of the text.
 pub fn write_all<W: Write>(writer: &mut W, text: &[u8]) -> Result<(), Fault>
     ensures all { OnOk result (Appends (W.contents writer.old) (W.contents writer.new) text.now) }
     ensures part { OnErr result (AppendsPart (W.contents writer.old) (W.contents writer.new) text.now) }
@@ -47,7 +47,7 @@ pub fn write_all<W: Write>(writer: &mut W, text: &[u8]) -> Result<(), Fault>
     }
 }
 
-// Makes one write, and says how many bytes it took: none where it was interrupted.
+// Makes one write, and returns how many bytes it took: none if it was interrupted.
 fn write_some<W: Write>(writer: &mut W, text: &[u8]) -> Result<usize, Fault>
     ensures some { IfOk result (λ count. (count ≤ length text.now) × Appends (W.contents writer.old) (W.contents writer.new) (take count text.now)) }
     ensures none { OnErr result (Appends (W.contents writer.old) (W.contents writer.new) []) }

@@ -12,7 +12,7 @@ pub enum LineError {
     BadSession,
     /// A word is missing, misspelled, or one too many.
     BadWord,
-    /// A word is no name where one has to stand, or names a table for the second time.
+    /// A word isn't a name where a name is required, or names a table for the second time.
     BadName,
     /// The line has more than 4,096 bytes. Its line feed, and a carriage return at its end, don't count.
     LongLine,
@@ -21,7 +21,7 @@ pub enum LineError {
 }
 
 impl LineError {
-    /// The error's name.
+    /// Returns the error's name.
     pub fn as_str(self) -> &'static str
         ensures { result.now ≡ line_error_name self }
     {
@@ -46,7 +46,7 @@ impl fmt::Display for LineError {
 
 impl Error for LineError {}
 
-/// What kept a script from being run to its end.
+/// What prevented a script from being run to its end.
 #[derive(Clone, Copy, Debug, PartialEq, Eq)]
 pub enum Fault {
     /// The line of this number, counted from 1, is refused.

@@ -1,8 +1,9 @@
-//! Scripts by the line, and the streams that they come from: what the scripts of all commands share.
+//! Lines of scripts, and the streams that scripts come from: what the scripts of all commands share.
 //!
-//! [`is_comment`] looks at a line as a whole, [`first_words`] finds its first words, and [`session_of`] reads the number of a
-//! session. What refuses a line is a [`LineError`], and what keeps a script from being run to its end a [`Fault`], which
-//! [`report`] tells. [`read_all`] and [`write_all`] work on any reader and writer, however little one takes or gives at a time.
+//! [`is_comment`] checks a line as a whole, [`first_words`] finds its first words, and [`session_of`] reads the number of a
+//! session. A [`LineError`] says why a line is refused, and a [`Fault`] what prevented a script from being run to its end.
+//! [`report`] prints a fault. [`read_all`] and [`write_all`] work on any reader and writer, however few bytes it gives or takes
+//! at a time.
 //!
 //! # Example
 //!

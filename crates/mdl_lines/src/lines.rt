@@ -1,4 +1,4 @@
-//! What stands in a line of a script.
+//! What a line of a script contains.
 ghost use Rattle.std.specs.Prelude.{◌≡◌, ℕ, List, [], ◌∷◌, MatchOption};
 ghost use Rattle.std.specs.Option.{option_map};
 ghost use Rattle.std.specs.Str.Lines.{strip_carriage_return};
@@ -12,7 +12,7 @@ use mdl_key::MOST_SESSIONS;
 // The longest line, in bytes.
 const LONGEST_LINE: usize = 4096;
 
-/// A line without the carriage return at its end.
+/// Returns a line without the carriage return at its end.
 pub fn strip_carriage_return(line: &[u8]) -> &[u8]
     ensures { result.now ≡ strip_carriage_return line.now }
 {
@@ -22,8 +22,8 @@ pub fn strip_carriage_return(line: &[u8]) -> &[u8]
     }
 }
 
-/// Whether a line begins with `#`, and its words are not read. One that is too long is refused first, and then one that is
-/// not ASCII.
+/// Whether a line begins with `#`, so that its words are not read. A line that is too long is refused first, and then one that
+/// is not ASCII.
 pub fn is_comment(line: &[u8]) -> Result<bool, LineError>
     ensures { result ≡ is_comment line.now }
 {
@@ -36,7 +36,7 @@ pub fn is_comment(line: &[u8]) -> Result<bool, LineError>
     Ok(matches!(line, [b'#', ..]))
 }
 
-/// The first word of a line, and the second where it is the last.
+/// Returns the first word of a line, and the second if it is the last.
 pub fn first_words(line: &[u8]) -> Option<(&[u8], Option<&[u8]>)>
     ensures { MatchOption result (words_of line.now ≡ [])
         (λ found. (others : List (List ℕ)) × (words_of line.now ≡ found.0.now ∷ others) × (only others ≡ option_map (λ word. word.now) found.1)) }
@@ -54,14 +54,14 @@ pub fn first_words(line: &[u8]) -> Option<(&[u8], Option<&[u8]>)>
     }
 }
 
-/// Whether a byte parts words: a space or a tab.
+/// Whether a byte separates words: a space or a tab.
 pub fn is_blank(byte: u8) -> bool
     ensures { result ≡ is_blank byte }
 {
     byte == b' ' || byte == b'\t'
 }
 
-/// The session that a word names: a number from 1 to [`MOST_SESSIONS`] in one or two digits, the first of which is not 0.
+/// Returns the session that a word names: a number from 1 to [`MOST_SESSIONS`] in one or two digits, without a leading 0.
 #[tactic(auto, using(crate::proofs::Sessions::none_for_long))]
 pub fn session_of(word: &[u8]) -> Option<u16>
     ensures { result ≡ session_of word.now }

@@ -1,4 +1,4 @@
-//! Telling a fault.
+//! Reporting a fault.
 ghost use Rattle.std.specs.Prelude.{◌≡◌, ◌∷◌, [], ◌++◌, OnOk};
 ghost use Rattle.std.specs.Io.KnownBytes.{Appends};
 ghost use Rattle.mdl_lines.specs.Faults.{fault_text, fault_status};
@@ -7,8 +7,8 @@ use crate::fault::Fault;
 use std::io;
 use std::io::Write;
 
-/// Writes the line of a fault, and answers the status that a program ends with after it. A line that can't be written is
-/// lost, and the status is the same. It takes no memory.
+/// Writes the line of a fault, and returns the status with which a program ends after it. If the line can't be written it is
+/// lost, and the status is the same. Takes no memory.
 pub fn report<W: Write>(fault: &Fault, writer: &mut W) -> u8
     ensures { result ≡ fault_status fault.now }
 {

@@ -1,4 +1,4 @@
--- What is true of a lock while sessions have one ticket or one wait each, and how a book is seen as a lock.
+-- What is true of a lock while each session has at most one ticket or one wait, and how a book is seen as a lock.
 use Rattle.std.specs.Prelude.{◌≡◌, ℕ, ◌+◌, ◌≤◌, All, count_by}
 use Rattle.mdl_book.specs.declared.book_view.BookView.{BookView}
 use Rattle.mdl_book.specs.declared.ticket.Ticket.{Ticket}
@@ -11,11 +11,11 @@ use Rattle.mdl_lock.specs.Answers.{Lock}
 abbrev pub lock_of : BookView → Lock
 lock_of lists = record { granted = lists.granted; waiting = lists.waiting }
 
--- a command of such a session
+-- a command of a session that a script can name
 abbrev pub IsNumbered : ScriptCommand → Type 0
 IsNumbered command = IsScriptSession command.session
 
--- the ticket of such a session, whose number is 1
+-- a ticket of a session that a script can name, whose number is 1
 abbrev pub IsScriptTicket : Ticket → Type 0
 IsScriptTicket ticket = (IsScriptSession ticket.session) × (ticket.number ≡ 1)
 
@@ -23,7 +23,7 @@ IsScriptTicket ticket = (IsScriptSession ticket.session) × (ticket.number ≡ 1
 abbrev pub tickets_of : ℕ → Lock → ℕ
 tickets_of session lock = count_by (is_ticket session 1) lock.granted + count_by (is_ticket session 1) lock.waiting
 
--- each that holds or waits does so by a session's ticket, and no session has two tickets
+-- all tickets are those of sessions that a script can name, and no session has two
 pub record IsOrderly (lock : Lock) : Type 0 where
   pub holders : All IsScriptTicket lock.granted
   pub waiters : All IsScriptTicket lock.waiting

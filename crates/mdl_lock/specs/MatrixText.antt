@@ -17,17 +17,17 @@ abbrev pub matrix_name : Matrix → List ℕ
 matrix_name Granted = codes "GRANTED"
 matrix_name Waiting = codes "WAITING"
 
--- the row of a matrix for the mode asked for: what it may not meet in another session
+-- the row of a matrix for the requested mode: the modes of other sessions that block it
 abbrev pub row_of : Matrix → Kind → Mode → List Mode
 row_of Granted = granted_conflicts
 row_of Waiting = waiting_conflicts
 
--- the modes of a row, parted by spaces, and `-` where there are none
+-- the modes of a row, separated by spaces, or `-` if there are none
 abbrev pub row_text : List Mode → List ℕ
 row_text [] = codes "-"
 row_text (mode ∷ modes) = join_by mode_name (codes " ") (mode ∷ modes)
 
--- the line of a row: the kind, the matrix, the mode asked for, and the row
+-- the line of a row: the kind, the matrix, the requested mode, and the row
 abbrev pub line_of : Kind → Matrix → Mode → List ℕ
 line_of kind matrix ask =
     kind_name kind ++ codes " " ++ matrix_name matrix ++ codes " " ++ mode_name ask ++ codes ": " ++ row_text (row_of matrix kind ask) ++ 10 ∷ []
@@ -45,7 +45,7 @@ matrix_text =
 abbrev pub printed : List (List ℕ) → List ℕ
 printed texts = flat_map (λ text. text ++ 10 ∷ []) texts
 
--- the matrices line by line, as they are known
+-- the lines of the matrices
 abbrev pub known_lines : List (List ℕ)
 known_lines =
     codes "SCOPED GRANTED IX: S X" ∷

@@ -1,4 +1,4 @@
-//! What the lock answers.
+//! The answers of the lock.
 ghost use Rattle.std.specs.Prelude.{Some};
 ghost use Rattle.mdl_lock.specs.Answering.{answer_text};
 
@@ -12,11 +12,11 @@ pub enum Answer {
     Granted(u16, Mode),
     /// The session waits for this mode.
     Waits(u16, Mode),
-    /// The session gave up this mode.
+    /// The session released this mode.
     Released(u16, Mode),
-    /// The session gave up waiting for this mode.
+    /// The session stopped waiting for this mode.
     TimedOut(u16, Mode),
-    /// The session asked for a second ticket, or to give up what it hasn't.
+    /// The session asked for a second ticket, or tried to release a ticket or to end a wait that it doesn't have.
     Refused(u16),
 }
 

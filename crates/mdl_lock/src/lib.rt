@@ -1,7 +1,7 @@
 //! One metadata lock that a script drives, and the matrices of both kinds of lock.
 //!
-//! [`lock_run`] reads a script, looks at all of its lines, obeys them over one book, and writes the answers. [`matrix_run`]
-//! prints which modes clash, and which wait behind which.
+//! [`lock_run`] reads a script, checks all of its lines, executes them over one book, and writes the answers.
+//! [`matrix_run`] prints which modes clash, and which wait behind which.
 //!
 //! # Example
 //!

@@ -8,7 +8,7 @@ use mdl_key::{Kind, Mode};
 use mdl_lines::{LineError, first_words, is_comment, session_of};
 use std::str;
 
-/// What a line says: nothing, a command, or its first fault.
+/// Returns what a line says: nothing, a command, or its first fault.
 pub fn line_says(kind: Kind, line: &[u8]) -> Result<Option<ScriptCommand>, LineError>
     ensures { result ≡ line_says kind line.now }
 {
@@ -18,7 +18,7 @@ pub fn line_says(kind: Kind, line: &[u8]) -> Result<Option<ScriptCommand>, LineE
     words_say(kind, line)
 }
 
-// What the words of a line say: a session and one word behind it.
+// Returns what the words of a line say: a session and one word after it.
 fn words_say(kind: Kind, line: &[u8]) -> Result<Option<ScriptCommand>, LineError>
     ensures { result ≡ words_say kind (words_of line.now) }
 {
@@ -34,7 +34,7 @@ fn words_say(kind: Kind, line: &[u8]) -> Result<Option<ScriptCommand>, LineError
     Ok(Some(ScriptCommand { session, action }))
 }
 
-// What the word behind the session asks for.
+// Returns what the word after the session asks for.
 fn action_of(kind: Kind, word: &[u8]) -> Option<Action>
     ensures { result ≡ action_of kind word.now }
 {

@@ -1,4 +1,4 @@
-//! One lock that the sessions of a script ask for.
+//! One lock that the sessions of a script request.
 ghost use Rattle.std.specs.Prelude.{◌≡◌, ◌++◌, ◌∷◌, [], OnOk, IfOk, IsOkUnless, All};
 ghost use Rattle.mdl_key.specs.Modes.{kind_of};
 ghost use Rattle.std.specs.List.{list_any};
@@ -21,13 +21,13 @@ use mdl_lines::Fault;
 use mdl_word::Word;
 use std::alloc::Global;
 
-// A session has one ticket or one wait at most, so this number will do for each.
+// The number of every ticket and wait: a session has at most one of them.
 const THE_ONE: u64 = 1;
 
-// The word of the lock: no ticket of a script is a fast one.
+// The word of the lock. No ticket of a script is a fast one.
 const NO_FAST: Word = Word(0);
 
-/// Drives a lock that nobody holds by commands, and gives the text of the answers, a line each.
+/// Executes commands over a lock that no session holds, and returns the text of the answers, a line each.
 pub fn answers_to(alloc: Global, kind: Kind, commands: &[ScriptCommand]) -> Result<String, Fault>
     requires { All IsNumbered commands.now }
     ensures text { IfOk result (λ text. string_bytes text ≡ text_of (all_obeyed kind commands.now free_lock).answers) }
@@ -44,7 +44,7 @@ pub fn answers_to(alloc: Global, kind: Kind, commands: &[ScriptCommand]) -> Resu
     Ok(text)
 }
 
-// Obeys a command, and writes a line for each answer.
+// Executes a command, and writes a line for each answer.
 fn obey(
     book: &mut Book,
     everyone: &Sessions,
@@ -72,7 +72,7 @@ fn obey(
     }
 }
 
-// A session asks for a mode. The book has room for its ticket, since no session has two.
+// Requests a mode for a session. The book has room for its ticket, since no session has two.
 fn ask(book: &mut Book, session: u16, mode: Mode) -> Result<Answer, Fault>
     requires session { IsScriptSession session }
     requires orderly { IsOrderly (lock_of book.old) }
@@ -97,14 +97,14 @@ fn ask(book: &mut Book, session: u16, mode: Mode) -> Result<Answer, Fault>
     Ok(Answer::Waits(session, mode))
 }
 
-// Whether a session's wish for a mode can be granted now.
+// Whether a session's request for a mode can be granted now.
 fn can_grant(book: &Book, session: u16, mode: Mode) -> bool
     ensures { result ≡ is_grantable (lock_kind book.now) book.now.granted book.now.waiting session mode }
 {
     book.can_grant(session, mode, NO_FAST)
 }
 
-// The fault of a book that can want for nothing but memory.
+// Returns the fault of a book that can fail only because memory runs out.
 fn memory_fault(error: BookError) -> Fault
     requires { error ≡ BookError.OutOfMemory }
     ensures { result ≡ Fault.Memory }
@@ -115,7 +115,7 @@ fn memory_fault(error: BookError) -> Fault
     }
 }
 
-// A session gives up what it holds, and waiters are granted.
+// Releases what a session holds, and grants waiters.
 fn release(
     book: &mut Book,
     everyone: &Sessions,
@@ -140,7 +140,7 @@ fn release(
     }
 }
 
-// A session gives up waiting, and waiters are granted.
+// Removes a session's wait, and grants waiters.
 fn time_out(
     book: &mut Book,
     everyone: &Sessions,
@@ -165,7 +165,7 @@ fn time_out(
     }
 }
 
-// Grants waiters, first in order of arrival first, until none can be.
+// Grants waiters until none can be granted, each time the first in order of arrival.
 fn grant_waiters(book: &mut Book, everyone: &Sessions, out: &mut String) -> Result<(), Fault>
     requires every { IsEverySession everyone.now }
     requires orderly { IsOrderly (lock_of book.old) }
@@ -204,7 +204,7 @@ fn write_answer(out: &mut String, answer: Answer) -> Result<(), Fault>
     }
 }
 
-// The key of a lock of this kind.
+// Returns the key of a lock of this kind.
 fn key_of(alloc: Global, kind: Kind) -> Result<Key, Fault>
     ensures kind { IfOk result (λ key. kind_of key.namespace ≡ kind) }
     ensures memory { IsOkUnless result Fault.Memory }

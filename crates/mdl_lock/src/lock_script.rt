@@ -14,32 +14,32 @@ use mdl_lines::{Fault, read_all, write_all};
 use std::alloc::Global;
 use std::io::{Read, Write};
 
-/// Drives one lock by a script, and writes the answers.
+/// Executes a script of commands over one lock, and writes the answers.
 ///
-/// It reads all, looks at all lines, and only then writes. What is known of the reader and of the writer is by the bytes
-/// that they tell: a slice, a cursor or a vector tells them, a file or a terminal doesn't.
+/// Reads everything, checks all lines, and only then writes. The contract covers readers and writers that show their
+/// bytes, as a slice, a cursor or a vector does. A file or a terminal doesn't.
 pub fn lock_run<R: Read, W: Write>(
     alloc: Global,
     kind: Kind,
     reader: &mut R,
     writer: &mut W,
 ) -> Result<(), Fault>
-    // Done: what was written is the defined output of what was read, and all was read.
+    // On success, what was written is the defined output of what was read, and all was read.
     ensures output { OnOk result (IfSome (R.remaining reader.old) (λ input.
         Appends (W.contents writer.old) (W.contents writer.new) (lock_output_of kind input))) }
     ensures end { OnOk result (IsAtEnd (R.remaining reader.new)) }
 
-    // Refused by the first refused line, and by no other.
+    // A script is refused for its first bad line, and for no other.
     ensures ends { IfSome (R.remaining reader.old) (λ input. MayEnd (parsed kind input) result) }
 
-    // After a fault a beginning of the output was written, never all of it, and nothing unless writing failed.
+    // After a fault, a first part of the output was written but never all of it, and nothing unless writing failed.
     ensures fault { IfErr result (λ fault. IfSome (R.remaining reader.old) (λ input.
         LeavesWritten fault (W.contents writer.old) (W.contents writer.new) (lock_output_of kind input))) }
 
-    // By that output, no two sessions ever hold locks that clash.
+    // While that output is made, no two sessions ever hold locks that clash.
     ensures lawful { IfSome (R.remaining reader.old) (λ input. StaysLawful kind (parsed kind input)) }
 
-    // And no session is ever left waiting that could be granted.
+    // No session is ever left waiting that could be granted.
     ensures none_forgotten { IfSome (R.remaining reader.old) (λ input. NeverForgets kind (parsed kind input)) }
 {
     let input = read_all(alloc, reader)?;
@@ -48,7 +48,7 @@ pub fn lock_run<R: Read, W: Write>(
     Ok(())
 }
 
-// The output of a script.
+// Returns the output of a script.
 fn output(alloc: Global, kind: Kind, script: &[u8]) -> Result<String, Fault>
     ensures output { IfOk result (λ output. string_bytes output ≡ lock_output_of kind script.now) }
     ensures accepted { OnOk result (IsOk (parsed kind script.now)) }

@@ -12,13 +12,13 @@ use mdl_lines::{Fault, write_all};
 use std::alloc::{AllocError, Global};
 use std::io::Write;
 
-/// Writes both matrices of both kinds of lock, a line for each mode asked for.
+/// Writes both matrices of both kinds of lock, a line for each requested mode.
 ///
-/// What is known of the writer is by the bytes that it tells, as a vector does.
+/// The contract covers writers that show their bytes, as a vector does.
 pub fn matrix_run<W: Write>(alloc: Global, writer: &mut W) -> Result<(), Fault>
     ensures printed { OnOk result (Appends (W.contents writer.old) (W.contents writer.new) matrix_text) }
 
-    // After a fault a beginning was written, never all, and nothing unless writing failed.
+    // After a fault, a first part was written but never all, and nothing unless writing failed.
     ensures part { IfErr result (λ fault. LeavesWritten fault (W.contents writer.old) (W.contents writer.new) matrix_text) }
     ensures fault { IfErr result (λ fault. (fault ≡ Fault.Memory) ⊎ (fault ≡ Fault.Write)) }
 {
@@ -26,7 +26,7 @@ pub fn matrix_run<W: Write>(alloc: Global, writer: &mut W) -> Result<(), Fault>
     write_all(writer, text.as_bytes())
 }
 
-/// That text, line by line.
+/// The text of the matrices is these 26 lines.
 pub fn matrices_are_known()
     ensures { matrix_text ≡ printed known_lines }
 {}
@@ -34,9 +34,9 @@ pub fn matrices_are_known()
 // One of the two matrices.
 #[derive(Clone, Copy)]
 enum Matrix {
-    // What clashes with a request while another session holds it.
+    // The modes that clash with a request while another session holds them.
     Granted,
-    // What a request waits behind while another session waits for it.
+    // The modes that a request waits behind while another session waits for them.
     Waiting,
 }
 
@@ -50,7 +50,7 @@ impl Matrix {
         }
     }
 
-    // Whether the other mode stands in the row of the one asked for.
+    // Whether the other mode is in the row of the requested one.
     fn has(self, kind: Kind, ask: Mode, other: Mode) -> bool
         ensures { result ≡ list_any (same_mode other) (row_of self kind ask) }
     {
@@ -61,7 +61,7 @@ impl Matrix {
     }
 }
 
-// Both matrices of both kinds.
+// Returns both matrices of both kinds.
 fn matrix_text(alloc: Global) -> Result<String, AllocError>
     ensures { IfOk result (λ text. string_bytes text ≡ matrix_text) }
 {
@@ -73,7 +73,7 @@ fn matrix_text(alloc: Global) -> Result<String, AllocError>
     Ok(text)
 }
 
-// Adds the lines of a matrix.
+// Appends the lines of a matrix.
 fn push_lines(
     alloc: Global,
     text: &mut String,
@@ -90,7 +90,7 @@ fn push_lines(
     Ok(())
 }
 
-// The line of a mode asked for, with its line feed.
+// Returns the line of a requested mode, with its line feed.
 fn line(alloc: Global, kind: Kind, matrix: Matrix, ask: Mode) -> Result<String, AllocError>
     ensures { IfOk result (λ text. string_bytes text ≡ line_of kind matrix ask) }
 {
@@ -109,7 +109,7 @@ fn kind_name(kind: Kind) -> &'static str
     }
 }
 
-// The modes that stand in the row of the one asked for.
+// Returns the modes in the row of the requested one.
 fn row(alloc: Global, kind: Kind, matrix: Matrix, ask: Mode) -> Result<Vec<Mode>, AllocError>
     ensures { IfOk result (λ row. row.items ≡ row_of matrix kind ask) }
 {
@@ -120,7 +120,7 @@ fn row(alloc: Global, kind: Kind, matrix: Matrix, ask: Mode) -> Result<Vec<Mode>
         .collect(alloc)
 }
 
-// The modes of a row, parted by spaces, or `-` where there are none.
+// Returns the modes of a row, separated by spaces, or `-` if there are none.
 fn row_text(alloc: Global, row: &[Mode]) -> Result<String, AllocError>
     ensures { IfOk result (λ text. string_bytes text ≡ row_text row.now) }
 {

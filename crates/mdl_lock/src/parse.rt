@@ -11,8 +11,8 @@ use mdl_key::Kind;
 use mdl_lines::{Fault, strip_carriage_return};
 use std::alloc::Global;
 
-/// The commands of a script, or the number and the error of its first bad line, which is told also where memory ran out
-/// before it.
+/// Returns the commands of a script. Refused with the number and the error of its first bad line, also if memory ran out
+/// before that line.
 pub fn parse(alloc: Global, kind: Kind, text: &[u8]) -> Result<Vec<ScriptCommand>, Fault>
     ensures parsed { IfOk result (λ commands. parsed kind text.now ≡ Ok commands.items) }
     ensures refused { IfErr result (λ fault. IsFaultOf (parsed kind text.now) fault) }
@@ -36,7 +36,7 @@ pub fn parse(alloc: Global, kind: Kind, text: &[u8]) -> Result<Vec<ScriptCommand
     }
 }
 
-// Adds a command to those that had room, and says whether it has room too.
+// Adds a command, if there was room for those before it, and returns whether there is room for it too.
 fn push_in_room(commands: &mut Vec<ScriptCommand>, has_room: bool, command: ScriptCommand) -> bool
     ensures { result ≡ true → (has_room ≡ true) × (commands.new.items ≡ commands.old.items ++ command ∷ []) }
 {

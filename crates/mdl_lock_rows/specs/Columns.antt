@@ -17,16 +17,16 @@ column_name LockDuration = codes "LOCK_DURATION"
 column_name LockStatus = codes "LOCK_STATUS"
 column_name OwnerThreadId = codes "OWNER_THREAD_ID"
 
--- what comes of a value that may be refused
+-- the result of a second step after a first one that may be refused
 abbrev pub and_then : {A B : Type 0} → Result A RowError → (A → Result B RowError) → Result B RowError
 and_then (Ok value) next = next value
 and_then (Err error) next = Err error
 
--- the place of a column among the fields of the header: the first that has its name
+-- the index of a column among the fields of the header: that of the first field with its name
 abbrev pub place_of : List (List ℕ) → Column → Result ℕ RowError
 place_of header column = ok_or (position (same_text (column_name column)) header) (NoColumn column)
 
--- the places of the columns, or the first that is missing
+-- the indices of the columns, or the first column that is missing
 abbrev pub columns_of : List (List ℕ) → Result Columns RowError
 columns_of header =
     and_then (place_of header ObjectType) (λ object_type.

@@ -17,24 +17,24 @@ escaped_byte byte =
 abbrev pub escaped : List ℕ → List ℕ
 escaped name = flat_map escaped_byte name
 
--- what a byte behind a backslash stands for; where the client writes no such thing, both bytes are kept
+-- what a byte after a backslash stands for. If the client doesn't write such an escape, both bytes are kept
 abbrev pub meant_by : ℕ → List ℕ
 meant_by byte =
     if byte == 48 then 0 ∷ []
     else (if byte == 116 then 9 ∷ [] else (if byte == 110 then 10 ∷ [] else (if byte == 92 then 92 ∷ [] else 92 ∷ byte ∷ [])))
 
--- the bytes of the name that a byte gives, where it is escaped or not
+-- the bytes of the name that a byte stands for, given whether it is escaped
 abbrev pub written_by : Bool → ℕ → List ℕ
 written_by true byte = meant_by byte
 written_by false byte = if byte == 92 then [] else byte ∷ []
 
--- what is kept where nothing is left: a backslash that has no byte behind it
+-- what the end of a field stands for: a backslash, if the last byte was one that escapes
 abbrev pub kept_at_end : Bool → List ℕ
 kept_at_end true = 92 ∷ []
 kept_at_end false = []
 
--- the bytes of a name that is written so, where the first byte is escaped or not. A backslash that isn't escaped itself escapes the byte
--- behind it
+-- the bytes of a name that is written so, given whether the first byte is escaped. A backslash that isn't escaped itself escapes the byte after
+-- it
 abbrev pub unescaped_from : Bool → List ℕ → List ℕ
 unescaped_from is_escaped [] = kept_at_end is_escaped
 unescaped_from is_escaped (byte ∷ bytes) = written_by is_escaped byte ++ unescaped_from (not is_escaped && byte == 92) bytes
@@ -43,11 +43,11 @@ unescaped_from is_escaped (byte ∷ bytes) = written_by is_escaped byte ++ unesc
 abbrev pub unescaped : List ℕ → List ℕ
 unescaped field = unescaped_from false field
 
--- the name in a field: none where it is NULL
+-- the name in a field: empty if the field is NULL
 abbrev pub name_of : List ℕ → List ℕ
 name_of field = if same_text field (codes "NULL") then [] else unescaped field
 
--- the key of two names: a user-level lock has its name where a table has its own
+-- the key of two names. The name of a user-level lock is in the field of a table's name
 abbrev pub key_named : Namespace → List ℕ → List ℕ → KeyName
 key_named UserLevelLock schema table = user_lock_key table
 key_named namespace schema table = record { namespace = namespace; schema = schema; table = table }
@@ -56,6 +56,6 @@ key_named namespace schema table = record { namespace = namespace; schema = sche
 abbrev pub key_of : Namespace → List ℕ → List ℕ → KeyName
 key_of namespace schema table = key_named namespace (name_of schema) (name_of table)
 
--- a name comes back
+-- a name that is escaped and then unescaped is the same name
 abbrev pub NamesComeBack : Type 0
 NamesComeBack = (name : List ℕ) → unescaped (escaped name) ≡ name

@@ -3,10 +3,10 @@
 use Rattle.std.specs.Prelude.{ℕ, ◌==◌, List, [], unwrap_or, slice_get}
 use Rattle.std.specs.List.{slice_split}
 
--- the fields of a line, parted by tabs
+-- the fields of a line, separated by tabs
 abbrev pub fields_of : List ℕ → List (List ℕ)
 fields_of line = slice_split (λ byte. byte == 9) line
 
--- the field at a place, and an empty one behind the last
+-- the field at an index, or an empty one if there is none
 abbrev pub field_at : List (List ℕ) → ℕ → List ℕ
 field_at fields place = unwrap_or (slice_get fields place) []

@@ -1,4 +1,4 @@
--- What a line says. Which line is refused, and for what, is this project's own choice.
+-- The contents of a line. Which line is refused, and for what, is this project's own choice.
 use Rattle.std.specs.Prelude.{ℕ, ◌^◌, not, ◌&&◌, ◌==◌, nat_lt, List, length, Option, Some, None, Result, Ok, Err, ok_or, if◌then◌else◌}
 use Rattle.std.specs.List.{list_all}
 use Rattle.mdl_lines.specs.Words.{decimal_value, is_digit}
@@ -18,11 +18,11 @@ use Rattle.mdl_lock_rows.specs.ServerNames.{duration_of, status_of, wish_of}
 abbrev pub number_in : List ℕ → Option ℕ
 number_in digits = if not (length digits == 0) && nat_lt (decimal_value digits) (2 ^ 64) then Some (decimal_value digits) else None
 
--- the thread of this number in decimal
+-- the thread that a field names: a number in decimal digits
 abbrev pub thread_of : List ℕ → Result ℕ RowError
 thread_of field = if list_all is_digit field then ok_or (number_in field) BadThread else Err BadThread
 
--- the row with this wish, on the line of this number
+-- the row with this namespace and mode, on the line of this number
 abbrev pub row_of : Columns → ℕ → List (List ℕ) → Wish → Result Line RowError
 row_of columns number fields wish =
     and_then (duration_of (field_at fields columns.lock_duration)) (λ duration.
@@ -37,21 +37,21 @@ row_of columns number fields wish =
       thread = thread;
     })))))
 
--- a row to be left out: none of its other fields is looked at
+-- a row to be left out. None of its other fields is read
 abbrev pub left_out : List ℕ → List ℕ → Result Line RowError
 left_out object_type lock_type = Ok (LeftOut (class_of object_type lock_type))
 
--- a row, or a row to be left out where it has no wish
+-- a row, or a row to be left out if it has no known namespace and mode
 abbrev pub row_or_left_out : Columns → ℕ → List (List ℕ) → Option Wish → Result Line RowError
 row_or_left_out columns number fields (Some wish) = row_of columns number fields wish
 row_or_left_out columns number fields None = left_out (field_at fields columns.object_type) (field_at fields columns.lock_type)
 
--- what fields say
+-- the contents of a line's fields
 abbrev pub fields_say : Columns → ℕ → List (List ℕ) → Result Line RowError
 fields_say columns number fields =
     row_or_left_out columns number fields (wish_of (field_at fields columns.object_type) (field_at fields columns.lock_type))
 
--- what the line of this number says. An empty line says nothing
+-- the contents of the line of this number. An empty line has none
 abbrev pub line_says : Columns → ℕ → List ℕ → Result (Option Line) RowError
 line_says columns number line =
     if length line == 0 then Ok None

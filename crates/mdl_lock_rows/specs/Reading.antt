@@ -1,4 +1,4 @@
--- What a text says: a header and a line for each row, after MySQL 5.7: `print_tab_data` of client/mysql.cc.
+-- The contents of a text: a header and a line for each row, after MySQL 5.7: `print_tab_data` of client/mysql.cc.
 use Rattle.std.specs.Prelude.{◌≡◌, ℕ, ◌+◌, ◌==◌, List, [], ◌∷◌, Option, Some, None, Result, Ok, Err, IsOk, filter_map}
 use Rattle.std.specs.List.{before_first, after_first}
 use Rattle.std.specs.Str.Lines.{strip_carriage_return}
@@ -17,12 +17,12 @@ use Rattle.mdl_lock_rows.specs.Columns.{columns_of}
 use Rattle.mdl_lock_rows.specs.Fields.{fields_of}
 use Rattle.mdl_lock_rows.specs.Lines.{line_says}
 
--- the row that a line is, if it is kept
+-- the row of a line, if it is kept
 abbrev pub row_in : Line → Option Row
 row_in (Kept row) = Some row
 row_in (LeftOut class) = None
 
--- what a line is that is left out
+-- the class of a line, if it is left out
 abbrev pub class_in : Line → Option ClassName
 class_in (Kept row) = None
 class_in (LeftOut class) = Some class
@@ -31,18 +31,18 @@ class_in (LeftOut class) = Some class
 abbrev pub rows_in : List Line → List Row
 rows_in lines = filter_map row_in lines
 
--- what the lines are that are left out
+-- the classes of the lines that are left out
 abbrev pub classes_in : List Line → List ClassName
 classes_in lines = filter_map class_in lines
 
--- what a line says, before what the lines behind it say; the line has this number
+-- the contents of the line of this number, before those of the lines after it. The first refused line decides
 abbrev pub said_before : ℕ → Result (Option Line) RowError → Result (List Line) (ℕ × RowError) → Result (List Line) (ℕ × RowError)
 said_before number (Err error) rest = Err (number, error)
 said_before number (Ok None) rest = rest
 said_before number (Ok (Some line)) (Ok more) = Ok (line ∷ more)
 said_before number (Ok (Some line)) (Err refusal) = Err refusal
 
--- what these lines say, the first of which has this number; or the first refused line, with its error
+-- the contents of these lines, the first of which has this number, or the first refused line with its error
 abbrev pub lines_say : Columns → ℕ → List (List ℕ) → Result (List Line) (ℕ × RowError)
 lines_say columns number [] = Ok []
 lines_say columns number (line ∷ lines) = said_before number (line_says columns number line) (lines_say columns (number + 1) lines)
@@ -51,20 +51,20 @@ lines_say columns number (line ∷ lines) = said_before number (line_says column
 abbrev pub header_of : List ℕ → List ℕ
 header_of text = strip_carriage_return (before_first (λ byte. byte == 10) text)
 
--- what is behind its line feed
+-- the text after the line feed of the first line
 abbrev pub body_of : List ℕ → List ℕ
 body_of text = after_first (λ byte. byte == 10) text
 
--- what lines say below this header, the first of which is line 2
+-- the contents of the lines below this header, the first of which is line 2
 abbrev pub said_below : Result Columns RowError → List (List ℕ) → Result (List Line) (ℕ × RowError)
 said_below (Err error) lines = Err (1, error)
 said_below (Ok columns) lines = lines_say columns 2 lines
 
--- what a text says, whose lines are counted from 1; or its first refused line, with its error
+-- the contents of a text, or its first refused line with its error. Lines are counted from 1
 abbrev pub lines_read : List ℕ → Result (List Line) (ℕ × RowError)
 lines_read text = said_below (columns_of (fields_of (header_of text))) (lines_of (body_of text))
 
--- what is made of the lines of a text, where none is refused
+-- what is made of the lines of a text, unless one is refused
 abbrev pub made_of : {A : Type 0} → (List Line → A) → Result (List Line) (ℕ × RowError) → Result A (ℕ × RowError)
 made_of make (Ok lines) = Ok (make lines)
 made_of make (Err refusal) = Err refusal
@@ -73,13 +73,13 @@ made_of make (Err refusal) = Err refusal
 abbrev pub rows_read : List ℕ → Result (List Row) (ℕ × RowError)
 rows_read text = made_of rows_in (lines_read text)
 
--- what a line says is read so: what is refused is reported as refused, whether or not there is memory
+-- the result of reading these contents. A refusal is reported as one even if memory runs out
 abbrev pub ReadsAs : {A : Type 0} → Result A RowError → Result A NoLine → Type 0
 ReadsAs said (Ok value) = said ≡ Ok value
 ReadsAs said (Err (none.Refused error)) = said ≡ Err error
 ReadsAs said (Err none.Memory) = IsOk said
 
--- how the reading of a text that says this may fail: by its first refused line, or for want of memory, where no line is refused
+-- the errors with which reading a text with these contents may fail: its first refused line, or out of memory if no line is refused
 abbrev pub IsFaultOf : Result (List Line) (ℕ × RowError) → LockRowsError → Type 0
 IsFaultOf said (Refused number error) = said ≡ Err (number, error)
 IsFaultOf said (TooManyOwners count) = ⊥

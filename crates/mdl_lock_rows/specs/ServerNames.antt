@@ -1,5 +1,5 @@
 -- The server's names, after MySQL 5.7: storage/perfschema/table_helper.cc (object types) and table_md_locks.cc (lock types, durations and
--- statuses). That `MDL_` may stand before a lock type, as MariaDB writes it, and which rows are left out is this project's own choice.
+-- statuses). That a lock type may begin with `MDL_`, as MariaDB writes it, and which rows are left out is this project's own choice.
 use Rattle.std.specs.Prelude.{ℕ, Bool, true, false, List, [], ◌∷◌, drop, take, codes, Option, Result, find, ok_or, option_and_then, if◌then◌else◌}
 use Rattle.std.specs.Bool.{then_some}
 use Rattle.mdl_key.specs.declared.mode.Duration.{Duration}
@@ -54,19 +54,20 @@ status_name Killed = codes "KILLED"
 status_name PreAcquireNotify = codes "PRE_ACQUIRE_NOTIFY"
 status_name PostReleaseNotify = codes "POST_RELEASE_NOTIFY"
 
--- whether a lock is held
+-- whether the status is that of a held lock
 abbrev pub is_granted : Status → Bool
 is_granted Granted = true
 is_granted _ = false
 
--- whether a lock is waited for: the wait of a lock whose engines are asked first begins when they are asked, and a settled wait ends when its
--- row goes. A lock is released before its engines hear of that: sql/mdl.cc, `MDL_context::try_acquire_lock_impl` and `MDL_context::release_lock`
+-- whether the status is that of a wait. If the engines are asked before a lock is acquired, its wait begins then. A settled wait ends when its
+-- row is removed. A lock is released before its engines are notified: sql/mdl.cc, `MDL_context::try_acquire_lock_impl` and
+-- `MDL_context::release_lock`
 abbrev pub is_awaited : Status → Bool
 is_awaited Granted = false
 is_awaited PostReleaseNotify = false
 is_awaited _ = true
 
--- whether a wait is settled
+-- whether the status is that of a settled wait
 abbrev pub is_settled : Status → Bool
 is_settled Victim = true
 is_settled Timeout = true
@@ -77,7 +78,7 @@ is_settled _ = false
 abbrev pub namespace_of : List ℕ → Option Namespace
 namespace_of name = find (λ namespace. same_text (object_type_name namespace) name) (Global ∷ Schema ∷ Table ∷ Commit ∷ UserLevelLock ∷ [])
 
--- a name without `MDL_` before it
+-- a name without a leading `MDL_`
 abbrev pub without_prefix : List ℕ → List ℕ
 without_prefix name = if same_text (take 4 name) (codes "MDL_") then drop 4 name else name
 

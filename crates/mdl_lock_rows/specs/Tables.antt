@@ -18,11 +18,11 @@ use Rattle.mdl_lock_rows.specs.ServerNames.{is_awaited, is_granted, is_settled}
 abbrev pub ticket_of : List ℕ → Row → Ticket
 ticket_of threads row = record { number = row.line; session = number_of threads row.thread; mode = row.mode }
 
--- whether by a row the lock of a key is held
+-- whether a row says that the lock of a key is held
 abbrev pub holds : KeyName → Row → Bool
 holds key row = key_eq row.key key && is_granted row.status
 
--- whether by a row it is waited for; a settled wait is one that hasn't ended yet
+-- whether a row says that the lock of a key is waited for. A settled wait counts until it has ended
 abbrev pub awaits : KeyName → Row → Bool
 awaits key row = key_eq row.key key && is_awaited row.status
 
@@ -38,16 +38,16 @@ lock_at threads rows key = lock_of key.namespace (tickets_of threads (holds key)
 abbrev pub locks_of : List ℕ → List Row → List KeyName → List BookView
 locks_of threads rows keys = map (lock_at threads rows) keys
 
--- whether by a row the wait of the thread of this number is settled
+-- whether a row says that the wait of the thread of this number is settled
 abbrev pub is_settled_wait : List ℕ → ℕ → Row → Bool
 is_settled_wait threads number row = is_settled row.status && number_of threads row.thread == number
 
--- how many rows of a text are left out, by object type and lock type
+-- the number of rows of a text that are left out, by object type and lock type
 abbrev pub left_out_read : List ℕ → Result (List LeftOut) (ℕ × RowError)
 left_out_read text = made_of (λ lines. left_out_of (classes_in lines)) (lines_read text)
 
--- how the reading of a text that says this may fail: by its first refused line; where none is refused by how many threads or locks there
--- are, or for want of memory
+-- the errors with which reading a text with these contents may fail: its first refused line, or if none is refused, too many threads, too many
+-- locks, or out of memory
 abbrev pub IsRefusalOf : Result (List Line) (ℕ × RowError) → LockRowsError → Type 0
 IsRefusalOf said (Refused number error) = said ≡ Err (number, error)
 IsRefusalOf said (TooManyOwners count) = IsOkAnd said (λ lines. (count ≡ length (threads_of (rows_in lines))) × (1024 < count))
@@ -57,14 +57,14 @@ IsRefusalOf said OutOfMemory = IsOk said
 
 -- ---- representations
 
--- a lock with the ticket of one more row, which is of its key
+-- a lock with the ticket of one more row, whose key is that of the lock
 abbrev pub with_ticket : List ℕ → Row → BookView → BookView
 with_ticket threads row lock = record lock {
   granted = lock.granted ++ map (ticket_of threads) (filter (λ row. is_granted row.status) (row ∷ []));
   waiting = lock.waiting ++ map (ticket_of threads) (filter (λ row. is_awaited row.status) (row ∷ []));
 }
 
--- a list with what is made of the element at a place, if there is one
+-- a list with the element at an index changed, if there is an index
 abbrev pub changed_at : {A : Type 0} → Option ℕ → (A → A) → List A → List A
 changed_at None make list = list
 changed_at (Some place) make [] = []

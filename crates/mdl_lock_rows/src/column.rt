@@ -19,12 +19,12 @@ pub enum Column {
     LockDuration,
     /// Whether it is granted.
     LockStatus,
-    /// The thread that has it or waits for it.
+    /// The thread that holds the lock or waits for it.
     OwnerThreadId,
 }
 
 impl Column {
-    /// The column's name, as the header has it.
+    /// The column's name, as in the header.
     pub fn as_str(self) -> &'static str
         ensures { result.now ≡ column_name self }
     {
@@ -40,7 +40,7 @@ impl Column {
     }
 }
 
-/// The column's name, as the header has it.
+/// The column's name, as in the header.
 impl fmt::Display for Column {
     ghost output = { λ column. Some (column_name column) };
 

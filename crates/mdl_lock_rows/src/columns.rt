@@ -1,4 +1,4 @@
-//! Where the columns are.
+//! The indices of the columns in a header.
 ghost use Rattle.std.specs.Prelude.{◌≡◌};
 ghost use Rattle.mdl_lock_rows.specs.Columns.{columns_of, place_of};
 ghost use Rattle.mdl_lock_rows.specs.Fields.{fields_of};
@@ -7,7 +7,7 @@ use crate::column::Column;
 use crate::fields::{field_count, position_of};
 use crate::row_error::RowError;
 
-/// How many fields the header has, and at which of them each column is, counted from 0.
+/// The number of fields of the header, and the index of each column among them, counted from 0.
 #[derive(Clone, Copy)]
 pub(crate) struct Columns {
     pub(crate) count: usize,
@@ -20,7 +20,7 @@ pub(crate) struct Columns {
     pub(crate) owner_thread_id: usize,
 }
 
-/// Where a header has the columns, or the first one that it lacks.
+/// Returns the indices of a header's columns. Fails with the first column that the header lacks.
 pub(crate) fn columns_of(header: &[u8]) -> Result<Columns, RowError>
     ensures { result ≡ columns_of (fields_of header.now) }
 {
@@ -36,7 +36,7 @@ pub(crate) fn columns_of(header: &[u8]) -> Result<Columns, RowError>
     })
 }
 
-// Where a header has a column.
+// Returns the index of a column in a header. Fails if the header lacks the column.
 fn place_of(header: &[u8], column: Column) -> Result<usize, RowError>
     ensures { result ≡ place_of (fields_of header.now) column }
 {

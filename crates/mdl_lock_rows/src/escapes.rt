@@ -1,10 +1,10 @@
-//! Names, as the client writes them.
+//! Names, as the client escapes them.
 ghost use Rattle.std.specs.Prelude.{◌≡◌, ◌++◌, IfOk, OnOk};
 ghost use Rattle.mdl_lock_rows.specs.Escapes.{name_of, unescaped, written_by};
 
 use std::alloc::{AllocError, Global};
 
-/// The name in a field: none where it is `NULL`.
+/// Returns the name in a field. It is empty if the field is `NULL`.
 pub(crate) fn name_of(alloc: Global, field: &[u8]) -> Result<Vec<u8>, AllocError>
     ensures { IfOk result (λ name. name.items ≡ name_of field.now) }
 {
@@ -14,7 +14,7 @@ pub(crate) fn name_of(alloc: Global, field: &[u8]) -> Result<Vec<u8>, AllocError
     unescaped(alloc, field)
 }
 
-// The bytes that a field writes.
+// Returns the bytes that an escaped field stands for.
 fn unescaped(alloc: Global, field: &[u8]) -> Result<Vec<u8>, AllocError>
     ensures { IfOk result (λ name. name.items ≡ unescaped field.now) }
 {
@@ -30,7 +30,7 @@ fn unescaped(alloc: Global, field: &[u8]) -> Result<Vec<u8>, AllocError>
     Ok(name)
 }
 
-// Adds what a byte writes, where a backslash is before it or not.
+// Adds what a byte stands for, given whether an unescaped backslash is before it.
 fn add_byte(name: &mut Vec<u8>, is_escaped: bool, byte: u8) -> Result<(), AllocError>
     ensures { OnOk result (name.new.items ≡ name.old.items ++ written_by is_escaped byte) }
 {

@@ -3,21 +3,21 @@ ghost use Rattle.std.specs.Prelude.{◌≡◌, length, position};
 ghost use Rattle.mdl_lines.specs.Words.{same_text};
 ghost use Rattle.mdl_lock_rows.specs.Fields.{fields_of, field_at};
 
-/// How many fields a line has.
+/// Returns the number of fields of a line.
 pub(crate) fn field_count(line: &[u8]) -> usize
     ensures { result ≡ length (fields_of line.now) }
 {
     line.split(|byte| *byte == b'\t').count()
 }
 
-/// The field at a place, counted from 0, and an empty one behind the last.
+/// Returns the field at an index, counted from 0, or an empty one if there is none.
 pub(crate) fn field_at(line: &[u8], place: usize) -> &[u8]
     ensures { result.now ≡ field_at (fields_of line.now) place }
 {
     line.split(|byte| *byte == b'\t').nth(place).unwrap_or(&[])
 }
 
-/// The place of the first field that is this text.
+/// Returns the index of the first field that is this text.
 pub(crate) fn position_of(line: &[u8], text: &[u8]) -> Option<usize>
     ensures { result ≡ position (same_text text.now) (fields_of line.now) }
 {

@@ -2,7 +2,7 @@
 ghost use Rattle.mdl_lock_rows.specs.Escapes.{NamesComeBack};
 ghost use Rattle.mdl_lock_rows.specs.Numbering.{NoRowIsLost};
 
-/// What is read from a field that the client wrote for a name is that name.
+/// The name read from the field that the client writes for a name is that name.
 pub fn names_come_back()
     ensures { NamesComeBack }
 {}

@@ -1,4 +1,4 @@
-//! How many rows are left out of each object type and lock type.
+//! The number of rows left out of each object type and lock type.
 ghost use Rattle.std.specs.Prelude.{◌≡◌, [], IfOk, OnOk, map};
 ghost use Rattle.mdl_lock_rows.specs.Classes.{same_class};
 ghost use Rattle.mdl_lock_rows.specs.Numbering.{counted_among, each_once, left_out_of, with_new};
@@ -7,7 +7,7 @@ use crate::row_class::{LeftOut, RowClass};
 use indexmap::IndexSet;
 use std::alloc::{AllocError, Global};
 
-/// How many rows of each object type and lock type these are.
+/// Counts these rows by object type and lock type.
 pub(crate) fn left_out_of(alloc: Global, classes: &[RowClass]) -> Result<Vec<LeftOut>, AllocError>
     ensures { IfOk result (λ left_out. left_out.items ≡ left_out_of classes.now) }
 {
@@ -15,7 +15,7 @@ pub(crate) fn left_out_of(alloc: Global, classes: &[RowClass]) -> Result<Vec<Lef
     counted(alloc, &known, classes)
 }
 
-// How many of these are of each known class.
+// Counts these rows by known class.
 fn counted(
     alloc: Global,
     known: &IndexSet<RowClass>,
@@ -32,7 +32,7 @@ fn counted(
     Ok(left_out)
 }
 
-// The classes, each once.
+// The classes of these rows, each once.
 fn class_set(alloc: Global, classes: &[RowClass]) -> Result<IndexSet<RowClass>, AllocError>
     ensures { IfOk result (λ known. known.keys ≡ each_once same_class classes.now) }
 {
@@ -54,7 +54,7 @@ fn add_class(known: &mut IndexSet<RowClass>, class: &RowClass) -> Result<(), All
     Ok(())
 }
 
-// No row of these classes.
+// These classes, each with a count of 0.
 fn none_of(alloc: Global, classes: &[RowClass]) -> Result<Vec<LeftOut>, AllocError>
     ensures { IfOk result (λ left_out. left_out.items ≡ map (counted_among []) classes.now) }
 {

@@ -1,8 +1,8 @@
 //! The rows of a server's metadata locks, read from what its client prints.
 //!
-//! [`read_lock_rows`] reads the text that `mysql -B -e 'SELECT * FROM performance_schema.metadata_locks'` prints, and gives [`LockRows`]:
-//! the [`Row`]s, the threads that have locks or wait for them, what is locked ([`LockKey`]), for each of these a
-//! [`Lock`](mdl_view::Lock) with its tickets, and which rows are [`LeftOut`]. What refuses a text is a [`LockRowsError`].
+//! [`read_lock_rows`] reads the text that `mysql -B -e 'SELECT * FROM performance_schema.metadata_locks'` prints, and returns [`LockRows`]: the
+//! [`Row`]s, the threads that hold locks or wait for them, the locked keys ([`LockKey`]), a [`Lock`](mdl_view::Lock) with its tickets for each
+//! key, and which rows are [`LeftOut`]. It refuses a text with a [`LockRowsError`].
 //!
 //! # Example
 //!

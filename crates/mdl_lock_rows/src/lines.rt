@@ -1,4 +1,4 @@
-//! What a line says.
+//! Reading of a line.
 ghost use Rattle.std.specs.Prelude.{◌≡◌, true};
 ghost use Rattle.std.specs.List.{list_all};
 ghost use Rattle.mdl_lines.specs.Words.{is_digit};
@@ -17,7 +17,7 @@ use crate::server_names::{duration_of, status_of, wish_of};
 use std::alloc::Global;
 use std::str;
 
-/// What the line of this number says. An empty line says nothing.
+/// Reads the line of this number. An empty line has no row.
 pub(crate) fn line_says(
     alloc: Global,
     columns: &Columns,
@@ -38,7 +38,7 @@ pub(crate) fn line_says(
     }
 }
 
-// What its fields say: a row, or a row to be left out.
+// Reads the fields of a line: a row, or a row to be left out.
 fn fields_say(alloc: Global, columns: &Columns, number: u64, line: &[u8]) -> Result<Line, NoLine>
     ensures { ReadsAs (fields_say columns.now number (fields_of line.now)) result }
 {
@@ -50,7 +50,7 @@ fn fields_say(alloc: Global, columns: &Columns, number: u64, line: &[u8]) -> Res
     }
 }
 
-// A row to be left out.
+// Returns a row to be left out.
 fn left_out(alloc: Global, object_type: &[u8], lock_type: &[u8]) -> Result<Line, NoLine>
     ensures { ReadsAs (left_out object_type.now lock_type.now) result }
 {
@@ -58,7 +58,7 @@ fn left_out(alloc: Global, object_type: &[u8], lock_type: &[u8]) -> Result<Line,
     Ok(Line::LeftOut(class))
 }
 
-// The row with this wish.
+// Returns the row with this namespace and mode.
 fn row_of(
     alloc: Global,
     columns: &Columns,
@@ -84,7 +84,7 @@ fn row_of(
     }))
 }
 
-// The thread that a field names: decimal digits, and below 2^64.
+// Returns the thread that a field names by decimal digits. The number must be below 2^64.
 fn thread_of(field: &[u8]) -> Result<u64, RowError>
     ensures { result ≡ thread_of field.now }
 {
@@ -97,7 +97,7 @@ fn thread_of(field: &[u8]) -> Result<u64, RowError>
     }
 }
 
-// The number that digits write.
+// Returns the number that digits write, if there is a digit and the number is below 2^64.
 fn number_in(digits: &[u8]) -> Option<u64>
     requires { list_all is_digit digits.now ≡ true }
     ensures { result ≡ number_in digits.now }

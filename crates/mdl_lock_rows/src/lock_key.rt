@@ -1,4 +1,4 @@
-//! What is locked, by the names that the server has for it.
+//! The keys of a server's locks.
 ghost use Rattle.std.specs.Prelude.{◌≡◌, ◌++◌, IfOk};
 ghost use Rattle.std.proofs.Common.{rules};
 ghost use Rattle.std.specs.Cmp.Rules.{comparing, hashing};
@@ -12,7 +12,7 @@ use std::alloc::{AllocError, Global};
 use std::hash::{Hash, Hasher};
 use std::marker::Model;
 
-/// A namespace, and within it a schema, a table or a user-level lock. The names are any bytes, and empty where there is none.
+/// A namespace, and within it a schema, a table or a user-level lock. The names may have any bytes, and are empty if there is none.
 #[derive(Drop)]
 pub struct LockKey {
     namespace: Namespace,
@@ -29,7 +29,7 @@ impl Model for LockKey {
 }
 
 impl LockKey {
-    /// The key of the names in two fields.
+    /// Returns the key with the names in two fields.
     pub(crate) fn read(
         alloc: Global,
         namespace: Namespace,
@@ -52,21 +52,21 @@ impl LockKey {
         })
     }
 
-    /// Where the key lives.
+    /// Returns the key's namespace.
     pub fn namespace(&self) -> Namespace
         ensures { result ≡ self.now.namespace }
     {
         self.namespace
     }
 
-    /// The schema's name, or that of the user-level lock. It is empty where there is none.
+    /// Returns the schema's name, or that of the user-level lock. It is empty if there is none.
     pub fn schema_name(&self) -> &[u8]
         ensures { result.now ≡ self.now.schema }
     {
         self.schema.as_slice()
     }
 
-    /// The table's name. It is empty where there is none.
+    /// Returns the table's name. It is empty if there is none.
     pub fn table_name(&self) -> &[u8]
         ensures { result.now ≡ self.now.table }
     {

@@ -1,4 +1,4 @@
-//! The locks of a server, by its rows.
+//! The locks of a server, read from its rows.
 ghost use Rattle.std.specs.Prelude.{◌≡◌, ◌≤◌, [], ◌&&◌, ◌||◌, ℕ, Ok, IfOk, IfErr, OnOk, length, map, position};
 ghost use Rattle.std.specs.FinSet as set;
 ghost use Rattle.std.specs.List.{list_any};
@@ -21,40 +21,40 @@ use mdl_book::{Sessions, Ticket};
 use mdl_view::Lock;
 use std::alloc::{AllocError, Global};
 
-/// How many threads may have locks or wait for them.
+/// The greatest number of threads that may hold locks or wait for them.
 pub const MOST_OWNERS: usize = 1024;
 
-/// How many locks may be held or waited for.
+/// The greatest number of locks that may be held or waited for.
 pub const MOST_LOCKS: usize = 256;
 
-/// What the rows of a server's metadata locks say. A thread's number is its place among the threads, counted from 1: it is the session
-/// of the thread's tickets. A ticket's number is that of its line.
+/// The contents of the rows of a server's metadata locks. A thread's number is its position among the threads, counted from 1: it is the
+/// session of the thread's tickets. A ticket's number is that of its line.
 #[derive(Drop)]
 pub struct LockRows {
     /// The rows, in order.
     pub rows: Vec<Row>,
-    /// The threads that have locks or wait for them, in order of their first rows.
+    /// The threads that hold locks or wait for them, in order of their first rows.
     pub threads: IndexSet<u64>,
-    /// What is locked, in order of the first rows.
+    /// The locked keys, in order of their first rows.
     pub keys: Vec<LockKey>,
-    /// For each key its lock, with the tickets in the order of the rows.
+    /// The lock of each key, with its tickets in the order of the rows.
     pub locks: Vec<Lock>,
-    /// The numbers of the threads whose wait is settled.
+    /// The numbers of the threads whose waits are settled.
     pub settled: Sessions,
     /// How many rows are left out, by object type and lock type, in order of the first of each.
     pub left_out: Vec<LeftOut>,
 }
 
-/// Reads the rows of `performance_schema.metadata_locks`, as `mysql -B` prints them: a header with the names of the columns, in any
-/// order, and a line for each row, fields parted by tabs. A row is left out and counted, and its other fields aren't looked at, where its
-/// OBJECT_TYPE is none of `GLOBAL`, `SCHEMA`, `TABLE`, `COMMIT` and `USER LEVEL LOCK`, or its LOCK_TYPE is no mode that the namespace uses.
-/// The rows don't show in which order threads began to wait: their order is taken for it.
+/// Reads the rows of `performance_schema.metadata_locks`, as `mysql -B` prints them: a header with the names of the columns, in any order, and
+/// a line for each row, with fields separated by tabs. A row is left out and counted, and its other fields aren't read, if its OBJECT_TYPE is
+/// none of `GLOBAL`, `SCHEMA`, `TABLE`, `COMMIT` and `USER LEVEL LOCK`, or its LOCK_TYPE is no mode that the namespace uses. The rows don't
+/// show in which order threads began to wait. The order of the rows is taken for it.
 pub fn read_lock_rows(alloc: Global, text: &[u8]) -> Result<LockRows, LockRowsError>
-    // The rows are those of the text, and so are the ones that are left out.
+    // The rows are those of the text, and so are the rows left out.
     ensures rows { IfOk result (λ found. rows_read text.now ≡ Ok found.rows.items) }
     ensures left_out { IfOk result (λ found. left_out_read text.now ≡ Ok found.left_out.items) }
 
-    // Threads and keys are in order of their first rows, and there are not too many.
+    // Threads and keys are in order of their first rows, and within the limits.
     ensures threads { IfOk result (λ found. (found.threads.keys ≡ threads_of found.rows.items) × (length found.threads.keys ≤ MOST_OWNERS)) }
     ensures keys { IfOk result (λ found. (found.keys.items ≡ keys_of found.rows.items) × (length found.keys.items ≤ MOST_LOCKS)) }
 
@@ -63,7 +63,7 @@ pub fn read_lock_rows(alloc: Global, text: &[u8]) -> Result<LockRows, LockRowsEr
     ensures settled { IfOk result (λ found. (session : ℕ)
         → set.contains found.settled session ≡ (is_session session && list_any (is_settled_wait found.threads.keys session) found.rows.items)) }
 
-    // Refused by the first bad line, even where memory ran out, or as too much.
+    // Refused by the first bad line, even if memory ran out, or for too many threads or locks.
     ensures refused { IfErr result (IsRefusalOf (lines_read text.now)) }
 {
     let found = read_rows(alloc, text)?;
@@ -89,7 +89,7 @@ pub fn read_lock_rows(alloc: Global, text: &[u8]) -> Result<LockRows, LockRowsEr
     })
 }
 
-// The locks of these keys.
+// Returns the locks of these keys.
 fn locks_of(
     alloc: Global,
     threads: &IndexSet<u64>,
@@ -106,7 +106,7 @@ fn locks_of(
     Ok(locks)
 }
 
-// The locks of these keys, without a ticket.
+// Returns the locks of these keys, without tickets.
 fn new_locks(alloc: Global, keys: &[LockKey]) -> Result<Vec<Lock>, AllocError>
     ensures { IfOk result (λ locks. locks.items ≡ map (λ key. lock_of key.namespace [] []) keys.now) }
 {
@@ -161,7 +161,7 @@ fn ticket_of(threads: &IndexSet<u64>, row: &Row) -> Ticket
     }
 }
 
-// The number of a thread, and 0 if it is none of these.
+// The number of a thread, or 0 if it is none of these.
 fn number_of(threads: &IndexSet<u64>, thread: u64) -> u16
     requires { length threads.now.keys ≤ 1024 }
     ensures number { result ≡ number_of threads.now.keys thread }
@@ -173,7 +173,7 @@ fn number_of(threads: &IndexSet<u64>, thread: u64) -> u16
     }
 }
 
-// The numbers of the threads whose wait is settled.
+// The numbers of the threads whose waits are settled.
 fn settled_of(threads: &IndexSet<u64>, rows: &[Row]) -> Sessions
     requires { length threads.now.keys ≤ 1024 }
     ensures { (session : ℕ) → set.contains result session ≡ (is_session session && list_any (is_settled_wait threads.now.keys session) rows.now) }

@@ -1,10 +1,10 @@
-//! Why a line says nothing that could be kept.
+//! Why reading a line fails.
 ghost use Rattle.std.specs.Prelude.{◌≡◌};
 
 use crate::row_error::RowError;
 use std::alloc::AllocError;
 
-/// Why a line says nothing that could be kept.
+/// Why reading a line fails.
 #[derive(Clone, Copy, Debug, PartialEq, Eq)]
 pub(crate) enum NoLine {
     /// The line is refused.

@@ -1,4 +1,4 @@
-//! Reads rows.
+//! Reading of a text.
 ghost use Rattle.std.specs.Prelude.{◌≡◌, ◌++◌, ◌∷◌, [], ◌==◌, List, true, Ok, IfOk, IfErr, position};
 ghost use Rattle.std.specs.List.{before_first, after_first};
 ghost use Rattle.mdl_lines.specs.Words.{lines_of};
@@ -19,11 +19,11 @@ use std::alloc::Global;
 pub(crate) struct Found {
     /// The rows, in order.
     pub(crate) rows: Vec<Row>,
-    /// What each row is that is left out, in order.
+    /// The class of each row that is left out, in order.
     pub(crate) left_out: Vec<RowClass>,
 }
 
-/// The rows of a text, or the number and the error of its first bad line, which is reported also where memory ran out before it.
+/// Reads the rows of a text. Fails with the number and the error of its first bad line, also if memory ran out before that line.
 pub(crate) fn read_rows(alloc: Global, text: &[u8]) -> Result<Found, LockRowsError>
     ensures found { IfOk result (λ found. (lines : List Line) × (lines_read text.now ≡ Ok lines) × (found.rows.items ≡ rows_in lines) × (found.left_out.items ≡ classes_in lines)) }
     ensures fault { IfErr result (IsFaultOf (lines_read text.now)) }
@@ -35,7 +35,7 @@ pub(crate) fn read_rows(alloc: Global, text: &[u8]) -> Result<Found, LockRowsErr
     }
 }
 
-// The first line, and what is behind its line feed.
+// The first line, and the text after its line feed.
 fn parts_of(text: &[u8]) -> (&[u8], &[u8])
     ensures header { result.0.now ≡ before_first (λ byte. byte == 10) text.now }
     ensures body { result.1.now ≡ after_first (λ byte. byte == 10) text.now }
@@ -46,14 +46,14 @@ fn parts_of(text: &[u8]) -> (&[u8], &[u8])
     }
 }
 
-// The place of the first line feed.
+// The index of the first line feed.
 fn first_line_feed(text: &[u8]) -> Option<usize>
     ensures { result ≡ position (λ byte. byte == 10) text.now }
 {
     text.iter().position(|byte| *byte == b'\n')
 }
 
-// Reads the lines behind the header, the first of which is line 2.
+// Reads the lines after the header, the first of which is line 2.
 fn read_body(alloc: Global, columns: &Columns, text: &[u8]) -> Result<Found, LockRowsError>
     ensures found { IfOk result (λ found. (lines : List Line) × (lines_say columns.now 2 (lines_of text.now) ≡ Ok lines)
         × (found.rows.items ≡ rows_in lines) × (found.left_out.items ≡ classes_in lines)) }
@@ -81,7 +81,7 @@ fn read_body(alloc: Global, columns: &Columns, text: &[u8]) -> Result<Found, Loc
     }
 }
 
-// Adds what a line says to what had room, and returns whether it has room too.
+// Adds a line's row or class, if there was memory for all before it. Returns whether there is memory for it, too.
 fn keep_in_room(found: &mut Found, has_room: bool, line: Line) -> bool
     ensures { result ≡ true → (has_room ≡ true)
         × (found.new.rows.items ≡ found.old.rows.items ++ rows_in (line ∷ []))

@@ -1,4 +1,4 @@
-//! What a row says.
+//! The contents of a row.
 ghost use Rattle.std.specs.Prelude.{◌≡◌};
 ghost use Rattle.mdl_lock_rows.specs.ServerNames.{status_name, is_awaited, is_settled};
 
@@ -9,9 +9,9 @@ use mdl_key::{Duration, Mode, Namespace};
 /// The status of a lock or of a wait for it.
 #[derive(Clone, Copy, Debug, PartialEq, Eq)]
 pub enum Status {
-    /// It is held.
+    /// The lock is held.
     Granted,
-    /// It is waited for.
+    /// The lock is waited for.
     Pending,
     /// The wait is settled: its session was chosen to break a deadlock.
     Victim,
@@ -19,14 +19,14 @@ pub enum Status {
     Timeout,
     /// The wait is settled: its statement or its session was killed.
     Killed,
-    /// The storage engines are asked whether it may be locked: it is waited for, and not held yet.
+    /// The storage engines are being asked before the lock is acquired: it is waited for, and not held yet.
     PreAcquireNotify,
-    /// The storage engines hear that it was released: it is neither held nor waited for any more.
+    /// The storage engines are being told of the release: the lock is neither held nor waited for any more.
     PostReleaseNotify,
 }
 
 impl Status {
-    /// The status's name, as the server has it.
+    /// Returns the server's name of the status.
     pub fn as_str(self) -> &'static str
         ensures { result.now ≡ status_name self }
     {
@@ -41,14 +41,14 @@ impl Status {
         }
     }
 
-    /// Whether it is a wait, settled or not.
+    /// Whether the status is that of a wait, settled or not.
     pub fn is_awaited(self) -> bool
         ensures { result ≡ is_awaited self }
     {
         !matches!(self, Status::Granted | Status::PostReleaseNotify)
     }
 
-    /// Whether it is a wait that is settled.
+    /// Whether the status is that of a settled wait.
     pub fn is_settled(self) -> bool
         ensures { result ≡ is_settled self }
     {
@@ -56,35 +56,35 @@ impl Status {
     }
 }
 
-/// Where a lock lives, and the mode in which it is locked.
+/// The namespace of a lock, and the mode in which it is held or requested.
 #[derive(Clone, Copy)]
 pub(crate) struct Wish {
     pub(crate) namespace: Namespace,
     pub(crate) mode: Mode,
 }
 
-/// A row of the table: that a thread holds a lock, or waits for it.
+/// A row of the table: a thread holds a lock, or waits for it.
 #[derive(Drop)]
 pub struct Row {
     /// The number of its line, counted from 1.
     pub line: u64,
-    /// What is locked.
+    /// The locked key.
     pub key: LockKey,
-    /// In which mode.
+    /// The mode of the lock.
     pub mode: Mode,
-    /// For how long.
+    /// The duration of the lock.
     pub duration: Duration,
-    /// Whether it is granted.
+    /// The status of the lock.
     pub status: Status,
-    /// The thread that has it or waits for it.
+    /// The thread that holds the lock or waits for it.
     pub thread: u64,
 }
 
-/// What a line says.
+/// The contents of a line.
 #[derive(Drop)]
 pub(crate) enum Line {
-    /// It is a row.
+    /// A row.
     Kept(Row),
-    /// It is a row of another object type or lock type.
+    /// A row that is left out: of another object type or lock type, or of a mode that the namespace doesn't use.
     LeftOut(RowClass),
 }

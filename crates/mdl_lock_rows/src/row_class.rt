@@ -9,7 +9,7 @@ use std::alloc::{AllocError, Global};
 use std::hash::{Hash, Hasher};
 use std::marker::Model;
 
-/// The object type and the lock type of rows that are left out, as they came.
+/// The object type and the lock type of rows that are left out, as they are in the text.
 #[derive(Drop)]
 pub struct RowClass {
     object_type: Vec<u8>,
@@ -25,7 +25,7 @@ impl Model for RowClass {
 }
 
 impl RowClass {
-    /// Rows of this object type and this lock type.
+    /// Returns the class of rows of this object type and this lock type.
     pub(crate) fn new(
         alloc: Global,
         object_type: &[u8],
@@ -39,14 +39,14 @@ impl RowClass {
         })
     }
 
-    /// The object type.
+    /// Returns the object type.
     pub fn object_type(&self) -> &[u8]
         ensures { result.now ≡ self.now.object_type }
     {
         self.object_type.as_slice()
     }
 
-    /// The lock type.
+    /// Returns the lock type.
     pub fn lock_type(&self) -> &[u8]
         ensures { result.now ≡ self.now.lock_type }
     {
@@ -90,11 +90,11 @@ impl Hash for RowClass {
     }
 }
 
-/// How many rows of an object type and a lock type are left out.
+/// The number of rows of an object type and a lock type that are left out.
 #[derive(Drop)]
 pub struct LeftOut {
-    /// Which they are.
+    /// The class of the rows.
     pub class: RowClass,
-    /// How many.
+    /// The number of rows.
     pub count: usize,
 }

@@ -1,4 +1,4 @@
-//! Why a text is no table of locks.
+//! Errors of reading.
 ghost use Rattle.std.specs.Prelude.{◌≡◌};
 
 use crate::column::Column;
@@ -17,10 +17,10 @@ pub enum RowError {
     /// LOCK_DURATION is none of STATEMENT, TRANSACTION and EXPLICIT.
     #[error("unknown LOCK_DURATION")]
     UnknownDuration,
-    /// LOCK_STATUS is none of those that [`Status`](crate::Status) has.
+    /// LOCK_STATUS is none of those of [`Status`](crate::Status).
     #[error("unknown LOCK_STATUS")]
     UnknownStatus,
-    /// OWNER_THREAD_ID is no number of decimal digits below 2^64.
+    /// OWNER_THREAD_ID isn't a number of decimal digits below 2^64.
     #[error("OWNER_THREAD_ID is no number")]
     BadThread,
 }
@@ -31,10 +31,10 @@ pub enum LockRowsError {
     /// The line of this number, counted from 1, is refused.
     #[error("line {0}: {1}")]
     Refused(u64, RowError),
-    /// So many threads have locks or wait for them, more than [`MOST_OWNERS`](crate::MOST_OWNERS).
+    /// This number of threads hold locks or wait for them, more than [`MOST_OWNERS`](crate::MOST_OWNERS).
     #[error("{0} owners: at most 1024 can be looked at")]
     TooManyOwners(usize),
-    /// So many locks are held or waited for, more than [`MOST_LOCKS`](crate::MOST_LOCKS).
+    /// This number of locks are held or waited for, more than [`MOST_LOCKS`](crate::MOST_LOCKS).
     #[error("{0} locks: at most 256 can be looked at")]
     TooManyLocks(usize),
     /// Memory ran out.

@@ -31,7 +31,7 @@ const STATUSES: [Status; 7] = [
     Status::PostReleaseNotify,
 ];
 
-/// The namespace and the mode of a row, unless it is of another object type or lock type, or the namespace doesn't use the mode.
+/// Returns the namespace and the mode of a row, unless the object type or the lock type is another one, or the namespace doesn't use the mode.
 pub(crate) fn wish_of(object_type: &[u8], lock_type: &[u8]) -> Option<Wish>
     ensures { result ≡ wish_of object_type.now lock_type.now }
 {
@@ -61,7 +61,7 @@ fn mode_of(name: &[u8]) -> Option<Mode>
         .find(|mode| lock_type_name(*mode).as_bytes() == name)
 }
 
-// A name without `MDL_` before it.
+// A name without a leading `MDL_`.
 fn without_prefix(name: &[u8]) -> &[u8]
     ensures { result.now ≡ without_prefix name.now }
 {
@@ -71,14 +71,14 @@ fn without_prefix(name: &[u8]) -> &[u8]
     }
 }
 
-/// The duration of this LOCK_DURATION.
+/// Returns the duration of this LOCK_DURATION.
 pub(crate) fn duration_of(name: &[u8]) -> Result<Duration, RowError>
     ensures { result ≡ duration_of name.now }
 {
     duration_named(name).ok_or(RowError::UnknownDuration)
 }
 
-// The duration of this name, if it has one.
+// The duration of this name, if there is one.
 fn duration_named(name: &[u8]) -> Option<Duration>
     ensures { result ≡ duration_named name.now }
 {
@@ -88,14 +88,14 @@ fn duration_named(name: &[u8]) -> Option<Duration>
         .find(|duration| duration_name(*duration).as_bytes() == name)
 }
 
-/// The status of this LOCK_STATUS.
+/// Returns the status of this LOCK_STATUS.
 pub(crate) fn status_of(name: &[u8]) -> Result<Status, RowError>
     ensures { result ≡ status_of name.now }
 {
     status_named(name).ok_or(RowError::UnknownStatus)
 }
 
-// The status of this name, if it has one.
+// The status of this name, if there is one.
 fn status_named(name: &[u8]) -> Option<Status>
     ensures { result ≡ status_named name.now }
 {
@@ -105,7 +105,7 @@ fn status_named(name: &[u8]) -> Option<Status>
         .find(|status| status.as_str().as_bytes() == name)
 }
 
-/// The server's OBJECT_TYPE of a namespace.
+/// Returns the server's OBJECT_TYPE of a namespace.
 pub fn object_type_name(namespace: Namespace) -> &'static str
     ensures { result.now ≡ object_type_name namespace }
 {
@@ -118,7 +118,7 @@ pub fn object_type_name(namespace: Namespace) -> &'static str
     }
 }
 
-/// The server's LOCK_TYPE of a mode.
+/// Returns the server's LOCK_TYPE of a mode.
 pub fn lock_type_name(mode: Mode) -> &'static str
     ensures { result.now ≡ lock_type_name mode }
 {
@@ -137,7 +137,7 @@ pub fn lock_type_name(mode: Mode) -> &'static str
     }
 }
 
-/// The server's LOCK_DURATION of a duration.
+/// Returns the server's LOCK_DURATION of a duration.
 pub fn duration_name(duration: Duration) -> &'static str
     ensures { result.now ≡ duration_name duration }
 {

@@ -16,7 +16,7 @@ is_wait fate = false
 abbrev pub is_of_line : ℕ → Box → Bool
 is_of_line line box = box.event.line == line
 
--- the line at which a box is drawn, and where
+-- the line at which a box is drawn, and its x coordinate
 abbrev pub place_of : Box → Column
 place_of box = record { line = box.line; x = box.x }
 

@@ -1,4 +1,4 @@
--- A box, and where it is drawn.
+-- A box, and its sides.
 use Rattle.std.specs.Prelude.{ℕ}
 use Rattle.mdl_picture.specs.Moments.{EventView}
 

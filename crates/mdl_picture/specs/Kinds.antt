@@ -3,7 +3,7 @@ use Rattle.std.specs.Prelude.{ℕ, List, [], ◌∷◌, ◌++◌, codes, flat_ma
 use Rattle.mdl_picture.specs.declared.kind.Kind.{Kind}
 use Rattle.mdl_picture.specs.declared.kind.Kind.TheVariants.{Arrow, Bar, Done, Failed, Ground, Guide, Head, Lane, Number, Refused, Said, Stripes, Waiting, Words}
 
--- what shapes of a kind are called in a style
+-- the class name of shapes of a kind in a style
 abbrev pub kind_name : Kind → List ℕ
 kind_name Ground = codes "ground"
 kind_name Lane = codes "lane"
@@ -20,7 +20,7 @@ kind_name Stripes = codes "stripes"
 kind_name Arrow = codes "arrow"
 kind_name Head = codes "head"
 
--- how they look by day
+-- the style of a kind in a light scheme
 abbrev pub day_style : Kind → List ℕ
 day_style Ground = codes "fill:#fff"
 day_style Lane = codes "fill:#f1f3f5"
@@ -37,7 +37,7 @@ day_style Stripes = codes "stroke:#9a6700;stroke-width:2"
 day_style Arrow = codes "stroke:#0969da;stroke-width:2;marker-end:url(#head)"
 day_style Head = codes "fill:#0969da"
 
--- what is otherwise by night
+-- the style of a kind in a dark scheme, as far as it differs
 abbrev pub night_style : Kind → List ℕ
 night_style Ground = codes "fill:#0d1117"
 night_style Lane = codes "fill:#1a1f26"
@@ -54,7 +54,7 @@ night_style Stripes = codes "stroke:#d29922"
 night_style Arrow = codes "stroke:#58a6ff"
 night_style Head = codes "fill:#58a6ff"
 
--- a rule for each kind
+-- all kinds. A style has a rule for each
 abbrev pub kinds : List Kind
 kinds =
     Ground ∷ Lane ∷ Guide ∷ Number ∷ Words ∷ Said ∷ Done ∷ Waiting ∷ Failed ∷ Refused ∷ Bar ∷ Stripes ∷ Arrow ∷ Head ∷ []
@@ -68,7 +68,7 @@ day_rule kind = rule kind (day_style kind)
 abbrev pub night_rule : Kind → List ℕ
 night_rule kind = rule kind (night_style kind)
 
--- the style of a picture, by the reader's scheme
+-- the style of a picture, for light and dark schemes
 unfoldable pub style : List ℕ
 style =
     codes "text{font:12px Menlo,Consolas,monospace}" ++ flat_map day_rule kinds

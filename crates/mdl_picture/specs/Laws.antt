@@ -12,7 +12,7 @@ use Rattle.mdl_picture.specs.Rows.{has_row, rows_of}
 use Rattle.mdl_picture.specs.Svg.{escaped, is_printed}
 use Rattle.mdl_picture.specs.Xml.{IsElement, IsText}
 
--- what happens, in order
+-- all events of moments, in order
 abbrev pub events_of : List MomentView → List EventView
 events_of moments = flat_map (λ moment. moment.events) moments
 
@@ -57,7 +57,7 @@ IsBefore one other = one.x + column_step ≤ other.x
 abbrev pub ColumnsAreApart : Type 0
 ColumnsAreApart = (moments : List MomentView) → AllPairs IsBefore (layout_of moments).columns
 
--- where each line is of one session, a wait that is settled ends to the right of where it begins
+-- if each line belongs to one session, a wait that is settled ends to the right of where it begins
 abbrev pub IsOfOneSession : EventView → EventView → Type 0
 IsOfOneSession one other = one.line ≡ other.line → one.session ≡ other.session
 
@@ -67,7 +67,7 @@ EndsRight bar = IfSome bar.settled (λ column. bar.x + gap ≤ column.x)
 abbrev pub WaitsGoRight : Type 0
 WaitsGoRight = (moments : List MomentView) → AllPairs IsOfOneSession (events_of moments) → All EndsRight (bars_of (boxes_of moments))
 
--- the rows are in rising order, one for each session that takes part
+-- the rows are in ascending order, one for each session that takes part
 abbrev pub IsLess : ℕ → ℕ → Type 0
 IsLess one other = one < other
 
@@ -83,7 +83,7 @@ is_in_moment session moment = moment.session == session || list_any (is_in_event
 abbrev pub RowsAreTheSessions : Type 0
 RowsAreTheSessions = (moments : List MomentView) (session : ℕ) → has_row (rows_of moments) session ≡ list_any (is_in_moment session) moments
 
--- a picture is one well-formed element, and a line feed behind it
+-- a picture is one well-formed element, followed by a line feed
 pub record IsDocument (written : List ℕ) : Type 0 where
   pub root : List ℕ
   pub is_element : IsElement root
@@ -92,7 +92,7 @@ pub record IsDocument (written : List ℕ) : Type 0 where
 abbrev pub PicturesAreWellFormed : Type 0
 PicturesAreWellFormed = (moments : List MomentView) → IsDocument (picture_text moments)
 
--- a text says what it is made of, with a question mark for what isn't printed in ASCII
+-- a text reads as the bytes that it was made of, with a question mark for each byte that isn't printed in ASCII
 abbrev pub shown : ℕ → ℕ
 shown byte = if is_printed byte then byte else 63
 

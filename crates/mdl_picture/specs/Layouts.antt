@@ -1,4 +1,4 @@
--- Where the moments of a script are drawn: columns from left to right, and in them a box for each event. Sizes are in SVG's units.
+-- The layout of the moments of a script: columns from left to right, and in them a box for each event. Sizes are in SVG's units.
 use Rattle.std.specs.Prelude.{ℕ, Bool, ◌+◌, ◌==◌, max, List, [], ◌∷◌, ◌++◌, find, fold, reverse}
 use Rattle.std.specs.Option.{option_map_or}
 use Rattle.mdl_picture.specs.declared.layout.Column.{Column}
@@ -6,7 +6,8 @@ use Rattle.mdl_picture.specs.Boxes.{Box}
 use Rattle.mdl_picture.specs.Moments.{EventView, MomentView}
 use Rattle.mdl_picture.specs.Texts.{box_width}
 
--- where the first column is, how far it is at least from a box to the next column, and how far two boxes of a row are apart at least
+-- the x coordinate of the first column, the least distance from the beginning of a box to the next column, and the least distance between two
+-- boxes of a row
 abbrev pub left : ℕ
 left = 88
 
@@ -20,18 +21,18 @@ gap = 14
 abbrev pub is_of : ℕ → Box → Bool
 is_of session box = box.event.session == session
 
--- where the next box of a session may begin: behind its last one
+-- the least x coordinate of the next box of a session: after its last one
 abbrev pub behind : Box → ℕ
 behind box = box.right + gap
 
 abbrev pub free_of : ℕ → List Box → ℕ
 free_of session boxes = option_map_or behind (find (is_of session) (reverse boxes)) left
 
--- where the box of an event is that happens at a line
+-- the box of an event that happens at a line, with this left side
 abbrev pub box_at : ℕ → ℕ → EventView → Box
 box_at line x event = record { line = line; event = event; x = x; right = x + box_width event }
 
--- boxes, and where the last one begins: none begins left of the one before
+-- boxes, and the x coordinate where the last one begins. None begins left of the one before
 pub record Course : Type 0 where
   pub x : ℕ
   pub boxes : List Box
@@ -43,20 +44,20 @@ with_box line course event =
 abbrev pub with_boxes : MomentView → ℕ → List Box → Course
 with_boxes moment x boxes = fold (with_box moment.line) (record { x = x; boxes = boxes }) moment.events
 
--- what is drawn, and where the next column may be
+-- the columns and the boxes, and the least x coordinate of the next column
 pub record LayoutView : Type 0 where
   pub next : ℕ
   pub columns : List Column
   pub boxes : List Box
 
--- the column of a moment: no box of its sessions reaches so far
+-- the x coordinate of the column of a moment: no earlier box of its sessions reaches so far
 abbrev pub behind_boxes : List Box → ℕ → EventView → ℕ
 behind_boxes boxes x event = max x (free_of event.session boxes)
 
 abbrev pub column_of : LayoutView → MomentView → ℕ
 column_of layout moment = fold (behind_boxes layout.boxes) layout.next moment.events
 
--- with the column and the boxes of a moment
+-- a layout with the column and the boxes of a moment
 abbrev pub with_drawn : LayoutView → ℕ → ℕ → Course → LayoutView
 with_drawn layout line x course = record {
   next = course.x + column_step;

@@ -2,7 +2,7 @@
 use Rattle.std.specs.Prelude.{ℕ, List}
 use Rattle.mdl_picture.specs.declared.moment.Fate.{Fate}
 
--- what becomes of a statement at a moment
+-- what happens to a statement at a moment
 pub record EventView : Type 0 where
   pub line : ℕ
   pub session : ℕ

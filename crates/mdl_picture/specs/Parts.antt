@@ -17,7 +17,7 @@ use Rattle.mdl_picture.specs.Shapes.{line, path, rect, title, titled, words}
 use Rattle.mdl_picture.specs.Svg.{Node, Shape, alone, group}
 use Rattle.mdl_picture.specs.Texts.{answer_room, cut, has_bytes, lines_of, statement_room}
 
--- what is behind all: the style, the stripes of waits, the ends of arrows, and the ground
+-- the background: the style, the stripes of waits, the ends of arrows, and the ground
 abbrev pub hatch : Node
 hatch = group Pattern (HatchId ∷ PatternUnits ∷ Width 8 ∷ Height 8 ∷ []) (path kind.Stripes Stripes ∷ [])
 
@@ -33,7 +33,7 @@ defined = alone (title (codes "Timeline of a script, with a row for each session
 unfoldable pub frame : ℕ → ℕ → List Node
 frame width height = defined ++ alone (rect kind.Ground 0 0 width height) ∷ []
 
--- how high rows and boxes are, and where words stand in a row
+-- the height of rows and boxes, and the distance of the baseline of words from the top of their row
 abbrev pub box_height : ℕ
 box_height = 64
 
@@ -59,11 +59,11 @@ abbrev pub column_nodes : ℕ → Column → List Node
 column_nodes bottom column =
     alone (line kind.Guide column.x 20 column.x bottom) ∷ alone (words kind.Number column.x 16 (decimal column.line)) ∷ []
 
--- the statement of a line
+-- the name of the statement of a line
 unfoldable pub statement_name : ℕ → ℕ → List ℕ
 statement_name line session = codes "line " ++ decimal line ++ codes ", session " ++ decimal session ++ codes ": "
 
--- a wait, up to where it is settled, or to the end of the picture's boxes
+-- the bar of a wait, up to where it is settled, or to the end of the picture's boxes
 abbrev pub bar_at : Bar → ℕ → ℕ → Shape
 bar_at bar y end = rect kind.Bar bar.x (y + 25) (end - bar.x) 14
 
@@ -83,7 +83,7 @@ bar_until bar y end None = titled (open_title bar) (bar_at bar y end ∷ open_wo
 abbrev pub bar_node : List ℕ → ℕ → Bar → Node
 bar_node rows end bar = bar_until bar (row_top rows bar.session) end bar.settled
 
--- an arrow from the box of a session that begins to wait at a line, to the row of a session in its way
+-- an arrow from the box of a session that begins to wait at a line, to the row of a session that blocks it
 unfoldable pub arrow_title : ℕ → ℕ → ℕ → List ℕ
 arrow_title line session other =
     session_name other ++ codes " was in the way of " ++ session_name session ++ codes " at line " ++ decimal line
@@ -100,7 +100,7 @@ arrow_to rows box other =
 abbrev pub arrow_nodes : List ℕ → Box → List Node
 arrow_nodes rows box = map (arrow_to rows box) box.event.in_the_way
 
--- a box: what is said, and what is told, line by line
+-- a box: its kind, its title, and the lines of its statement and of its answer
 abbrev pub kind_of : Fate → Kind
 kind_of Waits = kind.Waiting
 kind_of Ends = kind.Done
@@ -126,7 +126,7 @@ said_of event = lines_of statement_room event.statement
 abbrev pub told_of : EventView → List (List ℕ)
 told_of event = lines_of answer_room event.answer
 
--- the lines are in the middle of the box, which begins at this height
+-- the lines are in the middle of the height of the box, whose upper edge is at `y`
 abbrev pub first_base : ℕ → ℕ → ℕ → ℕ
 first_base y said told = y + (15 + 7 * (4 - (said + told)))
 
@@ -146,7 +146,7 @@ box_at y box = titled (box_title box.event) (box_rect y box ∷ lines_at (box.x 
 unfoldable pub box_node : List ℕ → Box → Node
 box_node rows box = box_at (row_top rows box.event.session) box
 
--- what the signs mean: they begin and end here, and their words stand there
+-- the legend: its signs have this top and foot, and its words this baseline
 abbrev pub legend_wait : ℕ → ℕ → List Node
 legend_wait top base = alone (rect kind.Bar 8 top 28 14) ∷ alone (words kind.Words 42 base (codes "waits")) ∷ []
 

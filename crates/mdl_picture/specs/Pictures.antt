@@ -10,7 +10,7 @@ use Rattle.mdl_picture.specs.Parts.{arrow_nodes, bar_node, box_node, column_node
 use Rattle.mdl_picture.specs.Rows.{bottom, rows_of}
 use Rattle.mdl_picture.specs.Svg.{Node, svg_text}
 
--- where the boxes end
+-- the x coordinate where the boxes end
 abbrev pub behind_all : ℕ → Box → ℕ
 behind_all x box = max x (behind box)
 
@@ -21,7 +21,7 @@ end_of boxes = fold behind_all left boxes
 abbrev pub is_open : Bar → Bool
 is_open bar = is_none bar.settled
 
--- how wide a picture is: at least so wide, and with room for words behind waits that go on; and how high
+-- the width of a picture, with a least width and with room for words after waits that go on, and its height
 abbrev pub least_width : ℕ
 least_width = 600
 

@@ -10,15 +10,15 @@ use Rattle.mdl_picture.specs.Svg.{Node, Shape, group}
 abbrev pub title : List ℕ → Shape
 title text = record { tag = Title; attributes = []; text = text }
 
--- a box, with its left upper corner and its size
+-- a box, with its upper left corner and its size
 abbrev pub rect : Kind → ℕ → ℕ → ℕ → ℕ → Shape
 rect kind x y width height = record { tag = Rect; attributes = Class kind ∷ X x ∷ Y y ∷ Width width ∷ Height height ∷ []; text = [] }
 
--- a line, from here to there
+-- a line from one point to another
 abbrev pub line : Kind → ℕ → ℕ → ℕ → ℕ → Shape
 line kind x1 y1 x2 y2 = record { tag = Line; attributes = Class kind ∷ X1 x1 ∷ Y1 y1 ∷ X2 x2 ∷ Y2 y2 ∷ []; text = [] }
 
--- words that stand on this place
+-- words whose baseline begins at this point
 abbrev pub words : Kind → ℕ → ℕ → List ℕ → Shape
 words kind x y text = record { tag = Text; attributes = Class kind ∷ X x ∷ Y y ∷ []; text = text }
 

@@ -7,7 +7,7 @@ use Rattle.mdl_picture.specs.declared.svg.Tag.{Tag}
 use Rattle.mdl_picture.specs.declared.svg.Tag.TheVariants.{G, Line, Marker, Path, Pattern, Rect, Style, Svg, Text, Title}
 use Rattle.mdl_picture.specs.Kinds.{kind_name}
 
--- what an element is called
+-- the name of an element
 abbrev pub tag_name : Tag → List ℕ
 tag_name Svg = codes "svg"
 tag_name Title = codes "title"
@@ -20,7 +20,7 @@ tag_name Line = codes "line"
 tag_name Path = codes "path"
 tag_name Text = codes "text"
 
--- what an attribute is called
+-- the name of an attribute
 abbrev pub attribute_name : Attribute → List ℕ
 attribute_name Namespace = codes "xmlns"
 attribute_name (ViewBox width height) = codes "viewBox"
@@ -46,7 +46,7 @@ attribute_name (Y1 y) = codes "y1"
 attribute_name (X2 x) = codes "x2"
 attribute_name (Y2 y) = codes "y2"
 
--- its value
+-- the value of an attribute
 abbrev pub attribute_value : Attribute → List ℕ
 attribute_value Namespace = codes "http://www.w3.org/2000/svg"
 attribute_value (ViewBox width height) = codes "0 0 " ++ decimal width ++ codes " " ++ decimal height
@@ -76,7 +76,7 @@ attribute_value (Y2 y) = decimal y
 abbrev pub attribute_text : Attribute → List ℕ
 attribute_text attribute = codes " " ++ attribute_name attribute ++ codes "=\"" ++ attribute_value attribute ++ codes "\""
 
--- the tags that begin and end an element. A line feed is behind each end
+-- the tags that begin and end an element. A line feed follows each end
 unfoldable pub start_tag : Tag → List Attribute → List ℕ
 start_tag tag attributes = codes "<" ++ tag_name tag ++ flat_map attribute_text attributes ++ codes ">"
 

@@ -41,14 +41,15 @@ start_of name attributes = codes "<" ++ name ++ attributes ++ codes ">"
 abbrev pub end_of : List ℕ → List ℕ
 end_of name = codes "</" ++ name ++ codes ">"
 
--- what an element is called, and its attributes
+-- a valid name of an element with valid attributes
 pub record IsTag (name attributes : List ℕ) : Type 0 where
   pub names : List (List ℕ)
   pub has_name : is_name name ≡ true
   pub has_attributes : AreAttributes names attributes
   pub has_distinct : are_distinct names ≡ true
 
--- a text as it is written, and what it says: bytes that are no markup (production 14), and references to those that would be (production 67, and "Predefined Entities")
+-- a text as it is written, and the bytes that it stands for: bytes that are no markup (production 14), and references to those that would be
+-- (production 67, and "Predefined Entities")
 abbrev pub is_text_byte : ℕ → Bool
 is_text_byte byte = (is_printed byte || byte == 10) && not (byte == 38 || byte == 60 || byte == 62)
 
@@ -63,7 +64,7 @@ pub data IsText : List ℕ → List ℕ → Type 0 where
   byte : (byte : ℕ) (written said : List ℕ) → is_text_byte byte ≡ true → IsText written said → IsText (byte ∷ written) (byte ∷ said)
   reference : (name : List ℕ) (byte : ℕ) (written said : List ℕ) → IsReference name byte → IsText written said → IsText (name ++ written) (byte ∷ said)
 
--- what may be within an element (production 43): texts and elements, one behind the other
+-- the content of an element (production 43): texts and elements, one after the other
 pub data IsContent : List ℕ → Type 0 where
   text : (written said : List ℕ) → IsText written said → IsContent written
   element : (name attributes content : List ℕ) → IsTag name attributes → IsContent content → IsContent (start_of name attributes ++ content ++ end_of name)

@@ -1,4 +1,4 @@
-//! Who is in the way of a wait that begins.
+//! The arrows from a beginning wait to the sessions that block it.
 ghost use Rattle.std.specs.Prelude.{◌≡◌, ◌++◌, flat_map, IfOk, OnOk};
 ghost use Rattle.mdl_picture.specs.Parts.{arrow_between, arrow_nodes, arrow_title, arrow_to};
 ghost use Rattle.mdl_picture.specs.Svg.{node_text, shape_text};
@@ -13,7 +13,7 @@ use crate::text::{push, push_number};
 use crate::tracks::{BOX_HEIGHT, push_session};
 use std::alloc::{AllocError, Global};
 
-/// Puts the arrows last.
+/// Appends the arrows.
 pub(crate) fn push_arrows<'b, 'a>(
     out: &mut Vec<u8>,
     alloc: Global,
@@ -28,7 +28,7 @@ pub(crate) fn push_arrows<'b, 'a>(
     Ok(())
 }
 
-// The arrows of a box.
+// Appends the arrows of a box.
 fn push_arrows_of(
     out: &mut Vec<u8>,
     alloc: Global,
@@ -44,7 +44,7 @@ fn push_arrows_of(
     Ok(())
 }
 
-// An arrow from a box to the row of a session.
+// Appends an arrow from a box to the row of a session.
 fn push_arrow(
     out: &mut Vec<u8>,
     alloc: Global,
@@ -63,7 +63,7 @@ fn push_arrow(
     push_end(out, Tag::G)
 }
 
-// An arrow from the edge of one row to that of the other.
+// Appends an arrow from the edge of one row to that of the other.
 #[tactic(auto, unfolding(crate::specs::Parts::arrow_between))]
 fn push_arrow_between(out: &mut Vec<u8>, x: u64, from: u64, to: u64) -> Result<(), AllocError>
     ensures { OnOk result (out.new.items ≡ out.old.items ++ shape_text (arrow_between x from to)) }

@@ -14,13 +14,13 @@ pub(crate) struct Bar {
     pub(crate) line: u64,
     /// Its session.
     pub(crate) session: u16,
-    /// Where the wait begins.
+    /// The x coordinate where the wait begins.
     pub(crate) x: u64,
-    /// Where it is settled, if it is.
+    /// The column where it is settled, if it is.
     pub(crate) settled: Option<Column>,
 }
 
-/// The waits that begin at these boxes.
+/// Returns the waits that begin at these boxes.
 pub(crate) fn bars_of<'b, 'a>(
     alloc: Global,
     boxes: &'b [EventBox<'a>],
@@ -69,7 +69,7 @@ fn first_of_line<'b, 'a>(boxes: &'b [EventBox<'a>], line: u64) -> Option<&'b Eve
     boxes.iter().find(|drawn| is_of_line(drawn, line))
 }
 
-// Whether a box belongs to it.
+// Whether a box belongs to the statement of a line.
 fn is_of_line(drawn: &EventBox<'_>, line: u64) -> bool
     ensures { result ≡ is_of_line line drawn.now }
 {
@@ -77,7 +77,7 @@ fn is_of_line(drawn: &EventBox<'_>, line: u64) -> bool
     event.line == line
 }
 
-// The line at which a box is drawn, and where.
+// The line at which a box is drawn, and its x coordinate.
 fn place_of(drawn: &EventBox<'_>) -> Column
     ensures { result ≡ place_of drawn.now }
 {

@@ -18,10 +18,10 @@ use crate::tracks::BOX_HEIGHT;
 use crate::waits::push_statement;
 use std::alloc::{AllocError, Global};
 
-// How far it is from line to line.
+// The distance from line to line.
 const LINE_STEP: u64 = 14;
 
-/// Puts the boxes last.
+/// Appends the boxes.
 pub(crate) fn push_boxes<'b, 'a>(
     out: &mut Vec<u8>,
     alloc: Global,
@@ -36,7 +36,7 @@ pub(crate) fn push_boxes<'b, 'a>(
     Ok(())
 }
 
-// The box of an event.
+// Appends the box of an event.
 #[tactic(auto, unfolding(crate::specs::Parts::box_node))]
 fn push_box(
     out: &mut Vec<u8>,
@@ -50,7 +50,7 @@ fn push_box(
     push_box_at(out, alloc, row_top(rows, event.session)?, drawn)
 }
 
-// The same, at this height.
+// Appends the box of an event with this upper edge.
 #[tactic(auto, unfolding(crate::specs::Parts::box_at))]
 fn push_box_at(
     out: &mut Vec<u8>,
@@ -67,7 +67,7 @@ fn push_box_at(
     push_end(out, Tag::G)
 }
 
-// Its outline.
+// Appends the outline of a box.
 #[tactic(auto, unfolding(crate::specs::Parts::box_rect))]
 fn push_box_rect(out: &mut Vec<u8>, drawn: &EventBox<'_>, y: u64) -> Result<(), AllocError>
     ensures { OnOk result (out.new.items ≡ out.old.items ++ shape_text (box_rect y drawn.now)) }
@@ -77,7 +77,7 @@ fn push_box_rect(out: &mut Vec<u8>, drawn: &EventBox<'_>, y: u64) -> Result<(), 
     push_rect(out, kind_of(event.fate), drawn.x, y, width, BOX_HEIGHT)
 }
 
-// How the box of an event looks.
+// The kind of the box of an event, which decides its style.
 fn kind_of(fate: Fate) -> Kind
     ensures { result ≡ kind_of fate }
 {
@@ -101,7 +101,7 @@ fn box_title(alloc: Global, event: &Event) -> Result<Vec<u8>, AllocError>
     Ok(title)
 }
 
-// The words of a statement there.
+// Appends the words of a statement to a title.
 fn push_statement_part(out: &mut Vec<u8>, statement: &[u8]) -> Result<(), AllocError>
     ensures { OnOk result (out.new.items ≡ out.old.items ++ statement_part statement.now) }
 {
@@ -112,7 +112,7 @@ fn push_statement_part(out: &mut Vec<u8>, statement: &[u8]) -> Result<(), AllocE
     push(out, b": ")
 }
 
-// The lines of a box that begins at this height, in its middle.
+// Appends the lines of a box with this upper edge, in the middle of its height.
 #[tactic(auto, unfolding(crate::specs::Parts::lines_at))]
 fn push_all_lines(out: &mut Vec<u8>, x: u64, top: u64, event: &Event) -> Result<(), AllocError>
     ensures { OnOk result (out.new.items ≡ out.old.items ++ flat_map shape_text (lines_at x top event.now)) }
@@ -125,7 +125,7 @@ fn push_all_lines(out: &mut Vec<u8>, x: u64, top: u64, event: &Event) -> Result<
     push_lines(out, Kind::Words, x, y, &event.answer, ANSWER_ROOM)
 }
 
-// The lines of a text.
+// Appends the lines of a text.
 fn push_lines(
     out: &mut Vec<u8>,
     kind: Kind,
@@ -146,7 +146,7 @@ fn push_lines(
     Ok(())
 }
 
-// A line.
+// Appends a line.
 #[tactic(auto, unfolding(crate::specs::Svg::shape_text))]
 fn push_line_at(
     out: &mut Vec<u8>,

@@ -17,16 +17,16 @@ use crate::tracks::{push_columns, push_lanes};
 use crate::waits::push_bars;
 use std::alloc::{AllocError, Global};
 
-// How wide a picture is at least.
+// The least width of a picture.
 const LEAST_WIDTH: u64 = 600;
 
-// How wide the words are behind waits that go on.
+// The width of the words after waits that go on.
 const OPEN_ROOM: u64 = 98;
 
-// How high the words are below the rows.
+// The height of the words below the rows.
 const FOOT: u64 = 24;
 
-/// Draws the moments of a script from left to right, as SVG.
+/// Draws the moments of a script from left to right, and returns the picture as SVG.
 pub fn picture(alloc: Global, moments: &[Moment]) -> Result<Vec<u8>, AllocError>
     ensures { IfOk result (λ text. text.items ≡ picture_text moments.now) }
 {
@@ -36,7 +36,7 @@ pub fn picture(alloc: Global, moments: &[Moment]) -> Result<Vec<u8>, AllocError>
     drawing(alloc, &rows, &layout, &bars)
 }
 
-// Draws what is laid out.
+// Draws a layout.
 fn drawing<'b, 'a>(
     alloc: Global,
     rows: &[u16],
@@ -53,7 +53,7 @@ fn drawing<'b, 'a>(
     Ok(out)
 }
 
-// The tag that begins a picture.
+// Appends the tag that begins a picture.
 fn push_svg(out: &mut Vec<u8>, width: u64, height: u64) -> Result<(), AllocError>
     ensures { OnOk result (out.new.items ≡ out.old.items ++ start_tag Tag.Svg (svg_attributes width height)) }
 {
@@ -67,7 +67,7 @@ fn push_svg(out: &mut Vec<u8>, width: u64, height: u64) -> Result<(), AllocError
     push_start(out, Tag::Svg, &attributes)
 }
 
-// All that is drawn, from back to front.
+// Appends all that is drawn, from back to front.
 fn push_nodes<'b, 'a>(
     out: &mut Vec<u8>,
     alloc: Global,
@@ -85,7 +85,7 @@ fn push_nodes<'b, 'a>(
     push_legend(out, bottom(rows)?)
 }
 
-// What is behind the waits.
+// Appends what is behind the waits.
 #[tactic(auto, unfolding(crate::specs::Pictures::ground_of))]
 fn push_ground<'b, 'a>(
     out: &mut Vec<u8>,
@@ -101,14 +101,14 @@ fn push_ground<'b, 'a>(
     push_columns(out, alloc, bottom(rows)?, &layout.columns)
 }
 
-// How high a picture is.
+// The height of a picture.
 fn height_of(rows: &[u16]) -> Result<u64, AllocError>
     ensures { IfOk result (λ height. height ≡ height_of rows.now) }
 {
     sum(bottom(rows)?, FOOT)
 }
 
-// How wide it is.
+// The width of a picture.
 fn width_of<'b, 'a>(boxes: &'b [EventBox<'a>], bars: &[Bar]) -> Result<u64, AllocError>
     ensures { IfOk result (λ width. width ≡ width_of boxes.now bars.now) }
 {
@@ -116,7 +116,7 @@ fn width_of<'b, 'a>(boxes: &'b [EventBox<'a>], bars: &[Bar]) -> Result<u64, Allo
     Ok(width.max(LEAST_WIDTH))
 }
 
-// Where the boxes end.
+// The x coordinate where the boxes end.
 fn end_of<'b, 'a>(boxes: &'b [EventBox<'a>]) -> Result<u64, AllocError>
     ensures { IfOk result (λ x. x ≡ end_of boxes.now) }
 {
@@ -127,7 +127,7 @@ fn end_of<'b, 'a>(boxes: &'b [EventBox<'a>]) -> Result<u64, AllocError>
     Ok(x)
 }
 
-// The room for words behind waits that go on.
+// The width of the room for words after waits that go on.
 fn open_room(bars: &[Bar]) -> u64
     ensures { result ≡ open_room bars.now }
 {

@@ -1,4 +1,4 @@
-//! What is behind all, and what the signs mean.
+//! The background of a picture, and its legend.
 ghost use Rattle.std.specs.Prelude.{◌≡◌, ◌++◌, flat_map, OnOk};
 ghost use Rattle.mdl_picture.specs.Parts.{defined, frame, head, hatch, legend, legend_arrow, legend_error, legend_wait, style_sheet};
 ghost use Rattle.mdl_picture.specs.Svg.{node_text, shape_text};
@@ -9,7 +9,7 @@ use crate::sums::sum;
 use crate::svg::{Attribute, Tag, push_end, push_shape, push_start};
 use std::alloc::{AllocError, Global};
 
-/// Puts last what is behind all.
+/// Appends the title, the style and the background.
 #[tactic(auto, unfolding(crate::specs::Parts::frame))]
 pub(crate) fn push_frame(
     out: &mut Vec<u8>,
@@ -23,7 +23,7 @@ pub(crate) fn push_frame(
     push_rect(out, Kind::Ground, 0, 0, width, height)
 }
 
-// The title and the style, and what that names.
+// Appends the title and the style, and what the style refers to.
 fn push_defined(out: &mut Vec<u8>, alloc: Global) -> Result<(), AllocError>
     ensures { OnOk result (out.new.items ≡ out.old.items ++ flat_map node_text defined) }
 {
@@ -33,14 +33,14 @@ fn push_defined(out: &mut Vec<u8>, alloc: Global) -> Result<(), AllocError>
     push_head(out)
 }
 
-// The style.
+// Appends the style.
 fn push_style(out: &mut Vec<u8>, alloc: Global) -> Result<(), AllocError>
     ensures { OnOk result (out.new.items ≡ out.old.items ++ shape_text style_sheet) }
 {
     push_shape(out, Tag::Style, &[], &style(alloc)?)
 }
 
-// The stripes of waits.
+// Appends the pattern of the stripes of waits.
 fn push_hatch(out: &mut Vec<u8>) -> Result<(), AllocError>
     ensures { OnOk result (out.new.items ≡ out.old.items ++ node_text hatch) }
 {
@@ -55,7 +55,7 @@ fn push_hatch(out: &mut Vec<u8>) -> Result<(), AllocError>
     push_end(out, Tag::Pattern)
 }
 
-// The ends of arrows.
+// Appends the marker at the ends of arrows.
 fn push_head(out: &mut Vec<u8>) -> Result<(), AllocError>
     ensures { OnOk result (out.new.items ≡ out.old.items ++ node_text head) }
 {
@@ -73,7 +73,7 @@ fn push_head(out: &mut Vec<u8>) -> Result<(), AllocError>
     push_end(out, Tag::Marker)
 }
 
-/// Puts last what the signs mean.
+/// Appends the legend.
 #[tactic(auto, unfolding(crate::specs::Parts::legend))]
 pub(crate) fn push_legend(out: &mut Vec<u8>, bottom: u64) -> Result<(), AllocError>
     ensures { OnOk result (out.new.items ≡ out.old.items ++ flat_map node_text (legend bottom)) }
@@ -85,7 +85,7 @@ pub(crate) fn push_legend(out: &mut Vec<u8>, bottom: u64) -> Result<(), AllocErr
     push_legend_error(out, top, base)
 }
 
-// What the sign of a wait means.
+// Appends the legend of a wait.
 fn push_legend_wait(out: &mut Vec<u8>, top: u64, base: u64) -> Result<(), AllocError>
     ensures { OnOk result (out.new.items ≡ out.old.items ++ flat_map node_text (legend_wait top base)) }
 {
@@ -93,7 +93,7 @@ fn push_legend_wait(out: &mut Vec<u8>, top: u64, base: u64) -> Result<(), AllocE
     push_words(out, Kind::Words, 42, base, b"waits")
 }
 
-// What an arrow means.
+// Appends the legend of an arrow.
 fn push_legend_arrow(out: &mut Vec<u8>, foot: u64, top: u64, base: u64) -> Result<(), AllocError>
     ensures { OnOk result (out.new.items ≡ out.old.items ++ flat_map node_text (legend_arrow foot top base)) }
 {
@@ -107,7 +107,7 @@ fn push_legend_arrow(out: &mut Vec<u8>, foot: u64, top: u64, base: u64) -> Resul
     )
 }
 
-// What the sign of an error means.
+// Appends the legend of an error.
 fn push_legend_error(out: &mut Vec<u8>, top: u64, base: u64) -> Result<(), AllocError>
     ensures { OnOk result (out.new.items ≡ out.old.items ++ flat_map node_text (legend_error top base)) }
 {

@@ -1,14 +1,14 @@
-//! How shapes look.
+//! The style of shapes.
 ghost use Rattle.std.specs.Prelude.{◌≡◌, ◌++◌, flat_map, IfOk, OnOk};
 ghost use Rattle.mdl_picture.specs.Kinds.{day_rule, day_style, kind_name, night_rule, night_style, rule, style};
 
 use crate::text::push;
 use std::alloc::{AllocError, Global};
 
-/// What a shape shows, by which it looks.
+/// What a shape shows, which decides its style.
 #[derive(Clone, Copy)]
 pub(crate) enum Kind {
-    /// What is behind all.
+    /// The background.
     Ground,
     /// The row of a session.
     Lane,
@@ -32,7 +32,7 @@ pub(crate) enum Kind {
     Bar,
     /// The stripes of a wait.
     Stripes,
-    /// Who is in the way.
+    /// An arrow to a session that blocks a wait.
     Arrow,
     /// The end of an arrow.
     Head,
@@ -56,7 +56,7 @@ const KINDS: [Kind; 14] = [
     Kind::Head,
 ];
 
-/// What shapes of a kind are called in a style.
+/// Returns the class name of shapes of a kind in a style.
 pub(crate) fn kind_name(kind: Kind) -> &'static [u8]
     ensures { result.now ≡ kind_name kind }
 {
@@ -78,7 +78,7 @@ pub(crate) fn kind_name(kind: Kind) -> &'static [u8]
     }
 }
 
-// How they look by day.
+// The style of a kind in a light scheme.
 fn day_style(kind: Kind) -> &'static [u8]
     ensures { result.now ≡ day_style kind }
 {
@@ -100,7 +100,7 @@ fn day_style(kind: Kind) -> &'static [u8]
     }
 }
 
-// What is otherwise by night.
+// The style of a kind in a dark scheme, as far as it differs.
 fn night_style(kind: Kind) -> &'static [u8]
     ensures { result.now ≡ night_style kind }
 {
@@ -119,7 +119,7 @@ fn night_style(kind: Kind) -> &'static [u8]
     }
 }
 
-/// The style of a picture, by the reader's scheme.
+/// Returns the style of a picture, for light and dark schemes.
 #[tactic(auto, unfolding(crate::specs::Kinds::style))]
 pub(crate) fn style(alloc: Global) -> Result<Vec<u8>, AllocError>
     ensures { IfOk result (λ text. text.items ≡ style) }
@@ -133,7 +133,7 @@ pub(crate) fn style(alloc: Global) -> Result<Vec<u8>, AllocError>
     Ok(text)
 }
 
-// The rules by day.
+// Appends the rules for a light scheme.
 fn push_day_rules(out: &mut Vec<u8>, kinds: &[Kind]) -> Result<(), AllocError>
     ensures { OnOk result (out.new.items ≡ out.old.items ++ flat_map day_rule kinds.now) }
 {
@@ -143,7 +143,7 @@ fn push_day_rules(out: &mut Vec<u8>, kinds: &[Kind]) -> Result<(), AllocError>
     Ok(())
 }
 
-// The rules by night.
+// Appends the rules for a dark scheme.
 fn push_night_rules(out: &mut Vec<u8>, kinds: &[Kind]) -> Result<(), AllocError>
     ensures { OnOk result (out.new.items ≡ out.old.items ++ flat_map night_rule kinds.now) }
 {
@@ -153,7 +153,7 @@ fn push_night_rules(out: &mut Vec<u8>, kinds: &[Kind]) -> Result<(), AllocError>
     Ok(())
 }
 
-// A rule.
+// Appends a rule.
 #[tactic(auto, unfolding(crate::specs::Kinds::rule))]
 fn push_rule(out: &mut Vec<u8>, kind: Kind, style: &[u8]) -> Result<(), AllocError>
     ensures { OnOk result (out.new.items ≡ out.old.items ++ rule kind style.now) }

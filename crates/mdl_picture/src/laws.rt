@@ -11,7 +11,7 @@ pub fn waits_are_drawn_once()
     ensures { WaitsAreDrawnOnce }
 {}
 
-/// Of two boxes of a session the later one begins to the right of the other's end.
+/// Of two boxes of a session, the later one begins to the right of the other's end.
 pub fn boxes_are_apart()
     ensures { BoxesAreApart }
 {}
@@ -26,27 +26,27 @@ pub fn columns_are_apart()
     ensures { ColumnsAreApart }
 {}
 
-/// Where each line is of one session, a wait that is settled ends to the right of where it begins.
+/// If each line belongs to one session, a wait that is settled ends to the right of where it begins.
 pub fn waits_go_right()
     ensures { WaitsGoRight }
 {}
 
-/// The rows are in rising order of their sessions.
+/// The rows are in ascending order of their sessions.
 pub fn rows_rise()
     ensures { RowsRise }
 {}
 
-/// Each session that takes part has a row, and no other one.
+/// Each session that takes part has a row, and no other session has one.
 pub fn rows_are_the_sessions()
     ensures { RowsAreTheSessions }
 {}
 
-/// A picture is one well-formed element of XML, with a line feed behind it.
+/// A picture is one well-formed element of XML, followed by a line feed.
 pub fn pictures_are_well_formed()
     ensures { PicturesAreWellFormed }
 {}
 
-/// A text of a picture says what was to be said, with a question mark for each byte that isn't printed in ASCII.
+/// A text of a picture reads as the text that was given, with a question mark for each byte that isn't printed in ASCII.
 pub fn texts_are_kept()
     ensures { TextsAreKept }
 {}

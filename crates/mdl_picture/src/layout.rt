@@ -1,4 +1,4 @@
-//! Where the moments of a script are drawn.
+//! The layout of the moments of a script.
 ghost use Rattle.std.specs.Prelude.{◌≡◌, find, reverse, IfOk, OnOk};
 ghost use Rattle.std.specs.Option.{option_copied};
 ghost use Rattle.mdl_picture.specs.Layouts.{box_at, column_of, free_of, is_of, layout_of, with_boxes, with_moment};
@@ -9,21 +9,21 @@ use crate::sums::sum;
 use std::alloc::{AllocError, Global};
 use std::marker::Model;
 
-/// Where the first column is.
+/// The x coordinate of the first column.
 pub(crate) const LEFT: u64 = 88;
 
-// How far it is at least from a box to the next column.
+// The least distance from the beginning of a box to the next column.
 const COLUMN_STEP: u64 = 28;
 
-/// How far two boxes of a row are apart at least.
+/// The least distance between two boxes of a row.
 pub(crate) const GAP: u64 = 14;
 
-/// Where a line is drawn.
+/// The column of a line.
 #[derive(Clone, Copy)]
 pub(crate) struct Column {
     /// The line.
     pub(crate) line: u64,
-    /// How far to the right.
+    /// The column's x coordinate.
     pub(crate) x: u64,
 }
 
@@ -48,7 +48,7 @@ impl<'a> Model for EventBox<'a> {
     ghost view = { λ drawn. record { line = drawn.line; event = drawn.event.now; x = drawn.x; right = drawn.right } };
 }
 
-/// What is drawn of moments, and where the next column may be.
+/// The columns and boxes of moments, and the least x coordinate of the next column.
 #[derive(Drop)]
 pub(crate) struct Layout<'a> {
     next: u64,
@@ -70,7 +70,7 @@ impl<'a> Model for Layout<'a> {
     } };
 }
 
-/// Where moments are drawn.
+/// Returns the layout of moments.
 pub(crate) fn layout_of<'a>(alloc: Global, moments: &'a [Moment]) -> Result<Layout<'a>, AllocError>
     ensures { IfOk result (λ layout. layout ≡ layout_of moments.now) }
 {
@@ -85,7 +85,7 @@ pub(crate) fn layout_of<'a>(alloc: Global, moments: &'a [Moment]) -> Result<Layo
     Ok(layout)
 }
 
-// Adds what is drawn of a moment.
+// Adds the column and the boxes of a moment.
 fn add_moment<'a>(layout: &mut Layout<'a>, moment: &'a Moment) -> Result<(), AllocError>
     ensures { OnOk result (layout.new ≡ with_moment layout.old moment.now) }
 {
@@ -97,7 +97,7 @@ fn add_moment<'a>(layout: &mut Layout<'a>, moment: &'a Moment) -> Result<(), All
     Ok(())
 }
 
-// The column of a moment.
+// The x coordinate of the column of a moment.
 fn column_of<'b, 'a>(layout: &'b Layout<'a>, moment: &Moment) -> Result<u64, AllocError>
     ensures { IfOk result (λ x. x ≡ column_of layout.now moment.now) }
 {
@@ -108,7 +108,7 @@ fn column_of<'b, 'a>(layout: &'b Layout<'a>, moment: &Moment) -> Result<u64, All
     Ok(x)
 }
 
-// Where the next box of a session may begin.
+// The least x coordinate of the next box of a session.
 fn free_of<'b, 'a>(boxes: &'b [EventBox<'a>], session: u16) -> Result<u64, AllocError>
     ensures { IfOk result (λ x. x ≡ free_of session boxes.now) }
 {
@@ -133,7 +133,7 @@ fn is_of(drawn: &EventBox<'_>, session: u16) -> bool
     event.session == session
 }
 
-// Adds the boxes of a moment, and says where the last one begins.
+// Adds the boxes of a moment, and returns the x coordinate where the last one begins.
 fn add_boxes<'a>(
     boxes: &mut Vec<EventBox<'a>>,
     column: u64,
@@ -149,7 +149,7 @@ fn add_boxes<'a>(
     Ok(x)
 }
 
-// The box of an event that happens at a line, at this place.
+// The box of an event that happens at a line, with this left side.
 fn box_at<'a>(line: u64, x: u64, event: &'a Event) -> Result<EventBox<'a>, AllocError>
     ensures { IfOk result (λ drawn. drawn ≡ box_at line x event.now) }
 {

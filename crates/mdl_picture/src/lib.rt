@@ -1,5 +1,5 @@
-//! Timelines of sessions that wait for each other. [`picture`] draws the [`Moment`]s of a script as SVG: a row for each session, a column
-//! for each line, a box for each [`Event`], a bar for each wait, arrows to who was in its way, and colours for light and dark grounds.
+//! Timelines of sessions that wait for each other. [`picture`] draws the [`Moment`]s of a script as SVG: a row for each session, a column for
+//! each line, a box for each [`Event`], a bar for each wait, arrows to the sessions that blocked it, and colours for light and dark schemes.
 //!
 //! # Example
 //!

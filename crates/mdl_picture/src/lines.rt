@@ -7,21 +7,21 @@ use crate::moment::Event;
 use crate::svg::push_text;
 use std::alloc::AllocError;
 
-// How many bytes a line has at most.
+// The greatest number of bytes of a line.
 const MOST_BYTES: usize = 32;
 
-/// For how many bytes of a statement there is room.
+/// A statement of at most this number of bytes isn't broken into two lines.
 pub(crate) const STATEMENT_ROOM: usize = 18;
 
-/// For how many bytes of an answer there is room.
+/// An answer of at most this number of bytes isn't broken into two lines.
 pub(crate) const ANSWER_ROOM: usize = 15;
 
-// How wide a byte is, and how much wider a box is than its longest line.
+// The width of a byte, and how much wider a box is than its longest line.
 const BYTE_WIDTH: u64 = 7;
 
 const MARGIN: u64 = 14;
 
-/// How wide the box of an event is.
+/// Returns the width of the box of an event.
 pub(crate) fn box_width(event: &Event) -> u64
     ensures { result ≡ box_width event.now }
 {
@@ -30,7 +30,7 @@ pub(crate) fn box_width(event: &Event) -> u64
     BYTE_WIDTH * said.max(told) as u64 + MARGIN
 }
 
-// How long the longest line of a text is.
+// The length of the longest line of a text.
 fn longest(text: &[u8], room: usize) -> usize
     ensures longest { result ≡ longest room text.now }
     ensures within { result ≤ most_bytes }
@@ -42,7 +42,7 @@ fn longest(text: &[u8], room: usize) -> usize
         .max(second.len().min(MOST_BYTES))
 }
 
-/// How many lines a text has.
+/// Returns the number of lines of a text.
 pub(crate) fn line_count(text: &[u8], room: usize) -> u64
     ensures count { result ≡ length (lines_of room text.now) }
     ensures within { result ≤ 2 }
@@ -58,7 +58,7 @@ pub(crate) fn has_bytes(line: &[u8]) -> bool
     !line.is_empty()
 }
 
-/// What is before the place where a text is broken, and behind it.
+/// Returns the parts of a text before and after the byte where it is broken.
 pub(crate) fn halves(text: &[u8], room: usize) -> [&[u8]; 2]
     ensures { map (λ line. line.now) result ≡ halves room text.now }
 {
@@ -66,7 +66,7 @@ pub(crate) fn halves(text: &[u8], room: usize) -> [&[u8]; 2]
     [&text[..place], text_behind(text, place)]
 }
 
-// What is behind a place.
+// The text after the byte at an index.
 fn text_behind(text: &[u8], place: usize) -> &[u8]
     requires { place ≤ length text.now }
     ensures { result.now ≡ drop (place + 1) text.now }
@@ -77,7 +77,7 @@ fn text_behind(text: &[u8], place: usize) -> &[u8]
     &text[place + 1..]
 }
 
-// Where a text is broken: at its end if there is room for it.
+// The index where a text is broken: its end if the text fits.
 fn break_of(text: &[u8], room: usize) -> usize
     ensures place { result ≡ break_of room text.now }
     ensures within { result ≤ length text.now }
@@ -88,7 +88,7 @@ fn break_of(text: &[u8], room: usize) -> usize
     blank_before(text, room + 1)
 }
 
-// The last blank of a text before this place, or else its end.
+// The index of the last blank of a text before this index, or the text's end if there is none.
 fn blank_before(text: &[u8], end: usize) -> usize
     requires { end ≤ length text.now }
     ensures place { result ≡ blank_before text.now end }
@@ -103,7 +103,7 @@ fn blank_before(text: &[u8], end: usize) -> usize
     text.len()
 }
 
-/// Puts a line last, as much of it as there is room for.
+/// Appends a line, as much of it as there is room for.
 pub(crate) fn push_cut(out: &mut Vec<u8>, line: &[u8]) -> Result<(), AllocError>
     ensures { OnOk result (out.new.items ≡ out.old.items ++ escaped (cut line.now)) }
 {

@@ -1,7 +1,7 @@
 //! What happens at the lines of a script.
 use std::marker::Model;
 
-/// How an event leaves its statement.
+/// The state in which an event leaves its statement.
 #[derive(Clone, Copy, Debug, PartialEq, Eq)]
 pub enum Fate {
     /// It begins to wait.
@@ -14,20 +14,20 @@ pub enum Fate {
     Busy,
 }
 
-/// What becomes of a statement at a moment.
+/// What happens to a statement at a moment.
 #[derive(Drop)]
 pub struct Event {
     /// The line of the statement.
     pub line: u64,
     /// The session that it belongs to.
     pub session: u16,
-    /// Its words if the moment is that of its own line, otherwise nothing.
+    /// The statement's words if the moment is that of its own line, otherwise empty.
     pub statement: Vec<u8>,
-    /// What is printed of it.
+    /// The answer that is printed.
     pub answer: Vec<u8>,
-    /// How it goes on.
+    /// The state in which the event leaves the statement.
     pub fate: Fate,
-    /// If it begins to wait, the sessions in its way, in rising order; otherwise nothing.
+    /// The sessions that block the statement if it begins to wait, in order of their numbers. Empty otherwise.
     pub in_the_way: Vec<u16>,
 }
 
@@ -53,7 +53,7 @@ pub struct Moment {
     pub line: u64,
     /// The session that it belongs to.
     pub session: u16,
-    /// What becomes of statements, in order.
+    /// What happens to statements, in order.
     pub events: Vec<Event>,
 }
 

@@ -6,13 +6,13 @@ use crate::moment::{Event, Moment};
 use crate::sums::{product, sum};
 use std::alloc::{AllocError, Global};
 
-// Where the first row begins.
+// The y coordinate of the first row.
 const TOP: u64 = 28;
 
-// How far it is from row to row.
+// The distance from row to row.
 const ROW_STEP: u64 = 80;
 
-/// The sessions that have a row, in rising order.
+/// Returns the sessions that have a row, in order of their numbers.
 pub(crate) fn rows_of(alloc: Global, moments: &[Moment]) -> Result<Vec<u16>, AllocError>
     ensures { IfOk result (λ rows. rows.items ≡ rows_of moments.now) }
 {
@@ -64,21 +64,21 @@ fn rows_above(rows: &[u16], session: u16) -> usize
     rows.iter().filter(|row| **row < session).count()
 }
 
-/// Where the row of a session begins.
+/// Returns the y coordinate where the row of a session begins.
 pub(crate) fn row_top(rows: &[u16], session: u16) -> Result<u64, AllocError>
     ensures { IfOk result (λ y. y ≡ row_top rows.now session) }
 {
     row_below(rows_above(rows, session))
 }
 
-/// Where the rows end.
+/// Returns the y coordinate where the rows end.
 pub(crate) fn bottom(rows: &[u16]) -> Result<u64, AllocError>
     ensures { IfOk result (λ y. y ≡ bottom rows.now) }
 {
     row_below(rows.len())
 }
 
-// Where a row begins that is below so many.
+// The y coordinate of a row below this number of rows.
 fn row_below(rows: usize) -> Result<u64, AllocError>
     ensures { IfOk result (λ y. y ≡ top + row_step * rows) }
 {

@@ -7,14 +7,14 @@ use crate::kind::Kind;
 use crate::svg::{Attribute, Tag, push_shape, push_start};
 use std::alloc::AllocError;
 
-/// Puts a title last.
+/// Appends a title.
 pub(crate) fn push_title(out: &mut Vec<u8>, text: &[u8]) -> Result<(), AllocError>
     ensures { OnOk result (out.new.items ≡ out.old.items ++ shape_text (title text.now)) }
 {
     push_shape(out, Tag::Title, &[], text)
 }
 
-/// Puts a box last, with its left upper corner and its size.
+/// Appends a box with this upper left corner and this size.
 pub(crate) fn push_rect(
     out: &mut Vec<u8>,
     kind: Kind,
@@ -35,7 +35,7 @@ pub(crate) fn push_rect(
     push_shape(out, Tag::Rect, &attributes, b"")
 }
 
-/// Puts a line last, from here to there.
+/// Appends a line from one point to another.
 pub(crate) fn push_line(
     out: &mut Vec<u8>,
     kind: Kind,
@@ -56,7 +56,7 @@ pub(crate) fn push_line(
     push_shape(out, Tag::Line, &attributes, b"")
 }
 
-/// Puts words last that stand on this place.
+/// Appends words whose baseline begins at this point.
 pub(crate) fn push_words(
     out: &mut Vec<u8>,
     kind: Kind,
@@ -70,14 +70,14 @@ pub(crate) fn push_words(
     push_shape(out, Tag::Text, &attributes, text)
 }
 
-/// Puts an outline last.
+/// Appends an outline.
 pub(crate) fn push_path(out: &mut Vec<u8>, kind: Kind, outline: Attribute) -> Result<(), AllocError>
     ensures { OnOk result (out.new.items ≡ out.old.items ++ shape_text (path kind outline)) }
 {
     push_shape(out, Tag::Path, &[Attribute::Class(kind), outline], b"")
 }
 
-/// Begins a group with a title.
+/// Appends the beginning of a group with a title.
 pub(crate) fn push_titled(out: &mut Vec<u8>, text: &[u8]) -> Result<(), AllocError>
     ensures { OnOk result (out.new.items ≡ out.old.items ++ start_tag Tag.G [] ++ shape_text (title text.now)) }
 {

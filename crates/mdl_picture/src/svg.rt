@@ -7,18 +7,18 @@ use crate::kind::{Kind, kind_name};
 use crate::text::{push, push_number};
 use std::alloc::AllocError;
 
-/// What an element is.
+/// The tag of an element.
 #[derive(Clone, Copy)]
 pub(crate) enum Tag {
     /// A picture.
     Svg,
     /// What is shown when the pointer rests on a shape.
     Title,
-    /// How shapes look.
+    /// The style of shapes.
     Style,
-    /// What shapes are filled with.
+    /// A pattern with which shapes are filled.
     Pattern,
-    /// What lines end with.
+    /// A marker at the end of a line.
     Marker,
     /// Shapes that belong together.
     G,
@@ -32,58 +32,58 @@ pub(crate) enum Tag {
     Text,
 }
 
-/// What an element has. Numbers are in the units of the picture.
+/// An attribute of an element. Numbers are in the units of the picture.
 #[derive(Clone, Copy)]
 pub(crate) enum Attribute {
-    /// That it is SVG.
+    /// The namespace of SVG.
     Namespace,
-    /// How wide and how high a picture is.
+    /// The width and the height of a picture.
     ViewBox(u64, u64),
-    /// That it is shown as one image.
+    /// The role of a picture: it is shown as one image.
     Role,
-    /// That a style calls it the stripes of waits.
+    /// The id of the stripes of waits, to which the style refers.
     HatchId,
-    /// That a style calls it the end of arrows.
+    /// The id of the end of arrows, to which the style refers.
     HeadId,
-    /// How it looks.
+    /// The class of a shape, which decides its style.
     Class(Kind),
-    /// That a pattern is measured as shapes are.
+    /// A pattern is measured in the same units as shapes.
     PatternUnits,
-    /// That a marker is measured as shapes are.
+    /// A marker is measured in the same units as shapes.
     MarkerUnits,
-    /// How wide a marker is.
+    /// The width of a marker.
     MarkerWidth(u64),
-    /// How high a marker is.
+    /// The height of a marker.
     MarkerHeight(u64),
-    /// Which place of a marker is at the end of a line, from left to right.
+    /// The x coordinate of the point of a marker that is at the end of a line.
     RefX(u64),
-    /// Which place of a marker is at the end of a line, from top to bottom.
+    /// The y coordinate of the point of a marker that is at the end of a line.
     RefY(u64),
-    /// That a marker is turned with its line.
+    /// A marker is turned with its line.
     Orient,
-    /// That an outline is that of the stripes of a wait.
+    /// The outline of the stripes of a wait.
     Stripes,
-    /// That an outline is that of the end of an arrow.
+    /// The outline of the end of an arrow.
     Tip,
-    /// Where it begins, from left to right.
+    /// The x coordinate where a shape begins.
     X(u64),
-    /// Where it begins, from top to bottom. A text stands on that place.
+    /// The y coordinate where a shape begins. Of a text it is the baseline.
     Y(u64),
-    /// How wide it is.
+    /// The width of an element.
     Width(u64),
-    /// How high it is.
+    /// The height of an element.
     Height(u64),
-    /// Where a line begins, from left to right.
+    /// The x coordinate where a line begins.
     X1(u64),
-    /// Where a line begins, from top to bottom.
+    /// The y coordinate where a line begins.
     Y1(u64),
-    /// Where a line ends, from left to right.
+    /// The x coordinate where a line ends.
     X2(u64),
-    /// Where a line ends, from top to bottom.
+    /// The y coordinate where a line ends.
     Y2(u64),
 }
 
-/// Puts an element last that has no other elements.
+/// Appends an element that contains no other elements.
 #[tactic(auto, unfolding(crate::specs::Svg::shape_text))]
 pub(crate) fn push_shape(
     out: &mut Vec<u8>,
@@ -98,7 +98,7 @@ pub(crate) fn push_shape(
     push_end(out, tag)
 }
 
-/// Puts the tag last that begins an element.
+/// Appends the tag that begins an element.
 #[tactic(auto, unfolding(crate::specs::Svg::start_tag))]
 pub(crate) fn push_start(
     out: &mut Vec<u8>,
@@ -113,7 +113,7 @@ pub(crate) fn push_start(
     push(out, b">")
 }
 
-/// Puts the tag last that ends an element, and a line feed.
+/// Appends the tag that ends an element, and a line feed.
 #[tactic(auto, unfolding(crate::specs::Svg::end_tag))]
 pub(crate) fn push_end(out: &mut Vec<u8>, tag: Tag) -> Result<(), AllocError>
     ensures { OnOk result (out.new.items ≡ out.old.items ++ end_tag tag) }
@@ -123,7 +123,7 @@ pub(crate) fn push_end(out: &mut Vec<u8>, tag: Tag) -> Result<(), AllocError>
     push(out, b">\n")
 }
 
-// What an element is called.
+// The name of an element.
 fn tag_name(tag: Tag) -> &'static [u8]
     ensures { result.now ≡ tag_name tag }
 {
@@ -141,7 +141,7 @@ fn tag_name(tag: Tag) -> &'static [u8]
     }
 }
 
-// The attributes of an element.
+// Appends the attributes of an element.
 fn push_attributes(out: &mut Vec<u8>, attributes: &[Attribute]) -> Result<(), AllocError>
     ensures { OnOk result (out.new.items ≡ out.old.items ++ flat_map attribute_text attributes.now) }
 {
@@ -151,7 +151,7 @@ fn push_attributes(out: &mut Vec<u8>, attributes: &[Attribute]) -> Result<(), Al
     Ok(())
 }
 
-// An attribute.
+// Appends an attribute.
 fn push_attribute(out: &mut Vec<u8>, attribute: Attribute) -> Result<(), AllocError>
     ensures { OnOk result (out.new.items ≡ out.old.items ++ attribute_text attribute) }
 {
@@ -162,7 +162,7 @@ fn push_attribute(out: &mut Vec<u8>, attribute: Attribute) -> Result<(), AllocEr
     push(out, b"\"")
 }
 
-// What an attribute is called.
+// The name of an attribute.
 fn attribute_name(attribute: Attribute) -> &'static [u8]
     ensures { result.now ≡ attribute_name attribute }
 {
@@ -191,7 +191,7 @@ fn attribute_name(attribute: Attribute) -> &'static [u8]
     }
 }
 
-// The value of an attribute.
+// Appends the value of an attribute.
 fn push_value(out: &mut Vec<u8>, attribute: Attribute) -> Result<(), AllocError>
     ensures { OnOk result (out.new.items ≡ out.old.items ++ attribute_value attribute) }
 {
@@ -221,7 +221,7 @@ fn push_value(out: &mut Vec<u8>, attribute: Attribute) -> Result<(), AllocError>
     }
 }
 
-// How wide and how high a picture is.
+// Appends the width and the height of a picture.
 fn push_view_box(out: &mut Vec<u8>, width: u64, height: u64) -> Result<(), AllocError>
     ensures { OnOk result (out.new.items ≡ out.old.items ++ (codes "0 0 " ++ decimal width ++ codes " " ++ decimal height)) }
 {
@@ -231,7 +231,7 @@ fn push_view_box(out: &mut Vec<u8>, width: u64, height: u64) -> Result<(), Alloc
     push_number(out, height)
 }
 
-/// Puts a text last in which nothing is markup.
+/// Appends a text, escaped so that nothing in it is markup.
 pub(crate) fn push_text(out: &mut Vec<u8>, text: &[u8]) -> Result<(), AllocError>
     ensures { OnOk result (out.new.items ≡ out.old.items ++ escaped text.now) }
 {
@@ -241,7 +241,7 @@ pub(crate) fn push_text(out: &mut Vec<u8>, text: &[u8]) -> Result<(), AllocError
     Ok(())
 }
 
-// A byte of a text.
+// Appends a byte of a text.
 fn push_byte(out: &mut Vec<u8>, byte: u8) -> Result<(), AllocError>
     ensures { OnOk result (out.new.items ≡ out.old.items ++ escaped_byte byte) }
 {

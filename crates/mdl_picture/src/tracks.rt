@@ -13,13 +13,13 @@ use crate::svg::{Tag, push_end};
 use crate::text::{push, push_number};
 use std::alloc::{AllocError, Global};
 
-/// How high rows and boxes are.
+/// The height of rows and boxes.
 pub(crate) const BOX_HEIGHT: u64 = 64;
 
-/// Where words stand in a row.
+/// The distance of the baseline of words from the top of their row.
 pub(crate) const LABEL_BASE: u64 = 36;
 
-/// Puts the rows last.
+/// Appends the rows.
 pub(crate) fn push_lanes(
     out: &mut Vec<u8>,
     alloc: Global,
@@ -34,7 +34,7 @@ pub(crate) fn push_lanes(
     Ok(())
 }
 
-// The row of a session.
+// Appends the row of a session.
 fn push_lane(
     out: &mut Vec<u8>,
     alloc: Global,
@@ -52,7 +52,7 @@ fn push_lane(
     push_end(out, Tag::G)
 }
 
-// What a session is called.
+// The name of a session.
 fn session_name(alloc: Global, session: u16) -> Result<Vec<u8>, AllocError>
     ensures { IfOk result (λ name. name.items ≡ session_name session) }
 {
@@ -61,7 +61,7 @@ fn session_name(alloc: Global, session: u16) -> Result<Vec<u8>, AllocError>
     Ok(name)
 }
 
-/// Puts last what a session is called.
+/// Appends the name of a session.
 #[tactic(auto, unfolding(crate::specs::Parts::session_name))]
 pub(crate) fn push_session(out: &mut Vec<u8>, session: u16) -> Result<(), AllocError>
     ensures { OnOk result (out.new.items ≡ out.old.items ++ session_name session) }
@@ -70,7 +70,7 @@ pub(crate) fn push_session(out: &mut Vec<u8>, session: u16) -> Result<(), AllocE
     push_number(out, u64::from(session))
 }
 
-/// Puts the columns last.
+/// Appends the columns.
 pub(crate) fn push_columns(
     out: &mut Vec<u8>,
     alloc: Global,
@@ -83,7 +83,7 @@ pub(crate) fn push_columns(
     push_guides(out, alloc, bottom, columns)
 }
 
-// The columns of lines.
+// Appends the columns of lines.
 fn push_guides(
     out: &mut Vec<u8>,
     alloc: Global,
@@ -98,7 +98,7 @@ fn push_guides(
     Ok(())
 }
 
-// The column of a line.
+// Appends the column of a line.
 fn push_guide(
     out: &mut Vec<u8>,
     alloc: Global,

@@ -1,4 +1,4 @@
-//! What is drawn of waits.
+//! The bars of waits.
 ghost use Rattle.std.specs.Prelude.{◌≡◌, ◌++◌, flat_map, map, IfOk, OnOk};
 ghost use Rattle.mdl_picture.specs.Parts.{bar_at, bar_node, bar_until, open_title, open_words, settled_title, statement_name};
 ghost use Rattle.mdl_picture.specs.Svg.{node_text, shape_text};
@@ -14,12 +14,12 @@ use crate::text::{push, push_number};
 use crate::tracks::LABEL_BASE;
 use std::alloc::{AllocError, Global};
 
-// Where a bar is in its row, and how high it is.
+// The distance of a bar from the top of its row, and its height.
 const BAR_TOP: u64 = 25;
 
 const BAR_HEIGHT: u64 = 14;
 
-/// Puts the waits last. Those that aren't settled end here.
+/// Appends the waits. Those that aren't settled end at `end`.
 pub(crate) fn push_bars(
     out: &mut Vec<u8>,
     alloc: Global,
@@ -35,7 +35,7 @@ pub(crate) fn push_bars(
     Ok(())
 }
 
-// A wait.
+// Appends a wait.
 fn push_bar(out: &mut Vec<u8>, alloc: Global, y: u64, end: u64, bar: Bar) -> Result<(), AllocError>
     ensures { OnOk result (out.new.items ≡ out.old.items ++ node_text (bar_until bar y end bar.settled)) }
 {
@@ -45,7 +45,7 @@ fn push_bar(out: &mut Vec<u8>, alloc: Global, y: u64, end: u64, bar: Bar) -> Res
     }
 }
 
-// A wait that is settled at this column.
+// Appends a wait that is settled at this column.
 fn push_settled(
     out: &mut Vec<u8>,
     alloc: Global,
@@ -60,7 +60,7 @@ fn push_settled(
     push_end(out, Tag::G)
 }
 
-// A wait that isn't settled.
+// Appends a wait that isn't settled.
 fn push_open(out: &mut Vec<u8>, alloc: Global, y: u64, end: u64, bar: Bar) -> Result<(), AllocError>
     ensures { OnOk result (out.new.items ≡ out.old.items ++ node_text (bar_until bar y end None)) }
 {
@@ -70,7 +70,7 @@ fn push_open(out: &mut Vec<u8>, alloc: Global, y: u64, end: u64, bar: Bar) -> Re
     push_end(out, Tag::G)
 }
 
-// The words behind it.
+// Appends the words after a wait that isn't settled.
 #[tactic(auto, unfolding(crate::specs::Parts::open_words))]
 fn push_open_words(out: &mut Vec<u8>, y: u64, end: u64) -> Result<(), AllocError>
     ensures { OnOk result (out.new.items ≡ out.old.items ++ shape_text (open_words y end)) }
@@ -80,7 +80,7 @@ fn push_open_words(out: &mut Vec<u8>, y: u64, end: u64) -> Result<(), AllocError
     push_words(out, Kind::Words, x, base, b"still waits")
 }
 
-// What is drawn of a wait.
+// Appends the bar of a wait.
 fn push_bar_at(out: &mut Vec<u8>, bar: Bar, y: u64, end: u64) -> Result<(), AllocError>
     ensures { OnOk result (out.new.items ≡ out.old.items ++ shape_text (bar_at bar y end)) }
 {
@@ -100,7 +100,7 @@ fn settled_title(alloc: Global, bar: Bar, column: Column) -> Result<Vec<u8>, All
     Ok(title)
 }
 
-// The title of one that isn't.
+// The title of a wait that isn't settled.
 #[tactic(auto, unfolding(crate::specs::Parts::open_title))]
 fn open_title(alloc: Global, bar: Bar) -> Result<Vec<u8>, AllocError>
     ensures { IfOk result (λ title. title.items ≡ open_title bar) }
@@ -111,7 +111,7 @@ fn open_title(alloc: Global, bar: Bar) -> Result<Vec<u8>, AllocError>
     Ok(title)
 }
 
-/// Puts last what the statement of a line is called.
+/// Appends the name of the statement of a line.
 #[tactic(auto, unfolding(crate::specs::Parts::statement_name))]
 pub(crate) fn push_statement(out: &mut Vec<u8>, line: u64, session: u16) -> Result<(), AllocError>
     ensures { OnOk result (out.new.items ≡ out.old.items ++ statement_name line session) }

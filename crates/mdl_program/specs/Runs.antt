@@ -1,4 +1,4 @@
--- What the runs of the program are to write, how they may end, and with which status.
+-- What the runs of the program have to write, how they may end, and with which status.
 use Rattle.std.specs.Prelude.{⊤, ℕ, List, Option, Some, None, IfSome, Result, Ok, Err}
 use Rattle.std.specs.Option.{option_map}
 use Rattle.std.specs.Io.KnownBytes.{Appends}
@@ -15,23 +15,23 @@ use Rattle.mdl_program.specs.Threads.{ThreadsLeave}
 use Rattle.mdl_program.specs.declared.program.Run.{Run}
 use Rattle.mdl_program.specs.declared.program.Run.TheVariants.{Lock, Matrix, Replay, Threads}
 
--- the run can be done: its cache has room for as many definitions as one may keep
+-- the run is valid: its cache has a capacity that a cache may have
 abbrev pub IsRun : Run → Type 0
 IsRun (Threads patience cache) = IsCapacity cache
 IsRun (Lock kind) = ⊤
 IsRun Matrix = ⊤
 IsRun Replay = ⊤
 
--- the output of a run on this input, where it is determined and known: the answers to a script, what becomes of the statements of one, or
--- the matrices, which need no input. Of threads it isn't determined
+-- the output of a run on this input, if it is determined and known: the answers to a script of one lock, what becomes of the statements
+-- of a script, or the matrices, which need no input. For threads it isn't determined
 abbrev pub output_of : Run → Option (List ℕ) → Option (List ℕ)
 output_of (Lock kind) input = option_map (lock_output_of kind) input
 output_of Matrix input = Some matrix_text
 output_of Replay input = option_map played.output_of input
 output_of (Threads patience cache) input = None
 
--- a run may end so on this input: a script's is refused just by its first refused line, and the matrices, which are not read, fail
--- for want of memory or in writing alone
+-- how a run may end on this input: a script is refused for its first bad line and no other, and the matrices, which read nothing, fail
+-- only if memory runs out or in writing
 abbrev pub IsEndOf : Run → Option (List ℕ) → Result (Unit {0}) Fault → Type 0
 IsEndOf (Lock kind) input end = IfSome input (λ script. MayEnd (commands.parsed kind script) end)
 IsEndOf Replay input end = IfSome input (λ script. MayEnd (statements.parsed script) end)
@@ -42,12 +42,12 @@ IsEndOf Matrix input (Err Memory) = Unit {0}
 IsEndOf Matrix input (Err Read) = ⊥
 IsEndOf Matrix input (Err Write) = Unit {0}
 
--- what is written by a run that ends so: all of its output where it was done, and else no more than its fault leaves
+-- what is written by a run that ends so: all of its output after success, otherwise no more than its fault leaves
 abbrev pub Writes : Result (Unit {0}) Fault → Option (List ℕ) → Option (List ℕ) → List ℕ → Type 0
 Writes (Ok done) old new output = Appends old new output
 Writes (Err fault) old new output = LeavesWritten fault old new output
 
--- what a run that ends so may leave written: of its output, or, on threads, of a text that tells of what the sessions can have done
+-- what a run that ends so may leave written: its output, or part of it. On threads it is a text of what the sessions can have done
 abbrev pub Leaves : Run → Option (List ℕ) → Result (Unit {0}) Fault → Option (List ℕ) → Option (List ℕ) → Type 0
 Leaves (Threads patience cache) input end old new = IfSome input (λ script. ThreadsLeave patience (statements.parsed script) end old new)
 Leaves (Lock kind) input end old new = IfSome (output_of (Lock kind) input) (Writes end old new)
@@ -58,7 +58,7 @@ Leaves Replay input end old new = IfSome (output_of Replay input) (Writes end ol
 abbrev pub EndsAs : Run → Option (List ℕ) → Option (List ℕ) → Option (List ℕ) → Result (Unit {0}) Fault → Type 0
 EndsAs run input old new end = IsEndOf run input end × Leaves run input end old new
 
--- the status of a program whose run ended so
+-- the exit status of a program whose run ended so
 abbrev pub end_status : Result (Unit {0}) Fault → ℕ
 end_status (Ok done) = 0
 end_status (Err fault) = fault_status fault

@@ -8,12 +8,12 @@ use Rattle.mdl_lines.specs.Words.{AppendsPart}
 use Rattle.mdl_syntax.specs.declared.script.Line.{Line}
 use Rattle.mdl_script.specs.Runs.{IsRunOf}
 
--- a text may be told of a script that says this, played with this patience: it tells of a run of its lines
+-- a text that may be written for a script that says this, played with this patience: the text of a run of its lines
 abbrev pub IsTold : ℕ → Result (List Line) (ℕ × LineError) → List ℕ → Type 0
 IsTold patience (Ok lines) text = IsRunOf patience lines text
 IsTold patience (Err refusal) text = ⊥
 
--- what a run that ends so leaves written: a text that tells of it where it was done, a part of one where writing failed, and else nothing
+-- what a run that ends so leaves written: the text of a run after success, a part of one if writing failed, otherwise nothing
 abbrev pub ThreadsLeave : ℕ → Result (List Line) (ℕ × LineError) → Result (Unit {0}) Fault → Option (List ℕ) → Option (List ℕ) → Type 0
 ThreadsLeave patience said (Ok done) old new = (text : List ℕ) × IsTold patience said text × Appends old new text
 ThreadsLeave patience said (Err Write) old new = (text : List ℕ) × IsTold patience said text × AppendsPart old new text

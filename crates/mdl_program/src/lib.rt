@@ -1,7 +1,7 @@
-//! What a program of the locks does and tells, once the words of its command line are read: it drives one lock by a script,
+//! What a program of the locks does and prints, once the words of its command line are read: it executes a script over one lock,
 //! plays a script of statements, in one thread or with a thread for each session, or prints the matrices.
 //!
-//! [`run_asked`] does what was asked for, tells a fault on the stream of errors, and answers the status that a program ends with.
+//! [`run_asked`] does what was asked for, reports a fault on the stream of errors, and returns the exit status.
 //!
 //! # Example
 //!

@@ -1,4 +1,4 @@
-//! What a program does and tells once the words of its command line are read, over the streams that it is given.
+//! What a program does and prints once the words of its command line are read, over the streams that it is given.
 ghost use Rattle.std.specs.Prelude.{◌≡◌, ◌≢◌, IfOk, IfErr, IsOk, Result};
 ghost use Rattle.std.specs.Io.KnownBytes.{Keeps};
 ghost use Rattle.std.specs.IoError.{error_kind};
@@ -22,19 +22,19 @@ const USAGE: u8 = 2;
 /// What the command line asks for.
 #[derive(Clone, Copy, Debug, PartialEq, Eq)]
 pub enum Run {
-    /// Drive one lock of this kind by a script.
+    /// Execute a script over one lock of this kind.
     Lock(Kind),
     /// Print the two matrices of each kind of lock.
     Matrix,
     /// Play a script of statements.
     Replay,
-    /// Play a script of statements, each session on a thread of its own, with this patience, and with a cache of
-    /// its own for so many definitions.
+    /// Play a script of statements, each session on a thread of its own, with this patience, and with a cache of its own for at
+    /// most that number of definitions.
     Threads(u32, u16),
 }
 
-/// Does what is asked for, and answers the status. Words that ask for no run are refused: what there is to say of them is told
-/// on the stream of errors alone.
+/// Does what is asked for, and returns the exit status. If the words ask for no run, it writes the message that explains this to
+/// the stream of errors, and nothing else.
 pub fn run_asked<T: Threads + Wait + Sync, D: fmt::Display, R: Read, W: Write, E: Write>(
     rt: &T,
     alloc: Global,
@@ -44,7 +44,7 @@ pub fn run_asked<T: Threads + Wait + Sync, D: fmt::Display, R: Read, W: Write, E
     errors: &mut E,
 ) -> u8
     requires { IfOk asked.now IsRun }
-    // The status is that of an end which the run may have, and nothing is told of a run that was done.
+    // The status is that of an end that the run may have. No error is written for a run that succeeded.
     ensures ran { IfOk asked.now (λ run. (end : Result (Unit {0}) Fault)
         × EndsAs run (R.remaining input.old) (W.contents output.old) (W.contents output.new) end
         × (result ≡ end_status end)
@@ -78,7 +78,7 @@ fn end_of<T: Threads + Wait + Sync, R: Read, W: Write>(
     }
 }
 
-// The status of a run that ended so. A fault is told, and nothing is told of a run that was done.
+// Returns the status of a run that ended so. Reports a fault, and writes nothing for a run that succeeded.
 fn tell_end<E: Write>(end: Result<(), Fault>, errors: &mut E) -> u8
     ensures status { result ≡ end_status end }
     ensures quiet { IsOk end → Keeps (E.contents errors.old) (E.contents errors.new) }
@@ -89,7 +89,7 @@ fn tell_end<E: Write>(end: Result<(), Fault>, errors: &mut E) -> u8
     }
 }
 
-// Tells why words ask for no run, or the help that they ask for.
+// Writes why words ask for no run, or the help that they ask for.
 fn refuse_words<D: fmt::Display, E: Write>(refusal: &D, errors: &mut E) -> u8
     ensures { result ≡ 2 }
 {
@@ -97,7 +97,7 @@ fn refuse_words<D: fmt::Display, E: Write>(refusal: &D, errors: &mut E) -> u8
     USAGE
 }
 
-/// Tells that the words of the command line could not be had, and answers the status: 3 for want of memory.
+/// Reports that the words of the command line can't be read, and returns the exit status: 3 if memory ran out, otherwise 2.
 pub fn lack_words<E: Write>(error: &io::Error, errors: &mut E) -> u8
     ensures memory { error_kind error.now ≡ ErrorKind.OutOfMemory → result ≡ 3 }
     ensures others { error_kind error.now ≢ ErrorKind.OutOfMemory → result ≡ 2 }

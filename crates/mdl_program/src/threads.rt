@@ -13,9 +13,9 @@ use std::io::{Read, Write};
 use std::sync::Wait;
 use std::thread::Threads;
 
-/// Plays a script of statements with a thread for each of its sessions, and writes what they are answered.
+/// Plays a script of statements with a thread for each of its sessions, and writes the answers.
 ///
-/// It reads all, looks at all lines, plays them, and only then writes.
+/// Reads everything, checks all lines, plays them, and only then writes.
 #[tactic(auto, using(crate::proofs::TellLemmas::leaves_told, crate::proofs::TellLemmas::leaves_part))]
 pub(crate) fn play_on_threads<T: Threads + Wait + Sync, R: Read, W: Write>(
     rt: &T,
@@ -34,7 +34,7 @@ pub(crate) fn play_on_threads<T: Threads + Wait + Sync, R: Read, W: Write>(
     write_all(output, told.as_bytes())
 }
 
-// What is told of a script. Its text goes before its lines are played, which keep what is said of them.
+// Returns the text of a run of a script. The script's text is freed before its lines are played: they keep what they need of it.
 fn tell<T: Threads + Wait + Sync>(
     rt: &T,
     alloc: Global,

@@ -1,5 +1,5 @@
--- The numbers of errors, after MySQL 5.7: the Reference Manual, "Server Error Message Reference". Those from 9001 on are this
--- project's own, and so is that a table which is missing is one number for all statements.
+-- The numbers of errors, after MySQL 5.7: the Reference Manual, "Server Error Message Reference". The numbers from 9001 on
+-- are this project's own, and so is the choice of one number for a missing table in all statements.
 use Rattle.std.specs.Prelude.{ℕ}
 use Rattle.mdl_rows.specs.declared.error_number.ErrorNumber.{ErrorNumber}
 use Rattle.mdl_rows.specs.declared.error_number.ErrorNumber.TheVariants.{SchemaExists, UnknownDatabase, TableExists, DuplicateColumn, CantDropColumn, TableLockedForRead, TableNotLocked, NoSuchTable, ActiveLocks, LockWaitTimeout, Deadlock, ConflictingReadLock, NoSuchSavepoint, Interrupted, UserLockDeadlock, LastColumn, TooManyColumns, VersionLimit, NoPlace, Full}

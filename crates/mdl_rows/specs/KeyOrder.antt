@@ -1,21 +1,21 @@
--- Keys in their order, and their tickets where they were locked one after the other.
+-- Keys in their order, and the tickets of keys that were locked one after the other.
 use Rattle.std.specs.Prelude.{ℕ, List, [], ◌∷◌, get_or, position, Option, Some, None}
 use Rattle.std.specs.declared.cmp.Ordering.{Ordering}
 use Rattle.std.specs.declared.cmp.Ordering.TheVariants.{Less, Equal, Greater}
 use Rattle.mdl_key.specs.Keys.{KeyName, key_cmp, key_eq}
 
--- a key put before the first of these or behind it, or left out where it is the first
+-- a key put before the first of these keys or after it, or left out if it equals the first
 abbrev pub put : KeyName → Ordering → KeyName → List KeyName → List KeyName → List KeyName
 put key Less other others behind = key ∷ other ∷ others
 put key Equal other others behind = other ∷ others
 put key Greater other others behind = other ∷ behind
 
--- a key put in its place among keys in order, unless it is there
+-- a key inserted at its place among ordered keys, unless it is there
 abbrev pub placed : KeyName → List KeyName → List KeyName
 placed key [] = key ∷ []
 placed key (other ∷ others) = put key (key_cmp key other) other others (placed key others)
 
--- keys put in their places, one after the other
+-- keys inserted at their places, one after the other
 abbrev pub placed_all : List KeyName → List KeyName → List KeyName
 placed_all [] among = among
 placed_all (key ∷ keys) among = placed_all keys (placed key among)
@@ -24,11 +24,11 @@ placed_all (key ∷ keys) among = placed_all keys (placed key among)
 abbrev pub in_key_order : List KeyName → List KeyName
 in_key_order keys = placed_all keys []
 
--- the ticket of the lock at a place; 0, which is no ticket, where there is none
+-- the ticket at an index, or 0, which is no ticket, if there is none
 abbrev pub ticket_at : Option ℕ → List ℕ → ℕ
 ticket_at None tickets = 0
 ticket_at (Some at) tickets = get_or tickets at 0
 
--- the ticket of a key, where these keys were locked one after the other
+-- the ticket of a key, if these keys were locked one after the other with these tickets
 abbrev pub ticket_of : KeyName → List KeyName → List ℕ → ℕ
 ticket_of key keys tickets = ticket_at (position (key_eq key) keys) tickets

@@ -7,11 +7,11 @@ use Rattle.mdl_context.specs.Releases.{giving_up_all}
 use Rattle.mdl_context.specs.Waits.{giving_up_wait}
 use Rattle.mdl_rows.specs.Sessions.{Session}
 
--- a wait is given up, where there is one, and then all tickets are
+-- a wait is given up, if there is one, and then all tickets are released
 abbrev pub leaving_from : Option Wanted → ContextView → Program (Unit {0})
 leaving_from None context = giving_up_all context >> Give tt
 leaving_from (Some wanted) context = giving_up_wait context >>= (λ outcome. giving_up_all outcome.1 >> Give tt)
 
--- the session ends: a statement that waits is lost, and all is given up that the session has
+-- the program that ends a session: a waiting statement is abandoned, and all the session's tickets are released
 abbrev pub leaving : Session → Program (Unit {0})
 leaving session = leaving_from session.context.wait session.context

@@ -1,4 +1,4 @@
--- How a session plays what its statements ask: as a program of calls of a lock space.
+-- How a session plays the rows of its statements: as programs of calls of a lock space.
 use Rattle.std.specs.Prelude.{ℕ, Option, Some, None, Ok, Err, map, List}
 use Rattle.mdl_key.specs.declared.mode.Mode.{Mode}
 use Rattle.mdl_key.specs.declared.mode.Duration.TheVariants.{Transaction, Explicit}
@@ -35,12 +35,12 @@ use Rattle.mdl_rows.specs.Statements.{row_of}
 abbrev pub with_context : Session → ContextView → Session
 with_context session context = record session { context = context }
 
--- a session with something left to do
+-- a session with a waiting statement, of which this is left
 abbrev pub with_left : Session → Left → Session
 with_left session left = record session { left = Some left }
 
--- a wait that can't be told was given up: a ticket that it had gained or upgraded is released, and the statement ends. An upgraded one
--- would go with the statement
+-- the rest after a wait that can't be reported was given up: a ticket that it had gained or upgraded is released, and the statement
+-- ends because memory ran out. An upgraded ticket would be released with the statement in any case
 abbrev pub untold : Mark → Session → Outcome Resume → Program Pause
 untold mark session (Ok (resume.Acquired id), context) =
     releasing id context >>= (λ outcome. closing Starves mark (with_context session outcome.1))
@@ -48,64 +48,65 @@ untold mark session (Ok resume.Waiting, context) = closing Starves mark (with_co
 untold mark session (Ok (resume.Lost how), context) = closing Starves mark (with_context session context)
 untold mark session (Err error, context) = closing Starves mark (with_context session context)
 
--- a wait has begun: its key is told, which takes memory; where there is none the wait is given up
+-- a wait has begun: its key is reported, which takes memory. If memory runs out, the wait is given up
 abbrev pub beginning_to_wait : Wish → Left → Session → Program Pause
 beginning_to_wait wish left session =
     Grow
     (giving_up_wait session.context >>= untold left.mark session)
     (Give (Begins_to_wait wish.key wish.mode (with_left session left)))
 
--- a lock was asked for: it is had, the statement waits for it, or it ends
+-- the rest after a request for a lock: it is held and the row goes on, the statement waits for it, or the statement ends
 abbrev pub acquired : Wish → (ℕ → Row Reply) → Mark → Session → (ℕ → Session → Program Pause) → Outcome Acquire → Program Pause
 acquired wish rest mark session more (Ok (acquire.Acquired id), context) = more id (with_context session context)
 acquired wish rest mark session more (Ok (acquire.MustWait number), context) =
     beginning_to_wait wish (record { rest = rest; mark = mark }) (with_context session context)
 acquired wish rest mark session more (Err error, context) = closing (ending_of_error error) mark (with_context session context)
 
--- a lock was asked for without a wait: it is had, it can't be had at once, or the statement ends
+-- the rest after a request for a lock without waiting: it is held, or it can't be granted at once, and the row goes on, or the
+-- statement ends
 abbrev pub tried : Mark → Session → (Option ℕ → Session → Program Pause) → Outcome Tried → Program Pause
 tried mark session more (Ok (try_as.Acquired id), context) = more (Some id) (with_context session context)
 tried mark session more (Ok try_as.WouldWait, context) = more None (with_context session context)
 tried mark session more (Err error, context) = closing (ending_of_error error) mark (with_context session context)
 
--- an upgrade is waited for as a lock of this key in the stronger mode is
+-- the request that an upgrade waits with: a lock of this key in the stronger mode
 abbrev pub upgrade_wish : KeyName → Mode → Wish
 upgrade_wish key mode = record { key = key; mode = mode; duration = Transaction }
 
--- what stands was asked for
+-- the rest once the space has answered a read of a definition
 abbrev pub read_answered : Mark → Session → (Standing → Program Pause) → Answer → Program Pause
 read_answered mark session more (Reads version definition) = more (record { version = version; definition = definition })
 read_answered mark session more answer = closing (ending_of_refusal (refusal_of answer)) mark session
 
--- a change of it was asked for
+-- the rest once the space has answered a change of a definition
 abbrev pub change_answered : Mark → Session → Program Pause → Answer → Program Pause
 change_answered mark session more (Changed version) = more
 change_answered mark session more answer = closing (ending_of_refusal (refusal_of answer)) mark session
 
--- the tables of a schema were asked for
+-- the rest once the space has answered which tables a schema has
 abbrev pub tables_answered : Mark → Session → (List ℕ → Program Pause) → Answer → Program Pause
 tables_answered mark session more (Tables places) = more places
 tables_answered mark session more answer = closing (ending_of_refusal (refusal_of answer)) mark session
 
--- the key of a place was asked for
+-- the rest once the space has answered the key of a place
 abbrev pub key_answered : Mark → Session → (KeyName → Program Pause) → Answer → Program Pause
 key_answered mark session more (Key_is key) = more key
 key_answered mark session more answer = closing (ending_of_refusal (refusal_of answer)) mark session
 
--- the number of a session's wait was asked for: if it has one, that is killed
+-- the rest once the space has answered the number of a session's wait: if there is one, it is killed
 abbrev pub wait_told : ℕ → Answer → Program (Unit {0})
 wait_told target (Has_wait (Some number)) = Ask (call.Kill target number) (λ _. Give tt)
 wait_told target _ = Give tt
 
--- the wait that a session has is killed
+-- the program that kills a session's wait, if it has one
 abbrev pub killing : ℕ → Program (Unit {0})
 killing target = Ask (Wait_of target) (wait_told target)
 
--- a session all of whose tickets stay until it gives them up
+-- a session with all its tickets made explicit
 abbrev pub all_kept : Session → Session
 all_kept session = with_context session (record session.context { kept = map (kept_for Explicit) session.context.kept })
 
--- what a statement asks for is played; it began at this mark
+-- the program that plays a statement's row. `mark` is the session's mark when the statement began
 abbrev pub play : Row Reply → Mark → Session → Program Pause
 play (row.Give reply) mark session = closing (Answers reply) mark session
 play (row.Fail number) mark session = closing (Answers (reply.Error number)) mark session
@@ -136,11 +137,12 @@ play (row.Key_of place rest) mark session =
     Ask (Key_of session.context.who place) (key_answered mark session (λ key. play (rest key) mark session))
 play (row.Kill target rest) mark session = killing target >> play rest mark session
 
--- a statement starts
+-- the program that starts a statement
 abbrev pub starting : Statement → Session → Program Pause
 starting statement session = play (row_of statement) (mark_of session.context.kept) session
 
--- the wait of a statement went on: it isn't settled, the lock is had, or the wait is lost
+-- the rest after a look at a statement's wait: it isn't settled, or the lock is held and the row goes on, or the wait is lost or fails
+-- and the statement ends
 abbrev pub resumed : Left → Session → Outcome Resume → Program Pause
 resumed left session (Ok resume.Waiting, context) = Give (Waits_on (with_left (with_context session context) left))
 resumed left session (Ok (resume.Acquired id), context) = play (left.rest id) left.mark (with_context session context)
@@ -148,11 +150,11 @@ resumed left session (Ok (resume.Lost how), context) =
     closing (ending_of_loss (waits_for_user_lock session.context) how) left.mark (with_context session context)
 resumed left session (Err error, context) = closing (ending_of_error error) left.mark (with_context session context)
 
--- a statement goes on with what is left of it
+-- a statement continues with what is left of it
 abbrev pub going_on_with : Option Left → Session → Program Pause
 going_on_with None session = Give (Faults session)
 going_on_with (Some left) session = resuming session.context >>= resumed left session
 
--- a statement goes on: what is left of it is taken up
+-- the program that continues a waiting statement
 abbrev pub going_on : Session → Program Pause
 going_on session = going_on_with session.left (record session { left = None })

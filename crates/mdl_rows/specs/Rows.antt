@@ -1,4 +1,4 @@
--- What a statement asks of its session, one thing after the other. Waits don't show here: a lock that is asked for is got, or the
+-- Rows: what a statement does, one step after the other. Waits don't appear in a row: a requested lock is granted, or the
 -- statement has ended.
 use Rattle.std.specs.Prelude.{ℕ, Bool, true, false, List, [], ◌∷◌, Option}
 use Rattle.mdl_key.specs.declared.mode.Mode.{Mode}
@@ -12,48 +12,48 @@ use Rattle.mdl_context.specs.Wishes.{Wish}
 use Rattle.mdl_rows.specs.declared.error_number.ErrorNumber.{ErrorNumber}
 use Rattle.mdl_rows.specs.States.{State}
 
--- what is asked for next
+-- the next step of a row, and the rest, which may depend on the step's result
 pub data Row (A : Type 0) : Type 0 where
-  -- nothing more
+  -- the end of the row, with a result
   Give : A → Row A
-  -- the end of the statement, which fails
+  -- the statement ends and fails with this error
   Fail : ErrorNumber → Row A
-  -- memory
+  -- the code may take memory. If it runs out, the statement ends
   Room : Row A → Row A
-  -- what the session keeps
+  -- reads or changes the session's state
   Look : (State → Row A) → Row A
   Set : (State → State) → Row A → Row A
-  -- where the session stands
+  -- reads the session's current mark
   Here : (Mark → Row A) → Row A
-  -- a lock, however long that takes; and what its ticket leads to
+  -- requests a lock, and waits for it if necessary. The rest gets the ticket's number
   Acquire : Wish → (ℕ → Row A) → Row A
-  -- a lock, if it can be had without a wait; and what its ticket leads to, or that there is none
+  -- requests a lock without waiting. The rest gets the ticket's number, or none if the lock can't be granted now
   Try_acquire : Wish → (Option ℕ → Row A) → Row A
-  -- the ticket of this key that was gained last, if there is one
+  -- looks up the session's last-gained ticket of this key, if there is one
   Last : KeyName → (Option ℕ → Row A) → Row A
-  -- a stronger mode for a ticket of this key, however long that takes; and what the ticket leads to then
+  -- upgrades a ticket of this key to a stronger mode, and waits for that if necessary. The rest gets the ticket's number
   Upgrade : (id : ℕ) → KeyName → Mode → (ℕ → Row A) → Row A
-  -- a weaker mode for a ticket
+  -- downgrades a ticket to a weaker mode
   Downgrade : (id : ℕ) → Mode → Row A → Row A
-  -- that some of the session's tickets go
+  -- releases some of the session's tickets
   Give_up : (List Kept → List Kept) → Row A → Row A
-  -- that one goes
+  -- releases one ticket
   Release : (id : ℕ) → Row A → Row A
-  -- that all stay until the session gives them up
+  -- makes all the session's tickets explicit
   Keep : Row A → Row A
-  -- what stands under the key of a ticket
+  -- reads the version and definition of a ticket's key
   Read : (id : ℕ) → (Standing → Row A) → Row A
-  -- a change of it
+  -- changes the definition of a ticket's key
   Redefine : (id : ℕ) → Change → Row A → Row A
-  -- the places of a schema's tables
+  -- reads the places of a schema's tables that have a definition
   Tables_of : (schema : List ℕ) → (List ℕ → Row A) → Row A
-  -- the key of a place
+  -- reads the key of a place
   Key_of : (place : ℕ) → (KeyName → Row A) → Row A
-  -- the end of a session's wait
+  -- kills a session's wait, if it has one
   Kill : (target : ℕ) → Row A → Row A
 
 infixl 20 ◌>>=◌
--- one row, and then what it gives leads to
+-- one row, and then the row that its result leads to
 abbrev pub ◌>>=◌ : {A B : Type 0} → Row A → (A → Row B) → Row B
 Give x >>= next = next x
 Fail number >>= next = Fail number
@@ -80,15 +80,15 @@ infixl 20 ◌>>◌
 abbrev pub ◌>>◌ : {A B : Type 0} → Row A → Row B → Row B
 first >> second = first >>= (λ _. second)
 
--- a row that only does something, and tells nothing
+-- a row without a result
 abbrev pub Act : Type 0
 Act = Row (Unit {0})
 
--- nothing is done
+-- the row that does nothing
 abbrev pub nothing : Act
 nothing = Give (tt {0})
 
--- each thing alone
+-- rows of a single step
 abbrev pub room : Act
 room = Room nothing
 
@@ -140,12 +140,12 @@ key_of place = Key_of place Give
 abbrev pub kill : ℕ → Act
 kill target = Kill target nothing
 
--- a check: where it isn't passed, the statement fails so
+-- a check: if it isn't passed, the statement fails with this error
 abbrev pub check : Bool → ErrorNumber → Act
 check true number = nothing
 check false number = Fail number
 
--- locks, one after the other, and their tickets
+-- requests locks, one after the other. The result is their tickets
 abbrev pub acquire_all : List Wish → Row (List ℕ)
 acquire_all [] = Give []
 acquire_all (wish ∷ wishes) = do
@@ -153,7 +153,7 @@ acquire_all (wish ∷ wishes) = do
   tickets ← acquire_all wishes
   Give (ticket ∷ tickets)
 
--- the same for each of these numbers, one after the other
+-- does the same for each of these numbers, one after the other
 abbrev pub for_each : (ℕ → Act) → List ℕ → Act
 for_each act [] = nothing
 for_each act (id ∷ ids) = do

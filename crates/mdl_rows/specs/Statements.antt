@@ -1,13 +1,13 @@
 -- What each statement does, after MySQL 5.7: the Reference Manual, "Metadata Locking", "START TRANSACTION, COMMIT, and ROLLBACK
 -- Statements", "SAVEPOINT, ROLLBACK TO SAVEPOINT, and RELEASE SAVEPOINT Statements", "LOCK TABLES and UNLOCK TABLES Statements" and
--- "Locking Functions".
--- Checks stand in the order in which they are made. This project's own choice is that CREATE TABLE has its lock before it looks at
--- schema, table and columns, and CREATE SCHEMA and DROP SCHEMA before they look at the schema, that DROP TABLE drops none where one is
--- missing, that RENAME TABLE looks for the schema of the new name, that changes of definitions take no COMMIT lock of their own, and all
--- but ALTER TABLE are refused under locked tables, that ALTER TABLE clones the lock of a locked table and raises the clone, that
--- LOCK TABLES has all its locks before it looks whether a table is missing, that a savepoint outside a transaction is nothing, that
--- going back releases what was gained since, whatever was written, and leaves the transaction one that wrote, that KILL QUERY is
--- always done, and that RELEASE_LOCK finds out whether another session holds a lock by asking for it.
+-- "Locking Functions". Checks are listed in the order in which they are made. "The GLOBAL lock" is taken in mode IX for writes and
+-- changes of definitions, and mode S blocks these. The following is this project's own choice. CREATE TABLE gets its lock before it
+-- checks schema, table and columns, and CREATE SCHEMA and DROP SCHEMA get theirs before they check the schema. DROP TABLE drops none if
+-- one is missing. RENAME TABLE checks the schema of the new name. Changes of definitions take no COMMIT lock of their own, and all
+-- except ALTER TABLE are refused under locked tables. ALTER TABLE clones the lock of a locked table and upgrades the clone. LOCK TABLES
+-- gets all its locks before it checks whether a table is missing. A savepoint outside a transaction does nothing. Going back to a
+-- savepoint releases what was gained since, whatever was written, and the transaction still counts as one that wrote. KILL QUERY always
+-- succeeds. RELEASE_LOCK finds out whether another session holds a lock by requesting it.
 use Rattle.std.specs.Prelude.{ℕ, Bool, true, false, not, ◌&&◌, nat_lt, List, [], ◌∷◌, ◌++◌, filter, map, find, is_some, Option, Some, None, if◌then◌else◌}
 use Rattle.std.specs.List.{list_any}
 use Rattle.mdl_key.specs.declared.mode.Mode.{Mode}
@@ -52,31 +52,31 @@ use Rattle.mdl_rows.specs.States.{has_locked, opened, closed, written, unlocked,
 
 -- ---- transactions
 
--- the transaction ends: its tickets go, and those of the statement
+-- ends the transaction: releases its tickets, and those of the statement
 abbrev pub end_transaction : Act
 end_transaction = do
   give_up of_transaction
   set closed
 
--- it ends under the COMMIT lock, which goes then
+-- ends the transaction under the COMMIT lock, and then releases that lock
 abbrev pub end_under : ℕ → Act
 end_under lock = do
   end_transaction
   release lock
 
--- a transaction that wrote is committed
+-- commits a transaction that wrote
 abbrev pub commit_writes : Act
 commit_writes = do
   lock ← acquire commit_key IX for.Explicit
   end_under lock
 
--- an open transaction is committed
+-- commits an open transaction
 abbrev pub commit : Act
 commit = do
   state ← look
   if state.is_open then (if state.has_written then commit_writes else end_transaction) else nothing
 
--- an open transaction is rolled back
+-- rolls back an open transaction
 abbrev pub rollback : Act
 rollback = do
   state ← look
@@ -84,52 +84,52 @@ rollback = do
 
 -- ---- locked tables, and the global read lock
 
--- locked tables are given up, with their scopes
+-- releases locked tables, with their scopes
 abbrev pub unlock_tables : Act
 unlock_tables = do
   state ← look
   for_each release (map (λ (table : Locked). table.ticket) state.locked ++ state.scopes)
   set unlocked
 
--- the session has no global read lock of its own
+-- checks that the session doesn't have the global read lock itself
 abbrev pub no_read_lock : Act
 no_read_lock = do
   state ← look
   check (not (is_some state.read_lock)) ConflictingReadLock
 
--- it has no locked tables
+-- checks that the session has no locked tables
 abbrev pub no_locked_tables : Act
 no_locked_tables = do
   state ← look
   check (not (has_locked state.locked)) ActiveLocks
 
--- a table that has to be among the locked ones
+-- a locked table, or an error if the table isn't locked
 abbrev pub among_locked : Option Locked → Row Locked
 among_locked (Some table) = Give table
 among_locked None = Fail TableNotLocked
 
--- the lock of a table is held already, where it is among the locked ones
+-- the lock that the session holds of a table by LOCK TABLES
 abbrev pub held_lock : KeyName → Row Locked
 held_lock table = do
   state ← look
   among_locked (find (λ (locked : Locked). key_eq table locked.key) state.locked)
 
--- ---- what stands
+-- ---- definitions of keys
 
--- whether anything is defined
+-- whether a key has a definition
 abbrev pub is_defined : Standing → Bool
 is_defined standing = is_some standing.definition
 
--- whether it can be changed once more
+-- whether a definition can be changed once more, before the limit of 1,000,000 versions
 abbrev pub has_version_left : Standing → Bool
 has_version_left standing = nat_lt standing.version 1000000
 
--- the columns of a table
+-- the columns of a table's definition
 abbrev pub columns_of : Option Definition → List (List ℕ)
 columns_of (Some (Table columns)) = columns
 columns_of _ = []
 
--- what stands under a table's lock, where there is such a table
+-- the version and definition of a table, read under its lock. Fails if there is no such table
 abbrev pub exists : ℕ → Row Standing
 exists ticket = do
   standing ← read ticket
@@ -145,21 +145,21 @@ begin_after_commit = do
   set opened
   Give reply.Ok
 
--- where the session stands is marked by a name
+-- saves the session's current mark under a name
 abbrev pub save_here : List ℕ → Act
 save_here name = do
   room
   mark ← here
   set (λ state. record state { savepoints = with_savepoint name mark state.savepoints })
 
--- SAVEPOINT: without a transaction it is nothing
+-- SAVEPOINT: without a transaction it does nothing
 abbrev pub save : List ℕ → Row Reply
 save name = do
   state ← look
   if state.is_open then save_here name else nothing
   Give reply.Ok
 
--- the session goes back to where it stood, if there is such a savepoint
+-- goes back to a savepoint's mark. Fails if there is no such savepoint
 abbrev pub go_back : List ℕ → Option Mark → Row Reply
 go_back name None = Fail NoSuchSavepoint
 go_back name (Some mark) = do
@@ -175,14 +175,14 @@ rollback_to name = do
 
 -- ---- SELECT
 
--- a table is shown under its lock, behind those that were shown before
+-- shows a table under its lock, after those already shown
 abbrev pub show : List TableShown → KeyName → ℕ → Row (List TableShown)
 show shown table ticket = do
   standing ← exists ticket
   room
   Give (shown ++ record { key = table; version = standing.version; columns = columns_of standing.definition } ∷ [])
 
--- each of the tables is locked so and shown, before the next one is
+-- locks each of the tables in this way and shows it, before the next one
 abbrev pub show_all : (KeyName → Row ℕ) → List TableShown → List KeyName → Row Reply
 show_all lock shown [] = Give (reply.Columns shown)
 show_all lock shown (table ∷ tables) = do
@@ -190,17 +190,17 @@ show_all lock shown (table ∷ tables) = do
   more ← show shown table ticket
   show_all lock more tables
 
--- the lock of a table that is read
+-- the lock by which a table is read
 abbrev pub lock_to_read : KeyName → Row ℕ
 lock_to_read table = acquire table SR for.Transaction
 
--- the lock of a table that is among the locked ones
+-- the lock of a table that LOCK TABLES locked
 abbrev pub lock_held : KeyName → Row ℕ
 lock_held table = do
   locked ← held_lock table
   Give locked.ticket
 
--- a table is shown under the lock that is held
+-- shows a table that LOCK TABLES locked
 abbrev pub show_held : List TableShown → KeyName → Row (List TableShown)
 show_held shown table = do
   ticket ← lock_held table
@@ -214,43 +214,43 @@ select tables = do
 
 -- ---- INSERT, UPDATE, DELETE
 
--- the mode of a write
+-- the mode of the table lock of a write
 abbrev pub write_mode : Priority → Mode
 write_mode Normal = SW
 write_mode Low = SWLP
 
--- the transaction wrote; without an open one, the write is a transaction of its own, and is committed
+-- notes that the open transaction wrote. Without an open one, the write is a transaction of its own, and is committed
 abbrev pub wrote : Row Reply
 wrote = do
   state ← look
   if state.is_open then set written else commit_writes
   Give reply.Ok
 
--- a table is written under its lock
+-- writes to a table under its lock
 abbrev pub write_under : ℕ → Row Reply
 write_under ticket = do
   exists ticket
   wrote
 
--- a table is locked and written, under the lock of all writes
+-- locks a table and writes to it, under the GLOBAL lock
 abbrev pub lock_and_write : KeyName → Priority → Row Reply
 lock_and_write table priority = do
   ticket ← acquire table (write_mode priority) for.Transaction
   write_under ticket
 
--- all writes are locked, against whoever would keep the data still, and then the table
+-- gets the GLOBAL lock in mode IX, which a global read lock of another session blocks, and then locks the table
 abbrev pub lock_writes : KeyName → Priority → Row Reply
 lock_writes table priority = do
   global ← acquire global_key IX for.Statement
   lock_and_write table priority
 
--- a write of a session that has locked no tables
+-- a write of a session without locked tables
 abbrev pub write_unlocked : KeyName → Priority → Row Reply
 write_unlocked table priority = do
   no_read_lock
   lock_writes table priority
 
--- a write of one that has
+-- a write of a session with locked tables
 abbrev pub write_locked : KeyName → Row Reply
 write_locked table = do
   locked ← held_lock table
@@ -265,14 +265,15 @@ write table priority = do
 
 -- ---- changes of definitions
 
--- how DDL begins. After it no transaction is open, so what it locks goes as it ends
+-- how DDL begins. After it no transaction is open, so the locks of DDL are released when the statement ends
 abbrev pub ddl : Act
 ddl = do
   no_read_lock
   no_locked_tables
   commit
 
--- the lock of DDL in a key: a table for all others; a schema, and all writes, only against whoever would lock them as a whole
+-- the lock of DDL on a key. A table is locked against all other sessions. A schema and GLOBAL are locked only against sessions that lock
+-- them as a whole
 abbrev pub ddl_lock : KeyName → Wish
 ddl_lock key = lock_in key.namespace where
   lock_in : Namespace → Wish
@@ -280,11 +281,11 @@ ddl_lock key = lock_in key.namespace where
   lock_in of.Global = record { key = key; mode = IX; duration = for.Statement }
   lock_in _ = record { key = key; mode = IX; duration = for.Transaction }
 
--- the schema of a table
+-- the key of a table's schema
 abbrev pub schema_of : KeyName → KeyName
 schema_of table = schema_key table.schema
 
--- there is a schema
+-- checks that a schema exists
 abbrev pub check_schema : ℕ → Act
 check_schema schema = do
   over ← read schema
@@ -292,7 +293,7 @@ check_schema schema = do
 
 -- ---- CREATE TABLE
 
--- there is no such table, its columns have names of their own, and it can be changed once more
+-- checks that there is no such table, that its columns have different names, and that it can be changed once more
 abbrev pub check_new : List (List ℕ) → ℕ → Act
 check_new columns table = do
   standing ← read table
@@ -300,13 +301,13 @@ check_new columns table = do
   check (not (names_twice columns)) DuplicateColumn
   check (has_version_left standing) VersionLimit
 
--- a table comes to stand
+-- defines a table
 abbrev pub make_table : List (List ℕ) → ℕ → Act
 make_table columns table = do
   room
   redefine table (change.Create (Table columns))
 
--- a table is created under its lock and its schema's
+-- creates a table under its lock and its schema's
 abbrev pub create_under : List (List ℕ) → ℕ → ℕ → Row Reply
 create_under columns schema table = do
   check_schema schema
@@ -314,13 +315,13 @@ create_under columns schema table = do
   make_table columns table
   Give reply.Ok
 
--- a table is locked under its schema's lock, and created
+-- locks a table under its schema's lock, and creates it
 abbrev pub lock_and_create : KeyName → List (List ℕ) → ℕ → Row Reply
 lock_and_create table columns schema = do
   ticket ← acquire table X for.Transaction
   create_under columns schema ticket
 
--- its schema is locked under the lock of all writes, and then the table is locked and created
+-- locks a table's schema under the GLOBAL lock, and then locks and creates the table
 abbrev pub lock_schema_and_create : KeyName → List (List ℕ) → Row Reply
 lock_schema_and_create table columns = do
   room
@@ -335,21 +336,21 @@ create_after_commit table columns = do
 
 -- ---- CREATE SCHEMA
 
--- there is no such schema, and it can be changed once more
+-- checks that there is no such schema, and that it can be changed once more
 abbrev pub check_new_schema : ℕ → Act
 check_new_schema schema = do
   standing ← read schema
   check (not (is_defined standing)) SchemaExists
   check (has_version_left standing) VersionLimit
 
--- a schema is created under its lock
+-- creates a schema under its lock
 abbrev pub create_schema_under : ℕ → Row Reply
 create_schema_under schema = do
   check_new_schema schema
   redefine schema (change.Create Schema)
   Give reply.Ok
 
--- a schema is locked against all that would be done in it, under the lock of all writes, and created
+-- locks a schema in mode X under the GLOBAL lock, against DDL and LOCK TABLES for writing in it, and creates it
 abbrev pub lock_and_create_schema : List ℕ → Row Reply
 lock_and_create_schema name = do
   room
@@ -364,17 +365,17 @@ create_schema_after_commit name = do
 
 -- ---- DROP TABLE
 
--- a table can be changed once more
+-- checks that a key's definition can be changed once more
 abbrev pub can_change : ℕ → Act
 can_change ticket = do
   standing ← read ticket
   check (has_version_left standing) VersionLimit
 
--- there is such a table
+-- checks that a table exists
 abbrev pub stands : ℕ → Act
 stands ticket = exists ticket >> nothing
 
--- tables are dropped under their locks: all, or none where one is missing or can't be changed once more
+-- drops tables under their locks: all, or none if one is missing or can't be changed once more
 abbrev pub drop_under : List ℕ → Row Reply
 drop_under tickets = do
   for_each stands tickets
@@ -382,7 +383,7 @@ drop_under tickets = do
   for_each (λ ticket. redefine ticket change.Drop) tickets
   Give reply.Ok
 
--- tables are locked under the locks of their schemas, all of them before the first is looked at, and dropped
+-- locks tables under the locks of their schemas, all of them before the first is checked, and drops them
 abbrev pub lock_and_drop : List KeyName → Row Reply
 lock_and_drop tables = do
   room
@@ -398,7 +399,7 @@ drop_after_commit tables = do
 
 -- ---- DROP SCHEMA
 
--- the keys of places, one after the other, behind those that were told before
+-- the keys of places, one after the other, after those already found
 abbrev pub keys_of : List KeyName → List ℕ → Row (List KeyName)
 keys_of told [] = Give told
 keys_of told (place ∷ places) = do
@@ -412,7 +413,7 @@ tables_in name = do
   places ← tables_within name
   keys_of [] places
 
--- a schema is dropped behind its tables, under all their locks, unless one of them can't be changed once more
+-- drops the tables and then the schema, under all their locks, unless one of them can't be changed once more
 abbrev pub drop_with : ℕ → List ℕ → Row Reply
 drop_with schema tables = do
   for_each can_change tables
@@ -421,7 +422,7 @@ drop_with schema tables = do
   redefine schema change.Drop
   Give reply.Ok
 
--- there is such a schema: its tables are locked under its lock, all of them before the first is looked at, and it is dropped with them
+-- checks that a schema exists, locks its tables under its lock, all of them before the first is checked, and drops it with them
 abbrev pub drop_schema_under : List ℕ → ℕ → Row Reply
 drop_schema_under name schema = do
   check_schema schema
@@ -430,7 +431,7 @@ drop_schema_under name schema = do
   tickets ← acquire_all (map ddl_lock tables)
   drop_with schema tickets
 
--- a schema is locked against all that would be done in it, under the lock of all writes, and dropped
+-- locks a schema in mode X under the GLOBAL lock, against DDL and LOCK TABLES for writing in it, and drops it
 abbrev pub lock_and_drop_schema : List ℕ → Row Reply
 lock_and_drop_schema name = do
   room
@@ -445,13 +446,13 @@ drop_schema_after_commit name = do
 
 -- ---- RENAME TABLE
 
--- there is no table under this lock
+-- checks that there is no table under this lock
 abbrev pub is_free : ℕ → Act
 is_free ticket = do
   standing ← read ticket
   check (not (is_defined standing)) TableExists
 
--- a definition that has to be there
+-- a definition, or an error if there is none
 abbrev pub has_definition : Option Definition → Row Definition
 has_definition (Some definition) = Give definition
 has_definition None = Fail NoSuchTable
@@ -462,7 +463,7 @@ definition_under ticket = do
   standing ← read ticket
   has_definition standing.definition
 
--- a definition goes from one table to another; each can be changed once more before the first of them is
+-- moves a definition from one table to another. Checks before the first change that each can be changed once more
 abbrev pub move_definition : Definition → ℕ → ℕ → Row Reply
 move_definition definition from to = do
   for_each can_change (to ∷ from ∷ [])
@@ -470,7 +471,7 @@ move_definition definition from to = do
   redefine from change.Drop
   Give reply.Ok
 
--- a table is renamed under the locks of both names and of the schema that it comes into
+-- renames a table under the locks of both names and of the new name's schema
 abbrev pub rename_under : ℕ → ℕ → ℕ → Row Reply
 rename_under schema from to = do
   is_free to
@@ -482,14 +483,14 @@ rename_under schema from to = do
 abbrev pub both_names : KeyName → KeyName → List KeyName
 both_names from to = in_key_order (from ∷ to ∷ [])
 
--- both names are locked in key order, under the locks of their schemas, before the first is looked at
+-- locks both names in key order, under the locks of their schemas, before the first is checked, and renames the table
 abbrev pub lock_and_rename : KeyName → KeyName → ℕ → Row Reply
 lock_and_rename from to schema = do
   room
   tickets ← acquire_all (map ddl_lock (both_names from to))
   rename_under schema (ticket_of from (both_names from to) tickets) (ticket_of to (both_names from to) tickets)
 
--- all writes, and the schemas of both names in key order
+-- GLOBAL, and the schemas of both names in key order
 abbrev pub both_scopes : KeyName → KeyName → List KeyName
 both_scopes from to = global_key ∷ in_key_order (map schema_of (from ∷ to ∷ []))
 
@@ -502,26 +503,26 @@ rename_after_commit from to = do
 
 -- ---- UNLOCK TABLES
 
--- the ticket of the COMMIT lock goes, where there is one
+-- releases the ticket of the COMMIT lock, if there is one
 abbrev pub release_commits : Option ℕ → Act
 release_commits None = nothing
 release_commits (Some commit) = release commit
 
--- the tickets of a global read lock go
+-- releases the tickets of a global read lock
 abbrev pub release_read_lock : Option ReadLock → Act
 release_read_lock None = nothing
 release_read_lock (Some lock) = do
   release_commits lock.commit
   release lock.global
 
--- the global read lock is given up
+-- releases the global read lock
 abbrev pub give_up_read_lock : Act
 give_up_read_lock = do
   state ← look
   release_read_lock state.read_lock
   set without_read_lock
 
--- UNLOCK TABLES: a transaction that is open stays so
+-- UNLOCK TABLES: an open transaction stays open
 abbrev pub unlock : Row Reply
 unlock = do
   unlock_tables
@@ -530,26 +531,27 @@ unlock = do
 
 -- ---- FLUSH TABLES WITH READ LOCK
 
--- with the COMMIT lock the session has the global read lock
+-- with the COMMIT lock, the session has the whole global read lock
 abbrev pub read_lock_under : ℕ → Row Reply
 read_lock_under commit = do
   set (with_commits_locked commit)
   Give reply.Ok
 
--- all commits are locked beside all writes. Where that lock isn't had, the other one goes as the statement ends
+-- gets the COMMIT lock in mode S, under the GLOBAL lock. If it can't be granted, the GLOBAL lock is released when the statement ends
 abbrev pub lock_commits : ℕ → Row Reply
 lock_commits global = do
   set (with_writes_locked global)
   commit ← acquire commit_key S for.Explicit
   read_lock_under commit
 
--- all writes are locked, and then all commits
+-- gets the GLOBAL lock in mode S, which blocks writes and DDL of other sessions, and then the COMMIT lock, which blocks their commits of
+-- writes
 abbrev pub get_read_lock : Row Reply
 get_read_lock = do
   global ← acquire global_key S for.Explicit
   lock_commits global
 
--- FLUSH TABLES WITH READ LOCK, once no transaction is open: nothing more, where the session has the global read lock
+-- FLUSH TABLES WITH READ LOCK, once no transaction is open. Does nothing if the session has the global read lock
 abbrev pub flush_after_commit : Row Reply
 flush_after_commit = do
   state ← look
@@ -557,7 +559,7 @@ flush_after_commit = do
 
 -- ---- ALTER TABLE
 
--- the error of a change that can't be made. What is no table can't be altered
+-- the error of a change that can't be made. All faults not listed are reported as a missing table
 abbrev pub fault_number : DefError → ErrorNumber
 fault_number fault.DuplicateColumn = DuplicateColumn
 fault_number fault.NoColumn = CantDropColumn
@@ -565,12 +567,12 @@ fault_number fault.LastColumn = LastColumn
 fault_number fault.ManyColumns = TooManyColumns
 fault_number _ = NoSuchTable
 
--- a change that can be made
+-- checks that a change has no fault
 abbrev pub unless_fault : Option DefError → Act
 unless_fault None = nothing
 unless_fault (Some fault) = Fail (fault_number fault)
 
--- there is a table that can be changed so, and it can be changed once more
+-- checks that there is a table to which the change can be made, and that it can be changed once more
 abbrev pub check_change : Change → ℕ → Act
 check_change change table = do
   standing ← read table
@@ -578,81 +580,82 @@ check_change change table = do
   unless_fault (change_fault standing.definition change)
   check (has_version_left standing) VersionLimit
 
--- a table is changed under a lock that nobody shares
+-- changes a table under a lock in mode X
 abbrev pub change_table : Alteration → ℕ → Row Reply
 change_table alteration table = do
   redefine table alteration.change
   Give reply.Ok
 
--- its lock is raised so far, and it is changed
+-- upgrades a table's lock to X, and changes the table
 abbrev pub raise_and_change : Alteration → ℕ → Row Reply
 raise_and_change alteration table = do
   alone ← upgrade table alteration.table X
   change_table alteration alone
 
--- it is copied while nobody writes, and then changed
+-- upgrades a table's lock to SNW, so that no other session writes while the table is copied, and then changes the table
 abbrev pub alter_by_copy : Alteration → ℕ → Row Reply
 alter_by_copy alteration table = do
   copied ← upgrade table alteration.table SNW
   raise_and_change alteration copied
 
--- others that read or write may use it again while it is altered where it stands, and then it is changed
+-- downgrades a table's lock to SU, so that other sessions can read and write the table while it is altered in place, and then changes
+-- the table
 abbrev pub reopen_and_change : Alteration → ℕ → Row Reply
 reopen_and_change alteration table = do
   downgrade table SU
   raise_and_change alteration table
 
--- a table is altered where it stands: nobody else uses it while that is prepared
+-- alters a table in place: upgrades its lock to X, so that no other session uses it while the alteration is prepared
 abbrev pub alter_in_place : Alteration → ℕ → Row Reply
 alter_in_place alteration table = do
   prepared ← upgrade table alteration.table X
   reopen_and_change alteration prepared
 
--- a table is altered by an algorithm
+-- alters a table by an algorithm
 abbrev pub alter_by : Algorithm → Alteration → ℕ → Row Reply
 alter_by Copy = alter_by_copy
 alter_by Inplace = alter_in_place
 
--- a table is altered under its lock, if it can be
+-- alters a table under its lock, if the change can be made
 abbrev pub alter_under : Alteration → ℕ → Row Reply
 alter_under alteration table = do
   check_change alteration.change table
   alter_by alteration.algorithm alteration table
 
--- a table of those that the session has locked is changed, and its lock is what it was
+-- changes a table that LOCK TABLES locked, and downgrades its lock to the former mode
 abbrev pub change_and_lower : Alteration → ℕ → Row Reply
 change_and_lower alteration table = do
   redefine table alteration.change
   downgrade table SNRW
   Give reply.Ok
 
--- it is altered so, whatever the algorithm
+-- alters a table that LOCK TABLES locked, by either algorithm
 abbrev pub alter_locked_under : Alteration → ℕ → Row Reply
 alter_locked_under alteration table = do
   check_change alteration.change table
   alone ← upgrade table alteration.table X
   change_and_lower alteration alone
 
--- the lock that the session has is cloned for the transaction, and the clone is raised: it goes however the statement ends, and the
--- table stays locked as it was also where memory runs out in the midst
+-- clones the session's lock of a table for the transaction, and upgrades the clone. The clone is released however the statement ends, so
+-- the table stays locked as before, even if memory runs out halfway
 abbrev pub alter_locked : Alteration → Row Reply
 alter_locked alteration = do
   table ← acquire alteration.table SNRW for.Transaction
   alter_locked_under alteration table
 
--- a table of a session that has locked none is locked against other changes, and altered
+-- locks a table against other changes, for a session without locked tables, and alters it
 abbrev pub alter_unlocked : Alteration → Row Reply
 alter_unlocked alteration = do
   table ← acquire alteration.table SU for.Transaction
   alter_under alteration table
 
--- a table is altered under the lock of its schema
+-- alters a table under the lock of its schema
 abbrev pub alter_in_schema : Alteration → Row Reply
 alter_in_schema alteration = do
   state ← look
   if has_locked state.locked then alter_locked alteration else alter_unlocked alteration
 
--- its schema is locked under the lock of all writes, and then the table is altered
+-- locks a table's schema under the GLOBAL lock, and then alters the table
 abbrev pub lock_schema_and_alter : Alteration → Row Reply
 lock_schema_and_alter alteration = do
   room
@@ -667,7 +670,7 @@ alter_after_commit alteration = do
 
 -- ---- LOCK TABLES
 
--- whether it is for writing
+-- whether a table is locked for writing
 abbrev pub is_write : LockType → Bool
 is_write to.Read = false
 is_write to.Write = true
@@ -676,11 +679,11 @@ is_write to.Write = true
 abbrev pub written_tables : List TableLock → List KeyName
 written_tables locks = tables_of (filter (λ (lock : TableLock). is_write lock.lock_type) locks)
 
--- whether a table is among them
+-- whether a table is among those that are locked for writing
 abbrev pub may_write : List TableLock → KeyName → Bool
 may_write locks table = list_any (λ (lock : TableLock). is_write lock.lock_type && key_eq table lock.table) locks
 
--- the lock of a table that LOCK TABLES names
+-- the request for the lock of a table that LOCK TABLES names
 abbrev pub table_lock : List TableLock → KeyName → Wish
 table_lock locks table = record { key = table; mode = if may_write locks table then SNRW else SRO; duration = for.Transaction }
 
@@ -688,27 +691,27 @@ table_lock locks table = record { key = table; mode = if may_write locks table t
 abbrev pub writes_any : List TableLock → Bool
 writes_any locks = list_any (λ (lock : TableLock). is_write lock.lock_type) locks
 
--- a session that has the global read lock locks no table for writing
+-- checks that a session with the global read lock locks no table for writing
 abbrev pub check_writes : Bool → Act
 check_writes true = no_read_lock
 check_writes false = nothing
 
--- schemas behind the lock of all writes, where there are any
+-- GLOBAL and these schemas, or nothing if there are no schemas
 abbrev pub with_global : List KeyName → List KeyName
 with_global [] = []
 with_global (schema ∷ schemas) = global_key ∷ schema ∷ schemas
 
--- what is locked around tables that are locked for writing
+-- the scopes of tables that are locked for writing
 abbrev pub scopes_around : List KeyName → List KeyName
 scopes_around tables = with_global (in_key_order (map schema_of tables))
 
--- tables with their tickets
+-- locked tables with their tickets
 abbrev pub locked_by : List TableLock → List KeyName → List ℕ → List Locked
 locked_by locks (table ∷ tables) (ticket ∷ tickets) =
     record { key = table; may_write = may_write locks table; ticket = ticket } ∷ locked_by locks tables tickets
 locked_by locks _ _ = []
 
--- a session that has the locks of tables and of their scopes keeps them, by these tickets, until it gives them up
+-- checks that all tables exist, makes the session's tickets explicit, and notes the locked tables and the tickets of their scopes
 abbrev pub keep_locked : List TableLock → List KeyName → List ℕ → List ℕ → Row Reply
 keep_locked locks tables scopes tickets = do
   for_each stands tickets
@@ -717,14 +720,14 @@ keep_locked locks tables scopes tickets = do
   set (locking (locked_by locks tables tickets) scopes)
   Give reply.Ok
 
--- tables are locked under the locks of their scopes, all of them before the first is looked at
+-- locks tables under the locks of their scopes, all of them before the first is checked
 abbrev pub lock_named : List TableLock → List ℕ → Row Reply
 lock_named locks scopes = do
   room
   tickets ← acquire_all (map (table_lock locks) (in_key_order (tables_of locks)))
   keep_locked locks (in_key_order (tables_of locks)) scopes tickets
 
--- LOCK TABLES, once no transaction is open: tables that were locked before are given up
+-- LOCK TABLES, once no transaction is open. Releases tables that were locked before
 abbrev pub lock_tables_after_commit : List TableLock → Row Reply
 lock_tables_after_commit locks = do
   unlock_tables
@@ -741,14 +744,15 @@ get_lock name = do
   acquire (user_lock_key name) X for.Explicit
   Give (reply.Number true)
 
--- a lock was asked for that the session doesn't hold: another session holds it, or nobody did, and then it is released at once
+-- the reply after the session requested a lock that it doesn't hold: 0 if another session holds it. If none does, the lock is released
+-- at once, and the reply is NULL
 abbrev pub given : Option ℕ → Row Reply
 given None = Give (reply.Number false)
 given (Some ticket) = do
   release ticket
   Give reply.Null
 
--- the ticket of a lock goes that was gained last; a session that holds none finds out whether another one does
+-- releases the session's last ticket of a lock. If it has none, finds out whether another session holds the lock
 abbrev pub give_back : KeyName → Option ℕ → Row Reply
 give_back lock (Some ticket) = do
   release ticket
@@ -766,37 +770,37 @@ release_lock name = do
 
 -- ---- the table
 
--- an open transaction is committed first
+-- commits an open transaction, and then does the rest
 abbrev pub commit_first : Row Reply → Row Reply
 commit_first rest = commit >> rest
 
--- so it is before definitions are changed
+-- begins DDL, and then does the rest
 abbrev pub ddl_first : Row Reply → Row Reply
 ddl_first rest = ddl >> rest
 
--- FLUSH TABLES WITH READ LOCK is refused under locked tables; then an open transaction is committed
+-- FLUSH TABLES WITH READ LOCK: it is refused under locked tables. Otherwise an open transaction is committed
 abbrev pub flush_first : Row Reply → Row Reply
 flush_first rest = no_locked_tables >> commit_first rest
 
--- a session that has locked tables alters only one of them, which it has locked to be written
+-- ALTER TABLE of a session with locked tables: the table must be one of them, locked for writing
 abbrev pub alter_among_locked : KeyName → Row Reply → Row Reply
 alter_among_locked table rest = do
   locked ← held_lock table
   check locked.may_write TableLockedForRead
   commit_first rest
 
--- ALTER TABLE is refused under the global read lock of its session, but not under locked tables
+-- ALTER TABLE: it is refused under the session's own global read lock, but not under locked tables
 abbrev pub alter_first : KeyName → Row Reply → Row Reply
 alter_first table rest = do
   no_read_lock
   state ← look
   if has_locked state.locked then alter_among_locked table rest else commit_first rest
 
--- LOCK TABLES for writing is refused under the global read lock of its session; then an open transaction is committed
+-- LOCK TABLES: it is refused for writing under the session's own global read lock. Otherwise an open transaction is committed
 abbrev pub lock_first : List TableLock → Row Reply → Row Reply
 lock_first locks rest = check_writes (writes_any locks) >> commit_first rest
 
--- what is left of a statement once no transaction is open that it has to commit
+-- what is left of a statement once it has committed an open transaction
 abbrev pub after_commit : Statement → Row Reply
 after_commit statement.Begin = begin_after_commit
 after_commit (statement.CreateTable table columns) = create_after_commit table columns
@@ -809,7 +813,7 @@ after_commit (statement.AlterTable alteration) = alter_after_commit alteration
 after_commit (statement.LockTables locks) = lock_tables_after_commit locks
 after_commit _ = Give reply.Ok
 
--- what a statement does
+-- what a statement does: its row
 abbrev pub row_of : Statement → Row Reply
 row_of statement.Begin = commit_first begin_after_commit
 row_of statement.Commit = commit_first (Give reply.Ok)

@@ -1,4 +1,4 @@
--- What a session keeps beside its tickets, after MySQL 5.7: `THD::locked_tables_list` and `Global_read_lock` of sql/sql_class.h, and
+-- A session's state beside its tickets, after MySQL 5.7: `THD::locked_tables_list` and `Global_read_lock` of sql/sql_class.h, and
 -- the Reference Manual, "START TRANSACTION, COMMIT, and ROLLBACK Statements".
 use Rattle.std.specs.Prelude.{ℕ, Bool, true, false, not, List, [], ◌∷◌, ◌++◌, filter, find, is_some, Option, Some, None, if◌then◌else◌}
 use Rattle.std.specs.Option.{option_map}
@@ -9,8 +9,8 @@ use Rattle.mdl_rows.specs.declared.state.Locked.{Locked}
 use Rattle.mdl_rows.specs.declared.state.ReadLock.{ReadLock}
 use Rattle.mdl_rows.specs.declared.state.Savepoint.{Savepoint}
 
--- whether a transaction is open, whether it wrote, and its savepoints in order; the locked tables, and the tickets of their
--- scopes; and the tickets of the global read lock, where the session has it
+-- a session's state: whether a transaction is open, whether it wrote, and its savepoints in order, the locked tables and the tickets
+-- of their scopes, and the tickets of the global read lock, if the session has it
 pub record State : Type 0 where
   pub is_open : Bool
   pub has_written : Bool
@@ -28,48 +28,50 @@ has_locked (table ∷ tables) = true
 abbrev pub at_first : State
 at_first = record { is_open = false; has_written = false; savepoints = []; locked = []; scopes = []; read_lock = None }
 
--- with an open transaction, and without locked tables. Whether it wrote, and its savepoints, stay: there are none after `closed`
+-- the state with an open transaction, and without locked tables. Whether the transaction wrote, and its savepoints, are unchanged:
+-- `closed` has cleared them before
 abbrev pub opened : State → State
 opened state = record state { is_open = true; locked = []; scopes = [] }
 
--- without one
+-- the state without a transaction
 abbrev pub closed : State → State
 closed state = record state { is_open = false; has_written = false; savepoints = [] }
 
--- with one that wrote
+-- the state with a transaction that wrote
 abbrev pub written : State → State
 written state = record state { has_written = true }
 
--- without locked tables
+-- the state without locked tables
 abbrev pub unlocked : State → State
 unlocked state = record state { locked = []; scopes = [] }
 
--- with the lock of all writes, which is to become the global read lock
+-- the state with the GLOBAL lock, the first half of the global read lock
 abbrev pub with_writes_locked : ℕ → State → State
 with_writes_locked global state = record state { read_lock = Some (record { global = global; commit = None }) }
 
--- a read lock with this ticket of the COMMIT lock
+-- a global read lock with this ticket of the COMMIT lock
 abbrev pub with_commit : ℕ → ReadLock → ReadLock
 with_commit commit lock = record { global = lock.global; commit = Some commit }
 
--- with the COMMIT lock beside it
+-- the state with the COMMIT lock too, so that the global read lock is complete
 abbrev pub with_commits_locked : ℕ → State → State
 with_commits_locked commit state = record state { read_lock = option_map (with_commit commit) state.read_lock }
 
--- without the global read lock
+-- the state without the global read lock
 abbrev pub without_read_lock : State → State
 without_read_lock state = record state { read_lock = None }
 
--- the ticket of the lock of all writes, where the COMMIT lock isn't had beside it
+-- the ticket of the GLOBAL lock, if the global read lock lacks the COMMIT lock
 abbrev pub lone_ticket : Option ReadLock → Option ℕ
 lone_ticket None = None
 lone_ticket (Some lock) = if is_some lock.commit then None else Some lock.global
 
--- that of a session that is about to get the global read lock: no transaction is open meanwhile
+-- the ticket of the GLOBAL lock of a half-acquired global read lock, if there is one. No transaction is open while a session
+-- acquires it
 abbrev pub half_lock : State → Option ℕ
 half_lock state = if state.is_open then None else lone_ticket state.read_lock
 
--- with these tables locked, and these tickets of their scopes, and without a transaction
+-- the state with these locked tables and these tickets of their scopes, and without a transaction
 abbrev pub locking : List Locked → List ℕ → State → State
 locking locked scopes state = record (closed state) { locked = locked; scopes = scopes }
 
@@ -77,15 +79,15 @@ locking locked scopes state = record (closed state) { locked = locked; scopes = 
 abbrev pub is_named : List ℕ → Savepoint → Bool
 is_named name savepoint = pointwise ◌==◌ savepoint.name name
 
--- a savepoint of this name comes last, in place of an older one
+-- the savepoints with a new one of this name at the end, and without an older one of the name
 abbrev pub with_savepoint : List ℕ → Mark → List Savepoint → List Savepoint
 with_savepoint name mark savepoints = filter (λ savepoint. not (is_named name savepoint)) savepoints ++ record { name = name; mark = mark } ∷ []
 
--- where the session stood at the savepoint of a name, if there is one
+-- the mark of the savepoint of a name, if there is one
 abbrev pub savepoint_mark : List ℕ → List Savepoint → Option Mark
 savepoint_mark name savepoints = option_map (λ savepoint. savepoint.mark) (find (is_named name) savepoints)
 
--- the savepoints up to that one
+-- the savepoints up to the one of this name, inclusive. All of them if there is none
 abbrev pub up_to : List ℕ → List Savepoint → List Savepoint
 up_to name [] = []
 up_to name (savepoint ∷ savepoints) = savepoint ∷ (if is_named name savepoint then [] else up_to name savepoints)

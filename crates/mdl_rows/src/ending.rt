@@ -4,12 +4,12 @@ use crate::{ErrorNumber, Reply};
 /// How a statement ends.
 #[derive(Drop)]
 pub enum Ending {
-    /// It was done, or a check of it failed.
+    /// The statement was done, or one of its checks failed.
     Answers(Reply),
-    /// A lock that it asked for wasn't had.
+    /// The statement didn't get a lock that it requested, or a limit was reached.
     Misses(ErrorNumber),
-    /// It was the victim of a deadlock.
+    /// The session was the victim of a deadlock.
     Falls,
-    /// It found no memory.
+    /// The statement ran out of memory.
     Starves,
 }

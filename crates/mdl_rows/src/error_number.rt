@@ -13,17 +13,17 @@ pub enum ErrorNumber {
     TableExists,
     /// 1060: a column is named twice.
     DuplicateColumn,
-    /// 1091: the table hasn't the column that is to be dropped.
+    /// 1091: the table doesn't have the column to drop.
     CantDropColumn,
-    /// 1099: the table is locked, but only to be read.
+    /// 1099: the table is locked, but only for reading.
     TableLockedForRead,
-    /// 1100: tables are locked, and this one isn't among them.
+    /// 1100: the session has locked tables, and this one isn't among them.
     TableNotLocked,
     /// 1146: the table doesn't exist.
     NoSuchTable,
-    /// 1192: tables are locked, and the statement can't be run then.
+    /// 1192: the session has locked tables, and the statement can't run then.
     ActiveLocks,
-    /// 1205: a lock was waited for too long.
+    /// 1205: a wait for a lock timed out.
     LockWaitTimeout,
     /// 1213: the session was the victim of a deadlock.
     Deadlock,
@@ -33,17 +33,17 @@ pub enum ErrorNumber {
     NoSuchSavepoint,
     /// 1317: the wait was killed.
     Interrupted,
-    /// 3058: the session was the victim of a deadlock as it waited for a user-level lock.
+    /// 3058: the session was the victim of a deadlock while it waited for a user-level lock.
     UserLockDeadlock,
-    /// 9001: the column that is to be dropped is the table's last one.
+    /// 9001: the column to drop is the table's last one.
     LastColumn,
-    /// 9002: the table has as many columns as it can have.
+    /// 9002: the table has the greatest possible number of columns.
     TooManyColumns,
-    /// 9003: the table or the schema had all the versions that it can have.
+    /// 9003: the table or the schema has used all versions that it can have.
     VersionLimit,
-    /// 9004: there is no place for one more key.
+    /// 9004: the lock space has no place for one more key.
     NoPlace,
-    /// 9005: a lock has as many tickets, or a session drew as many numbers, as it can have.
+    /// 9005: a lock has the greatest possible number of tickets, or a session has used all its numbers.
     Full,
 }
 

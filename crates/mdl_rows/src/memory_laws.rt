@@ -1,28 +1,30 @@
-//! Laws of statements where memory is wanting, of the calls that they make, and what follows from them over the space of one
-//! thread. They are so of each statement, whatever it asks for. Each is proved as the contract of a function that does nothing.
+//! Laws of statements that run out of memory, of the calls that statements make, and what follows from them over the space of
+//! one thread. They hold for each statement, whatever it requests. Each is proved as the contract of a function that does
+//! nothing.
 ghost use Rattle.mdl_rows.specs.MemoryLaws.{StatementsTellOfWant, StatementsCallForTheirSession, SessionsKeepTheirNumber, SureStatements, StatementsKeepSpaceSound};
 
-/// Once memory was wanting, all that a statement can come to is that it ends for want of it.
+/// A statement that runs out of memory ends and reports that, and nothing else.
 pub fn statements_tell_of_want()
     ensures { StatementsTellOfWant }
 {}
 
-/// All calls of a statement are made for its session, or for nobody, and the space of one thread has them.
+/// All calls of a statement are made for its session, or for no session, and are calls that the space of one thread has.
 pub fn statements_call_for_their_session()
     ensures { StatementsCallForTheirSession }
 {}
 
-/// However far a statement comes, its session keeps its number.
+/// A session keeps its number, however far its statements come.
 pub fn sessions_keep_their_number()
     ensures { SessionsKeepTheirNumber }
 {}
 
-/// Over the space of one thread, how far a statement comes is the outcome of its definition, unless memory was wanting.
+/// Over the space of one thread, how far a statement comes is the outcome of its definition, unless memory runs out.
 pub fn sure_statements()
     ensures { SureStatements }
 {}
 
-/// The outcome of a statement is a run; it leaves the space of one thread sound, and speaking for all for whom it spoke.
+/// Over the space of one thread, the outcome of a statement is a run. It leaves the space sound, and the space still speaks for
+/// each session for which it spoke before.
 pub fn statements_keep_the_space_sound()
     ensures { StatementsKeepSpaceSound }
 {}

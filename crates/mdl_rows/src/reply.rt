@@ -1,4 +1,4 @@
-//! What a statement answers.
+//! The replies of statements.
 ghost use Rattle.std.specs.Prelude.{◌≡◌, [], ◌∷◌, ◌++◌, OnOk, OnErr};
 
 use crate::ErrorNumber;
@@ -7,12 +7,12 @@ use mdl_key::Key;
 use std::alloc::{AllocError, Global};
 use std::marker::Model;
 
-/// A table as a statement read it.
+/// A table that a statement read.
 #[derive(Drop)]
 pub struct TableShown {
     /// The table.
     pub key: Key,
-    /// How often its definition had been changed.
+    /// The version of its definition: how often it had been changed.
     pub version: u64,
     /// Its columns, in order.
     pub columns: Columns,
@@ -34,7 +34,7 @@ impl Model for TablesShown {
 }
 
 impl TablesShown {
-    /// No tables. It takes no memory.
+    /// Creates an empty list. Takes no memory.
     pub fn new(alloc: Global) -> TablesShown
         ensures { result ≡ [] }
     {
@@ -43,7 +43,7 @@ impl TablesShown {
         }
     }
 
-    /// Puts a table last.
+    /// Adds a table at the end.
     pub fn push(&mut self, table: TableShown) -> Result<(), AllocError>
         ensures pushed { OnOk result (self.new ≡ self.old ++ table ∷ []) }
         ensures unchanged { OnErr result (self.new ≡ self.old) }
@@ -60,17 +60,17 @@ impl TablesShown {
     }
 }
 
-/// How a statement ended.
+/// A finished statement's reply.
 #[derive(Drop)]
 pub enum Reply {
-    /// Well, with nothing to show.
+    /// The statement succeeded, with nothing to show.
     Ok,
-    /// Well, with tables to show.
+    /// The statement succeeded, with tables to show.
     Columns(TablesShown),
-    /// Well, with a truth value to show: 1 or 0.
+    /// The statement succeeded, with a truth value to show: 1 or 0.
     Number(bool),
-    /// Well, with NULL to show.
+    /// The statement succeeded, with NULL to show.
     Null,
-    /// It failed.
+    /// The statement failed.
     Error(ErrorNumber),
 }

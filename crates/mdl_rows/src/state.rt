@@ -1,4 +1,4 @@
-//! What a session keeps beside its tickets.
+//! A session's state beside its tickets.
 use mdl_context::Mark;
 use mdl_key::Key;
 use mdl_space::TicketId;
@@ -9,18 +9,18 @@ use mdl_syntax::Name;
 pub struct Locked {
     /// The table.
     pub key: Key,
-    /// Whether it is locked for writing, and not for reading alone.
+    /// Whether it is locked for writing, not only for reading.
     pub may_write: bool,
     /// The ticket by which it is locked.
     pub ticket: TicketId,
 }
 
-/// The global read lock: no other session writes or changes definitions, and none commits what it wrote.
+/// The global read lock: no other session can write or change definitions, or commit what it wrote.
 #[derive(Clone, Copy)]
 pub struct ReadLock {
-    /// The ticket of the lock of all writes.
+    /// The ticket of the GLOBAL lock.
     pub global: TicketId,
-    /// The ticket of the COMMIT lock, once that is had, too.
+    /// The ticket of the COMMIT lock, once it is held too.
     pub commit: Option<TicketId>,
 }
 
@@ -29,6 +29,6 @@ pub struct ReadLock {
 pub struct Savepoint {
     /// Its name.
     pub name: Name,
-    /// Where the session stood.
+    /// The session's mark at the savepoint.
     pub mark: Mark,
 }

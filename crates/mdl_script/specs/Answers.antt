@@ -1,4 +1,4 @@
--- What the sessions of a script can have answered, each over a lock table that threads share.
+-- The answers that the sessions of a script can have given, each over a lock table that threads share.
 use Rattle.std.specs.Prelude.{◌≡◌, ℕ, List, [], map, Some, None}
 use Rattle.atomic_table.specs.Seated.{TableId}
 use Rattle.mdl_calls.specs.Words.{Answer, Call, Own, Runs}
@@ -14,22 +14,22 @@ use Rattle.mdl_work.specs.Works.{lines_of, newcomer, working_off}
 abbrev pub nothing : Own
 nothing = record { held = []; wait = None }
 
--- a session of this table and of this number that has nothing
+-- a session of this table and with this number that has no ticket and no wait
 pub record IsIdleAt (table : TableId) (who : ℕ) (session : SessionView) : Type 0 where
   pub there : session.table ≡ table
   pub speaks : SpeaksFor (space_of session) who
   pub has_nothing : (space_of session).own ≡ nothing
 
--- a call joins what a session has before it to what it has after it, and its steps show what they met and did
+-- a call takes a session from one state to the next, as far as its tickets and its wait go, and its steps show what the call read and did
 abbrev pub JoinsSteps : SessionView → Call → Answer → SessionView → Type 0
 JoinsSteps s call answer t = Joins (space_of s) call answer (space_of t) × Shows call answer s t
 
--- by such calls, from one state to another, a session has worked off its own of these lines with this patience, and answered so
+-- by such calls, from one state to another, a session has executed its own of these lines with this patience, with these answers
 abbrev pub WorksOff : ℕ → List Line → ℕ → SessionView → List (ℕ × Reply) → SessionView → Type 0
 WorksOff patience lines who s answers t = Runs JoinsSteps s (working_off patience (lines_of who lines) (newcomer who)) (Some answers) t
 
--- a session at this table can have answered so to its lines of a script: it has worked them off with this patience, from where it had nothing until it had
--- nothing again; and each line has its answer, in order
+-- answers that a session of this table can have given to its lines of a script: it executed them with this patience, from a state in which it had nothing
+-- to a state in which it had nothing again, and each line has its answer, in order
 pub record AreAnswers (table : TableId) (patience : ℕ) (lines : List Line) (who : ℕ) (answers : List (ℕ × Reply)) : Type 0 where
   pub before : SessionView
   pub after : SessionView
@@ -40,7 +40,7 @@ pub record AreAnswers (table : TableId) (patience : ℕ) (lines : List Line) (wh
   pub has_nothing : own_of (space_of after) who ≡ nothing
   pub numbers : map (λ (answer : ℕ × Reply). answer.0) answers ≡ map (λ (line : Line). line.number) (lines_of who lines)
 
--- a session, and what it can have answered; one of the sessions answered this
+-- a session with answers that it can have given. If it is session `mine`, they are `own`
 abbrev pub IsTranscript : TableId → ℕ → List Line → ℕ → List (ℕ × Reply) → ℕ × List (ℕ × Reply) → Type 0
 IsTranscript table patience lines mine own transcript =
     AreAnswers table patience lines transcript.0 transcript.1 × (transcript.0 ≡ mine → transcript.1 ≡ own)

@@ -9,16 +9,16 @@ use Rattle.mdl_system.specs.Systems.{IsLawful, NoneForgotten}
 use Rattle.mdl_script.specs.Texts.{told_text, end_line}
 use Rattle.mdl_script.specs.Worlds.{Scene, script_played, waiting_in}
 
--- the text of a script that was played: a line for all that was told, and one for each session that still waits
+-- the text of a played script: a line for each thing that became of its lines, and one for each session that still waits
 abbrev pub scene_text : Scene → List ℕ
 scene_text scene = told_text scene.told ++ flat_map end_line (waiting_in scene.world)
 
--- what is written for a script that was read: nothing where a line is refused
+-- what is written for a script that was read: nothing if a line is refused
 abbrev pub output_for : Result (List Line) (ℕ × LineError) → List ℕ
 output_for (Ok lines) = scene_text (script_played lines)
 output_for (Err refusal) = []
 
--- the defined output of a script
+-- the defined output of a script, given as bytes
 abbrev pub output_of : List ℕ → List ℕ
 output_of text = output_for (parsed text)
 
@@ -26,7 +26,7 @@ output_of text = output_for (parsed text)
 abbrev pub IsLawfulThroughout : List Line → Type 0
 IsLawfulThroughout lines = (n : ℕ) → IsLawful (system_of (script_played (take n lines)).world.core)
 
--- the same for a script: one that is refused is not played
+-- the same for a script as it was read. One that is refused is not played
 abbrev pub StaysLawful : Result (List Line) (ℕ × LineError) → Type 0
 StaysLawful (Ok lines) = IsLawfulThroughout lines
 StaysLawful (Err refusal) = ⊤
@@ -35,12 +35,12 @@ StaysLawful (Err refusal) = ⊤
 abbrev pub ForgetsNobodyThroughout : List Line → Type 0
 ForgetsNobodyThroughout lines = (n : ℕ) → NoneForgotten (system_of (script_played (take n lines)).world.core)
 
--- the same for a script: one that is refused is not played
+-- the same for a script as it was read. One that is refused is not played
 abbrev pub NeverForgets : Result (List Line) (ℕ × LineError) → Type 0
 NeverForgets (Ok lines) = ForgetsNobodyThroughout lines
 NeverForgets (Err refusal) = ⊤
 
--- whether a line is behind the one of this number
+-- whether a line comes after the one of this number
 abbrev pub is_after : ℕ → Line → Bool
 is_after last line = nat_lt last line.number
 

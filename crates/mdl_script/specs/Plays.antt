@@ -1,4 +1,4 @@
--- A lock space and the sessions of a script as the code keeps them, and the world that they are.
+-- A lock space and the sessions of a script as the code keeps them, and the world that they represent.
 use Rattle.std.specs.Prelude.{◌≡◌, ℕ, ◌+◌, List, [], ◌∷◌, length, map, nat_lt, None}
 use Rattle.std.specs.List.{position_or_len}
 use Rattle.mdl_key.specs.Words.{most_sessions}
@@ -11,7 +11,7 @@ use Rattle.mdl_script.specs.declared.play.Play.{Play}
 use Rattle.mdl_script.specs.declared.play.Player as kept
 use Rattle.mdl_script.specs.Worlds.{Player, World, waiting_in}
 
--- a session with its line
+-- the session of a player, with the number of its line
 abbrev pub player_of : kept.Player → Player
 player_of player = record { session = session_of player.runner; line = player.line }
 
@@ -22,7 +22,7 @@ world_of play = record { core = play.space; players = map player_of play.players
 abbrev pub default_cache : ℕ
 default_cache = 64
 
--- one that was asked for nothing yet, and whose cache keeps nothing
+-- a session that has not been asked for anything, with an empty cache
 abbrev pub new_player : ℕ → kept.Player
 new_player who = record {
   runner = record {
@@ -34,17 +34,17 @@ new_player who = record {
   line = 0;
 }
 
--- these are the sessions from this number on, and the space attends to each of them with its cache
+-- these players have the sessions from this number on, and the space agrees with what each of them keeps, its cache included
 abbrev pub AreSeated : Core → ℕ → List kept.Player → Type 0
 AreSeated core who [] = Unit {0}
 AreSeated core who (player ∷ players) =
     (player.runner.context.who ≡ who) × AttendsWith core_space core player.runner.context player.runner.cache × AreSeated core (who + 1) players
 
--- the place of a session among others in rising order: that of the first greater one, or behind all
+-- where a session belongs among others in rising order: at the first greater one, or at the end
 abbrev pub place_of : ℕ → List ℕ → ℕ
 place_of who others = position_or_len (λ other. nat_lt who other) others
 
--- all sessions are there, and it is noted which of them wait
+-- the play has all sessions, and its list of waiting sessions is right
 pub record IsManned (play : Play) : Type 0 where
   pub all : length play.players.items ≡ most_sessions
   pub seated : AreSeated play.space 1 play.players.items

@@ -1,4 +1,4 @@
--- What is so of the texts of all runs of scripts on threads.
+-- A law of the texts of all runs of scripts on threads.
 use Rattle.std.specs.Prelude.{◌≡◌, ℕ, List, map}
 use Rattle.mdl_rows.specs.declared.reply.Reply.{Reply}
 use Rattle.mdl_steps.specs.Lists.{Distinct}
@@ -6,7 +6,7 @@ use Rattle.mdl_syntax.specs.declared.script.Line.{Line}
 use Rattle.mdl_visits.specs.declared.audited.Audited.{Audited}
 use Rattle.mdl_script.specs.RunTexts.{IsRunText}
 
--- what its sessions were answered and the books at its end make one text of a run, if no key comes twice
+-- the answers to the sessions and the books at the end determine the text of a run, if no two books have the same key
 abbrev pub RunsHaveOneText : Type 0
 RunsHaveOneText =
     (lines : List Line) (transcripts : List (ℕ × List (ℕ × Reply))) (books : List Audited) (one other : List ℕ)

@@ -1,4 +1,4 @@
--- What a run of a script on threads prints: what its sessions were answered, and what is defined at the end. The wording is this project's own.
+-- What a run of a script on threads prints: the answers to its sessions, and what is defined at the end. The wording is this project's own.
 use Rattle.std.specs.Prelude.{◌≡◌, ℕ, Bool, ◌==◌, List, ◌++◌, flat_map, filter, map}
 use Rattle.std.specs.List.{list_any, range_with_len}
 use Rattle.mdl_key.specs.Words.{most_sessions}
@@ -25,7 +25,7 @@ answer_line who answer = told_line (record { line = answer.0; who = who; news = 
 abbrev pub answers_text : ℕ → List (ℕ × Reply) → List ℕ
 answers_text who = flat_map (answer_line who)
 
--- sessions, each with its answers: the lines of one session behind those of the other
+-- the lines of several sessions, each with its answers, session by session
 abbrev pub transcripts_text : List (ℕ × List (ℕ × Reply)) → List ℕ
 transcripts_text = flat_map (λ (transcript : ℕ × List (ℕ × Reply)). answers_text transcript.0 transcript.1)
 
@@ -33,7 +33,7 @@ transcripts_text = flat_map (λ (transcript : ℕ × List (ℕ × Reply)). answe
 abbrev pub run_text : List (ℕ × List (ℕ × Reply)) → List Audited → List ℕ
 run_text transcripts sorted = transcripts_text transcripts ++ finals_text sorted
 
--- this is the text of a run of a script, of these transcripts of the sessions that it names, in rising order, and of these books
+-- the text of a run of a script: it is made of these transcripts, of the sessions that the script names in rising order, and of these books
 pub record IsRunText (lines : List Line) (transcripts : List (ℕ × List (ℕ × Reply))) (books : List Audited) (text : List ℕ) : Type 0 where
   pub sessions : map (λ (transcript : ℕ × List (ℕ × Reply)). transcript.0) transcripts ≡ named_sessions lines
   pub sorted : List Audited

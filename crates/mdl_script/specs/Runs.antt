@@ -1,4 +1,4 @@
--- What a run of a script on threads can have been.
+-- What can have happened in a run of a script on threads.
 use Rattle.std.specs.Prelude.{◌≡◌, ℕ, ◌+◌, List, [], ◌∷◌, All, codes}
 use Rattle.atomic_table.specs.Seated.{TableId}
 use Rattle.mdl_key.specs.Words.{most_places, most_sessions}
@@ -18,9 +18,9 @@ use Rattle.mdl_script.specs.RunTexts.{IsRunText}
 abbrev pub first_line : ℕ → Line
 first_line who = record { number = 1; session = who; statement = CreateSchema (codes "test") }
 
--- a text tells of a run of a script with this patience, by what the session that asks did between two of its states: it worked off the line for the first
--- schema (`first`) and then its own lines (`turn`), and at last found the books by one audit (`audited`). Each session that the script names can have
--- answered so to its lines at the same table (`answered`)
+-- a text of a run of a script with this patience, by what the asker did between two of its states: it executed the line for the first schema (`first`) and
+-- then its own lines (`turn`), and at last found the books by one audit (`audited`). Each session that the script names can have given its answers at the
+-- same table (`answered`)
 pub record IsRunBetween (patience : ℕ) (lines : List Line) (before after : SessionView) (text : List ℕ) : Type 0 where
   pub transcripts : List (ℕ × List (ℕ × Reply))
   pub books : List Audited
@@ -33,11 +33,11 @@ pub record IsRunBetween (patience : ℕ) (lines : List Line) (before after : Ses
   pub answered : All (IsTranscript before.table patience lines before.me.0.number own) transcripts
   pub told : IsRunText lines transcripts books text
 
--- the same, from where the session that asks was, to where it came
+-- the same, from a state of the asker to some later one
 abbrev pub IsRunFrom : ℕ → List Line → SessionView → List ℕ → Type 0
 IsRunFrom patience lines before text = (after : SessionView) × IsRunBetween patience lines before after text
 
--- the same at a new table of full size, where the session that asks is the first, and had done nothing yet
+-- the same at a new table of full size, where the asker is session 1 and had done nothing yet
 pub record IsRunOf (patience : ℕ) (lines : List Line) (text : List ℕ) : Type 0 where
   pub table : TableId
   pub slots : table.slots ≡ most_places + 1

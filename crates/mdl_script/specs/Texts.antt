@@ -1,4 +1,4 @@
--- What is told as a script is played, and how that is printed. The wording is this project's own.
+-- What becomes of the lines of a script, and how it is printed. The wording is this project's own.
 use Rattle.std.specs.Prelude.{ℕ, Bool, true, false, List, [], ◌∷◌, ◌++◌, codes, flat_map}
 use Rattle.std.specs.Fmt.{decimal}
 use Rattle.std.specs.List.{join_by}
@@ -32,7 +32,7 @@ abbrev pub number_text : Bool → List ℕ
 number_text true = codes "OK 1"
 number_text false = codes "OK 0"
 
--- a reply: OK, and the tables that were read, or a number, or NULL; or the number of an error
+-- a reply: OK with the tables that were read, a number or NULL, or the number of an error
 abbrev pub reply_text : Reply → List ℕ
 reply_text reply.Ok = codes "OK"
 reply_text (reply.Columns tables) = codes "OK" ++ tables_text tables
@@ -48,15 +48,15 @@ news_text (Ends reply) = reply_text reply
 news_text (Waits key mode) = wait_text key mode
 news_text Busy = codes "BUSY"
 
--- the numbers of a line and of its session, each with a space behind it
+-- the numbers of a line and of its session, each with a space after it
 abbrev pub heading : ℕ → ℕ → List ℕ
 heading line who = decimal line ++ codes " " ++ decimal who ++ codes " "
 
--- a line of the output: the numbers of a line and of its session, and what became of it
+-- a line of the output: the numbers of a line and of its session, and what became of the line
 abbrev pub told_line : Told → List ℕ
 told_line told = heading told.line told.who ++ news_text told.news ++ 10 ∷ []
 
--- a line for each
+-- a line for each of these
 abbrev pub told_text : List Told → List ℕ
 told_text = flat_map told_line
 

@@ -1,4 +1,4 @@
--- The turns of a run: the sessions that a script names, each with the thread that it is on.
+-- The turns of a run: the sessions that a script names, each with the thread on which it runs.
 use Rattle.std.specs.Prelude.{◌≡◌, ◌≢◌, ℕ, Bool, ◌==◌, List, ◌++◌, All, MatchOption, map}
 use Rattle.std.specs.List.{list_any}
 use Rattle.atomic_table.specs.Seated.{TableId}
@@ -10,7 +10,7 @@ use Rattle.mdl_script.specs.declared.turns.AnswersOf.{AnswersOf}
 use Rattle.mdl_script.specs.declared.turns.Turn.{Turn}
 use Rattle.mdl_script.specs.RunTexts.{transcripts_text}
 
--- whether there is a pass of this number
+-- whether one of these passes has this number
 abbrev pub has_pass : List Pass → ℕ → Bool
 has_pass passes who = list_any (λ (pass : Pass). pass_number pass == who) passes
 
@@ -19,11 +19,11 @@ abbrev pub IsAbout : TableId → ℕ → List Line → ℕ → AnswersOf → Typ
 IsAbout table patience lines who promise =
     (promise.who ≡ who) × (promise.script.now ≡ lines) × (promise.patience ≡ patience) × (table_of promise.manager.now ≡ table)
 
--- the session is the one that has its turn in the thread of the caller, or else its thread keeps a promise about its answers
+-- the session is the one that runs in the caller's thread, or its thread keeps a promise about its answers
 abbrev pub IsTurn : TableId → ℕ → List Line → ℕ → Turn → Type 0
 IsTurn table patience lines mine turn = MatchOption turn.thread (turn.who ≡ mine) (λ thread. (turn.who ≢ mine) × IsAbout table patience lines turn.who thread.promise)
 
--- the answers of these sessions were added to a text, those of one session behind those of the other. Of each this is so
+-- the answers of these sessions were appended to a text, session by session, and each session's answers satisfy `IsOne`
 pub record GainsAnswers (IsOne : ℕ × List (ℕ × Reply) → Type 0) (sessions before after : List ℕ) : Type 0 where
   pub transcripts : List (ℕ × List (ℕ × Reply))
   pub sessions_are : map (λ (transcript : ℕ × List (ℕ × Reply)). transcript.0) transcripts ≡ sessions

@@ -1,5 +1,5 @@
--- How a script is played in one thread: its lines one after the other, and after each line what has come to its turn. The order is
--- this project's own.
+-- How a script is played in one thread: its lines in order, and after each line the turns of the sessions whose waits are settled. The order is this
+-- project's own.
 use Rattle.std.specs.Prelude.{ℕ, zero, suc, ◌-◌, ◌*◌, Bool, List, [], ◌∷◌, ◌++◌, codes, map, filter, find, slice_index_or, slice_set, Option, Some, None, is_some, if◌then◌else◌}
 use Rattle.std.specs.List.{range_with_len}
 use Rattle.mdl_key.specs.declared.mode.Mode.TheVariants.{X}
@@ -34,17 +34,17 @@ pub record World : Type 0 where
   pub core : Core
   pub players : List Player
 
--- what is told, and the world that is left
+-- what becomes of lines, and the world that is left
 pub record Scene : Type 0 where
   pub told : List Told
   pub world : World
 
--- nothing is told
+-- a scene in which nothing is reported
 abbrev pub silent : World → Scene
 silent world = record { told = []; world = world }
 
 infixl 20 ◌and_then◌
--- one scene, and then what follows in its world
+-- a scene, and then what follows in its world
 abbrev pub ◌and_then◌ : Scene → (World → Scene) → Scene
 scene and_then next = record { told = scene.told ++ (next scene.world).told; world = (next scene.world).world }
 
@@ -54,16 +54,16 @@ scene and_then next = record { told = scene.told ++ (next scene.world).told; wor
 unfoldable pub sessions : List ℕ
 sessions = range_with_len 1 most_sessions
 
--- a session that was asked for nothing yet
+-- a session that has not been asked for anything
 abbrev pub newcomer : ℕ → Player
 newcomer who = record { session = record { context = record { who = who; kept = []; known = []; wait = None }; state = at_first; left = None }; line = 0 }
 
--- session 1 creates a schema under its lock, and gives that up
+-- session 1 creates a schema under its lock, and releases the lock
 abbrev pub create_under : Answer → Program (Unit {0})
 create_under (Granted id) = Ask (Change_definition 1 id (Create Schema)) (λ _. Ask (Release 1 id) (λ _. Give tt))
 create_under _ = Give tt
 
--- it locks the schema at its place
+-- session 1 locks the schema at its place, and creates it
 abbrev pub create_at : Answer → Program (Unit {0})
 create_at (At_place place) = Ask (Try_now 1 place X) create_under
 create_at _ = Give tt
@@ -71,7 +71,7 @@ create_at _ = Give tt
 abbrev pub creating : KeyName → Program (Unit {0})
 creating schema = Ask (Resolve 1 schema) create_at
 
--- a space of as many places and sessions as there can be, in which the schema test was created and nothing else was done
+-- a space with the most places and sessions that there can be, in which the schema `test` was created and nothing else was done
 abbrev pub first_core : Core
 first_core = (outcome_of outcome (creating (schema_key (codes "test"))) (empty_core most_places most_sessions)).1
 
@@ -91,56 +91,56 @@ is_waiting world who = is_some (player_at who world).session.left
 abbrev pub waiting_in : World → List ℕ
 waiting_in world = filter (is_waiting world) sessions
 
--- what is told of a statement that came so far: that it waits on isn't told, nor that memory ran out, which ends the whole script
+-- what is reported of a statement that came so far. Nothing is, if it still waits or if memory ran out, which ends the whole script
 abbrev pub told_of : ℕ → ℕ → Pause → List Told
 told_of line who (pause.Ends reply _) = record { line = line; who = who; news = Ends reply } ∷ []
 told_of line who (pause.Begins_to_wait key mode _) = record { line = line; who = who; news = Waits key mode } ∷ []
 told_of line who (pause.Waits_on _) = []
 told_of line who (pause.Faults _) = []
 
--- a session's statement, which is that of this line, came so far
+-- the statement of a session, asked by this line, came so far
 abbrev pub came : ℕ → ℕ → Pause × Core → World → Scene
 came line who (pause, core) world = record {
   told = told_of line who pause;
   world = record { core = core; players = slice_set world.players (who - 1) (record { session = session_at pause; line = line }) };
 }
 
--- a statement of a line is played by its session
+-- a session plays the statement of a line
 abbrev pub played : ℕ → ℕ → Program Pause → World → Scene
 played line who program world = came line who (outcome_of outcome program world.core) world
 
 -- ---- settling
 
--- the least session that waits and whose wait is settled
+-- the waiting session with the least number whose wait is settled
 abbrev pub first_settled : World → Option ℕ
 first_settled world = find (has_settled world.core) (waiting_in world)
 
--- a session goes on with its statement
+-- a session continues its statement
 abbrev pub going : ℕ → World → Scene
 going who world = let player = player_at who world in played player.line who (going_on player.session) world
 
--- it does so where there is one, and then more follows
+-- the session continues, if there is one, and then more follows
 abbrev pub going_first : Option ℕ → (World → Scene) → World → Scene
 going_first None more world = silent world
 going_first (Some who) more world = going who world and_then more
 
--- at most so many times the least session whose wait is settled goes on
+-- at most `turns` times, the session with the least number whose wait is settled continues
 unfoldable pub settling : ℕ → World → Scene
 settling zero world = silent world
 settling (suc turns) world = going_first (first_settled world) (settling turns) world
 
--- as many times as there can be, 16,704: with each the statement of its session ends, or it has one lock less to wait for, and while
--- no new line is played no other session begins to wait
+-- the most turns that there can be, 16,704: with each, the statement of its session ends, or has one lock less to wait for, and while no new line is
+-- played no other session begins to wait
 abbrev pub most_turns : ℕ
 most_turns = most_sessions * most_waits
 
 -- ---- lines
 
--- a session's patience with its wait ends
+-- a session's wait times out
 abbrev pub timed_out : ℕ → World → World
 timed_out who world = record world { core = (outcome (Settle_timeout who) world.core).1 }
 
--- a session is asked while it waits: it can only be told that its patience ends
+-- a session is asked while it waits: `TIMEOUT` makes its wait time out, and any other statement finds it busy
 abbrev pub asked_waiting : Statement → ℕ → ℕ → World → Scene
 asked_waiting Timeout line who world = record { told = record { line = line; who = who; news = Ends reply.Ok } ∷ []; world = timed_out who world }
 asked_waiting _ line who world = record { told = record { line = line; who = who; news = Busy } ∷ []; world = world }
@@ -154,15 +154,15 @@ abbrev pub asked : Line → World → Scene
 asked line world =
     if is_waiting world line.session then asked_waiting line.statement line.number line.session world else started line world
 
--- a line is played, and then whoever has come to its turn goes on
+-- a line is played, and then the sessions continue whose waits are settled
 abbrev pub line_played : Line → World → Scene
 line_played line world = asked line world and_then settling most_turns
 
--- lines are played one after the other
+-- lines are played in order
 abbrev pub lines_played : List Line → World → Scene
 lines_played [] world = silent world
 lines_played (line ∷ lines) world = line_played line world and_then lines_played lines
 
--- a script is played
+-- a script is played, in the first world
 abbrev pub script_played : List Line → Scene
 script_played lines = lines_played lines first_world

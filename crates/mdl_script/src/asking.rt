@@ -1,4 +1,5 @@
-//! The session that asks: it makes the first schema, has its own turn, and looks at all in the end.
+//! The asker, the session that runs in the caller's thread: it creates the first schema, executes its own lines, and audits all books at the
+//! end.
 ghost use Rattle.std.specs.Prelude.{◌≡◌, ℕ, List, [], ◌∷◌, IfOk, OnOk};
 ghost use Rattle.mdl_session_laws.specs.SessionSpaces.{SpeaksFor};
 ghost use Rattle.mdl_rows.specs.declared.reply.Reply.{Reply};
@@ -19,7 +20,7 @@ use std::sync::Wait;
 // The schema of tables that are named without one.
 const FIRST_SCHEMA: &str = "test";
 
-/// Makes the first schema, unless it is there already. No answer is told.
+/// Creates the first schema, unless it is there already. The answer is dropped.
 pub(crate) fn make_first_schema<R: Wait, G>(
     run: &Run<R, G>,
     asker: &mut Session<&R>,
@@ -52,7 +53,7 @@ pub(crate) fn make_first_schema<R: Wait, G>(
     Ok(())
 }
 
-/// Works off the asker's own lines, where it has some.
+/// Executes the asker's own lines, if it has any.
 pub(crate) fn take_turn<R: Wait, G: Gate>(
     run: &Run<R, G>,
     asker: &mut Session<&R>,
@@ -78,7 +79,7 @@ pub(crate) fn take_turn<R: Wait, G: Gate>(
     Ok(Transcript { who, answers })
 }
 
-/// The books of all keys.
+/// Returns the books of all keys.
 pub(crate) fn books<R: Wait>(asker: &mut Session<&R>) -> Result<Vec<Audited>, AllocError>
     requires nothing { (space_of asker.old).own ≡ nothing }
     ensures nothing { (space_of asker.new).own ≡ nothing }

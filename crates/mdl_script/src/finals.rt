@@ -10,7 +10,7 @@ use mdl_key::Key;
 use mdl_visits::Audited;
 use std::alloc::AllocError;
 
-/// Puts a line for each book that has a definition last in a text, in the order of their keys.
+/// Appends to a text a line for each book that has a definition, in the order of their keys.
 pub(crate) fn push_finals(out: &mut String, mut books: Vec<Audited>) -> Result<(), AllocError>
     ensures { OnOk result ((sorted : List Audited) × AreInKeyOrder books.items sorted
         × (string_bytes out.new ≡ string_bytes out.old ++ finals_text sorted)) }
@@ -26,7 +26,7 @@ fn sort(books: &mut Vec<Audited>)
     books.sort_unstable_by(|one, other| one.book.key.cmp(&other.book.key));
 }
 
-// The lines of books, in the order in which they are given.
+// Appends the lines of books, in the order in which they are given.
 fn push_books(out: &mut String, books: &[Audited]) -> Result<(), AllocError>
     ensures { OnOk result (string_bytes out.new ≡ string_bytes out.old ++ finals_text books.now) }
 {
@@ -36,7 +36,7 @@ fn push_books(out: &mut String, books: &[Audited]) -> Result<(), AllocError>
     Ok(())
 }
 
-// The line of a book, if something is defined there.
+// Appends the line of a book, if its key has a definition.
 fn push_book(out: &mut String, audited: &Audited) -> Result<(), AllocError>
     ensures { OnOk result (string_bytes out.new ≡ string_bytes out.old ++ book_line audited.now) }
 {
@@ -47,7 +47,7 @@ fn push_book(out: &mut String, audited: &Audited) -> Result<(), AllocError>
     }
 }
 
-// The line of a definition.
+// Appends the line of a definition.
 fn push_defined(
     out: &mut String,
     key: &Key,
@@ -63,7 +63,7 @@ fn push_defined(
     out.push('\n')
 }
 
-// What stands behind the version.
+// Appends what follows the version: a table's columns, nothing for a schema.
 fn push_shape(out: &mut String, definition: &Definition) -> Result<(), AllocError>
     ensures { OnOk result (string_bytes out.new ≡ string_bytes out.old ++ shape_text definition.now) }
 {

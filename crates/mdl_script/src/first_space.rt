@@ -1,4 +1,4 @@
-//! The lock space as a script finds it.
+//! The lock space in which a script starts.
 ghost use Rattle.std.specs.Prelude.{◌≡◌, ◌≤◌, ℕ, OnOk, IfOk};
 ghost use Rattle.mdl_key.specs.Words.{most_sessions};
 ghost use Rattle.mdl_calls.specs.Words.{outcome_of};
@@ -14,7 +14,7 @@ use std::alloc::{AllocError, Global};
 // The session that creates the first schema.
 const FIRST: u16 = 1;
 
-/// A space in which the schema test exists, and nothing else was done.
+/// Returns a new space in which the schema `test` was created and nothing else was done.
 pub(crate) fn first_space(alloc: Global) -> Result<CoreSpace, AllocError>
     ensures made { IfOk result (λ space. space ≡ first_core) }
     ensures speaks { IfOk result (λ space. (who : ℕ) → 1 ≤ who → who ≤ most_sessions → SpeaksFor space who) }
@@ -29,7 +29,7 @@ pub(crate) fn first_space(alloc: Global) -> Result<CoreSpace, AllocError>
     Ok(space)
 }
 
-// Session 1 creates a schema, whose lock nobody else has.
+// Session 1 creates a schema, whose lock no other session has.
 fn create(space: &mut CoreSpace, schema: &Key) -> Result<(), AllocError>
     requires { (who : ℕ) → 1 ≤ who → who ≤ most_sessions → SpeaksFor space.old who }
     ensures made { OnOk result (space.new ≡ (outcome_of outcome (creating schema.now) space.old).1) }

@@ -1,7 +1,7 @@
-//! What is so of the texts of all runs of scripts on threads. The law is proved as the contract of a function that does nothing.
+//! A law of the texts of all runs of scripts on threads. It is proved as the contract of a function that does nothing.
 ghost use Rattle.mdl_script.specs.RunLaws.{RunsHaveOneText};
 
-/// What a script's sessions were answered, and what an audit finds at the end, make one text, and no other one.
+/// The answers to a script's sessions and the books that an audit finds at the end determine the text of a run.
 pub fn runs_have_one_text()
     ensures { RunsHaveOneText }
 {}

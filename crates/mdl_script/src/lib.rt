@@ -1,6 +1,6 @@
 //! Scripts of statements, played in one thread, or with a thread for each session.
 //!
-//! [`replay`] plays a whole script, and a [`Play`] plays one line by line and shows its locks between them.
+//! [`replay`] plays a whole script, and a [`Play`] plays it line by line and shows its locks between the lines.
 //!
 //! # Example
 //!

@@ -12,7 +12,7 @@ use mdl_work::{Gate, work};
 use std::alloc::{AllocError, Global};
 use std::sync::Wait;
 
-/// Opens the session of a pass, works off its lines, and closes it.
+/// Opens the session of a pass, executes its lines, and closes it.
 pub(crate) fn work_pass<R: Wait, G: Gate>(
     rt: &R,
     alloc: Global,
@@ -34,7 +34,7 @@ pub(crate) fn work_pass<R: Wait, G: Gate>(
     answers
 }
 
-/// Closes a session that has nothing.
+/// Closes a session that has no ticket and no wait.
 pub(crate) fn close<R: Drop>(session: Session<R>)
     requires { (space_of session).own ≡ nothing }
 {

@@ -19,10 +19,10 @@ use mdl_syntax::{Line, Statement};
 use mdl_work::MOST_WAITS;
 use std::alloc::{AllocError, Global};
 
-// As many turns as there can be after a line: 16,704.
+// The most turns that there can be after a line: 16,704.
 const MOST_TURNS: u16 = MOST_SESSIONS * MOST_WAITS;
 
-/// How many definitions a session's cache keeps unless the command line says otherwise.
+/// How many definitions a session's cache keeps, unless the command line says otherwise.
 pub const DEFAULT_CACHE: u16 = 64;
 
 /// A session, and the number of the line of its last statement.
@@ -32,19 +32,19 @@ pub(crate) struct Player<'s> {
     line: u64,
 }
 
-/// The sessions of a script, from 1 on, over one lock space: a script that is played line by line.
+/// A script that is played line by line: its sessions, numbered from 1, over one lock space.
 ///
-/// After an error memory has run out, and the play can't go on.
+/// An error means that memory ran out. The play can't be continued after it.
 #[derive(Drop)]
 pub struct Play<'s> {
     space: CoreSpace,
     players: Vec<Player<'s>>,
-    // The numbers of those that wait, in rising order.
+    // The numbers of the sessions that wait, in rising order.
     waiting: Vec<u16>,
 }
 
 impl<'s> Play<'s> {
-    /// A play before its first line: the schema `test` exists, and no session was asked for anything.
+    /// Returns a play before its first line: the schema `test` exists, and no session has been asked for anything.
     pub fn new(alloc: Global) -> Result<Play<'s>, AllocError>
         ensures first { IfOk result (λ play. world_of play ≡ first_world) }
         ensures manned { IfOk result IsManned }
@@ -56,8 +56,8 @@ impl<'s> Play<'s> {
         })
     }
 
-    /// Plays a line: its session is asked for the statement, and then all go on whose waits are settled. What becomes of the line, and of
-    /// those of the sessions that go on, is added to a list, in order.
+    /// Plays a line: its session is asked for the statement, and then all sessions continue whose waits are settled. What becomes of the
+    /// line, and of the lines of the sessions that continue, is added to `told`, in order.
     pub fn play_line(&mut self, line: &'s Line, told: &mut Vec<Told>) -> Result<(), AllocError>
         requires manned { IsManned self.old }
         requires session { IsScriptSession line.now.session }
@@ -69,8 +69,9 @@ impl<'s> Play<'s> {
         self.settle(told)
     }
 
-    /// Asks the session of a line for its statement, and adds to a list what becomes of the line. Nobody else goes on yet: that is
-    /// [`Play::settle`], which has to come before the next line. One that waits is busy, unless its patience ends.
+    /// Asks the session of a line for its statement, and adds what becomes of the line to `told`. No other session continues yet:
+    /// [`Play::settle`] does that, and has to be called before the next line. A session that waits is busy, unless the line is `TIMEOUT`,
+    /// which makes its wait time out.
     pub fn ask(&mut self, line: &'s Line, told: &mut Vec<Told>) -> Result<(), AllocError>
         requires manned { IsManned self.old }
         requires session { IsScriptSession line.now.session }
@@ -84,7 +85,8 @@ impl<'s> Play<'s> {
         self.start(line, told)
     }
 
-    /// Lets the least session whose wait is settled go on, until there is none, and adds to a list what becomes of their lines.
+    /// Continues the statement of the session with the least number whose wait is settled, until there is none, and adds what becomes of the
+    /// lines to `told`.
     pub fn settle(&mut self, told: &mut Vec<Told>) -> Result<(), AllocError>
         requires manned { IsManned self.old }
         ensures told { OnOk result (told.new.items ≡ told.old.items ++ (settling most_turns (world_of self.old)).told) }
@@ -100,14 +102,14 @@ impl<'s> Play<'s> {
         Ok(())
     }
 
-    /// The books of the lock space, one for each key that was ever locked.
+    /// Returns the books of the lock space, one for each key that has a place.
     pub fn books(&self) -> &[Book]
         ensures { result.now ≡ (world_of self.now).core.books }
     {
         self.space.books()
     }
 
-    /// The sessions that wait, in rising order.
+    /// Returns the numbers of the sessions that wait, in rising order.
     pub fn waiting(&self) -> &[u16]
         requires { IsManned self.now }
         ensures { result.now ≡ waiting_in (world_of self.now) }
@@ -115,7 +117,7 @@ impl<'s> Play<'s> {
         self.waiting.as_slice()
     }
 
-    /// The lock space as it is left.
+    /// Returns the lock space in its present state.
     pub fn into_space(self) -> CoreSpace
         ensures { result ≡ (world_of self.entry).core }
     {
@@ -131,7 +133,7 @@ impl<'s> Play<'s> {
         self.players[usize::from(who) - 1].runner.is_waiting()
     }
 
-    // Asks a session that waits.
+    // Asks a session that waits for a statement.
     fn ask_waiting(&mut self, line: &Line, told: &mut Vec<Told>) -> Result<(), AllocError>
         requires manned { IsManned self.old }
         requires session { IsScriptSession line.now.session }
@@ -148,7 +150,7 @@ impl<'s> Play<'s> {
         }
     }
 
-    // Ends the patience of a session with its wait.
+    // Makes the wait of a session time out.
     fn time_out(&mut self, who: u16)
         requires manned { IsManned self.old }
         requires session { IsScriptSession who }
@@ -174,7 +176,7 @@ impl<'s> Play<'s> {
         Ok(())
     }
 
-    // Starts it, and tells how far it comes. Whether its session waits is still to be noted.
+    // Starts the statement of a line, and reports how far it comes. The caller notes whether the session waits.
     fn begin(&mut self, line: &'s Line, told: &mut Vec<Told>) -> Result<(), AllocError>
         requires manned { IsManned self.old }
         requires session { IsScriptSession line.now.session }
@@ -191,7 +193,7 @@ impl<'s> Play<'s> {
         tell_progress(told, line.number, line.session, progress)
     }
 
-    // The least session that waits and whose wait is settled.
+    // Returns the waiting session with the least number whose wait is settled.
     fn first_settled(&mut self) -> Option<u16>
         requires { IsManned self.old }
         ensures found { result ≡ first_settled (world_of self.old) }
@@ -200,7 +202,7 @@ impl<'s> Play<'s> {
         first_settled(&mut self.space, &self.waiting)
     }
 
-    // Lets a session that waits go on.
+    // Continues the statement of a session that waits.
     fn go(&mut self, who: u16, told: &mut Vec<Told>) -> Result<(), AllocError>
         requires manned { IsManned self.old }
         requires session { IsScriptSession who }
@@ -216,7 +218,7 @@ impl<'s> Play<'s> {
         Ok(())
     }
 
-    // Lets it go on, and tells how far it comes. Whether it still waits is to be noted.
+    // Continues the statement, and reports how far it comes. The caller notes whether the session still waits.
     fn resume(&mut self, who: u16, told: &mut Vec<Told>) -> Result<(), AllocError>
         requires manned { IsManned self.old }
         requires session { IsScriptSession who }
@@ -233,7 +235,7 @@ impl<'s> Play<'s> {
         tell_progress(told, line, who, progress)
     }
 
-    // Notes that a session waits, in its place among those that do.
+    // Adds a session to the list of those that wait, in its place in rising order.
     fn note(&mut self, who: u16) -> Result<(), AllocError>
         ensures noted { OnOk result (self.new.waiting.items ≡ insert self.old.waiting.items (place_of who self.old.waiting.items) who) }
         ensures space { self.new.space ≡ self.old.space }
@@ -244,7 +246,7 @@ impl<'s> Play<'s> {
         Ok(())
     }
 
-    // Strikes a session that waits no more from those that do.
+    // Removes a session from the list of those that wait.
     fn strike(&mut self, who: u16)
         ensures struck { self.new.waiting.items ≡ filter (λ other. not (other == who)) self.old.waiting.items }
         ensures space { self.new.space ≡ self.old.space }
@@ -254,14 +256,14 @@ impl<'s> Play<'s> {
     }
 }
 
-// Keeps the sessions of other numbers.
+// Removes a session from a list.
 fn leave_others(waiting: &mut Vec<u16>, who: u16)
     ensures { waiting.new.items ≡ filter (λ other. not (other == who)) waiting.old.items }
 {
     waiting.retain(|other| *other != who);
 }
 
-// The place of a session among others in rising order.
+// Returns where a session belongs among others in rising order.
 fn place_of(waiting: &[u16], who: u16) -> usize
     ensures place { result ≡ place_of who waiting.now }
     ensures inside { result ≤ length waiting.now }
@@ -269,14 +271,14 @@ fn place_of(waiting: &[u16], who: u16) -> usize
     first_greater(waiting, who).unwrap_or(waiting.len())
 }
 
-// The place of the first greater session.
+// Returns where the first session with a greater number is.
 fn first_greater(waiting: &[u16], who: u16) -> Option<usize>
     ensures { result ≡ position (λ other. nat_lt who other) waiting.now }
 {
     waiting.iter().position(|other| *other > who)
 }
 
-// All sessions, which were asked for nothing yet.
+// Returns all sessions, none of which has been asked for anything.
 fn new_players<'s>(alloc: Global) -> Result<Vec<Player<'s>>, AllocError>
     ensures { IfOk result (λ players. players.items ≡ map new_player sessions) }
 {
@@ -290,7 +292,7 @@ fn new_players<'s>(alloc: Global) -> Result<Vec<Player<'s>>, AllocError>
     Ok(players)
 }
 
-// The first of these sessions whose wait is settled.
+// Returns the first of these sessions whose wait is settled.
 fn first_settled(space: &mut CoreSpace, waiting: &[u16]) -> Option<u16>
     requires { All (SpeaksFor space.old) waiting.now }
     ensures found { result ≡ find (has_settled space.old) waiting.now }
@@ -313,7 +315,7 @@ fn has_settled(space: &mut CoreSpace, who: u16) -> bool
     matches!(space.poll_wait(who), Ok(Poll::Settled(_)))
 }
 
-// Tells how far the statement of a line has come.
+// Adds how far the statement of a line has come. For a wait that goes on it adds nothing.
 fn tell_progress(
     told: &mut Vec<Told>,
     line: u64,
@@ -329,7 +331,7 @@ fn tell_progress(
     }
 }
 
-// Tells what becomes of a line.
+// Adds what becomes of a line.
 fn tell(told: &mut Vec<Told>, line: u64, who: u16, news: News) -> Result<(), AllocError>
     ensures { OnOk result (told.new.items ≡ told.old.items ++ record { line = line; who = who; news = news } ∷ []) }
 {

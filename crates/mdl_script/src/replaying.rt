@@ -22,26 +22,26 @@ use std::io::{Read, Write};
 
 /// Plays a script of statements in one thread, and writes what becomes of its lines.
 ///
-/// It reads all, looks at all lines, and only then writes. What is known of the reader and of the writer is by the bytes
-/// that they tell: a slice, a cursor or a vector tells them, a file or a terminal doesn't.
+/// Reads everything and checks all lines before it plays them, and writes only then. The contract covers readers and writers that show their
+/// bytes, as a slice, a cursor or a vector does. A file or a terminal doesn't.
 #[tactic(auto, using(crate::proofs::SoundLemmas::stays_lawful_if, crate::proofs::SoundLemmas::never_forgets_if))]
 pub fn replay<R: Read, W: Write>(alloc: Global, reader: &mut R, writer: &mut W) -> Result<(), Fault>
-    // Done: what was written is the defined output of what was read, and all was read.
+    // On success, what was written is the defined output of what was read, and all was read.
     ensures output { OnOk result (IfSome (R.remaining reader.old) (λ input.
         Appends (W.contents writer.old) (W.contents writer.new) (output_of input))) }
     ensures end { OnOk result (IsAtEnd (R.remaining reader.new)) }
 
-    // Refused by the first refused line, and by no other.
+    // A script is refused for its first bad line, and for no other.
     ensures ends { IfSome (R.remaining reader.old) (λ input. MayEnd (parsed input) result) }
 
-    // After a fault a beginning of the output was written, never all of it, and nothing unless writing failed.
+    // After a fault, a first part of the output was written but never all of it, and nothing unless writing failed.
     ensures fault { IfErr result (λ fault. IfSome (R.remaining reader.old) (λ input.
         LeavesWritten fault (W.contents writer.old) (W.contents writer.new) (output_of input))) }
 
-    // By that output, no two sessions ever hold locks that clash.
+    // While that output is made, no two sessions ever hold locks that clash.
     ensures lawful { IfSome (R.remaining reader.old) (λ input. StaysLawful (parsed input)) }
 
-    // And no session is ever left waiting that could be granted.
+    // No session is ever left waiting that could be granted.
     ensures none_forgotten { IfSome (R.remaining reader.old) (λ input. NeverForgets (parsed input)) }
 {
     let input = read_all(alloc, reader)?;
@@ -50,7 +50,7 @@ pub fn replay<R: Read, W: Write>(alloc: Global, reader: &mut R, writer: &mut W) 
     Ok(())
 }
 
-// The output of a script. Its text goes before its lines are played, which keep what is said of them.
+// Returns the output of a script. The text is freed before the lines are played: they keep what they need of it.
 fn output(alloc: Global, text: Vec<u8>) -> Result<String, Fault>
     ensures output { IfOk result (λ output. string_bytes output ≡ output_of text.items) }
     ensures accepted { OnOk result (IsOk (parsed text.items)) }
@@ -64,7 +64,7 @@ fn output(alloc: Global, text: Vec<u8>) -> Result<String, Fault>
     }
 }
 
-// The text of lines that are played over a new space.
+// Returns the text of lines that are played over a new space.
 fn play_all(alloc: Global, lines: &[Line]) -> Result<String, AllocError>
     requires { All (λ line. IsScriptSession line.session) lines.now }
     ensures { IfOk result (λ output. string_bytes output ≡ scene_text (script_played lines.now)) }
@@ -75,7 +75,7 @@ fn play_all(alloc: Global, lines: &[Line]) -> Result<String, AllocError>
     Ok(out)
 }
 
-// Plays lines over a new space, and puts what becomes of them last in a text, after each line.
+// Plays lines over a new space, and after each line appends what becomes of it to a text.
 fn play_lines<'s>(
     alloc: Global,
     lines: &'s [Line],
@@ -96,13 +96,13 @@ fn play_lines<'s>(
     Ok(play)
 }
 
-/// Plays the lines of a script up to the one of this number, and what follows from it, as [`replay`] does, and returns the lock space
-/// that they leave. All lines are looked at first: a refused one refuses the script.
+/// Plays the lines of a script up to the one of this number, and the turns that follow it, as [`replay`] does, and returns the lock space
+/// that they leave. All lines are checked first: one refused line refuses the script.
 pub fn space_after(alloc: Global, text: &[u8], last: u64) -> Result<CoreSpace, Fault>
-    // What each session holds and waits for then, and what is defined.
+    // The space shows what each session holds and waits for then, and what is defined.
     ensures space { IfOk result (λ space. IfOk (parsed text.now) (λ lines. space ≡ (script_played (lines_until last lines)).world.core)) }
 
-    // Refused by the first refused line, and by no other.
+    // A script is refused for its first bad line, and for no other.
     ensures accepted { OnOk result (IsOk (parsed text.now)) }
     ensures fault { IfErr result (IsFaultOf (parsed text.now)) }
 {
@@ -123,14 +123,14 @@ fn play_until(alloc: Global, lines: &[Line], last: u64) -> Result<CoreSpace, All
     Ok(play.into_space())
 }
 
-/// The lines up to the one of this number.
+/// Returns the lines up to the one of this number.
 pub fn lines_until(lines: &[Line], last: u64) -> &[Line]
     ensures { result.now ≡ lines_until last lines.now }
 {
     &lines[..count_until(lines, last)]
 }
 
-// How many lines there are up to that one.
+// Returns how many lines there are up to the one of this number.
 fn count_until(lines: &[Line], last: u64) -> usize
     ensures place { result ≡ position_or_len (is_after last) lines.now }
     ensures inside { result ≤ length lines.now }
@@ -138,7 +138,7 @@ fn count_until(lines: &[Line], last: u64) -> usize
     first_after(lines, last).unwrap_or(lines.len())
 }
 
-// The place of the first line of a greater number.
+// Returns where the first line with a greater number is.
 fn first_after(lines: &[Line], last: u64) -> Option<usize>
     ensures { result ≡ position (is_after last) lines.now }
 {

@@ -6,8 +6,8 @@ use mdl_shared::Manager;
 use mdl_syntax::Script;
 use std::alloc::Global;
 
-/// What the sessions of a run share: what they wait by, the table, the script, their patience with a wait, how many definitions the cache of
-/// each keeps, and who is told.
+/// What the sessions of a run share: the runtime by which they wait, the allocator, the table, the script, how often a session looks at a
+/// wait before it times out, how many definitions the cache of each keeps, and the gate that is called around each statement.
 #[derive(Drop)]
 pub(crate) struct Run<'a, R, G> {
     pub(crate) rt: &'a R,

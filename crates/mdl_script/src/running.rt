@@ -24,13 +24,13 @@ use std::sync::Wait;
 use std::thread;
 use std::thread::{Scope, Threads};
 
-/// Plays a script over a lock table that is there already: each session that the script names works off its own lines, on a thread of
-/// its own. The answer is what [`run_threads`] says.
+/// Plays a script over an existing lock table: each session that the script names executes its own lines, on a thread of its own. Returns the
+/// text that [`run_threads`] describes.
 ///
-/// The passes are used up. The session of the first one has its turn in the thread of the caller; before that it makes the schema
-/// `test`, unless that stands, and when all others have ended it looks at all books.
+/// The passes are used up. The session of the first pass runs in the caller's thread. Before its own lines it creates the schema `test`,
+/// unless it exists, and when all others have ended it audits all books.
 ///
-/// Each session reads by a cache of its own, which keeps at most so many definitions as `cache` says.
+/// Each session has a cache of its own, which keeps at most `cache` definitions.
 pub fn run_on<R: Threads + Wait + Sync, G: Gate + Sync>(
     rt: &R,
     alloc: Global,
@@ -73,7 +73,7 @@ pub fn run_on<R: Threads + Wait + Sync, G: Gate + Sync>(
     )
 }
 
-// The text of a run. The session of the first pass has its turn here, the others on threads of the scope.
+// Returns the text of a run. The session of the first pass runs here, the others on threads of the scope.
 fn text_in<'s, E, R: Threads + Wait + Sync, G: Gate + Sync>(
     scope: &Scope<'s, E>,
     run: &Run<'s, R, G>,
@@ -93,7 +93,7 @@ fn text_in<'s, E, R: Threads + Wait + Sync, G: Gate + Sync>(
     text
 }
 
-// The same by the session that asks. It has nothing in the end, whether or not memory was wanting.
+// Returns the text, by calls of the session that runs here. It has no ticket and no wait at the end, also if memory ran out.
 fn text_by<'s, E, R: Threads + Wait + Sync, G: Gate + Sync>(
     scope: &Scope<'s, E>,
     run: &Run<'s, R, G>,
@@ -117,11 +117,12 @@ fn text_by<'s, E, R: Threads + Wait + Sync, G: Gate + Sync>(
     Ok(text)
 }
 
-/// Plays a script over a lock table of its own, in which nothing is defined yet: each session that the script names works off its own
-/// lines, on a thread of its own, with this patience with each wait, counted in looks at it, and with a cache of so many definitions.
+/// Plays a script over a new lock table, in which nothing is defined yet: each session that the script names executes its own lines, on a
+/// thread of its own. A session looks at a wait up to `patience` times before the wait times out, and its cache keeps at most `cache`
+/// definitions.
 ///
-/// The answer is a text: session by session, in rising order, a line for each answer, and then one for each key that has a definition
-/// in the end, in the order of keys. Where memory is wanting, or a thread can't be started, there is none.
+/// Returns a text: for each session, in rising order, a line for each answer, and then a line for each key that has a definition at the end,
+/// in the order of keys. Fails if memory runs out or a thread can't be started.
 pub fn run_threads<R: Threads + Wait + Sync, G: Gate + Sync>(
     rt: &R,
     alloc: Global,

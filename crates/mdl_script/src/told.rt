@@ -17,24 +17,24 @@ use std::alloc::AllocError;
 pub enum News {
     /// Its statement has ended.
     Ends(Reply),
-    /// Its statement begins to wait for a lock of this key in this mode.
+    /// Its statement begins to wait for a lock on this key in this mode.
     Waits(Key, Mode),
-    /// Its session is busy, since it waits for another line's statement.
+    /// Its session is busy: it waits for another line's statement.
     Busy,
 }
 
-/// What becomes of the line of this number, which asked this session.
+/// What becomes of a line.
 #[derive(Drop)]
 pub struct Told {
     /// The line's number.
     pub line: u64,
-    /// The session.
+    /// The session that the line asks.
     pub who: u16,
-    /// What becomes of it.
+    /// What becomes of the line.
     pub news: News,
 }
 
-/// Puts a line for each of these last in a text.
+/// Appends a line for each of these to a text.
 pub(crate) fn push_all_told(out: &mut String, all: &[Told]) -> Result<(), AllocError>
     ensures { OnOk result (string_bytes out.new ≡ string_bytes out.old ++ told_text all.now) }
 {
@@ -44,7 +44,7 @@ pub(crate) fn push_all_told(out: &mut String, all: &[Told]) -> Result<(), AllocE
     Ok(())
 }
 
-/// Puts a line last in a text: the numbers of the line that asked and of its session, and what becomes of it.
+/// Appends a line to a text: the numbers of the line that asked and of its session, and what becomes of it.
 pub fn push_told(out: &mut String, told: &Told) -> Result<(), AllocError>
     ensures { OnOk result (string_bytes out.new ≡ string_bytes out.old ++ told_line told.now) }
 {
@@ -53,7 +53,7 @@ pub fn push_told(out: &mut String, told: &Told) -> Result<(), AllocError>
     out.push('\n')
 }
 
-/// Puts what becomes of a line last in a text, without the numbers of the line and of its session.
+/// Appends what becomes of a line to a text, without the numbers of the line and of its session.
 pub fn push_news(out: &mut String, news: &News) -> Result<(), AllocError>
     ensures { OnOk result (string_bytes out.new ≡ string_bytes out.old ++ news_text news.now) }
 {
@@ -64,7 +64,7 @@ pub fn push_news(out: &mut String, news: &News) -> Result<(), AllocError>
     }
 }
 
-/// Puts a line for each session that still waits at the end last in a text.
+/// Appends a line for each session that still waits at the end to a text.
 pub(crate) fn push_ends(out: &mut String, waiting: &[u16]) -> Result<(), AllocError>
     ensures { OnOk result (string_bytes out.new ≡ string_bytes out.old ++ flat_map end_line waiting.now) }
 {
@@ -74,7 +74,7 @@ pub(crate) fn push_ends(out: &mut String, waiting: &[u16]) -> Result<(), AllocEr
     Ok(())
 }
 
-/// Puts the line of a session that still waits at the end last in a text.
+/// Appends the line of a session that still waits at the end to a text.
 pub fn push_end(out: &mut String, who: u16) -> Result<(), AllocError>
     ensures { OnOk result (string_bytes out.new ≡ string_bytes out.old ++ end_line who) }
 {
@@ -84,7 +84,7 @@ pub fn push_end(out: &mut String, who: u16) -> Result<(), AllocError>
     }
 }
 
-/// Puts the lines of all answers to a session last in a text.
+/// Appends the lines of all answers to a session to a text.
 pub(crate) fn push_answers(
     out: &mut String,
     who: u16,
@@ -98,7 +98,7 @@ pub(crate) fn push_answers(
     Ok(())
 }
 
-// The line of an answer to a session, asked by the line of this number.
+// Appends the line of an answer to a session, asked by the line of this number.
 fn push_answer(out: &mut String, line: u64, who: u16, reply: &Reply) -> Result<(), AllocError>
     ensures { OnOk result (string_bytes out.new ≡ string_bytes out.old ++ answer_line who (line, reply.now)) }
 {
@@ -107,7 +107,7 @@ fn push_answer(out: &mut String, line: u64, who: u16, reply: &Reply) -> Result<(
     out.push('\n')
 }
 
-// The numbers of a line and of its session, each with a space behind it.
+// Appends the numbers of a line and of its session, each with a space after it.
 fn push_heading(out: &mut String, line: u64, who: u16) -> Result<(), AllocError>
     ensures { OnOk result (string_bytes out.new ≡ string_bytes out.old ++ heading line who) }
 {
@@ -117,7 +117,7 @@ fn push_heading(out: &mut String, line: u64, who: u16) -> Result<(), AllocError>
     out.push(' ')
 }
 
-// A number. Most of the text is numbers, and a formatter takes longer for them.
+// Appends a number. Most of the text is numbers, and a formatter takes longer for them.
 fn push_number(out: &mut String, number: u64) -> Result<(), AllocError>
     ensures { OnOk result (string_bytes out.new ≡ string_bytes out.old ++ decimal number) }
 {
@@ -125,7 +125,7 @@ fn push_number(out: &mut String, number: u64) -> Result<(), AllocError>
     out.push_str(digits.format(number))
 }
 
-// A wait that has begun.
+// Appends a wait that has begun.
 fn push_wait(out: &mut String, key: &Key, mode: Mode) -> Result<(), AllocError>
     ensures { OnOk result (string_bytes out.new ≡ string_bytes out.old ++ wait_text key.now mode) }
 {
@@ -135,7 +135,7 @@ fn push_wait(out: &mut String, key: &Key, mode: Mode) -> Result<(), AllocError>
     }
 }
 
-// A reply.
+// Appends a reply.
 fn push_reply(out: &mut String, reply: &Reply) -> Result<(), AllocError>
     ensures { OnOk result (string_bytes out.new ≡ string_bytes out.old ++ reply_text reply.now) }
 {
@@ -151,7 +151,7 @@ fn push_reply(out: &mut String, reply: &Reply) -> Result<(), AllocError>
     }
 }
 
-// A truth value, as the number 1 or 0.
+// Appends a truth value, as the number 1 or 0.
 fn push_truth(out: &mut String, number: bool) -> Result<(), AllocError>
     ensures { OnOk result (string_bytes out.new ≡ string_bytes out.old ++ number_text number) }
 {
@@ -161,7 +161,7 @@ fn push_truth(out: &mut String, number: bool) -> Result<(), AllocError>
     }
 }
 
-// The number of an error.
+// Appends the number of an error.
 fn push_error(out: &mut String, number: u16) -> Result<(), AllocError>
     ensures { OnOk result (string_bytes out.new ≡ string_bytes out.old ++ error_text number) }
 {
@@ -171,7 +171,7 @@ fn push_error(out: &mut String, number: u16) -> Result<(), AllocError>
     }
 }
 
-// The tables that a statement read, each behind a space.
+// Appends the tables that a statement read, each after a space.
 fn push_tables(out: &mut String, tables: &[TableShown]) -> Result<(), AllocError>
     ensures { OnOk result (string_bytes out.new ≡ string_bytes out.old ++ tables_text tables.now) }
 {
@@ -181,7 +181,7 @@ fn push_tables(out: &mut String, tables: &[TableShown]) -> Result<(), AllocError
     Ok(())
 }
 
-// A table that a statement read, behind a space.
+// Appends a table that a statement read, after a space.
 fn push_table(out: &mut String, table: &TableShown) -> Result<(), AllocError>
     ensures { OnOk result (string_bytes out.new ≡ string_bytes out.old ++ table_text table.now) }
 {
@@ -194,7 +194,7 @@ fn push_table(out: &mut String, table: &TableShown) -> Result<(), AllocError>
     push_columns(out, table.columns.as_slice())
 }
 
-// Columns, parted by commas and in parentheses.
+// Appends columns, separated by commas and in parentheses.
 pub(crate) fn push_columns(out: &mut String, columns: &[Column]) -> Result<(), AllocError>
     ensures { OnOk result (string_bytes out.new ≡ string_bytes out.old ++ columns_text columns.now) }
 {
@@ -203,7 +203,7 @@ pub(crate) fn push_columns(out: &mut String, columns: &[Column]) -> Result<(), A
     out.push(')')
 }
 
-// Columns, parted by commas.
+// Appends columns, separated by commas.
 fn push_parted(out: &mut String, columns: &[Column]) -> Result<(), AllocError>
     ensures { OnOk result (string_bytes out.new ≡ string_bytes out.old ++ join_by (λ column. column) (codes ",") columns.now) }
 {
@@ -214,7 +214,7 @@ fn push_parted(out: &mut String, columns: &[Column]) -> Result<(), AllocError>
     push_behind_commas(out, rest)
 }
 
-// Columns, each behind a comma.
+// Appends columns, each after a comma.
 fn push_behind_commas(out: &mut String, columns: &[Column]) -> Result<(), AllocError>
     ensures { OnOk result (string_bytes out.new ≡ string_bytes out.old ++ flat_map (λ column. codes "," ++ column) columns.now) }
 {

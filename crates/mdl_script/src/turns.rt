@@ -1,4 +1,4 @@
-//! The turns of a run: the sessions that a script names, in rising order, each with the thread that it is on.
+//! The turns of a run: the sessions that a script names, in rising order, each with the thread on which it runs.
 ghost use Rattle.std.specs.Prelude.{◌≡◌, ◌≢◌, [], ◌∷◌, ◌==◌, ℕ, Some, true, All, IfOk, OnOk, map, position, slice_get, ◌≤◌, length};
 ghost use Rattle.std.specs.List.Sorted.{IsPermutation};
 ghost use Rattle.std.specs.String.{string_bytes};
@@ -20,10 +20,10 @@ use std::alloc::AllocError;
 use std::sync::Wait;
 use std::thread::{Promise, PromisedHandle, Scope, Threads};
 
-/// What a session answers, or that memory ran out.
+/// The answers to a session's lines, or that memory ran out.
 pub(crate) type Answered = Result<Vec<(u64, Reply)>, AllocError>;
 
-/// The answers of a session of a table to its lines of a script.
+/// What a session's thread promises: its result is answers that session `who` of the table can have given to its lines of the script.
 #[derive(Clone, Copy)]
 pub(crate) struct AnswersOf<'s> {
     pub(crate) who: u16,
@@ -36,14 +36,14 @@ impl<'s> Promise<Answered> for AnswersOf<'s> {
     ghost kept_by = { λ p r. IfOk r (λ answers. AreAnswers (table_of p.manager.now) p.patience p.script.now p.who answers.items) };
 }
 
-/// A session, and its thread, unless it has its turn in the thread that started the others.
+/// A session, with its thread. There is none if it runs in the thread that started the others.
 #[derive(Drop)]
 pub(crate) struct Turn<'s> {
     pub(crate) who: u16,
     pub(crate) thread: Option<PromisedHandle<Answered, AnswersOf<'s>>>,
 }
 
-/// Takes the first pass from others.
+/// Takes the first pass from a list. The order of the others may change.
 pub(crate) fn take_first(passes: &mut Vec<Pass>) -> Pass
     requires { 1 ≤ length passes.old.items }
     ensures first { slice_get passes.old.items 0 ≡ Some result }
@@ -52,7 +52,7 @@ pub(crate) fn take_first(passes: &mut Vec<Pass>) -> Pass
     passes.swap_remove(0)
 }
 
-/// Takes the pass of a session from others.
+/// Takes the pass of a session from a list. The order of the others may change.
 fn take(passes: &mut Vec<Pass>, who: u16) -> Pass
     requires { has_pass passes.old.items who ≡ true }
     ensures number { pass_number result ≡ who }
@@ -64,7 +64,7 @@ fn take(passes: &mut Vec<Pass>, who: u16) -> Pass
     }
 }
 
-/// The place of the pass of a session.
+/// Returns where the pass of a session is.
 fn place_of(passes: &[Pass], who: u16) -> Option<usize>
     ensures { result ≡ position (λ pass. pass_number pass == who) passes.now }
 {
@@ -81,7 +81,7 @@ fn start_thread<'s, E, R: Threads + Wait + Sync, G: Gate + Sync>(
     requires capacity { IsCapacity run.now.cache }
     ensures { IfOk result (λ thread. IsAbout (table_of run.now.manager.now) run.now.patience run.now.script.now (pass_number pass) thread.promise) }
 {
-    // The thread has each of these by itself: of a struct that has them by a lifetime, the proof keeps nothing.
+    // The closure gets each of these by itself. Of a struct that has them under a lifetime, the proof knows nothing.
     let (rt, gate, manager, script) = (run.rt, run.gate, run.manager, run.script);
     let (alloc, patience, cache) = (run.alloc, run.patience, run.cache);
     let promise = AnswersOf {
@@ -96,7 +96,7 @@ fn start_thread<'s, E, R: Threads + Wait + Sync, G: Gate + Sync>(
     Ok(thread)
 }
 
-/// Starts the turn of a session.
+/// Starts the turn of a session, on a thread unless the session is `mine`.
 fn start_turn<'s, E, R: Threads + Wait + Sync, G: Gate + Sync>(
     scope: &Scope<'s, E>,
     run: &Run<'s, R, G>,
@@ -145,14 +145,14 @@ pub(crate) fn start_all<'s, E, R: Threads + Wait + Sync, G: Gate + Sync>(
     Ok(turns)
 }
 
-/// A session, and what it answered.
+/// A session, and its answers.
 #[derive(Drop)]
 pub(crate) struct Transcript {
     pub(crate) who: u16,
     pub(crate) answers: Vec<(u64, Reply)>,
 }
 
-/// Waits for the end of a turn, and tells its session's answers. `own` is what the session has answered that is on no other thread.
+/// Waits for the end of a turn, and appends its session's answers. `own` has the answers of the session that runs in this thread.
 fn push_turn<R: Threads, G>(
     out: &mut String,
     run: &Run<R, G>,
@@ -173,7 +173,7 @@ fn push_turn<R: Threads, G>(
     }
 }
 
-/// The same of all turns.
+/// Appends the answers of all turns, in order, each after its turn has ended.
 pub(crate) fn push_turns<R: Threads, G>(
     out: &mut String,
     run: &Run<R, G>,

@@ -1,4 +1,4 @@
--- That statements change definitions last: all checks, all locks and all that takes memory come before.
+-- Statements change definitions last: all checks, all locks and all that takes memory come before.
 use Rattle.std.specs.Prelude.{◌≡◌, ℕ, List, Option}
 use Rattle.mdl_key.specs.Keys.{KeyName}
 use Rattle.mdl_context.specs.declared.request.Mark.{Mark}
@@ -12,20 +12,20 @@ use Rattle.mdl_rows.specs.Rows as row
 use Rattle.mdl_rows.specs.States.{State}
 use Rattle.mdl_rows.specs.Statements.{row_of}
 
--- a statement only lowers locks, and tells that it is done
+-- a row that only lowers locks, and answers OK
 abbrev pub OnlyLowers : Row Reply → Type 0
 OnlyLowers (row.Give told) = told ≡ reply.Ok
 OnlyLowers (row.Downgrade id mode rest) = OnlyLowers rest
 OnlyLowers _ = ⊥
 
--- it only drops definitions, which takes no memory, lowers locks, and tells that it is done
+-- a row that only drops definitions, which takes no memory, lowers locks, and answers OK
 abbrev pub OnlyFinishes : Row Reply → Type 0
 OnlyFinishes (row.Give told) = told ≡ reply.Ok
 OnlyFinishes (row.Downgrade id mode rest) = OnlyFinishes rest
 OnlyFinishes (row.Redefine id change.Drop rest) = OnlyFinishes rest
 OnlyFinishes _ = ⊥
 
--- this is so of what is left of a statement behind its first change of a definition, whatever it is told before that
+-- P holds of what is left of a row after its first change of a definition, whatever the calls before returned
 abbrev pub BehindItsChange : (Row Reply → Type 0) → Row Reply → Type 0
 BehindItsChange P (row.Give told) = Unit {0}
 BehindItsChange P (row.Fail number) = Unit {0}
@@ -47,7 +47,7 @@ BehindItsChange P (row.Tables_of schema rest) = (places : List ℕ) → BehindIt
 BehindItsChange P (row.Key_of place rest) = (key : KeyName) → BehindItsChange P (rest key)
 BehindItsChange P (row.Kill target rest) = BehindItsChange P rest
 
--- it makes all its checks, asks for all its locks and for all its room, and reads all that it reads, before its first change
+-- a row that makes all its checks, requests all its locks and all its memory, and reads all that it reads, before its first change
 abbrev pub ChecksBeforeChanges : Row Reply → Type 0
 ChecksBeforeChanges = BehindItsChange OnlyFinishes
 
@@ -55,6 +55,6 @@ ChecksBeforeChanges = BehindItsChange OnlyFinishes
 abbrev pub ChangesAtMostOnce : Row Reply → Type 0
 ChangesAtMostOnce = BehindItsChange OnlyLowers
 
--- every statement does
+-- every statement makes its checks before it changes a definition
 abbrev pub StatementsCheckBeforeTheyChange : Type 0
 StatementsCheckBeforeTheyChange = (statement : Statement) → ChecksBeforeChanges (row_of statement)

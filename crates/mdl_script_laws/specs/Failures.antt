@@ -1,4 +1,4 @@
--- Statements that change no more than one definition, and fail, have changed none.
+-- Statements that change at most one definition, and fail, have changed none.
 use Rattle.std.specs.Prelude.{◌≡◌, ℕ, Bool, true, false, ◌∷◌}
 use Rattle.std.specs.Option.{IfSome}
 use Rattle.mdl_core.specs.CoreJoins.{Joins}
@@ -16,36 +16,35 @@ use Rattle.mdl_rows.specs.Playing.{starting, going_on}
 use Rattle.mdl_rows.specs.Sessions.{Left, Session}
 use Rattle.mdl_script_laws.specs.ChangesLast.{ChangesAtMostOnce}
 
--- a statement has ended with an error, or for want of memory
+-- a statement has ended with an error, or because memory ran out
 abbrev pub HasFailed : Pause → Type 0
 HasFailed (Ends (reply.Error number) session) = Unit {0}
 HasFailed (Faults session) = Unit {0}
 HasFailed _ = ⊥
 
--- under each key stands what stood there, in the same version
+-- each key has the same version and definition in both spaces
 abbrev pub SameDefinitions : Core → Core → Type 0
 SameDefinitions a b = SameAt (system_of a).definitions (system_of b).definitions
 
--- whether a statement changes no more than one definition: DROP TABLE of several tables, DROP SCHEMA and RENAME TABLE may change more
+-- whether a statement changes at most one definition. DROP TABLE of several tables, DROP SCHEMA and RENAME TABLE may change more
 abbrev pub changes_one : Statement → Bool
 changes_one (DropTables (table ∷ other ∷ tables)) = false
 changes_one (DropSchema name) = false
 changes_one (RenameTable from to) = false
 changes_one _ = true
 
--- what a session has left of a statement, if anything, changes no more than one, whatever ticket it goes on with
+-- what is left of a session's statement, if anything, changes at most one definition, whatever ticket it goes on with
 abbrev pub HasOneLeft : Session → Type 0
 HasOneLeft session = IfSome session.left (λ (left : Left). (id : ℕ) → ChangesAtMostOnce (left.rest id))
 
--- a statement that changes no more than one definition, and fails, has changed none: as it starts, or, where it has waited, as it goes
--- on
+-- a statement that changes at most one definition, and fails, has changed none: as it starts, or, if it has waited, as it goes on
 abbrev pub FailuresChangeNothing : Type 0
 FailuresChangeNothing =
     (session : Session) (a b : Core) (pause : Pause) → IsSound a → HasFailed pause →
     ((statement : Statement) → changes_one statement ≡ true → Runs Joins a (starting statement session) pause b → SameDefinitions a b)
     × (HasOneLeft session → Runs Joins a (going_on session) pause b → SameDefinitions a b)
 
--- where it waits, what is left of it changes no more than one definition
+-- if such a statement waits, what is left of it changes at most one definition
 abbrev pub WaitersHaveOneLeft : Type 0
 WaitersHaveOneLeft =
     (session : Session) →

@@ -7,8 +7,8 @@ use Rattle.mdl_syntax.specs.Scripts.{parsed}
 use Rattle.mdl_script.specs.Worlds.{is_waiting, player_at, script_played}
 use Rattle.mdl_script_laws.specs.RefusalsFirst.{IsTidy}
 
--- after any number of a script's lines, each session that doesn't wait keeps no ticket for a statement, and none for a transaction
--- unless one is open, and of the global read lock it has both tickets then, or none
+-- after any number of a script's lines, each session that doesn't wait keeps no ticket for a statement. Unless a transaction is open, it
+-- keeps none for a transaction, and has both tickets of the global read lock or none
 abbrev pub IdleSessionsAreTidy : Type 0
 IdleSessionsAreTidy =
     (text : List ℕ) (lines : List Line) → parsed text ≡ Ok lines → (n who : ℕ) → IsScriptSession who →

@@ -1,4 +1,4 @@
--- The order in which DDL and LOCK TABLES ask for the locks of their keys.
+-- The order in which DDL and LOCK TABLES request the locks of their keys.
 use Rattle.std.specs.Prelude.{◌≡◌, ◌↔◌, List, AllPairs, Contains}
 use Rattle.std.specs.declared.cmp.Ordering.TheVariants.{Less}
 use Rattle.mdl_key.specs.Keys.{KeyName, key_cmp}
@@ -8,7 +8,7 @@ use Rattle.mdl_rows.specs.KeyOrder.{in_key_order}
 abbrev pub ComesBefore : KeyName → KeyName → Type 0
 ComesBefore key later = key_cmp key later ≡ Less
 
--- keys in key order are the same keys, each before all that stand behind it, and so each once
+-- keys in key order are the same keys, each before all that follow it, and so each once
 abbrev pub KeysStandInOrder : Type 0
 KeysStandInOrder =
     (keys : List KeyName) → AllPairs ComesBefore (in_key_order keys) × ((key : KeyName) → Contains (in_key_order keys) key ↔ Contains keys key)

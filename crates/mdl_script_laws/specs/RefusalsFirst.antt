@@ -16,8 +16,8 @@ use Rattle.mdl_rows.specs.Playing.{starting, going_on}
 use Rattle.mdl_rows.specs.Sessions.{Left, Session}
 use Rattle.mdl_rows.specs.States.{half_lock}
 
--- whether an error is of a check that comes before a statement's first lock: tables that its session has locked are in its way, or
--- the global read lock that it has; or it has no such savepoint
+-- whether an error is of a check that comes before a statement's first lock: the statement isn't allowed while its session has these
+-- locked tables or the global read lock, or there is no such savepoint
 abbrev pub is_early : ErrorNumber → Bool
 is_early TableLockedForRead = true
 is_early TableNotLocked = true
@@ -26,15 +26,15 @@ is_early ConflictingReadLock = true
 is_early NoSuchSavepoint = true
 is_early _ = false
 
--- a session between statements is tidy: it has nothing left to do, it keeps no ticket for a statement, and none for a transaction
--- unless one is open, nor has it then locked all writes without all commits
+-- a session between statements is tidy: it has nothing left to do, it keeps no ticket for a statement, and unless a transaction is open
+-- it keeps none for a transaction, and has both tickets of the global read lock or none
 pub record IsTidy (session : Session) : Type 0 where
   pub over : session.left ≡ None
   pub statement : held_for for.Statement session.context.kept ≡ []
   pub transaction : session.state.is_open ≡ false → held_for for.Transaction session.context.kept ≡ []
   pub whole : half_lock session.state ≡ None
 
--- in the midst of a statement, it has something left to do, and it kept no ticket for a statement as that began
+-- a session in the middle of a statement: it has something left to do, and kept no ticket for a statement when that began
 abbrev pub IsUnderway : Session → Type 0
 IsUnderway session = (left : Left) × (session.left ≡ Some left) × (left.mark.statement ≡ 0)
 
@@ -45,14 +45,14 @@ IsOrderly (Begins_to_wait key mode session) = IsUnderway session
 IsOrderly (Waits_on session) = IsUnderway session
 IsOrderly (Faults session) = IsTidy session
 
--- a statement that starts in a tidy session, and ends with such an error, has changed nothing: the session is as it was, and so is
--- the space
+-- a statement that starts in a tidy session, and ends with such an error, has changed nothing: the session is unchanged, and so is the
+-- space
 abbrev pub EarlyErrorsChangeNothing : Type 0
 EarlyErrorsChangeNothing =
     (statement : Statement) (session after : Session) (a b : Core) (number : ErrorNumber) → IsTidy session → IsTrue (is_early number) →
     Runs Joins a (starting statement session) (Ends (reply.Error number) after) b → (after ≡ session) × (b ≡ a)
 
--- sessions are tidy between statements: what starts in a tidy one leaves it tidy as it ends, however often it waits
+-- sessions are tidy between statements: a statement that starts in a tidy session leaves it tidy when it ends, however often it waits
 abbrev pub SessionsStayTidy : Type 0
 SessionsStayTidy =
     (session : Session) →

@@ -1,5 +1,5 @@
--- What a session is shown of a table twice within one transaction, after MySQL 5.7: the Reference Manual, "Metadata Locking". It is said
--- of what is told of the lines of a script.
+-- What a session is shown of a table twice within one transaction, after MySQL 5.7: the Reference Manual, "Metadata Locking". The laws are
+-- about the answers to the lines of a script.
 use Rattle.std.specs.Prelude.{◌≡◌, ℕ, Bool, true, false, List, ◌∷◌, ◌++◌, Contains, is_some}
 use Rattle.std.specs.List.{All}
 use Rattle.mdl_core.specs.CoreSystems.{system_of}
@@ -25,15 +25,15 @@ leaves_transaction (statement.GetLock name) = true
 leaves_transaction (statement.ReleaseLock name) = true
 leaves_transaction _ = false
 
--- a session is asked for such statements alone
+-- a session's lines ask only for statements that leave its transaction alone
 abbrev pub LeavesTransaction : ℕ → List Line → Type 0
 LeavesTransaction who lines = All (λ line. line.session ≡ who → leaves_transaction line.statement ≡ true) lines
 
--- all lines are of sessions that there are
+-- all lines are of sessions that a script can name
 abbrev pub AreOfSessions : List Line → Type 0
 AreOfSessions lines = All (λ line. IsScriptSession line.session) lines
 
--- among what is told, a table is shown to a session, by a statement that has ended
+-- among these answers, one shows a table to a session, by a statement that has ended
 abbrev pub IsShownTo : ℕ → List Told → TableShown → Type 0
 IsShownTo who told table =
     (line : ℕ) × (tables : List TableShown) × Contains told (record { line = line; who = who; news = Ends (Columns tables) }) × Contains tables table
@@ -42,9 +42,10 @@ IsShownTo who told table =
 abbrev pub has_transaction : ℕ → World → Bool
 has_transaction who world = (player_at who world).session.state.is_open
 
--- A table is shown to a session in the turn of a line. Later lines follow, by which the session neither begins nor ends a transaction,
--- goes back to no savepoint and changes no definition, and after which its transaction is open: so it was open all the time. Whatever
--- the other sessions did, each time that the table was shown to it meanwhile, it was the same version, with the same columns
+-- a table is shown to a session by a line or the turns after it. Later lines follow, by which the session neither begins nor ends a
+-- transaction, goes back to no savepoint and changes no definition, and after which its transaction is open: so it was open all the time.
+-- Whatever the other sessions did, each time that the table was shown to the session meanwhile, it was the same version, with the same
+-- columns
 abbrev pub TransactionsSeeOneDefinition : Type 0
 TransactionsSeeOneDefinition =
     (before : List Line) (line : Line) (later : List Line) (who : ℕ) (one other : TableShown) → AreOfSessions (before ++ line ∷ later) →
@@ -53,14 +54,14 @@ TransactionsSeeOneDefinition =
     IsShownTo who first.told one → LeavesTransaction who later → has_transaction who rest.world ≡ true → IsShownTo who rest.told other →
     one.key ≡ other.key → one ≡ other
 
--- under a table's key something is defined in a world, in the version and with the columns that were shown
+-- a table's key is defined in a world with the version and the columns that were shown
 abbrev pub StandsAsShown : World → TableShown → Type 0
 StandsAsShown world table =
     let defined = (system_of world.core).definitions table.key in
     (is_some defined.definition ≡ true) × (defined.version ≡ table.version) × (columns_of defined.definition ≡ table.columns)
 
--- So too, a table that was shown to a session stands as it was shown, as long as the session's transaction is open and it is asked for
--- such statements alone: no other session has changed or dropped it
+-- a table that was shown to a session is defined as it was shown, as long as the session's transaction is open and it is asked only for
+-- such statements: no other session has changed or dropped it
 abbrev pub TransactionsKeepWhatTheySaw : Type 0
 TransactionsKeepWhatTheySaw =
     (before : List Line) (line : Line) (later : List Line) (who : ℕ) (table : TableShown) → AreOfSessions (before ++ line ∷ later) →

@@ -1,5 +1,5 @@
--- That a script's turns come to their end: how many locks a statement asks for, that nobody is left whose turn has come, that a
--- statement waits just where its session has an unsettled wait, and how many waits are told.
+-- A script's turns come to their end: how many locks a statement asks for, that no session is left whose turn has come, that a statement
+-- waits exactly if its session has an unsettled wait, and how many waits are reported.
 use Rattle.std.specs.Prelude.{◌≡◌, ℕ, suc, ◌+◌, ◌*◌, ◌≤◌, Bool, true, false, ◌&&◌, ◌==◌, List, length, filter, take, Option, None, Ok}
 use Rattle.std.specs.List.{All}
 use Rattle.mdl_key.specs.Words.{KeyName, most_places}
@@ -26,8 +26,8 @@ use Rattle.mdl_script.specs.Worlds.{World, first_settled, is_waiting, script_pla
 abbrev pub AreFewTables : List ℕ → Type 0
 AreFewTables tables = length tables ≤ most_places
 
--- a statement asks for at most so many locks, one after the other, whatever it is told meanwhile. To make one stronger is to ask for one
--- more; one that it only tries for counts for nothing, since it doesn't wait for it
+-- a row asks for at most this number of locks, one after the other, whatever its calls return. Making a lock stronger counts as one more.
+-- A lock that is only tried counts for nothing, since the row doesn't wait for it
 abbrev pub AsksForAtMost : {A : Type 0} → ℕ → Row A → Type 0
 AsksForAtMost most (row.Give x) = Unit {0}
 AsksForAtMost most (row.Fail number) = Unit {0}
@@ -49,10 +49,10 @@ AsksForAtMost most (row.Tables_of schema rest) = (tables : List ℕ) → AreFewT
 AsksForAtMost most (row.Key_of place rest) = (key : KeyName) → AsksForAtMost most (rest key)
 AsksForAtMost most (row.Kill target rest) = AsksForAtMost most rest
 
--- the most locks that a statement asks for: the COMMIT lock where it has to commit, the global lock where it writes or changes
--- definitions, and the tables or the schema that it names, with the tables' schemas where these are created, dropped, renamed, altered or
--- locked for writing, and with the schema's tables where it is dropped; and for the global read lock the global lock and once more the
--- COMMIT lock. A table that is altered is locked up to three times, each time more strongly. A user-level lock is asked for alone
+-- the most locks that a statement asks for: the COMMIT lock if it has to commit, the global lock if it writes or changes definitions, and
+-- the tables or the schema that it names, with the tables' schemas if these are created, dropped, renamed, altered or locked for writing,
+-- and with the schema's tables if it is dropped. For the global read lock these are the global lock and once more the COMMIT lock. A
+-- table that is altered is locked up to three times, each time more strongly. A user-level lock is requested alone
 abbrev pub locks_of : Statement → ℕ
 locks_of Begin = 1
 locks_of Commit = 1
@@ -69,56 +69,56 @@ locks_of (LockTables locks) = 2 + 2 * length locks
 locks_of (GetLock name) = 1
 locks_of _ = 0
 
--- that of a DROP SCHEMA is the most that the language has
+-- the most locks that a statement of the language asks for: those of a DROP SCHEMA
 abbrev pub most_locks : ℕ
 most_locks = 3 + most_places
 
--- no statement asks for more
+-- no statement asks for more locks than `locks_of` says, and within the limits of the language for no more than `most_locks`
 abbrev pub StatementsAskForFewLocks : Type 0
 StatementsAskForFewLocks =
     (statement : Statement) → AsksForAtMost (locks_of statement) (row_of statement) × (IsWithinLimits statement → locks_of statement ≤ most_locks)
 
--- whoever waits has a wait that isn't settled
+-- each session that waits has a wait that isn't settled
 abbrev pub WaitersAreUnsettled : World → Type 0
 WaitersAreUnsettled world = All (λ who. has_settled world.core who ≡ false) (waiting_in world)
 
--- the turns after a line are always enough: after each line of a script nobody is left whose turn has come
+-- the turns after a line are always enough: after each line of a script no session is left whose turn has come
 abbrev pub TurnsSuffice : Type 0
 TurnsSuffice = (text : List ℕ) (lines : List Line) → parsed text ≡ Ok lines → (n : ℕ) → first_settled (script_played (take n lines)).world ≡ None
 
--- so more turns would do nothing, and tell nothing
+-- after each line of a script, more turns would do nothing, and report nothing
 abbrev pub MoreTurnsDoNothing : Type 0
 MoreTurnsDoNothing =
     (text : List ℕ) (lines : List Line) → parsed text ≡ Ok lines → (n turns : ℕ) →
     let world = (script_played (take n lines)).world in settling turns world ≡ silent world
 
--- and whoever waits then has a wait that isn't settled
+-- after each line of a script, each session that waits has a wait that isn't settled
 abbrev pub NobodyIsLeftSettled : Type 0
 NobodyIsLeftSettled =
     (text : List ℕ) (lines : List Line) → parsed text ≡ Ok lines → (n : ℕ) → WaitersAreUnsettled (script_played (take n lines)).world
 
--- a session's statement waits exactly where the session has a wait in the lock space that isn't settled
+-- a session's statement waits exactly if the session has a wait in the lock space that isn't settled
 abbrev pub WaitsInTheSpace : World → Type 0
 WaitsInTheSpace world = (who : ℕ) → IsScriptSession who → is_waiting world who ≡ is_open (wait_at who world.core)
 
--- that is so after each line
+-- after each line of a script, each session's statement waits exactly if the session has such a wait
 abbrev pub StatementsWaitInTheSpace : Type 0
 StatementsWaitInTheSpace = (text : List ℕ) (lines : List Line) → parsed text ≡ Ok lines → (n : ℕ) → WaitsInTheSpace (script_played (take n lines)).world
 
--- whether it is told that a statement waits
+-- whether a statement is reported to wait
 abbrev pub is_wait : News → Bool
 is_wait (Waits key mode) = true
 is_wait _ = false
 
--- whether that is the statement of the line of this number
+-- whether the statement of the line of this number is reported to wait
 abbrev pub is_wait_of : ℕ → Told → Bool
 is_wait_of number told = told.line == number && is_wait told.news
 
--- how many waits are told of that statement
+-- how many waits of that statement are reported
 abbrev pub waits_told : ℕ → List Told → ℕ
 waits_told number told = length (filter (is_wait_of number) told)
 
--- a whole script tells of no more waits of a statement than it asks for locks
+-- a whole script reports no more waits of a statement than the statement asks for locks
 abbrev pub StatementsTellOfFewWaits : Type 0
 StatementsTellOfFewWaits =
     (text : List ℕ) (lines : List Line) → parsed text ≡ Ok lines → All (λ line. waits_told line.number (script_played lines).told ≤ locks_of line.statement) lines

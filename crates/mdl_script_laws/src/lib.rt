@@ -1,5 +1,5 @@
-//! Laws of whole scripts: what a reader may count on after any line, whatever the script. Each is proved as the contract of a
-//! function that does nothing.
+//! Laws of whole scripts: what a reader may rely on after any line of any script. Each is proved as the contract of a function that
+//! does nothing.
 //!
 //! # Example
 //!

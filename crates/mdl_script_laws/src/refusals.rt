@@ -3,8 +3,8 @@ ghost use Rattle.mdl_script_laws.specs.IdleSessions.{IdleSessionsAreTidy};
 ghost use Rattle.mdl_script_laws.specs.RefusalsFirst.{EarlyErrorsChangeNothing, SessionsStayTidy};
 ghost use Rattle.mdl_script_laws.specs.RefusedLines.{RefusedLinesChangeNothing};
 
-/// A statement that is refused before its first lock changes nothing: neither its session, whose transaction stays as it is, nor
-/// the space.
+/// A statement that is refused before its first lock changes nothing: neither its session, whose transaction is unchanged, nor the
+/// space.
 pub fn early_errors_change_nothing()
     ensures { EarlyErrorsChangeNothing }
 {}
@@ -15,13 +15,13 @@ pub fn sessions_stay_tidy()
     ensures { SessionsStayTidy }
 {}
 
-/// So after each line of a script this is so of each session that doesn't wait.
+/// After each line of a script, what [`sessions_stay_tidy`] says holds for each session that doesn't wait.
 pub fn idle_sessions_are_tidy()
     ensures { IdleSessionsAreTidy }
 {}
 
-/// And whatever a script tells of such refusals, each is the answer of a line that changed nothing: no session but the refused
-/// one is told of it, and none that has waited is refused so.
+/// Each refusal before a first lock, in the output of a script, is the answer to a line that changed nothing. Only the refused session
+/// gets it, and no statement that has waited is refused so.
 pub fn refused_lines_change_nothing()
     ensures { RefusedLinesChangeNothing }
 {}

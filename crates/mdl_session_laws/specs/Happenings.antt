@@ -1,5 +1,5 @@
--- That calls can join sessions so: what is asked of a call and its answer is no more than can be. Where a session may have a lock, begin a wait, lose it, read or
--- change what it meets, or be refused, there is a session after that which the call joins it to.
+-- That such calls can happen: the relation of calls to sessions isn't empty. If a session may get a lock, begin a wait, lose it, read or change what it
+-- meets, or be refused, there is a session after the call to which the relation leads.
 use Rattle.std.specs.Prelude.{◌≡◌, ℕ, ◌+◌, true, false, Some, None}
 use Rattle.mdl_key.specs.declared.mode.Mode.{Mode}
 use Rattle.mdl_key.specs.declared.mode.Mode.TheVariants.{X}
@@ -14,39 +14,39 @@ use Rattle.mdl_calls.specs.Words.{Answer, Refused, At_place, Granted, Waits, Los
 use Rattle.mdl_session_laws.specs.SessionJoins.{Joins, Meets}
 use Rattle.mdl_session_laws.specs.SessionSpaces.{Space, IsSound, Knows, key_known, is_known, place_known}
 
--- such a call with this answer can be made
+-- a session can make this call and get this answer
 abbrev pub CanJoin : Space → Call → Answer → Type 0
 CanJoin a call answer = (b : Space) × Joins a call answer b
 
--- a new key is at a place that has none yet
+-- a key whose place the session doesn't know can get any place of which it knows no key
 abbrev pub KeysAreFound : Type 0
 KeysAreFound =
     (a : Space) (place : ℕ) (key : KeyName) → IsSound a → place_known key a.known ≡ None → is_known place a.known ≡ false →
     CanJoin a (Resolve a.number key) (At_place place)
 
--- a lock is had
+-- a lock can be granted at a place that the session knows
 abbrev pub LocksAreHad : Type 0
 LocksAreHad =
     (a : Space) (place : ℕ) (mode : Mode) → IsSound a → is_waiting a.own ≡ false → is_known place a.known ≡ true → IsFit (Knows a a.number) place mode →
     CanJoin a (Try_now a.number place mode) (Granted (a.numbers.last_ticket + 1))
 
--- a wait is begun
+-- a wait can begin at a place that the session knows
 abbrev pub WaitsAreBegun : Type 0
 WaitsAreBegun =
     (a : Space) (place : ℕ) (mode : Mode) → IsSound a → is_waiting a.own ≡ false → is_known place a.known ≡ true → IsFit (Knows a a.number) place mode →
     CanJoin a (Begin_wait a.number place mode) (Waits (a.numbers.last_wait + 1))
 
--- and lost
+-- a wait that is settled as a deadlock's victim can be ended
 abbrev pub WaitsAreLost : Type 0
 WaitsAreLost = (a : Space) → IsSound a → a.settled ≡ Some Victim → CanJoin a (End_wait a.number) (Lost Victim)
 
--- what is met under a ticket is read
+-- the version and definition that a session may meet under a ticket can be read
 abbrev pub StandingsAreRead : Type 0
 StandingsAreRead =
     (a : Space) (id : ℕ) (ticket : Held) (standing : Standing) → IsSound a → ticket_held id a.own ≡ Some ticket → Meets ticket.place standing a →
     CanJoin a (Read_definition a.number id) (Reads standing.version standing.definition)
 
--- and changed under an exclusive one, where it can be changed so
+-- they can be changed under a ticket that is held in mode X, if they allow the change
 abbrev pub StandingsAreChanged : Type 0
 StandingsAreChanged =
     (a : Space) (id : ℕ) (ticket : Held) (stood : Standing) (change : Change) → IsSound a → ticket_held id a.own ≡ Some ticket →
@@ -54,7 +54,7 @@ StandingsAreChanged =
     ((key : KeyName) → key_known ticket.place a.known ≡ Some key → standing_fault key.namespace change stood ≡ None) →
     CanJoin a (Change_definition a.number id change) (Changed (stood.version + 1))
 
--- a call that takes memory may be refused for want of it, and the session is as it was
+-- a call that takes memory can be refused because memory ran out, and the session is unchanged
 abbrev pub MemoryRunsOut : Type 0
 MemoryRunsOut =
     (a : Space) (call : Call) → IsSound a → caller call ≡ Some a.number → takes_memory call ≡ true → Joins a call (Refused OutOfMemory) a

@@ -1,5 +1,5 @@
--- How a call joins a session before it to the session after it: what the session can tell of the call by what it keeps of its own and what it met at
--- the table. No clause tells of other sessions.
+-- The relation of a call to the session before it and after it: what the session knows of the call by the data that it keeps and by what it met at
+-- the table. No clause says anything of other sessions.
 use Rattle.std.specs.Prelude.{◌≡◌, ◌≢◌, ◌⊎◌, ℕ, ◌+◌, Bool, true, false, List, [], ◌∷◌, ◌++◌, map, All, AllPairs, Option, Some, None, is_some}
 use Rattle.std.specs.Option.{IfSome}
 use Rattle.std.specs.declared.cmp.Ordering.TheVariants.{Less}
@@ -29,20 +29,20 @@ has_call _ = true
 
 -- ---- keys
 
--- where a call with this answer gave its caller a ticket, or a wait, at a place that it named
+-- the place that the call named, if this answer gave the caller a ticket or a wait there
 abbrev pub gained_at : Call → Answer → Option ℕ
 gained_at (Try_now who place mode) (Granted id) = Some place
 gained_at (Begin_wait who place mode) (Granted id) = Some place
 gained_at (Begin_wait who place mode) (Waits number) = Some place
 gained_at _ _ = None
 
--- a key is at this place by what the session knew of it; or it knew neither the key nor the place, and knows them now
+-- the session already knew this place of the key; or it knew neither the key's place nor the place's key, and knows them now
 abbrev pub LearnsPlace : KeyName → ℕ → Option ℕ → List KnownKey → List KnownKey → Type 0
 LearnsPlace key place (Some known) before after = (place ≡ known) × (after ≡ before)
 LearnsPlace key place None before after = (is_known place before ≡ false) × (after ≡ before ++ record { key = key; place = place } ∷ [])
 
--- the places that were told are those of some tables of the schema, in the order of their keys, which the session knows now with all that it knew
--- before; and no key is known twice then, and no place
+-- the places that were returned are those of some tables of the schema, in the order of their keys. The session now knows these and all that it knew
+-- before, and it knows no key twice and no place twice.
 pub record LearnsTables (schema : List ℕ) (places : List ℕ) (before after : List KnownKey) : Type 0 where
   pub more : List KnownKey
   pub grown : after ≡ before ++ more
@@ -53,7 +53,7 @@ pub record LearnsTables (schema : List ℕ) (places : List ℕ) (before after : 
   pub learnt : All (λ (t : KnownKey). key_known t.place after ≡ Some t.key) tables
   pub in_order : AllPairs (λ (one other : KnownKey). key_cmp one.key other.key ≡ Less) tables
 
--- what keys a call with this answer lets its session know. What isn't named here leaves them
+-- the keys that the session knows after a call with this answer. Calls and answers that aren't named here leave them unchanged.
 abbrev pub Learns : Call → Answer → List KnownKey → List KnownKey → Type 0
 Learns (Resolve who key) (At_place place) before after = LearnsPlace key place (place_known key before) before after
 Learns (Tables_of who schema) (Tables places) before after = LearnsTables schema places before after
@@ -61,7 +61,7 @@ Learns _ _ before after = after ≡ before
 
 -- ---- the wait
 
--- how the caller's wait stood as the call met it, where the answer tells that: not settled, or settled so
+-- the state in which the call met the caller's wait, if the answer says that: not settled, or settled in this way
 abbrev pub met : Call → Answer → Option (Option Settled)
 met (Poll_wait who) Pending = Some None
 met (Poll_wait who) (Is_settled how) = Some (Some how)
@@ -78,45 +78,45 @@ ends_wait (End_wait who) (Granted id) = true
 ends_wait (End_wait who) (Lost how) = true
 ends_wait _ _ = false
 
--- what the session knows of how its wait is settled, whether or not that is ended: nothing of an ended one; else what it knew, and it may have learnt
--- it, but not where it had no wait
+-- what the session knows of how its wait is settled. If the wait was ended it knows nothing. Otherwise it knows what it knew, and may have learnt it,
+-- unless it had no wait.
 abbrev pub KeepsSettled : Bool → Space → Space → Type 0
 KeepsSettled true a b = b.settled ≡ None
 KeepsSettled false a b = ((how : Settled) → a.settled ≡ Some how → b.settled ≡ Some how) × (is_waiting a.own ≡ false → b.settled ≡ a.settled)
 
 -- ---- what is read
 
--- what a session meets as it looks at what stands at a place where it holds a ticket: it may stand under the key that it knows there, and has the
--- version that it noted there; the session has read nothing newer there, and what it read last is that, if it has the same version
+-- the version and definition that a session may meet at a place where it holds a ticket: they are valid for the key that it knows there, and the version
+-- is the one that it noted there. The session has read nothing newer there, and if it read the same version last, it read the same definition.
 pub record Meets (place : ℕ) (standing : Standing) (a : Space) : Type 0 where
   pub fits : (key : KeyName) → key_known place a.known ≡ Some key → MayStand key.namespace standing
   pub noted : (version : ℕ) → noted_at place a.notes ≡ Some version → version ≡ standing.version
   pub newest : is_newest place standing.version a.reads ≡ true
   pub same : (last : Standing) → last_read place a.reads ≡ Some last → last.version ≡ standing.version → last ≡ standing
 
--- it was read there, after all that was read before; or it was what was read last there
+-- what was read at the place is added after all earlier reads, or it was the last read there already
 abbrev pub IsLast : ℕ → Standing → List Reading → List Reading → Type 0
 IsLast place standing before after =
     (after ≡ before ++ record { place = place; standing = standing } ∷ [])
     ⊎ ((after ≡ before) × (last_read place before ≡ Some standing))
 
--- the session has read this last there, and notes its version. Elsewhere it notes nothing
+-- the session has read this last at the place, and has noted its version. Its notes of other places are unchanged.
 pub record NotesThere (place : ℕ) (standing : Standing) (a b : Space) : Type 0 where
   pub last : IsLast place standing a.reads b.reads
   pub here : noted_at place b.notes ≡ Some standing.version
   pub elsewhere : (other : ℕ) → other ≢ place → noted_at other b.notes ≡ noted_at other a.notes
 
--- the session reads nothing. A version that is noted was noted before, and one that was noted stays so as long as a ticket is held there
+-- the session reads nothing. A version that is noted was noted before, and one that was noted stays noted as long as a ticket is held there.
 pub record ReadsNothing (a b : Space) : Type 0 where
   pub reads : b.reads ≡ a.reads
   pub noted : (place version : ℕ) → noted_at place b.notes ≡ Some version → noted_at place a.notes ≡ Some version
   pub carried : (place version : ℕ) → HoldsAt place b.own → noted_at place a.notes ≡ Some version → noted_at place b.notes ≡ Some version
 
--- it reads this at a place
+-- the session reads this at a place
 abbrev pub ReadsThere : Standing → Space → Space → ℕ → Type 0
 ReadsThere standing a b place = Meets place standing a × NotesThere place standing a b
 
--- it changes what it met at a place, which could be changed so, to this version
+-- the session changes the definition that it met at a place, which could be changed so, to this version
 pub record ChangesThere (change : Change) (version : ℕ) (a b : Space) (place : ℕ) : Type 0 where
   pub stood : Standing
   pub meets : Meets place stood a
@@ -124,7 +124,7 @@ pub record ChangesThere (change : Change) (version : ℕ) (a b : Space) (place :
   pub newer : version ≡ stood.version + 1
   pub notes : NotesThere place (standing_after change stood) a b
 
--- what it met at a place couldn't be changed so
+-- the definition that the session met at a place couldn't be changed so, and this is the error for it
 pub record MeetsFault (change : Change) (cause : SpaceError) (a : Space) (place : ℕ) : Type 0 where
   pub stood : Standing
   pub meets : Meets place stood a
@@ -132,17 +132,17 @@ pub record MeetsFault (change : Change) (cause : SpaceError) (a : Space) (place 
   pub fault : (key : KeyName) → key_known place a.known ≡ Some key → standing_fault key.namespace change stood ≡ Some why
   pub told : cause ≡ cause_of why
 
--- why a change is refused under a ticket: it isn't exclusive; or memory ran out; or for what stands there
+-- why a change is refused under a ticket: the ticket isn't held in mode X, or memory ran out, or the place's definition can't be changed so
 abbrev pub IsRefusedFor : Change → SpaceError → Space → Held → Type 0
 IsRefusedFor change cause a ticket = same_mode ticket.mode X ≡ true → (cause ≡ OutOfMemory) ⊎ MeetsFault change cause a ticket.place
 
--- it reads nothing, or memory ran out after it met something at the place of a ticket, which it had read already
+-- the session reads nothing; or memory ran out after it met a version and definition at the ticket's place that it had read already
 abbrev pub ReadsInVain : SpaceError → ℕ → Space → Space → Type 0
 ReadsInVain cause id a b =
     ReadsNothing a b
     ⊎ ((cause ≡ OutOfMemory) × OfHeld id a.own (λ ticket. (standing : Standing) × (b.reads ≡ a.reads) × ReadsThere standing a b ticket.place))
 
--- what a call with this answer lets its session read and note. What isn't named here lets it read nothing
+-- what the session reads and notes by a call with this answer. By calls and answers that aren't named here it reads nothing.
 abbrev pub LetsRead : Call → Answer → Space → Space → Type 0
 LetsRead (Read_definition who id) (Reads version definition) a b =
     OfHeld id a.own (λ ticket. ReadsThere (record { version = version; definition = definition }) a b ticket.place)
@@ -154,7 +154,8 @@ LetsRead _ _ a b = ReadsNothing a b
 
 -- ---- answers
 
--- what some answers tell of the session as it is. The victim of a search, and those whose wait is looked after or killed, may be others: of them nothing is said
+-- what some answers say of the session itself. The victim of a search, and the session whose wait is asked for or killed, may be another one: of that nothing
+-- is said.
 abbrev pub TellsTruly : Call → Answer → Space → Space → Type 0
 TellsTruly (List_held who) (Holds tickets) a b = tickets ≡ a.own.held
 TellsTruly (Key_of who place) (Key_is key) a b = key_known place a.known ≡ Some key
@@ -168,10 +169,11 @@ TellsTruly _ _ a b = Unit {0}
 
 -- ---- the whole
 
--- the caller, if there is one, is the session itself (`mine`), and there is such a call (`has`) and such an answer (`fits`); the session has what the
--- call leaves it (`own`, `numbers`) and has not been refused but for a cause (`explained`); it has asked for a lock only at a place that it knows (`gained`)
--- and knows what it learnt of keys (`learns`); its wait, if it has met that settled, it meets so again (`agreed`), it knows what it was told of it
--- (`told`) and what else it may (`settled`); it has read what the call lets it read (`reads`); and answers are true (`truly`)
+-- the relation of a call, with its answer, to the session before and after. The caller, if there is one, is the session itself (`mine`). There is such a call
+-- (`has`), with such an answer (`fits`). The session has what the call leaves it (`own`, `numbers`), and a refusal has a cause (`explained`). It got a ticket
+-- or a wait only at a place that it knows (`gained`), and knows the keys that it learnt (`learns`). If it knew how its wait is settled, the call met the wait
+-- settled so (`agreed`). It knows what the answer says of its wait (`told`), and otherwise what it knew or may have learnt (`settled`). It has read what the
+-- call lets it read (`reads`), and what the answer says of it is true (`truly`).
 pub record Joins (a : Space) (call : Call) (answer : Answer) (b : Space) : Type 0 where
   pub mine : IfSome (caller call) (SpeaksFor a)
   pub has : has_call call ≡ true

@@ -1,5 +1,5 @@
--- A session of a space that threads share, as those see it that stand on lock spaces: plain data of its own, what is always so of that, and what it
--- has, knows and has read by that. It speaks for itself alone.
+-- A session of a space that threads share, as code above a lock space sees it: its own plain data, what always holds of them, and what it has, knows
+-- and has read by them. It speaks for itself alone.
 use Rattle.std.specs.Prelude.{◌≡◌, ℕ, ◌+◌, Bool, true, false, not, ◌&&◌, ◌||◌, ◌==◌, nat_lt, nat_le, List, [], ◌∷◌, find, Option, Some, None, is_some, MatchOption, Contains, if◌then◌else◌}
 use Rattle.std.specs.List.{list_all, list_any}
 use Rattle.std.specs.Option.{option_map, option_or, IfSome}
@@ -20,13 +20,13 @@ pub record Note : Type 0 where
   pub place : ℕ
   pub version : ℕ
 
--- what the session read at a place, or made stand there
+-- a version and definition that the session read at a place, or that its own change made there
 pub record Reading : Type 0 where
   pub place : ℕ
   pub standing : Standing
 
--- a session: its number; what it has, and the last numbers that it gave; the keys that it has looked up; how its wait is settled, where it has met
--- that; a note for each ticket under which it noted a version; and what it read, the first first
+-- a session: its number; its held tickets and its wait, and the last numbers that it gave them; the keys that it has looked up; how its wait is
+-- settled, if it has met that; a note for each ticket under which it noted a version; and what it read, the first read first
 pub record Space : Type 0 where
   pub number : ℕ
   pub own : Own
@@ -38,23 +38,23 @@ pub record Space : Type 0 where
 
 -- ---- look-ups
 
--- the key of a place
+-- the key of a place, if it is known
 abbrev pub key_known : ℕ → List KnownKey → Option KeyName
 key_known place known = option_map (λ (k : KnownKey). k.key) (find (λ (k : KnownKey). k.place == place) known)
 
--- whether the place has one
+-- whether the key of a place is known
 abbrev pub is_known : ℕ → List KnownKey → Bool
 is_known place known = is_some (key_known place known)
 
--- the place of a key
+-- the place of a key, if it is known
 abbrev pub place_known : KeyName → List KnownKey → Option ℕ
 place_known key known = option_map (λ (k : KnownKey). k.place) (find (λ (k : KnownKey). key_eq k.key key) known)
 
--- the version that is noted at a place
+-- the version that is noted at a place, if there is one
 abbrev pub noted_at : ℕ → List Note → Option ℕ
 noted_at place notes = option_map (λ (n : Note). n.version) (find (λ (n : Note). n.place == place) notes)
 
--- what was read last at a place
+-- the version and definition that were read last at a place, if any were
 abbrev pub last_read : ℕ → List Reading → Option Standing
 last_read place [] = None
 last_read place (r ∷ later) = option_or (last_read place later) (if r.place == place then Some r.standing else None)
@@ -63,13 +63,13 @@ last_read place (r ∷ later) = option_or (last_read place later) (if r.place ==
 abbrev pub was_read : ℕ → ℕ → List Reading → Bool
 was_read place version reads = list_any (λ r. r.place == place && r.standing.version == version) reads
 
--- whether no later version was
+-- whether no later version than this one was read at a place
 abbrev pub is_newest : ℕ → ℕ → List Reading → Bool
 is_newest place version reads = list_all (λ r. not (r.place == place) || nat_le r.standing.version version) reads
 
--- ---- what is always so
+-- ---- invariants
 
--- whether two keys differ, and their places
+-- whether two known keys differ, and their places differ
 abbrev pub are_two : KnownKey → KnownKey → Bool
 are_two one other = not (key_eq one.key other.key) && not (one.place == other.place)
 
@@ -82,7 +82,7 @@ are_apart (k ∷ later) = list_all (are_two k) later && are_apart later
 abbrev pub are_below : ℕ → List Held → Bool
 are_below number held = list_all (λ (t : Held). nat_lt t.id number) held
 
--- the first number that no held ticket has: that of the ticket that is waited for, which is the last one given, or else the next one
+-- the first number that no held ticket has: if the session waits, that of the wait's ticket, which is the last one given, and otherwise the next one
 abbrev pub first_free : Bool → Numbers → ℕ
 first_free true numbers = numbers.last_ticket
 first_free false numbers = numbers.last_ticket + 1
@@ -91,17 +91,17 @@ first_free false numbers = numbers.last_ticket + 1
 abbrev pub are_placed : List KnownKey → List Held → Bool
 are_placed known held = list_all (λ (t : Held). is_known t.place known) held
 
--- this was read last at a place where this version is noted
+-- this version is that of the last read at the place
 abbrev pub IsNoted : Space → ℕ → ℕ → Type 0
 IsNoted a place version = option_map (λ (s : Standing). s.version) (last_read place a.reads) ≡ Some version
 
--- the key of the place is known, and this may stand under it
+-- the key of the place is known, and this is a valid version and definition for it
 abbrev pub FitsKey : Space → ℕ → Standing → Type 0
 FitsKey a place standing = MatchOption (key_known place a.known) ⊥ (λ key. MayStand key.namespace standing)
 
--- what is always so of a session: its tickets have rising numbers, below that of the ticket that it waits for; they and its wait are at places that it
--- knows; of these no key has two places and no place two keys; only a wait is settled; what it noted at a place is the version of what it read last
--- there, than which it read nothing newer there, and which may stand under the place's key
+-- what always holds of a session: its tickets have rising numbers, below that of the ticket that it waits for. They and its wait are at places that it
+-- knows. No key that it knows has two places, and no place two keys. If its wait is settled, it has a wait. A version that it noted at a place is that of its
+-- last read there. Of a place it read no version newer than the last one, and what it read last is valid for the place's key.
 pub record IsSound (a : Space) : Type 0 where
   pub rising : IsRising a.own
   pub below : are_below (first_free (is_waiting a.own) a.numbers) a.own.held ≡ true
@@ -115,42 +115,42 @@ pub record IsSound (a : Space) : Type 0 where
 
 -- ---- what it is as a space
 
--- it speaks for itself
+-- the session speaks for itself alone, and is sound
 abbrev pub SpeaksFor : Space → ℕ → Type 0
 SpeaksFor a who = (who ≡ a.number) × IsSound a
 
--- what it has
+-- what the session has: its held tickets and its wait
 abbrev pub own_of : Space → ℕ → Own
 own_of a who = a.own
 
--- the last numbers that its tickets and waits were given
+-- the last numbers that were given to its tickets and waits
 abbrev pub numbers_of : Space → ℕ → Numbers
 numbers_of a who = a.numbers
 
--- it knows that the place has this key
+-- the session knows that the place has this key
 abbrev pub Knows : Space → ℕ → ℕ → KeyName → Type 0
 Knows a who place key = key_known place a.known ≡ Some key
 
--- its wait is settled so
+-- the session knows that its wait is settled in this way
 abbrev pub IsSettledAs : Space → ℕ → Settled → Type 0
 IsSettledAs a who how = a.settled ≡ Some how
 
--- this stands at a place: the session has noted its version, and read it
+-- a place has this version and definition: they are the session's last reading there, and it has noted the version
 abbrev pub HasRead : Space → ℕ → ℕ → Standing → Type 0
 HasRead a who place standing = (noted_at place a.notes ≡ Some standing.version) × (last_read place a.reads ≡ Some standing)
 
--- it has read this there, now or before
+-- the session has read this version and definition at the place, now or before
 abbrev pub HasMet : Space → ℕ → ℕ → Standing → Type 0
 HasMet a who place standing = Contains a.reads (record { place = place; standing = standing })
 
--- it has read this version there
+-- the session has read this version at the place, now or before
 abbrev pub HasSeen : Space → ℕ → ℕ → ℕ → Type 0
 HasSeen a who place version = was_read place version a.reads ≡ true
 
--- a place whose key it knows keeps that: there is no way yet to give one up
+-- a pinned place is one whose key the session knows, which keeps that key: there is no way yet to give one up
 abbrev pub Pins : Space → ℕ → ℕ → Type 0
 Pins a who place = is_known place a.known ≡ true
 
--- no call of a lock space leaves a debt to the waits of a place
+-- the session owes no place a reschedule: no call of a lock space leaves one
 abbrev pub Owes : Space → ℕ → ℕ → Type 0
 Owes a who place = ⊥

@@ -1,4 +1,4 @@
--- What comes of it that calls join a session as they do: that it stays sound, and the laws of lock spaces that those above rely on most.
+-- What follows from the relation of calls to sessions: a session stays sound, and the laws of lock spaces on which code above relies most hold.
 use Rattle.std.specs.Prelude.{◌≡◌, ℕ, ◌≤◌, true, [], Some, None}
 use Rattle.mdl_key.specs.declared.mode.Mode.TheVariants.{X}
 use Rattle.mdl_key.specs.Words.{KeyName, same_mode}
@@ -25,11 +25,11 @@ beginning number = record {
 
 -- ---- sound sessions
 
--- what is always so of sessions is so of new ones
+-- a new session is sound
 abbrev pub SessionsBeginSound : Type 0
 SessionsBeginSound = (number : ℕ) → IsSound (beginning number)
 
--- and after each call
+-- a sound session is sound after each call
 abbrev pub CallsKeepSessionsSound : Type 0
 CallsKeepSessionsSound = (a b : Space) (call : Call) (answer : Answer) → IsSound a → Joins a call answer b → IsSound b
 
@@ -39,7 +39,7 @@ CallsKeepSessionsSound = (a b : Space) (call : Call) (answer : Answer) → IsSou
 abbrev pub NumbersRise : Type 0
 NumbersRise = (a : Space) (who : ℕ) → SpeaksFor a who → IsRising (own_of a who)
 
--- the calls of others change nothing of what the session has
+-- the calls of other sessions change nothing of what the session has
 abbrev pub OthersChangeNothing : Type 0
 OthersChangeNothing =
     (a b : Space) (call : Call) (answer : Answer) (who : ℕ) → SpeaksFor a who → (caller call ≡ Some who → ⊥) → Joins a call answer b →
@@ -47,30 +47,30 @@ OthersChangeNothing =
 
 -- ---- keys
 
--- a place has one key, and a key one place
+-- a place has one key, and a key has one place
 abbrev pub KeysHaveOnePlace : Type 0
 KeysHaveOnePlace =
     (a : Space) (who place : ℕ) (key : KeyName) → SpeaksFor a who → Knows a who place key →
     ((other : KeyName) → Knows a who place other → key ≡ other) × ((other : ℕ) → Knows a who other key → place ≡ other)
 
--- whoever resolves a key knows its place
+-- a session that resolves a key knows its place
 abbrev pub ResolvedKeysAreKnown : Type 0
 ResolvedKeysAreKnown = (a b : Space) (who place : ℕ) (key : KeyName) → Joins a (Resolve who key) (At_place place) b → Knows b who place key
 
--- and knows it on
+-- a session that knows the place of a key still knows it after each call
 abbrev pub KnownKeysStay : Type 0
 KnownKeysStay =
     (a b : Space) (call : Call) (answer : Answer) (who place : ℕ) (key : KeyName) → Joins a call answer b → Knows a who place key → Knows b who place key
 
 -- ---- waits
 
--- what a wait is settled as stays, until the session ends it
+-- a settled wait stays settled in the same way, until the session ends it
 abbrev pub SettledWaitsStay : Type 0
 SettledWaitsStay =
     (a b : Space) (call : Call) (answer : Answer) (who : ℕ) (how : Settled) → SpeaksFor a who → (call ≡ End_wait who → ⊥) → Joins a call answer b →
     IsSettledAs a who how → IsSettledAs b who how
 
--- and the session is told of it so
+-- once the session knows how its wait is settled, each call about its wait answers accordingly
 abbrev pub SettledWaitsAreToldSo : Type 0
 SettledWaitsAreToldSo =
     (a b : Space) (call : Call) (answer : Answer) (who : ℕ) (how : Settled) → caller call ≡ Some who → IsSettledAs a who how → Joins a call answer b →
@@ -78,14 +78,14 @@ SettledWaitsAreToldSo =
 
 -- ---- what is read
 
--- what was read stands as long as a ticket of its place is held, unless the session itself changes it
+-- the version and definition that were read stay true as long as a ticket of the place is held, unless the session itself changes them
 abbrev pub WhatIsReadStands : Type 0
 WhatIsReadStands =
     (a b : Space) (call : Call) (answer : Answer) (who place : ℕ) (standing : Standing) → SpeaksFor a who →
     (caller call ≡ Some who → redefined_place call answer (own_of a who) ≡ Some place → ⊥) → HoldsAt place (own_of b who) → Joins a call answer b →
     HasRead a who place standing → HasRead b who place standing
 
--- and a change is of that, or is refused for it
+-- a change is applied to what was read, or is refused because of that or for lack of memory
 abbrev pub ChangesAreOfWhatWasRead : Type 0
 ChangesAreOfWhatWasRead =
     (a b : Space) (who id : ℕ) (change : Change) (answer : Answer) (ticket : Held) (key : KeyName) (standing : Standing) →
@@ -93,7 +93,7 @@ ChangesAreOfWhatWasRead =
     Joins a (Change_definition who id change) answer b →
     IsChangeOf key change standing answer × ((version : ℕ) → answer ≡ Changed version → HasRead b who ticket.place (standing_after change standing))
 
--- it may stand under the place's key, and no later version was seen there
+-- the version and definition that were read are valid for the place's key, and no later version was seen there
 abbrev pub WhatIsReadMayStand : Type 0
 WhatIsReadMayStand =
     (a : Space) (who place : ℕ) (key : KeyName) (standing : Standing) → SpeaksFor a who → Knows a who place key → HasRead a who place standing →

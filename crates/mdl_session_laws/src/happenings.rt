@@ -1,37 +1,37 @@
-//! Calls can join sessions as they are said to. Each law is proved as the contract of a function that does nothing.
+//! The relation of calls to sessions isn't empty: such calls can happen. Each law is proved as the contract of a function that does nothing.
 ghost use Rattle.mdl_session_laws.specs.Happenings.{KeysAreFound, LocksAreHad, WaitsAreBegun, WaitsAreLost, StandingsAreRead, StandingsAreChanged, MemoryRunsOut};
 
-/// A new key can be at any place that has none yet, as far as the session knows.
+/// A new key can get any place of which the session knows no key.
 pub fn keys_are_found()
     ensures { KeysAreFound }
 {}
 
-/// Where nothing of the session's own stands in the way, a lock can be had.
+/// A lock can be granted, if the session has no wait, knows the place's key, and requests a mode of the key's kind.
 pub fn locks_are_had()
     ensures { LocksAreHad }
 {}
 
-/// Or a wait for it can begin.
+/// A wait can begin, if the session has no wait, knows the place's key, and requests a mode of the key's kind.
 pub fn waits_are_begun()
     ensures { WaitsAreBegun }
 {}
 
-/// A wait that is settled as lost can be ended.
+/// A wait that is settled as a deadlock's victim can be ended.
 pub fn waits_are_lost()
     ensures { WaitsAreLost }
 {}
 
-/// What the session meets under a ticket can be read.
+/// The version and definition that a session may meet under a ticket can be read.
 pub fn standings_are_read()
     ensures { StandingsAreRead }
 {}
 
-/// Under an exclusive one it can be changed, where the change can be made.
+/// Under a ticket that is held in mode X they can be changed, if they allow the change.
 pub fn standings_are_changed()
     ensures { StandingsAreChanged }
 {}
 
-/// A call that takes memory can be refused for want of it, and then changes nothing.
+/// A call that takes memory can be refused because memory ran out, and then changes nothing.
 pub fn memory_runs_out()
     ensures { MemoryRunsOut }
 {}

@@ -1,4 +1,4 @@
--- What becomes of a session's cache that lends a definition.
+-- What is in a session's cache after it lent a definition.
 use Rattle.std.specs.Prelude.{◌≡◌, ℕ, Result, Ok, Err, Some, ⊤}
 use Rattle.std.specs.Borrow.{Fml, MutBor, follows_so}
 use mathlib.Core.Option.{none}
@@ -13,8 +13,8 @@ use Rattle.mdl_shared.specs.KeptReads.{kept_standing}
 use Rattle.mdl_shared.specs.SessionViews.{SessionView, lists_seen, space_of}
 use Rattle.mdl_shared.specs.Showings.{FindsVersion, OfTicket}
 
--- what a session's look for the definition under the ticket of a number leaves in its cache: what was found comes first, and the rest stays in order; where
--- nothing was found, all stays as it was
+-- what a lookup by the ticket with this number leaves in the session's cache: a definition that is found comes first, and the rest stays in order. If none
+-- is found, the cache is unchanged
 abbrev pub LeavesOrder : ℕ → Result Cached SpaceError → SessionView → SessionView → CacheView → CacheView → Type 0
 LeavesOrder id (Ok (Hit definition)) a b before after =
     OfTicket id (lists_seen a.me.0) (λ t. (version : ℕ) × (kept_of t.place version before.kept ≡ Some definition.now)
@@ -23,12 +23,12 @@ LeavesOrder id (Ok (Hit definition)) a b before after =
 LeavesOrder id (Ok Stale) a b before after = after ≡ before
 LeavesOrder id (Err why) a b before after = after ≡ before
 
--- what the cache is after such a look: it has that order, and the session has met each definition in it
+-- the cache after such a lookup: it has that order, and the session has met each definition in it
 pub record IsCacheAfter (id : ℕ) (result : Result Cached SpaceError) (a b : SessionView) (before after : CacheView) : Type 0 where
   pub order : LeavesOrder id result a b before after
   pub met : AreMet (HasMet (space_of b) b.me.0.number) after.kept
 
--- at the end of the loan the cache is so
+-- that holds of the cache at the end of the loan
 abbrev pub EndsCached : MutBor CacheView → ℕ → Result Cached SpaceError → SessionView → SessionView → Fml
 EndsCached cache id result a b =
     follows_so the_row the_row cache.ghost_name none (λ _ _. ⊤) (IsCacheAfter id result a b cache.now)

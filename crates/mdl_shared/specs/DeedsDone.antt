@@ -1,4 +1,4 @@
--- What became of a session by deeds at a place, whether they were done to slow tickets or to fast ones, and whichever of its tickets became slow then.
+-- A session after deeds at a place, whether they were done to slow tickets or to fast ones, and whichever of its tickets became slow meanwhile.
 use Rattle.std.specs.Prelude.{◌≡◌, ℕ, true, List, [], Option, Some, None}
 use Rattle.mdl_steps.specs.declared.deed.Deed.{Deed}
 use Rattle.mdl_steps.specs.declared.view.Ask.{Ask}
@@ -15,14 +15,14 @@ use Rattle.mdl_shared.specs.Members.{are_counted}
 use Rattle.mdl_shared.specs.SessionViews.{SessionView, tickets_seen}
 use Rattle.mdl_shared.specs.TicketLists.{Room}
 
--- the fast tickets of a session that knows these keys and has this wait, or none, are now others: each is counted as before, and where it waits there is
--- none as before
+-- the fast tickets before and after, of a session that knows these keys and has this wait, or none. If the words counted all of them, they still do. If
+-- the session waits and had none, it still has none
 pub record StaysFast (known : List Known) (asks : Option Ask) (fast fast′ : List Own) : Type 0 where
   pub unfast : (a : Ask) → asks ≡ Some a → fast ≡ [] → fast′ ≡ []
   pub plain : are_counted known fast ≡ true → are_counted known fast′ ≡ true
 
--- the session did these deeds at a place, to slow tickets or to fast ones, and made steps; it may have been told of its wait; nothing else changed, but
--- perhaps which tickets are fast, and the room for more
+-- the session did these deeds at a place, to slow tickets or to fast ones, and made steps. It may have settled waits, and learnt the state of its own
+-- wait. Nothing else changed, except perhaps which tickets are fast, and the room for more
 pub record HasDone (place : ℕ) (ds : List Deed) (s s′ : SessionView) : Type 0 where
   pub slow : List Own
   pub fast : List Own
@@ -49,7 +49,7 @@ pub record HasDone (place : ℕ) (ds : List Deed) (s s′ : SessionView) : Type 
   pub stays : StaysTold s.me.0.told told
   pub unasked : s.me.0.asks ≡ None → told ≡ s.me.0.told
 
--- it did these deeds, its steps tell just these, and it left all waits alone
+-- the session did these deeds, its steps did just these, and it left all waits alone
 pub record DoesQuietly (place : ℕ) (ds : List Deed) (s s′ : SessionView) : Type 0 where
   pub done : HasDone place ds s s′
   pub did : Does ds s.me s′.me

@@ -1,5 +1,5 @@
--- What a call of a session does to the session's own tickets, by its answer. The steps of the call tell just these deeds (`Does`): so it is nothing
--- else, and nothing is done and undone on the way.
+-- What a call does to the session's own tickets, by its answer. The steps of the call do just these deeds (`Does`), so nothing else is done, and nothing
+-- is done and undone on the way.
 use Rattle.std.specs.Prelude.{ℕ, List, [], ◌∷◌, Option, Some, Result, Ok, if◌then◌else◌}
 use Rattle.mdl_key.specs.declared.mode.Mode.{Mode}
 use Rattle.mdl_system.specs.Strength.{covers}
@@ -10,17 +10,17 @@ use Rattle.mdl_steps.specs.declared.deed.Deed.{Deed}
 use Rattle.mdl_steps.specs.declared.deed.Deed.TheVariants.{Alter, Lose}
 use Rattle.mdl_steps.specs.declared.view.Own.{Own}
 
--- a ticket of a number rises to a mode
+-- the deeds of an upgrade that was tried: the ticket with this number gets the mode if it was granted
 abbrev pub rise_deeds : ℕ → Mode → Upgrade → List Deed
 rise_deeds id mode Upgraded = Alter id mode ∷ []
 rise_deeds id mode WouldWait = []
 
--- an upgrade lets a ticket rise to a mode, unless its own covers that
+-- the deeds of an upgrade of a ticket to a mode: none if the ticket's own mode covers that
 abbrev pub upgrade_deeds : ℕ → Mode → Result Upgrade SpaceError → Option Own → List Deed
 upgrade_deeds id mode (Ok how) (Some t) = if covers t.mode mode then [] else rise_deeds id mode how
 upgrade_deeds id mode _ _ = []
 
--- a merge lets a ticket have the mode of another one, which goes
+-- the deeds of a merge: a ticket gets the mode of another one, which is released
 abbrev pub merge_deeds : ℕ → ℕ → Result (Unit {0}) SpaceError → Option Own → List Deed
 merge_deeds old new (Ok _) (Some gone) = Alter old gone.mode ∷ Lose new ∷ []
 merge_deeds old new _ _ = []

@@ -1,11 +1,11 @@
--- How a session's wait ends that was lost.
+-- How a session's lost wait ends.
 use Rattle.std.specs.Prelude.{Option, Some, None}
 use Rattle.mdl_calls.specs.declared.answers.Ended.{Ended}
 use Rattle.mdl_calls.specs.declared.answers.Ended.TheVariants as ended
 use Rattle.mdl_calls.specs.declared.answers.Settled.{Settled}
 use Rattle.mdl_calls.specs.declared.answers.Settled.TheVariants as settled
 
--- by how it was settled
+-- how a lost wait ends, by how it was settled
 abbrev pub lost_end : Settled → Option Ended
 lost_end settled.Granted = None
 lost_end settled.Victim = Some ended.Victim

@@ -1,4 +1,4 @@
--- What comes of a session's calls that try for a fast ticket and give one up, which aren't calls of a lock space.
+-- The results of the session's calls that try for a fast ticket and release one. They aren't calls of a lock space.
 use Rattle.std.specs.Prelude.{◌≡◌, ◌⊎◌, ℕ, ◌<◌, ◌≤◌, Bool, true, [], ◌∷◌, length, Option, Some, None, is_some, if◌then◌else◌}
 use Rattle.mdl_calls.specs.declared.space_error.SpaceError.{SpaceError}
 use Rattle.mdl_calls.specs.declared.space_error.SpaceError.TheVariants.{BadMode, OutOfMemory}
@@ -20,7 +20,7 @@ use Rattle.mdl_shared.specs.SessionViews.{Lists, SessionView, StaysSame, lists_s
 use Rattle.mdl_shared.specs.Showings.{KeepsLists}
 use Rattle.mdl_shared.specs.TicketLists.{HasRoom, KeepsRoom}
 
--- why a fast ticket isn't even tried for: as a wish isn't (`wish_fault`), or since the word of the place doesn't count the mode
+-- why a fast ticket isn't even tried for: for a reason of `wish_fault`, or because the word of the place doesn't count the mode
 abbrev pub fast_fault : ℕ → Mode → Lists → Option SpaceError
 fast_fault place mode l =
     if is_some (wish_fault (kind_known place l.known) l.asks mode l.next) then wish_fault (kind_known place l.known) l.asks mode l.next
@@ -30,12 +30,12 @@ fast_fault place mode l =
 abbrev pub HasFewerFast : ℕ → SessionView → Type 0
 HasFewerFast place s = length (own_at place s.me.0.fast) < most_fast
 
--- it got no fast ticket at a place, though it may have more there: it has what it had, and its steps did no deeds
+-- the session got no fast ticket at a place, though it may have more there. It has what it had, and its steps did no deeds
 abbrev pub GetsNothing : ℕ → SessionView → SessionView → Type 0
 GetsNothing place a b = HasFewerFast place a × KeepsLists a b × DoesQuietly place [] a b
 
--- what a try for a fast ticket does, by its answer: it was granted; or the flag OBTRUSIVE was found up; or eight fast grants missed; or the session has as
--- many fast tickets there as it may have, and made no step
+-- what a try for a fast ticket did, by its answer: a ticket was granted, or the flag OBTRUSIVE was found up, or eight fast grants missed, or the session
+-- has as many fast tickets there as it may have, and made no step
 abbrev pub HasTriedFast : ℕ → Mode → Fast → SessionView → SessionView → Type 0
 HasTriedFast place mode (Granted id) a b =
     HasFewerFast place a
@@ -48,15 +48,14 @@ HasTriedFast place mode (Obtruded word) a b = GetsNothing place a b × FindsObtr
 HasTriedFast place mode (Contended word) a b = GetsNothing place a b × Misses place 8 word.0 a.me b.me
 HasTriedFast place mode Limit a b = StaysSame a b × (most_fast ≤ length (own_at place a.me.0.fast))
 
--- why it's refused: for what the session has of its own, or as it had no room for the ticket, and memory ran out. No step was made
+-- why a try for a fast ticket was refused: by the session's own lists, or because they had no room for the ticket and memory ran out. No step was made
 abbrev pub RefusesFast : ℕ → Mode → SpaceError → SessionView → SessionView → Type 0
 RefusesFast place mode why a b =
     StaysSame a b
     × ((fast_fault place mode (lists_seen a.me.0) ≡ Some why)
     ⊎ ((fast_fault place mode (lists_seen a.me.0) ≡ None) × (why ≡ OutOfMemory) × (HasRoom place a.room → ⊥)))
 
--- the fast ticket of a number was given up by one step. The session owes its place a reschedule where the flag SLOW of the word that the step found was
--- up
+-- the fast ticket with this number was released by one step. The session owes its place a reschedule if the word that the step found had the flag SLOW up
 abbrev pub GaveUpFast : ℕ → Bool → SessionView → SessionView → Type 0
 GaveUpFast id owes a b =
     Joins (space_of a) (Release a.me.0.number id) Done (space_of b)

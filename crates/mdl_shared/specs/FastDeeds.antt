@@ -1,4 +1,4 @@
--- What a session does with its fast tickets: it tries for one, gives one up, and makes slow ones of them.
+-- What a session does with its fast tickets: it tries for one, releases one, and makes them slow.
 use Rattle.std.specs.Prelude.{◌≡◌, ◌⊎◌, ℕ, ◌<◌, ◌≤◌, [], length}
 use Rattle.mdl_steps.specs.Cells.{own_at}
 use Rattle.mdl_steps.specs.Limits.{most_fast}
@@ -8,19 +8,19 @@ use Rattle.mdl_shared.specs.declared.fast_path.NotFast.TheVariants.{Obtruded, Co
 use Rattle.mdl_shared.specs.SessionViews.{SessionView}
 use Rattle.mdl_shared.specs.Showings.{MakesSlow, ShowsStep}
 
--- why the session got no fast ticket at a place: the flag OBTRUSIVE was found up; or eight fast grants missed; or it has as many there as a session may
+-- why the session got no fast ticket at a place: the flag OBTRUSIVE was found up, or eight fast grants missed, or it has as many there as a session may
 -- have, and made no step
 abbrev pub HasNoFast : NotFast → ℕ → SessionView → SessionView → Type 0
 HasNoFast (Obtruded word) place a b = FindsObtrusive place word.0 a.me b.me
 HasNoFast (Contended word) place a b = Misses place 8 word.0 a.me b.me
 HasNoFast Limit place a b = (b ≡ a) × (most_fast ≤ length (own_at place a.me.0.fast))
 
--- at each place the session has the fast tickets that it had, or none, since a step made slow ones of them
+-- at each place the session has the fast tickets that it had, or none, since a step made them slow
 abbrev pub AreSameOrSlow : SessionView → SessionView → Type 0
 AreSameOrSlow a b =
     (q : ℕ) → (own_at q b.me.0.fast ≡ own_at q a.me.0.fast) ⊎ ((own_at q b.me.0.fast ≡ []) × ShowsStep a b (MakesSlow q))
 
--- before a place it has none, and from there on those that it had
+-- below some place the session has no fast tickets, and from there on those that it had
 abbrev pub AreSlowBefore : SessionView → SessionView → Type 0
 AreSlowBefore a b =
     (place : ℕ) × ((q : ℕ) → (q < place → own_at q b.me.0.fast ≡ []) × (place ≤ q → own_at q b.me.0.fast ≡ own_at q a.me.0.fast))

@@ -1,4 +1,4 @@
--- What becomes of a session whose wish for a ticket is tried on the fast path first, and then by the latch of the place.
+-- A session after its request for a ticket (a wish) was tried on the fast path first, and then under the latch of the place.
 use Rattle.std.specs.Prelude.{◌≡◌, ℕ, ◌+◌, [], ◌∷◌}
 use Rattle.mdl_key.specs.declared.mode.Mode.{Mode}
 use Rattle.mdl_calls.specs.declared.answers.Attempt.{Attempt}
@@ -17,14 +17,14 @@ use Rattle.mdl_shared.specs.TicketLists.{KeepsRoom}
 
 -- ---- on the fast path
 
--- the session was granted a fast ticket of its next number at a place, by its last step
+-- the session was granted a fast ticket with its next number at a place, by its last step
 pub record GainsFast (place : ℕ) (mode : Mode) (id : ℕ) (a b : SessionView) : Type 0 where
   pub first : id ≡ a.me.0.next
   pub quiet : DoesQuietly place (Gain id mode ∷ []) a b
   pub met : GrantsAtLast place (Gain id mode) a.me b.me
   pub room : KeepsRoom 1 a.room b.room
 
--- the session did nothing, but that each of its fast tickets became a slow one by a step
+-- the session did nothing, except that each of its fast tickets became slow by a step
 pub record BecomesSlow (a b : SessionView) : Type 0 where
   pub quiet : DoesQuietly 0 [] a b
   pub unfast : b.me.0.fast ≡ []
@@ -33,20 +33,20 @@ pub record BecomesSlow (a b : SessionView) : Type 0 where
 
 -- ---- by the latch of the place
 
--- the session was granted a slow ticket of its next number there, and a step shows that its wish could be granted
+-- the session was granted a slow ticket with its next number at a place, and a step shows that its request could be granted
 pub record GainsSlow (place : ℕ) (mode : Mode) (id : ℕ) (a b : SessionView) : Type 0 where
   pub first : id ≡ a.me.0.next
   pub quiet : DoesQuietly place (Gain id mode ∷ []) a b
   pub met : ShowsStep a b (MeetsGrantable place a.me.0.number mode (Gain id mode))
   pub room : KeepsRoom 1 a.room b.room
 
--- the session did nothing, and a step shows that its wish couldn't be granted
+-- the session did nothing, and a step shows that its request couldn't be granted
 pub record StaysBlocked (place : ℕ) (mode : Mode) (a b : SessionView) : Type 0 where
   pub quiet : DoesQuietly place [] a b
   pub met : ShowsStep a b (MeetsBlocked place a.me.0.number mode)
   pub room : KeepsRoom 0 a.room b.room
 
--- the session began its next wait there: a step shows that its wish couldn't be granted, and the step after it opened the wait
+-- the session began its next wait at a place: a step shows that its request couldn't be granted, and the step after it opened the wait
 pub record BeginsToWait (place : ℕ) (mode : Mode) (number : ℕ) (a b : SessionView) : Type 0 where
   pub next : number ≡ a.me.0.waits + 1
   pub table : b.table ≡ a.table
@@ -56,12 +56,12 @@ pub record BeginsToWait (place : ℕ) (mode : Mode) (number : ℕ) (a b : Sessio
       × MeetsOpening a.table.slots place a.me.0.number a.me.0.waits a.me.0.next mode f
   pub room : KeepsRoom 0 a.room b.room
 
--- what came of a wish that isn't waited for
+-- the result of a request that isn't waited for
 abbrev pub HasTried : ℕ → Mode → Attempt → SessionView → SessionView → Type 0
 HasTried place mode (attempt.Granted id) a b = GainsSlow place mode id a b
 HasTried place mode attempt.WouldWait a b = StaysBlocked place mode a b
 
--- what came of one that is
+-- the result of a request that is waited for if it can't be granted
 abbrev pub HasBegun : ℕ → Mode → Begun → SessionView → SessionView → Type 0
 HasBegun place mode (begun.Granted id) a b = GainsSlow place mode id a b
 HasBegun place mode (begun.Waiting number) a b = BeginsToWait place mode number a b

@@ -1,4 +1,5 @@
--- What comes of a session's calls that read the version of a place without its latch. What a cache keeps of that version is read without the latch, too.
+-- The results of the session's calls that read the version of a place without its latch. A definition that a cache keeps of that version is read without
+-- the latch, too.
 use Rattle.std.specs.Prelude.{◌≡◌, ◌⊎◌, ℕ, List, Some, None, MatchOption}
 use Rattle.mdl_defs.specs.declared.definition.Definition.{Definition}
 use Rattle.mdl_defs.specs.declared.standing.Standing.{Standing}
@@ -10,12 +11,12 @@ use Rattle.mdl_shared.specs.declared.cached.Cached.TheVariants.{Hit, Stale}
 use Rattle.mdl_shared.specs.SessionViews.{SessionView, lists_seen, space_of}
 use Rattle.mdl_shared.specs.Showings.{FindsVersion, MissesVersion, OfTicket, ReadsByLatch}
 
--- the definition that a cache keeps of a version, as what stands
+-- a version with the definition that a cache keeps of it
 abbrev pub kept_standing : ℕ → Definition → Standing
 kept_standing version definition = record { version = version; definition = Some definition }
 
--- what a session finds in its cache for the ticket of a number, at the one step of the call: a definition that is kept of the version that its place has,
--- which it has read and notes; or none is kept of that version, and it has what it had
+-- what a session finds in its cache for the ticket with this number, when the one step of the call has read the version of the ticket's place. Either the
+-- cache keeps a definition of that version, which the session has read, and it notes the version. Or it keeps none, and the session has what it had
 abbrev pub FindsKept : ℕ → List Kept → Cached → SessionView → SessionView → Type 0
 FindsKept id kept (Hit definition) a b =
     OfTicket id (lists_seen a.me.0) (λ t. (version : ℕ) × (kept_of t.place version kept ≡ Some definition.now)
@@ -24,15 +25,16 @@ FindsKept id kept (Hit definition) a b =
 FindsKept id kept Stale a b =
     OfTicket id (lists_seen a.me.0) (λ t. (version : ℕ) × (kept_of t.place version kept ≡ None) × MissesVersion t.place version a b)
 
--- what stands at a place may be kept, if it has a definition
+-- the cache is unchanged, or keeps this definition of a place first, if there is one
 abbrev pub MayKeep : ℕ → Standing → CacheView → CacheView → Type 0
 MayKeep place standing before after =
     (after ≡ before)
     ⊎ ((d : Definition) × (standing.definition ≡ Some d)
     × (after ≡ record { kept = kept_first place standing.version d before; capacity = before.capacity }))
 
--- how a session reads what stands at the place of a ticket with a cache, and what the cache keeps then: where it keeps a definition of the version that a step
--- found first, that is read, and comes first; and else what stands there is read under the latch, and its definition, if it has one, may be kept
+-- how a session reads the version and definition of the key of a ticket's place with a cache, and what the cache keeps then. If it keeps a definition of
+-- the version that a step found first, that is read, and comes first in the cache. Otherwise the definition is read under the latch, and may be kept, if
+-- there is one
 abbrev pub ReadsKept : ℕ → Standing → SessionView → SessionView → CacheView → CacheView → Type 0
 ReadsKept id standing a b before after =
     OfTicket id (lists_seen a.me.0) (λ t. (version : ℕ)
@@ -41,8 +43,8 @@ ReadsKept id standing a b before after =
     (λ d. (standing ≡ kept_standing version d) × FindsVersion t.place standing a b
     × (after ≡ record { kept = looked_at t.place version before.kept; capacity = before.capacity })))
 
--- what a refused read with a cache leaves in it: what it kept; or, where memory ran out for a copy of the definition that it keeps of the version that a step
--- found, that comes first
+-- what a refused read with a cache leaves in it: the cache is unchanged, or memory ran out for a copy of the definition that it keeps of the version that
+-- a step found, and that definition comes first
 abbrev pub LeavesKept : ℕ → SessionView → SessionView → CacheView → CacheView → Type 0
 LeavesKept id a b before after =
     (after ≡ before)

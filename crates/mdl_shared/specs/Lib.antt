@@ -1,4 +1,4 @@
--- The words of the crates below that the public clauses of this one cite, under this crate's own paths.
+-- The definitions of the crates below that this crate's public clauses cite, under this crate's own paths.
 pub use Rattle.mdl_session_laws.specs.SessionJoins
 pub use Rattle.mdl_session_laws.specs.SessionSpaces
 pub use Rattle.mdl_visits.specs.Audits

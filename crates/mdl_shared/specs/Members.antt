@@ -1,4 +1,4 @@
--- What a session keeps of its own between two calls.
+-- What a session keeps in its own lists between two calls.
 pub use Rattle.mdl_visits.specs.KnownLists.{are_apart, are_two, is_known_place, kind_known, place_known}
 use Rattle.std.specs.Prelude.{◌≡◌, ◌<◌, ◌≤◌, ℕ, ◌^◌, Bool, true, ◌&&◌, not, nat_le, nat_lt, List, [], All, Option, Some, None, filter, is_some, if◌then◌else◌}
 use Rattle.std.specs.List.{list_all}
@@ -26,7 +26,7 @@ use Rattle.mdl_shared.specs.Waitings.{is_ask_last, is_ask_told}
 abbrev pub most_numbers : ℕ
 most_numbers = 2 ^ 60
 
--- each place that it has looked up is one of the table's
+-- whether each place that the session has looked up is one of the table's
 abbrev pub are_within : ℕ → List Known → Bool
 are_within slots known = list_all (λ k. nat_lt 0 k.place && nat_lt k.place slots) known
 
@@ -34,14 +34,14 @@ are_within slots known = list_all (λ k. nat_lt 0 k.place && nat_lt k.place slot
 abbrev pub increment_at : ℕ → Mode → List Known → Option ℕ
 increment_at place mode known = option_and_then (λ kind. increment_of kind mode) (kind_known place known)
 
--- each of these tickets is one that the word of its place counts
+-- whether each of these tickets is one that the word of its place counts
 abbrev pub are_counted : List Known → List Own → Bool
 are_counted known fast = list_all (λ t. is_some (increment_at t.place t.mode known)) fast
 
--- what is always so of a session between two calls: as a lock space it is sound; it holds no latch; while it waits it has no fast ticket, and each fast one is
--- at a place that it has looked up, in a mode that the word counts there; the places that it has looked up are the table's; the tickets of a place have one
--- note; the ticket that it waits for has the last number that it gave, and it was told nothing of a wait that it hasn't; it has given no more wait numbers
--- than ticket numbers; it is one of the sessions of the space, for whom the table has words
+-- what always holds of a session between two calls. As a lock space it is sound. It holds no latch. While it waits it has no fast ticket, and each fast
+-- one is at a place that it has looked up, in a mode that the word counts there. The places that it has looked up are the table's. The tickets of a place
+-- have one note. The ticket that it waits for has the last number that it gave out, and without a wait it knows of no settled one. It has given out no
+-- more wait numbers than ticket numbers. It is one of the sessions of the space, for which the table has words
 pub record IsMember (s : SessionView) : Type 0 where
   pub sound : IsSound (space_of s)
   pub idle : IsIdle s.me
@@ -56,22 +56,22 @@ pub record IsMember (s : SessionView) : Type 0 where
   pub narrow : (0 < s.table.slots) × (s.table.slots ≤ 65536)
   pub words : s.table.words ≡ word_count s.table.slots s.sessions
 
--- the tickets without that of a number at a place
+-- the tickets without the one with this number at a place
 abbrev pub without_at : ℕ → ℕ → List Own → List Own
 without_at place number tickets = filter (λ t. not (is_own place number t)) tickets
 
--- why a call on a ticket of a number is refused
+-- why a call on the ticket with this number is refused: there is no such ticket
 abbrev pub holding_fault : ℕ → List Own → Option SpaceError
 holding_fault number tickets = if is_some (numbered number tickets) then None else Some NotHeld
 
--- why a wish for a mode isn't even tried, at a place whose key is of this kind, or isn't known, by a session with this wait, or none, whose next
--- ticket has this number
+-- why a request for a mode (a wish) isn't even tried, at a place whose key is of this kind, or isn't known, by a session with this wait, or none, whose
+-- next ticket has this number
 abbrev pub wish_fault : Option Kind → Option Ask → Mode → ℕ → Option SpaceError
 wish_fault None asks mode next = Some NoPlace
 wish_fault (Some kind) asks mode next =
     if is_some asks then Some AlreadyWaiting
     else (if not (is_mode_of kind mode) then Some BadMode else (if nat_le most_numbers next then Some CounterFull else None))
 
--- each of these keys is known at its place
+-- the session knows each of these keys to be at its place
 abbrev pub AreLearnt : List Known → List Known → Type 0
 AreLearnt tables known = All (λ (t : Known). key_known t.place known ≡ Some t.key) tables

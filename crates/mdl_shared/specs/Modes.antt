@@ -1,4 +1,4 @@
--- Tickets that get another mode, that are cloned and merged: why that is refused, and the session's list of tickets then.
+-- Changes of a ticket's mode, clones and merges: why they are refused, and the session's list of tickets afterwards.
 use Rattle.std.specs.Prelude.{ℕ, ◌==◌, Bool, false, not, ◌&&◌, nat_le, List, map, Option, Some, None, is_some, if◌then◌else◌}
 use Rattle.std.specs.Option.{option_map_or}
 use Rattle.mdl_key.specs.declared.mode.Mode.{Mode}
@@ -16,28 +16,28 @@ use Rattle.mdl_system.specs.Strength.{covers, may_downgrade}
 abbrev pub is_fit : ℕ → Mode → List Known → Bool
 is_fit place mode known = option_map_or (λ kind. is_mode_of kind mode) (kind_known place known) false
 
--- the tickets with that of a number at a place in another mode
+-- the tickets after the one with this number at a place got this mode
 abbrev pub in_mode_at : ℕ → ℕ → Mode → List Own → List Own
 in_mode_at place number mode tickets = map (λ t. if is_own place number t then record t { mode = mode } else t) tickets
 
--- why a ticket isn't downgraded: there is none, or its mode can't become the other one, or this is none of its lock's kind
+-- why a downgrade is refused: there is no such ticket, or its mode can't be downgraded to the other one, or that isn't a mode of its lock's kind
 abbrev pub downgrade_fault : Option Own → Mode → List Known → Option SpaceError
 downgrade_fault None mode known = Some NotHeld
 downgrade_fault (Some t) mode known = if may_downgrade t.mode mode && is_fit t.place mode known then None else Some NotUpgradable
 
--- why a ticket isn't cloned: there is none, or the session has a wait, or its mode isn't as strong as the other one, or this is none of its lock's
--- kind, or the session's next ticket has too great a number
+-- why a clone is refused: there is no such ticket, or the session has a wait, or the ticket's mode doesn't cover the other one, or that isn't a mode of
+-- its lock's kind, or the session's next ticket number is too great
 abbrev pub clone_fault : Option Own → Option Ask → Mode → List Known → ℕ → Option SpaceError
 clone_fault None asks mode known next = Some NotHeld
 clone_fault (Some t) asks mode known next =
     if is_some asks then Some AlreadyWaiting
     else (if not (covers t.mode mode && is_fit t.place mode known) then Some BadMode else (if nat_le most_numbers next then Some CounterFull else None))
 
--- whether a ticket may take the mode of another: there are two, of one place, and the other is at least as strong
+-- whether a ticket may take the mode of another: they are two, at one place, and the other is at least as strong
 abbrev pub may_merge : Own → Own → Bool
 may_merge kept gone = not (kept.number == gone.number) && (kept.place == gone.place && covers gone.mode kept.mode)
 
--- why two tickets aren't merged by a session with this wait, or none
+-- why a merge of two tickets is refused, by a session with this wait, or none
 abbrev pub merge_fault : Option Own → Option Own → Option Ask → Option SpaceError
 merge_fault None _ _ = Some NotHeld
 merge_fault (Some kept) None _ = Some NotHeld

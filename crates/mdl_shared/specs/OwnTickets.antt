@@ -1,4 +1,4 @@
--- How a session keeps its own list of tickets: the tickets without their notes, and what it has of each place.
+-- How a session keeps its own list of tickets: the tickets without their notes, and what is kept of each place.
 use Rattle.std.specs.Prelude.{◌≡◌, ℕ, ◌-◌, ◌≤◌, Bool, ◌==◌, ◌&&◌, not, List, count_by, filter, if◌then◌else◌, length, map, nat_lt, slice_get, slice_index_or, ◌<◌, None, Option, Some}
 use Rattle.std.specs.Option.{option_map_or, option_and_then}
 use Rattle.mdl_steps.specs.declared.view.Own.{Own}
@@ -9,11 +9,11 @@ use Rattle.mdl_shared.specs.declared.tickets.OfPlace.{OfPlace}
 abbrev pub counted_at : ℕ → List OfPlace → ℕ
 counted_at place places = option_map_or (λ (p : OfPlace). p.tickets) (slice_get places place) 0
 
--- how many of them are fast
+-- how many fast tickets are counted at a place
 abbrev pub fast_counted_at : ℕ → List OfPlace → ℕ
 fast_counted_at place places = option_map_or (λ (p : OfPlace). p.fast) (slice_get places place) 0
 
--- whether there is a fast one
+-- whether a fast ticket is counted at the place
 abbrev pub has_fast : OfPlace → Bool
 has_fast p = nat_lt 0 p.fast
 
@@ -37,15 +37,15 @@ fast_of places tickets = map (own_of places) (filter (λ t. t.fast) tickets)
 abbrev pub is_there : ℕ → Gained → Bool
 is_there place t = t.place == place
 
--- whether it is a fast one at a place
+-- whether a ticket is a fast one at a place
 abbrev pub is_fast_there : ℕ → Gained → Bool
 is_fast_there place t = t.fast && t.place == place
 
--- a ticket, which is slow where it is at a place
+-- a ticket, made slow if it is at a place
 abbrev pub slowed : ℕ → Gained → Gained
 slowed place t = record t { fast = t.fast && not (t.place == place) }
 
--- the same is kept of a place
+-- the same is kept of a place before and after
 abbrev pub AreAt : ℕ → List OfPlace → List OfPlace → Type 0
 AreAt place old new =
     (counted_at place new ≡ counted_at place old) × (fast_counted_at place new ≡ fast_counted_at place old) × (noted_in place new ≡ noted_in place old)
@@ -62,7 +62,7 @@ IsLast place id fast tickets =
     × ((d : Gained) → (slice_index_or tickets (length tickets - 1) d).place ≡ place)
     × ((d : Gained) → (slice_index_or tickets (length tickets - 1) d).fast ≡ fast)
 
--- what was found, where it is a fast ticket
+-- the ticket that was found, if it is a fast one
 abbrev pub fast_found : Option (Own × Bool) → Option Own
 fast_found found = option_and_then (λ (t : Own × Bool). if t.1 then Some t.0 else None) found
 
@@ -71,7 +71,8 @@ abbrev pub AreRising : List Gained → Type 0
 AreRising tickets =
     (i j : ℕ) (d : Gained) → i < j → j < length tickets → (slice_index_or tickets i d).id < (slice_index_or tickets j d).id
 
--- the numbers rise, the tickets at each place are counted there, and the fast ones too, as they are in all, and each place is one of a table's
+-- what always holds of the list: the numbers rise, the tickets and the fast ones are counted at each place, the fast ones also in all, and there are at
+-- most as many places as a table can have
 pub record AreKept (tickets : List Gained) (places : List OfPlace) (fast : ℕ) : Type 0 where
   pub rising : AreRising tickets
   pub counted : (place : ℕ) → counted_at place places ≡ count_by (is_there place) tickets

@@ -13,24 +13,24 @@ use Rattle.mdl_shared.specs.SessionViews.{SessionView, session_at}
 abbrev pub table_of : Manager → TableId
 table_of manager = (arc_value manager.table).shared.table_id
 
--- what a session, open or not, is at the table
+-- the value of a session, open or not: what it is at the table
 abbrev pub view_of : Member → SessionView
 view_of m = session_at m.seat m.sessions m.tickets.room
 
--- the session of a pass, as it is once it is opened
+-- the value of a pass's session once it is opened
 abbrev pub pass_view : Pass → SessionView
 pass_view pass = view_of pass.member
 
--- the table at which it has its seat
+-- the table at which a pass's session has its seat
 abbrev pub pass_table : Pass → TableId
 pass_table pass = (pass_view pass).table
 
--- the session's number
+-- the number of a pass's session
 abbrev pub pass_number : Pass → ℕ
 pass_number pass = (pass_view pass).me.0.number
 
--- a pass of a session of this number at this table, in a space of as many sessions as the table has words for. The session knows and has nothing, and has
--- made no step but that by which its number was drawn
+-- a pass of the session with this number at this table, in a space of as many sessions as the table has words for. The session knows and has nothing, and
+-- its only step was the one that drew its number
 pub record IsPass (table : TableId) (number : ℕ) (pass : Pass) : Type 0 where
   pub theirs : pass_table pass ≡ table
   pub numbered : pass_number pass ≡ number

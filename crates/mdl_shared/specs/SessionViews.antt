@@ -1,4 +1,4 @@
--- What a session of a shared space is to those that stand on lock spaces, by what it keeps of its own between two calls.
+-- A session of the shared table as a lock space, for the crates that depend on lock spaces, by what the session keeps of its own between two calls.
 use Rattle.std.specs.Prelude.{◌≡◌, ℕ, ◌-◌, ◌==◌, List, map, filter_map, Option, Some, None, if◌then◌else◌}
 use Rattle.std.specs.Option.{option_map}
 use Rattle.atomic_table.specs.Seated.{TableId}
@@ -18,7 +18,7 @@ use Rattle.mdl_session_laws.specs.SessionSpaces.{Space, Note}
 use Rattle.mdl_shared.specs.OwnLists.{told_of}
 use Rattle.mdl_shared.specs.TicketLists.{KeepsRoom, Room}
 
--- how a wait is settled whose word is in this state
+-- how a wait is settled, by the state of its word
 abbrev pub settled_of : ℕ → Option Settled
 settled_of state =
     if state == granted_state then Some Granted
@@ -30,7 +30,7 @@ abbrev pub settled_told : Option ℕ → Option Settled
 settled_told None = None
 settled_told (Some state) = settled_of state
 
--- the version that is noted under a ticket
+-- the version that is noted under a ticket, with the ticket's place
 abbrev pub note_of : Own → Option Note
 note_of t = option_map (λ version. record { place = t.place; version = version }) t.noted
 
@@ -44,18 +44,18 @@ pub record SessionView : Type 0 where
   pub me : Mine
   pub room : Room
 
--- the session of a seat, in a space of so many sessions, with this room
+-- the session of a seat, in a space with this number of sessions, with this room
 abbrev pub session_at : SeatState → ℕ → Room → SessionView
 session_at seat sessions room = record { table = seat.table; sessions = sessions; me = seat.me; room = room }
 
--- nothing of it changed, but that it may have more room
+-- nothing of the session changed, except that it may have more room
 abbrev pub StaysSame : SessionView → SessionView → Type 0
 StaysSame a b = (b ≡ record a { room = b.room }) × KeepsRoom 0 a.room b.room
 
 -- ---- its lists
 
--- its slow tickets and its fast ones, each in order of gain, the keys that it has looked up, the number of its next ticket, what it waits for, and the
--- number of its last wait
+-- a session's own lists: its slow tickets and its fast ones, each in the order in which it got them, the keys that it has looked up, the number of its
+-- next ticket, what it waits for, and the number of its last wait
 pub record Lists : Type 0 where
   pub slow : List Own
   pub fast : List Own
@@ -64,21 +64,21 @@ pub record Lists : Type 0 where
   pub asks : Option Ask
   pub waits : ℕ
 
--- by what it knows and has at the table
+-- a session's lists, by what it knows and has at the table
 abbrev pub lists_seen : View → Lists
 lists_seen me = record { slow = me.slow; fast = me.fast; known = me.known; next = me.next; asks = me.asks; waits = me.waits }
 
--- all its tickets, in order of gain
+-- all tickets of the lists, in the order in which the session got them
 abbrev pub tickets_of : Lists → List Own
 tickets_of l = interleaved l.slow l.fast
 
--- by what it has at the table
+-- all tickets of a session, by what it has at the table
 abbrev pub tickets_seen : View → List Own
 tickets_seen me = tickets_of (lists_seen me)
 
 -- ---- as a lock space
 
--- what a session of a number has of the space by its lists, by how it knows its wait to be settled, and by what it read
+-- the session with this number as a lock space, by its lists, by what it knows of its wait's state, and by what it read
 abbrev pub space_by : ℕ → Lists → Option ℕ → List Read → Space
 space_by number lists told reads = record {
   number = number;
@@ -93,6 +93,6 @@ space_by number lists told reads = record {
   reads = map (λ (r : Read). record { place = r.place; standing = r.standing }) reads;
 }
 
--- what a session has of the space, as plain data
+-- a session as a lock space: what it has of the space, as plain data
 abbrev pub space_of : SessionView → Space
 space_of s = space_by s.me.0.number (lists_seen s.me.0) s.me.0.told s.me.0.reads

@@ -1,5 +1,5 @@
--- What the steps of a session's call show, by the call and its answer: what the calls of `Session` promise of them, for those that make the calls by the
--- trait of lock spaces. What the call leaves the session with is told beside this, as plain data.
+-- What the steps of a session's call show, by the call and its answer. The calls of `Session` promise it, for callers that use the trait of lock spaces,
+-- too. `Joins` says beside this, as plain data, what the session has after the call.
 use Rattle.std.specs.Prelude.{◌≡◌, ◌≢◌, ◌⊎◌, ℕ, ◌<◌, ◌≤◌, Bool, true, false, Contains, List, [], ◌∷◌, ◌++◌, length, Option, Some, None, IfSome, Result, Ok, Err, is_some}
 use Rattle.mdl_key.specs.declared.mode.Mode.{Mode}
 use Rattle.mdl_key.specs.declared.mode.Mode.TheVariants.{X}
@@ -59,87 +59,89 @@ use Rattle.mdl_shared.specs.Waitings.{wait_fault}
 
 -- ---- words
 
--- a step that was made between the two shows this
+-- this holds of a step that was made between the two
 abbrev pub ShowsStep : SessionView → SessionView → (Met → Type 0) → Type 0
 ShowsStep a b fact = (e : Met) × IsStepOf a.me b.me e × fact e
 
--- the session has the ticket of a number, of which this is so
+-- the session has a ticket with this number, and this holds of it
 abbrev pub OfTicket : ℕ → Lists → (Own → Type 0) → Type 0
 OfTicket id l fact = (t : Own) × (numbered id (tickets_of l) ≡ Some t) × fact t
 
--- no step was made
+-- no step was made, and what the session knows and has at the table is unchanged
 abbrev pub MakesNoStep : SessionView → SessionView → Type 0
 MakesNoStep a b = b.me ≡ a.me
 
--- a step met the ticket of a number in the granted list of its place and did these deeds
+-- a step did these deeds while the ticket with this number was in the granted list of its place
 abbrev pub MeetsTicket : ℕ → List Deed → SessionView → SessionView → Own → Type 0
 MeetsTicket id ds a b t = ShowsStep a b (λ e. MeetsOwn t.place a.me.0.number id e × (e.deeds ≡ ds))
 
--- the waits at its place were granted that could be
+-- the waits at the ticket's place that could be granted were granted
 abbrev pub Reschedules : SessionView → SessionView → Own → Type 0
 Reschedules a b t = HasRescheduled a.table t.place a.me b.me
 
--- the ticket of a number, a slow one, was given up under the latch, and the waits were granted that could be
+-- the slow ticket with this number was released under the latch, and the waits at its place that could be granted were granted
 abbrev pub GivesUpSlow : ℕ → SessionView → SessionView → Own → Type 0
 GivesUpSlow id a b t = MeetsTicket id (Lose id ∷ []) a b t × Reschedules a b t
 
--- a fast one was given up by one step on the word of its place. Where that found the flag SLOW up, the waits were granted that could be then, and otherwise
--- nothing else was done
+-- a fast ticket was released by one step on the word of its place. If that step found the flag SLOW up, the waits there that could be granted then were
+-- granted. Otherwise nothing else was done
 abbrev pub GivesUpFast : ℕ → SessionView → SessionView → Own → Type 0
 GivesUpFast id a b t =
     (mid : Mine) × (owes : Bool) × ReleasesFast t.place id owes a.me mid
     × (owes ≡ true → HasRescheduled a.table t.place mid b.me) × (owes ≡ false → b.me ≡ mid)
 
--- a step by which the session's fast tickets at a place became slow ones
+-- a step by which the session's fast tickets at a place became slow
 abbrev pub MakesSlow : ℕ → Met → Type 0
 MakesSlow place e = (e.kind ≡ Materialise) × (e.word ≡ lock_word place)
 
--- each fast ticket that it had became a slow one by a step that was made between the two
+-- each fast ticket that the session had became slow by a step that was made between the two
 abbrev pub AllMadeSlow : SessionView → SessionView → Type 0
 AllMadeSlow a b = Each (λ (t : Own). ShowsStep a b (MakesSlow t.place)) a.me.0.fast
 
--- this is so from a moment of the call on by which each fast ticket that the session had was made slow. So no word that it met then counted its own
+-- this holds from a moment of the call on by which each fast ticket that the session had was made slow. So no word that it met then counted one of its own
+-- tickets
 abbrev pub FromUnfast : SessionView → (SessionView → Type 0) → Type 0
 FromUnfast a fact = (mid : SessionView) × MakesMoreSteps a.me mid.me × AllMadeSlow a mid × fact mid
 
--- before anything else was done, the session tried for a fast ticket at a place in vain: the flag OBTRUSIVE was found up, or eight fast grants missed
+-- before anything else was done, the session tried for a fast ticket at a place and failed: it found the flag OBTRUSIVE up, or eight fast grants missed
 abbrev pub TriesInVain : ℕ → SessionView → SessionView → Type 0
 TriesInVain place a b =
     (word : ℕ) × (mid : Mine) × (FindsObtrusive place word a.me mid ⊎ Misses place 8 word a.me mid) × MakesMoreSteps mid b.me
 
--- the fast path was closed to a wish for a mode at a place: the lock's word doesn't count the mode; or the session has as many fast tickets there as it may
--- have; or it tried in vain
+-- the fast path was closed to a request for a mode at a place: the lock's word doesn't count the mode, or the session has as many fast tickets there as it
+-- may have, or it tried and failed
 abbrev pub IsClosed : ℕ → Mode → SessionView → SessionView → Type 0
 IsClosed place mode a b =
     (increment_at place mode a.me.0.known ≡ None) ⊎ ((most_fast ≤ length (own_at place a.me.0.fast)) ⊎ TriesInVain place a b)
 
--- such a wish was judged under the latch of the place: this is so from a moment of the call on by which the fast path was closed to it, and each fast ticket
--- that the session had was made slow
+-- a request for a mode at a place was decided under the latch of the place: this holds from a moment of the call on by which the fast path was closed to
+-- the request, and each fast ticket that the session had was made slow
 abbrev pub ByLatch : ℕ → Mode → SessionView → (SessionView → Type 0) → Type 0
 ByLatch place mode a fact = FromUnfast a (λ mid. IsClosed place mode a mid × fact mid)
 
--- it was granted by this deed: by a fast grant, after which nothing else was done, or as the latch was given back, by whose record it could be
+-- a request for a mode at a place was granted by this deed: by a fast grant, after which nothing else was done, or by the step that gave the latch back,
+-- by whose record it could be granted
 abbrev pub IsGranted : ℕ → Mode → Deed → SessionView → SessionView → Type 0
 IsGranted place mode deed a b =
     GrantsAtLast place deed a.me b.me
     ⊎ ByLatch place mode a (λ mid. ShowsStep mid b (MeetsGrantable place a.me.0.number mode deed))
 
--- likewise a second ticket for the one of a number: by a fast grant, or as that stood in the granted list
+-- a second ticket was granted by this deed, beside the one with this number: by a fast grant, or while that one was in the granted list
 abbrev pub IsCloned : ℕ → Mode → ℕ → Deed → SessionView → SessionView → Type 0
 IsCloned place mode id deed a b =
     GrantsAtLast place deed a.me b.me
     ⊎ ByLatch place mode a (λ mid. ShowsStep mid b (λ e. MeetsOwn place a.me.0.number id e × (e.deeds ≡ deed ∷ [])))
 
--- the directory was looked at once, and so a key is answered by it
+-- the directory was looked at once, and this is its answer for a key
 abbrev pub LooksUp : KeyName → Result ℕ ResolveError → SessionView → SessionView → Type 0
 LooksUp key result a b =
     (k left : Keys) × TookDirectory a.table.slots k left a.me b.me × IsAnswer a.table.slots key k left result
 
--- the directory was looked at once, and it was left as it was
+-- the directory was looked at once, and it is unchanged
 abbrev pub LooksAtKeys : SessionView → SessionView → Type 0
 LooksAtKeys a b = (k : Keys) × TookDirectory a.table.slots k k a.me b.me
 
--- likewise, and the search found this by its record
+-- the directory was looked at once and is unchanged, and by its record the search for a deadlock found this
 abbrev pub SearchesFor : Found → SessionView → SessionView → Type 0
 SearchesFor found a b =
     (k : Keys) × TookDirectory a.table.slots k k a.me b.me × Searched a.table a.me.0.number k found a.me b.me
@@ -148,46 +150,47 @@ SearchesFor found a b =
 abbrev pub MeetsOwnWait : ℕ → Lists → SessionView → SessionView → Type 0
 MeetsOwnWait state l a b = ShowsStep a b (MeetsWait a.table.slots a.me.0.number l.waits state)
 
--- a step met the book of a place without room for all fast tickets that the session had there, which were to become slow ones and stayed fast
+-- a step met a place's book without room for all fast tickets that the session had there: they were to become slow, and stayed fast
 abbrev pub FullForFast : SessionView → SessionView → Type 0
 FullForFast a b =
     (q : ℕ) × (0 < length (own_at q a.me.0.fast)) × (own_at q b.me.0.fast ≡ own_at q a.me.0.fast)
     × ShowsStep a b (MeetsFullFor (length (own_at q a.me.0.fast)) q)
 
--- why the session's fast tickets, of which it has some, couldn't all become slow ones: memory ran out, or a book was full
+-- why the session's fast tickets (it has some) couldn't all become slow: memory ran out, or a book was full
 abbrev pub LacksRoomForFast : SpaceError → SessionView → SessionView → Type 0
 LacksRoomForFast why a b = (a.me.0.fast ≢ []) × ((why ≡ cause.OutOfMemory) ⊎ ((why ≡ cause.Full) × FullForFast a b))
 
--- the fast path was closed to a wish at a place, and a step met a book without room for the fast tickets, or, once those were slow, that of the place
--- without room for one more
+-- the fast path was closed to a request for a mode at a place, and a step met a full book: one without room for the session's fast tickets, or, once those
+-- were slow, the book of the place without room for one more ticket
 abbrev pub FullForWish : ℕ → Mode → SessionView → SessionView → Type 0
 FullForWish place mode a b = ByLatch place mode a (λ mid. ShowsStep mid b (MeetsFull place)) ⊎ (IsClosed place mode a b × FullForFast a b)
 
--- memory ran out for a wish at a place: the session had no room for a ticket there, or the fast path was closed to the wish
+-- a request for a mode at a place may need memory: the session's list had no room for a ticket there, or the fast path was closed to the request
 abbrev pub LacksMemory : ℕ → Mode → SessionView → SessionView → Type 0
 LacksMemory place mode a b = (HasRoom place a.room → ⊥) ⊎ IsClosed place mode a b
 
--- why there is no room for a wish: memory ran out, or a step met a book that was full
+-- why there was no room for a request: memory ran out, or a step met a book that was full
 abbrev pub LacksRoomForWish : ℕ → Mode → SpaceError → SessionView → SessionView → Type 0
 LacksRoomForWish place mode why a b =
     ((why ≡ cause.OutOfMemory) × LacksMemory place mode a b) ⊎ ((why ≡ cause.Full) × FullForWish place mode a b)
 
--- the version of a place was read by one step without its latch, and nothing else was done: the session notes it under each ticket that it has there, and
--- what is defined in it counts as read, which follows all that the session knew of the place
+-- the version of a place was read by one step without its latch, and nothing else was done. The session notes it under each ticket that it has there. The
+-- definition of this version counts as read, and agrees with all that the session knew of the place
 pub record ReadsVersion (place version : ℕ) (a b : SessionView) : Type 0 where
   pub learnt : LearnsVersion place version a.me b.me
   pub same : b ≡ record a { me = b.me; room = b.room }
   pub room : KeepsRoom 0 a.room b.room
 
--- it was found so, and nothing is kept of it: the session notes nothing. It has read no later one there
+-- the version of a place was read by one step without its latch, and nothing else was done: the session notes nothing, and the version doesn't count as
+-- read. It has read no later version there
 pub record MissesVersion (place version : ℕ) (a b : SessionView) : Type 0 where
   pub now : b.me ≡ met_version place version a.me
   pub same : b ≡ record a { me = b.me; room = b.room }
   pub room : KeepsRoom 0 a.room b.room
   pub newest : Each (λ (r : Read). r.standing.version ≤ version) (reads_at place a.me.0.reads)
 
--- likewise it was found to be that of what the session had read there, which follows all that it knows of the place; and it notes that under each ticket that
--- it has there
+-- the version of a place was read likewise, and it is that of a definition which the session had read there, and which agrees with all that it knows of
+-- the place. The session notes the version under each ticket that it has there
 pub record FindsVersion (place : ℕ) (standing : Standing) (a b : SessionView) : Type 0 where
   pub now : b.me ≡ noted_version place standing.version a.me
   pub same : b ≡ record a { me = b.me; room = b.room }
@@ -195,7 +198,7 @@ pub record FindsVersion (place : ℕ) (standing : Standing) (a b : SessionView) 
   pub read : Contains a.me.0.reads (record { place = place; standing = standing })
   pub follows : Follows place standing a.me
 
--- what stands at the place of a ticket was read under the latch
+-- the version and definition of the key of a ticket's place were read under the latch
 abbrev pub ReadsByLatch : ℕ → Own → Standing → SessionView → SessionView → Type 0
 ReadsByLatch id t standing a b =
     Follows t.place standing a.me
@@ -205,7 +208,7 @@ ReadsByLatch id t standing a b =
 
 -- ---- by calls
 
--- why a call is refused for what the session has of its own
+-- why a call is refused by the session's own lists, without a step
 abbrev pub own_fault : Call → Lists → Option SpaceError
 own_fault (Try_now who place mode) l = wish_fault (kind_known place l.known) l.asks mode l.next
 own_fault (Begin_wait who place mode) l = wish_fault (kind_known place l.known) l.asks mode l.next
@@ -223,7 +226,7 @@ own_fault (Change_definition who id change) l = exclusive_fault (numbered id (ti
 own_fault (Key_of who place) l = naming_fault place l.known
 own_fault _ l = None
 
--- calls that look at no wait and settle none let the session know of its own wait what it knew
+-- a call that looks at no wait and settles none leaves what the session knows of its own wait unchanged
 abbrev pub KeepsTold : Call → SessionView → SessionView → Type 0
 KeepsTold (Search who) a b = Unit {0}
 KeepsTold (Poll_wait who) a b = Unit {0}
@@ -235,8 +238,8 @@ KeepsTold (Release who id) a b = Unit {0}
 KeepsTold (Downgrade who id mode) a b = Unit {0}
 KeepsTold _ a b = b.me.0.told ≡ a.me.0.told
 
--- calls that read or settle the word of a wait give no latch back and raise no flag; one that reads a definition raises none, and leaves the directory
--- alone
+-- a call that reads or settles the word of a wait gives no latch back and raises no flag. A call that reads a definition raises no flag, and leaves the
+-- directory alone
 abbrev pub StepsSo : Call → SessionView → SessionView → Type 0
 StepsSo (Poll_wait who) a b = StaysOn a.me b.me
 StepsSo (Settle_timeout who) a b = StaysOn a.me b.me
@@ -246,7 +249,7 @@ StepsSo (Read_definition who id) a b = StaysQuiet a.me b.me
 StepsSo (Read_kept who id) a b = StaysQuiet a.me b.me
 StepsSo _ a b = Unit {0}
 
--- what the steps did to the session's own tickets
+-- the deeds of a call with this answer: what its steps did to the session's own tickets
 abbrev pub done_by : Call → Answer → List Own → List Deed
 done_by (Try_now who place mode) (Granted id) tickets = Gain id mode ∷ []
 done_by (Begin_wait who place mode) (Granted id) tickets = Gain id mode ∷ []
@@ -258,12 +261,12 @@ done_by (Release who id) Done tickets = Lose id ∷ []
 done_by (Downgrade who id mode) Done tickets = Alter id mode ∷ []
 done_by _ _ tickets = []
 
--- how many tickets were gained
+-- the number of tickets that the session gains by a call with this answer
 abbrev pub gained_by : Answer → ℕ
 gained_by (Granted id) = 1
 gained_by _ = 0
 
--- which waits they settled. `HasRescheduled` tells that where a place's waits were granted, and `Searched` of a search
+-- which waits the steps of a call settled. If waits at a place were granted, `HasRescheduled` says which, and for a search `Searched`
 abbrev pub SettlesSo : Call → Answer → Lists → SessionView → SessionView → Type 0
 SettlesSo (Search who) No_cycle l a b = Unit {0}
 SettlesSo (Search who) (Victim_is victim) l a b = Unit {0}
@@ -274,7 +277,7 @@ SettlesSo (Settle_timeout who) (Timed_out ByThisCall) l a b = Settles a.me.0.num
 SettlesSo (Kill target number) (Has_killed true) l a b = Settles target number (lost_state loss.Killed) a.me b.me
 SettlesSo _ _ l a b = SettlesNothing a.me b.me
 
--- what they met. What isn't named here shows nothing: it is no answer to the call, or no session has the call (`Unpin`)
+-- what the steps of a call met. Nothing is said of what isn't named here: it is no answer to the call, or sessions have no such call (`Unpin`)
 abbrev pub MeetsSo : Call → Answer → Lists → SessionView → SessionView → Type 0
 MeetsSo (Resolve who key) (At_place place) l a b =
     (0 < place) × (place < a.table.slots)
@@ -367,10 +370,11 @@ MeetsSo _ _ l a b = Unit {0}
 
 -- ---- the whole
 
--- the session, which has these lists before the call, is at the same table (`table`) of the same space (`sessions`); where it has a fault of its own, that
--- is the answer, and no step is made (`refused`); the call's steps did these deeds, and no others (`did`), settled these waits, and no others (`settled`),
--- let the session know no more of its own wait than they may (`told`), gave no latch back and raised no flag where the call must not (`steps`), and met
--- this (`met`); it has the room for tickets that it had, but for the ticket that it gained (`room`)
+-- what a call with this answer shows of a session that has these lists before it. The session stays at the same table (`table`) of the same space
+-- (`sessions`). If its own lists refuse the call, that is the answer, and no step is made (`refused`). The call's steps did these deeds, and no others
+-- (`did`), settled these waits, and no others (`settled`), changed what the session knows of its own wait only if the call may do that (`told`), gave no
+-- latch back and raised no flag if the call must not (`steps`), and met this (`met`). The room for tickets that there was is still there, except for the
+-- ticket gained (`room`)
 pub record ShowsBy (call : Call) (answer : Answer) (l : Lists) (a b : SessionView) : Type 0 where
   pub table : b.table ≡ a.table
   pub sessions : b.sessions ≡ a.sessions
@@ -388,7 +392,7 @@ Shows call answer a b = ShowsBy call answer (lists_seen a.me.0) a b
 
 -- ---- what isn't a call of a lock space
 
--- the session has the same number, at the same table, the same lists and the room that it had, and read nothing
+-- the session has the same number, at the same table of the same space, the same lists and at least the same room, and read nothing
 pub record KeepsLists (a b : SessionView) : Type 0 where
   pub number : b.me.0.number ≡ a.me.0.number
   pub table : b.table ≡ a.table
@@ -397,6 +401,6 @@ pub record KeepsLists (a b : SessionView) : Type 0 where
   pub reads : b.me.0.reads ≡ a.me.0.reads
   pub room : KeepsRoom 0 a.room b.room
 
--- it knows how its wait is settled where it did before, and may have learnt it
+-- if the session knew how its wait was settled, it still knows that. Otherwise it may have learnt it
 abbrev pub RemembersWait : SessionView → SessionView → Type 0
 RemembersWait a b = (state : ℕ) → a.me.0.told ≡ Some state → b.me.0.told ≡ Some state

@@ -2,7 +2,7 @@
 use Rattle.std.specs.Prelude.{ℕ, ◌+◌, ◌<◌, ◌≤◌, List}
 use Rattle.mdl_steps.specs.declared.view.Own.{Own}
 
--- for how many more tickets there is room, and below which place those may be
+-- the room of a session's list: for how many more tickets there is room, and below which place those may be
 pub record Room : Type 0 where
   pub spare : ℕ
   pub reach : ℕ
@@ -11,15 +11,15 @@ pub record Room : Type 0 where
 abbrev pub HasRoom : ℕ → Room → Type 0
 HasRoom place room = (0 < room.spare) × (place < room.reach)
 
--- there is room for so many more tickets, at places below this one
+-- there is room for `count` more tickets, at places below `places`
 abbrev pub HasRoomFor : ℕ → ℕ → Room → Type 0
 HasRoomFor count places room = (count ≤ room.spare) × (places ≤ room.reach)
 
--- there is as much room as there was, but for so many tickets
+-- there is the room that there was, or more, except for the tickets gained
 abbrev pub KeepsRoom : ℕ → Room → Room → Type 0
 KeepsRoom gained room room′ = (room.spare ≤ room′.spare + gained) × (room.reach ≤ room′.reach)
 
--- the slow tickets and the fast ones, each in order of gain, and the room for more
+-- the slow tickets and the fast ones, each in the order in which the session got them, and the room for more
 pub record TicketList : Type 0 where
   pub slow : List Own
   pub fast : List Own

@@ -1,4 +1,4 @@
--- Upgrades of tickets: which are tried.
+-- Which upgrades of tickets are tried.
 use Rattle.std.specs.Prelude.{Bool, false, ◌&&◌, ◌||◌, not, List, Option, Some, None, is_some, if◌then◌else◌}
 use Rattle.mdl_key.specs.declared.mode.Mode.{Mode}
 use Rattle.mdl_key.specs.declared.namespace.Kind.{Kind}
@@ -11,8 +11,8 @@ use Rattle.mdl_steps.specs.declared.view.Known.{Known}
 use Rattle.mdl_steps.specs.declared.view.Own.{Own}
 use Rattle.mdl_shared.specs.Members.{kind_known}
 
--- whether a ticket can have a mode, at a place whose key is of this kind, or isn't known: its own mode covers that or may be upgraded to it, and the
--- mode is one of the kind
+-- whether a ticket has a mode or may be upgraded to it, at a place whose key is of this kind, or isn't known: its own mode covers that or may be upgraded
+-- to it, and the mode is one of the kind
 abbrev pub can_have : Mode → Own → Option Kind → Bool
 can_have mode t None = false
 can_have mode t (Some kind) = (covers t.mode mode || may_upgrade t.mode mode) && is_mode_of kind mode

@@ -1,4 +1,4 @@
--- The wait of a session, as the session keeps it of its own between two calls.
+-- A session's wait, as the session's own lists keep it between two calls.
 use Rattle.std.specs.Prelude.{ℕ, ◌+◌, ◌==◌, Bool, true, not, nat_lt, List, Option, Some, None, is_some}
 use Rattle.std.specs.Option.{option_map_or}
 use Rattle.mdl_calls.specs.declared.space_error.SpaceError.{SpaceError}
@@ -7,7 +7,7 @@ use Rattle.mdl_steps.specs.declared.view.Ask.{Ask}
 use Rattle.mdl_steps.specs.declared.view.Own.{Own}
 use Rattle.mdl_visits.specs.Numbers.{all_numbers}
 
--- whether all have numbers below the next one
+-- whether all tickets have numbers below the next one
 abbrev pub are_below : ℕ → List Own → Bool
 are_below next tickets = all_numbers (λ n. nat_lt n next) tickets
 
@@ -15,12 +15,12 @@ are_below next tickets = all_numbers (λ n. nat_lt n next) tickets
 abbrev pub is_ask_last : ℕ → Option Ask → Bool
 is_ask_last next asks = option_map_or (λ (a : Ask). a.number + 1 == next) asks true
 
--- whether the session met no wait of its own settled, or has one
+-- whether the session has a wait, or knows of no wait of its own that is settled
 abbrev pub is_ask_told : Option Ask → Option ℕ → Bool
 is_ask_told None told = not (is_some told)
 is_ask_told (Some a) told = true
 
--- why a call on the session's own wait is refused
+-- why a call on the session's own wait is refused: it has none
 abbrev pub wait_fault : Option Ask → Option SpaceError
 wait_fault None = Some NoWait
 wait_fault (Some a) = None

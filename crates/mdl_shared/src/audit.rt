@@ -15,9 +15,9 @@ use std::alloc::AllocError;
 use std::sync::Wait;
 
 impl<R: Wait> Session<R> {
-    /// The books of all places that have a key, from place 1 on, all as they were at one moment. Fast tickets are in none of them.
+    /// Returns the books of all places that have a key, from place 1 on, all as they were at one moment. Fast tickets are in none of them.
     ///
-    /// The latches of these places are all taken for it, so other sessions' calls there wait meanwhile.
+    /// It holds the latches of all these places, so other sessions' calls there wait meanwhile.
     pub fn audit(&mut self) -> Result<Vec<Audited>, SpaceError>
         ensures same { KeepsLists self.old self.new × (self.new.me.0.told ≡ self.old.me.0.told) }
         ensures settles { SettlesNothing self.old.me self.new.me }

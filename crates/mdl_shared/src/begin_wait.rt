@@ -1,4 +1,4 @@
-//! A lock is asked for, and waited for where it can't be had now.
+//! Requests a lock, and begins to wait for it if it can't be granted now.
 ghost use Rattle.std.specs.Prelude.{◌≡◌, ◌⊎◌, [], None, Some, IfErr, IfOk, OnErr};
 ghost use Rattle.mdl_calls.specs.declared.space_error.SpaceError.TheVariants.{Full, OutOfMemory};
 ghost use Rattle.mdl_calls.specs.Words.{Begin_wait, begun};
@@ -22,8 +22,8 @@ use mdl_visits::{Queued, begin_wait};
 use std::sync::Wait;
 
 impl<R: Wait> Session<R> {
-    /// Asks for a lock, and begins to wait for it where it can't be had now. Nobody is waited for here but those who hold the latch of a
-    /// place. What takes memory of the session's own is done here, for the end of the wait, too.
+    /// Requests a lock, and begins to wait for it if it can't be granted now. The call itself waits only while another session holds the
+    /// latch of a place. It takes all memory that the session's own lists need, also for the end of the wait.
     pub fn begin_wait(&mut self, place: Place, mode: Mode) -> Result<Begun, SpaceError>
         ensures joined { Joins (space_of self.old) (Begin_wait self.old.me.0.number place mode) (begun result) (space_of self.new) }
         ensures shown { Shows (Begin_wait self.old.me.0.number place mode) (begun result) self.old self.new }
@@ -39,7 +39,7 @@ impl<R: Wait> Session<R> {
 }
 
 impl Member {
-    // The same by the latch of the place, at which there is room for a ticket. The session has no fast ticket.
+    // The same under the latch of the place. The session's list has room for a ticket there, and the session has no fast ticket.
     fn begin_by_latch<R: Wait>(
         &mut self,
         rt: &R,

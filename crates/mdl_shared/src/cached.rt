@@ -1,4 +1,4 @@
-//! What stands under a ticket is looked for in a cache of what the session read before, without the latch of the place.
+//! Looks up the definition at a ticket's place in a cache of what the session read before, without the latch of the place.
 //!
 //! After MySQL 5.7, sql/sql_base.cc: `open_table`, which takes a table from the session's or the shared cache while its version is the current one.
 ghost use Rattle.std.specs.Prelude.{◌≡◌, None, IfErr, IfOk};
@@ -18,14 +18,15 @@ use mdl_defs::{DefCache, Definition};
 /// What a cache has for a ticket.
 #[derive(Clone, Copy)]
 pub enum Cached<'a> {
-    /// The definition that stands at the ticket's place.
+    /// The definition of the key of the ticket's place.
     Hit(&'a Definition),
-    /// It keeps none of the version that stands there.
+    /// The cache keeps no definition of the key's version.
     Stale,
 }
 
-/// The definition that stands under the key of a ticket's place, where the cache keeps it: of the version that one step finds, without the latch. Each
-/// definition in the cache has to be one that this session read in this space, and is so afterwards. It takes no memory.
+/// Returns the definition of the key of a ticket's place, if the cache keeps the one of the key's version. One step reads the version,
+/// without the latch. Each definition in the cache has to be one that this session read in this space, and still is one afterwards. It takes
+/// no memory.
 pub fn read_cached<'a, R>(
     cache: &'a mut DefCache,
     session: &mut Session<R>,
@@ -53,7 +54,7 @@ pub fn read_cached<'a, R>(
 }
 
 impl<R> Session<R> {
-    /// As the function [`read_cached`], whose contract also says what becomes of the cache: that is for callers who use the cache again.
+    /// Like the function [`read_cached`], whose contract also says what is in the cache afterwards: use that one if you use the cache again.
     pub fn read_cached<'a>(
         &mut self,
         id: TicketId,

@@ -1,4 +1,4 @@
-//! What a session changes under its exclusive tickets.
+//! Changes the definition of a key, under an exclusive ticket.
 ghost use Rattle.mdl_calls.specs.Words.{Change_definition, redefined};
 ghost use Rattle.mdl_session_laws.specs.SessionJoins.{Joins};
 ghost use Rattle.mdl_shared.specs.SessionViews.{space_of};
@@ -12,8 +12,8 @@ use mdl_visits::change_definition;
 use std::sync::Wait;
 
 impl<R: Wait> Session<R> {
-    /// Changes what stands under the key of the place of an exclusive ticket, and answers the new version, one greater than before. `Drop`
-    /// takes no memory.
+    /// Changes the definition of the key of the place of an exclusive ticket, and returns the key's new version, one greater than before.
+    /// `Drop` takes no memory.
     pub fn change_definition(&mut self, id: TicketId, change: &Change) -> Result<u64, SpaceError>
         ensures joined { Joins (space_of self.old) (Change_definition self.old.me.0.number id change.now) (redefined result) (space_of self.new) }
         ensures shown { Shows (Change_definition self.old.me.0.number id change.now) (redefined result) self.old self.new }

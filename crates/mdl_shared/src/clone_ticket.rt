@@ -1,4 +1,4 @@
-//! A second ticket is made of one.
+//! Makes a second ticket of one that the session holds.
 ghost use Rattle.std.specs.Prelude.{◌≡◌, ◌⊎◌, ◌∷◌, [], None, Some, IfErr, IfOk, OnErr};
 ghost use Rattle.mdl_key.specs.Refusals.{RefusesJust};
 ghost use Rattle.mdl_calls.specs.declared.space_error.SpaceError.TheVariants.{Full, OutOfMemory};
@@ -28,7 +28,8 @@ use mdl_visits::clone_ticket;
 use std::sync::Wait;
 
 impl<R: Wait> Session<R> {
-    /// A second ticket of a held one's place, in a mode that this one is at least as strong as. It overtakes waiters. Answers its number.
+    /// Gives the session a second ticket at the place of a held one, in a mode that the held one covers, and returns its number. The new
+    /// ticket overtakes waiters.
     pub fn clone_ticket(&mut self, id: TicketId, mode: Mode) -> Result<TicketId, SpaceError>
         ensures joined { Joins (space_of self.old) (Clone_ticket self.old.me.0.number id mode) (cloned result) (space_of self.new) }
         ensures shown { Shows (Clone_ticket self.old.me.0.number id mode) (cloned result) self.old self.new }
@@ -43,7 +44,7 @@ impl<R: Wait> Session<R> {
 }
 
 impl Member {
-    // The ticket of a number, where a second one in a mode may be made of it, and the kind of its lock.
+    // The ticket with a number, and the kind of its lock, if a second one in a mode may be made of it.
     fn clonable(&self, id: TicketId, mode: Mode) -> Result<(Own, Kind), SpaceError>
         ensures found { IfOk result (λ two. (numbered id (interleaved self.now.tickets.slow self.now.tickets.fast) ≡ Some two.0) × (kind_known two.0.place self.now.known.known ≡ Some two.1)) }
         ensures just { RefusesJust (clone_fault (numbered id (interleaved self.now.tickets.slow self.now.tickets.fast)) self.now.asks mode self.now.known.known self.now.next) result }
@@ -66,7 +67,8 @@ impl Member {
         Ok((held, kind))
     }
 
-    // Makes a second ticket of a slow one, under the latch of its place, where there is room for one. The session has no fast ticket.
+    // Makes a second ticket of a slow one, under the latch of its place. The session's list has room for it, and the session has no fast
+    // ticket.
     fn clone_by_latch<R: Wait>(
         &mut self,
         rt: &R,

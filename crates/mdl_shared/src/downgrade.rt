@@ -1,4 +1,4 @@
-//! A ticket gets a weaker mode.
+//! Gives a ticket a weaker mode.
 ghost use Rattle.std.specs.Prelude.{IfOk, Some, ◌≡◌};
 ghost use Rattle.mdl_key.specs.Refusals.{RefusesJust};
 ghost use Rattle.mdl_calls.specs.Words.{Downgrade, done};
@@ -19,8 +19,8 @@ use mdl_visits::downgrade;
 use std::sync::Wait;
 
 impl<R: Wait> Session<R> {
-    /// Lets a held ticket have a weaker mode: X becomes SU, SNW or SNRW, and SNW becomes SU. The waits at its place that can be granted then
-    /// are granted. It takes no memory.
+    /// Gives a held ticket a weaker mode: X becomes SU, SNW or SNRW, and SNW becomes SU. Grants the waits at its place that can be granted
+    /// then. It takes no memory.
     pub fn downgrade(&mut self, id: TicketId, mode: Mode) -> Result<(), SpaceError>
         ensures joined { Joins (space_of self.old) (Downgrade self.old.me.0.number id mode) (done result) (space_of self.new) }
         ensures shown { Shows (Downgrade self.old.me.0.number id mode) (done result) self.old self.new }
@@ -34,7 +34,7 @@ impl<R: Wait> Session<R> {
 }
 
 impl Member {
-    // The ticket of a number, where it may have a weaker mode.
+    // The ticket with a number, if it may be downgraded to a mode.
     fn downgradable(&self, id: TicketId, mode: Mode) -> Result<Own, SpaceError>
         ensures found { IfOk result (λ held. numbered id (interleaved self.now.tickets.slow self.now.tickets.fast) ≡ Some held) }
         ensures just { RefusesJust (downgrade_fault (numbered id (interleaved self.now.tickets.slow self.now.tickets.fast)) mode self.now.known.known) result }

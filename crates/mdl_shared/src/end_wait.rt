@@ -1,4 +1,4 @@
-//! Waits end.
+//! Ends the session's wait.
 ghost use Rattle.std.specs.Prelude.{◌≡◌};
 ghost use Rattle.mdl_calls.specs.Words.{End_wait, ended};
 ghost use Rattle.mdl_session_laws.specs.SessionJoins.{Joins};
@@ -12,7 +12,7 @@ use mdl_calls::{Ended, Settled, SpaceError};
 use mdl_visits::end_lost_wait;
 use std::sync::Wait;
 
-// How a wait has ended that was lost so.
+// How a lost wait has ended, by how it was settled.
 fn lost_end(how: Settled) -> Option<Ended>
     ensures { result ≡ lost_end how }
 {
@@ -25,8 +25,8 @@ fn lost_end(how: Settled) -> Option<Ended>
 }
 
 impl<R: Wait> Session<R> {
-    /// Ends the session's wait, which is settled: with the ticket if it was granted, else without, and the waits at its place that can be
-    /// granted then are granted. It takes no memory.
+    /// Ends the session's wait. If it was granted, the session holds the ticket. If it was lost, the ticket is removed, and the waits at its
+    /// place that can be granted then are granted. Refused with [`SpaceError::Unsettled`] while the wait isn't settled. It takes no memory.
     pub fn end_wait(&mut self) -> Result<Ended, SpaceError>
         ensures joined { Joins (space_of self.old) (End_wait self.old.me.0.number) (ended result) (space_of self.new) }
         ensures shown { Shows (End_wait self.old.me.0.number) (ended result) self.old self.new }

@@ -1,4 +1,4 @@
-//! A wish for a ticket is tried on the fast path first.
+//! Tries a request for a ticket on the fast path first.
 //!
 //! After MySQL 5.7, sql/mdl.cc: `MDL_context::try_acquire_lock_impl`, which makes the session's fast tickets slow before it takes the latch.
 ghost use Rattle.std.specs.Prelude.{◌≡◌, ◌⊎◌, ◌<◌, None, Ok, Some, IfErr, IfNone, IfOk, IfSome, [], OnErr};
@@ -17,8 +17,8 @@ use mdl_word::Word;
 use std::sync::Wait;
 
 impl Member {
-    /// Makes room for a ticket of the next number at a place of this kind, and grants it if the fast path is open to the mode. If not, it returns
-    /// no ticket, and the session has no fast one any more: what follows is done under the latch of the place.
+    /// Makes room for a ticket with the next number at a place of this kind, and grants it if the fast path is open to the mode. If not, it
+    /// makes the session's fast tickets slow, and returns no ticket: the request goes on under the latch of the place.
     pub(crate) fn try_fast_first<R: Wait>(
         &mut self,
         rt: &R,

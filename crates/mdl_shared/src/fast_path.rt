@@ -1,6 +1,6 @@
-//! The fast path: a ticket in an unobtrusive mode is granted, and released, without the latch of its place, as long as the flag OBTRUSIVE of the
-//! lock's word is down. The lock's word counts it, and no book has it. Before the session asks for a ticket or a mode under the latch of a place,
-//! its fast tickets become slow ones, which stand in the books.
+//! The fast path: if the flag OBTRUSIVE of the lock's word is down, a ticket in an unobtrusive mode is granted without the latch of its
+//! place. It is released without the latch, too. The lock's word counts it, and no book has it. Before the session requests a ticket or a
+//! mode under the latch of a place, its fast tickets become slow: they are entered in the books.
 //!
 //! After MySQL 5.7, sql/mdl.cc: `MDL_context::try_acquire_lock_impl`, `MDL_context::release_lock` and
 //! `MDL_context::materialize_fast_path_locks`.
@@ -32,21 +32,22 @@ use std::sync::Wait;
 /// Why the session got no fast ticket. Nothing has changed.
 #[derive(Clone, Copy, Debug, PartialEq, Eq)]
 pub(crate) enum NotFast {
-    /// The flag OBTRUSIVE of the lock's word, which is this one, is up.
+    /// The lock's word, which is this one, has the flag OBTRUSIVE up.
     Obtruded(Word),
-    /// Each try found another word than the one that it was to replace. This is the last word found.
+    /// Each try found that the lock's word had changed. This is the word that was found last.
     Contended(Word),
     /// The session has as many fast tickets there as it may have.
     Limit,
 }
 
-// How many fast tickets a session may have at a place.
+// The most fast tickets that a session may have at a place.
 const MOST_FAST: usize = 1023;
 
 impl Member {
-    /// Grants a fast ticket of the next number, for which there is room, unless the fast path is closed. It needs no latch and takes no memory.
+    /// Grants a fast ticket with the next number, for which there is room, unless the fast path is closed. It needs no latch and takes no
+    /// memory.
     ///
-    /// `one` is what the word of the place counts it by.
+    /// `one` is what the ticket adds to the word of the place.
     #[inline(always)]
     pub(crate) fn gain_fast(
         &mut self,
@@ -83,7 +84,7 @@ impl Member {
         Ok(number)
     }
 
-    /// Gives up a fast ticket, which it has. Returns whether waits at its place may have become grantable. It needs no latch and takes no
+    /// Releases a fast ticket of the session. Returns whether waits at its place may have become grantable. It needs no latch and takes no
     /// memory.
     #[inline(always)]
     pub(crate) fn lose_fast(&mut self, held: Own) -> bool
@@ -99,8 +100,8 @@ impl Member {
         owes
     }
 
-    /// Makes slow ones of the session's fast tickets, one place after the other: they are granted in the books, and the words no longer count
-    /// them. The session waits for nothing. If there is no room for those of a place, they stay fast, as those of the places after it.
+    /// Makes the session's fast tickets slow, place by place: they are granted in the books, and the words no longer count them. The session
+    /// has no wait. If there is no room for those of a place, they stay fast, as do those of the places after it.
     pub(crate) fn materialise<R: Wait>(&mut self, rt: &R) -> Result<(), SpaceError>
         requires idle { self.old.asks ≡ None }
         ensures done { DoesQuietly 0 [] (view_of self.old) (view_of self.new) }
@@ -116,7 +117,7 @@ impl Member {
         Ok(())
     }
 
-    // The same at one place, where it has a fast ticket, apart so that the look whether there is one is inlined.
+    // The same at one place, where the session has a fast ticket. It is apart so that the check for a fast ticket is inlined.
     #[inline(never)]
     fn materialise_at<R: Wait>(&mut self, rt: &R, place: usize) -> Result<(), SpaceError>
         requires idle { self.old.asks ≡ None }
@@ -140,7 +141,7 @@ impl Member {
         Ok(())
     }
 
-    // What the word of its place counts a fast ticket by.
+    // What a fast ticket adds to the word of its place.
     fn increment(&self, held: Own) -> u64
         requires held { numbered held.number self.now.tickets.fast ≡ Some held }
         ensures { increment_at held.place held.mode self.now.known.known ≡ Some result }

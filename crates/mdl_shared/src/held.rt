@@ -1,4 +1,4 @@
-//! The tickets that a session holds. No step is needed to tell them.
+//! The tickets that a session holds. Listing them takes no step.
 ghost use Rattle.mdl_calls.specs.Words.{List_held, listed};
 ghost use Rattle.mdl_session_laws.specs.SessionJoins.{Joins};
 ghost use Rattle.mdl_shared.specs.SessionViews.{space_of};
@@ -9,7 +9,7 @@ use mdl_calls::{Held, SpaceError};
 use std::alloc::AllocError;
 
 impl<R> Session<R> {
-    /// The tickets that the session holds, in order of gain.
+    /// Returns the tickets that the session holds, in the order in which it got them.
     pub fn held(&self) -> Result<Vec<Held>, SpaceError>
         ensures joined { Joins (space_of self.now) (List_held self.now.me.0.number) (listed result) (space_of self.now) }
         ensures shown { Shows (List_held self.now.me.0.number) (listed result) self.now self.now }

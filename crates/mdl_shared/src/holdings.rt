@@ -1,4 +1,4 @@
-//! What a session's own lists tell of modes and numbers.
+//! What a session's own lists say about modes and numbers.
 ghost use Rattle.std.specs.Prelude.{◌≡◌};
 ghost use Rattle.mdl_shared.specs.Modes.{is_fit};
 

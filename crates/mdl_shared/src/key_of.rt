@@ -1,4 +1,4 @@
-//! The key of a place that the session has looked up. No step is needed for that.
+//! The key of a place that the session has looked up. Finding it takes no step.
 ghost use Rattle.mdl_calls.specs.Words.{Key_of, keyed};
 ghost use Rattle.mdl_session_laws.specs.SessionJoins.{Joins};
 ghost use Rattle.mdl_shared.specs.SessionViews.{space_of};
@@ -10,7 +10,7 @@ use mdl_key::Key;
 use std::alloc::AllocError;
 
 impl<R> Session<R> {
-    /// The key of a place that the session has looked up.
+    /// Returns the key of a place that the session has looked up.
     pub fn key_of(&mut self, place: Place) -> Result<Key, SpaceError>
         ensures joined { Joins (space_of self.old) (Key_of self.old.me.0.number place) (keyed result) (space_of self.new) }
         ensures shown { Shows (Key_of self.old.me.0.number place) (keyed result) self.old self.new }

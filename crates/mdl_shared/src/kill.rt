@@ -1,4 +1,4 @@
-//! Waits are settled as killed.
+//! Settles a session's wait as killed.
 ghost use Rattle.mdl_calls.specs.Words.{Has_killed, Kill};
 ghost use Rattle.mdl_session_laws.specs.SessionJoins.{Joins};
 ghost use Rattle.mdl_shared.specs.SessionViews.{space_of};
@@ -9,7 +9,8 @@ use crate::wait_words::{is_open, is_session};
 use mdl_steps::Loss;
 
 impl<R> Session<R> {
-    /// Settles any session's wait of this number as killed, unless it is settled. Whether this call settled it. It takes no memory.
+    /// Settles any session's wait with this number as killed, unless it is settled already. Returns whether this call settled it. It takes no
+    /// memory.
     pub fn kill(&mut self, target: u16, number: u64) -> bool
         ensures joined { Joins (space_of self.old) (Kill target number) (Has_killed result) (space_of self.new) }
         ensures shown { Shows (Kill target number) (Has_killed result) self.old self.new }

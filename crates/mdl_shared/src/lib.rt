@@ -1,7 +1,7 @@
-//! The lock space that threads share: a table of locks, and sessions that each make their calls on a thread of their own.
+//! The lock space that threads share: a table of locks, and sessions, each of which makes its calls on its own thread.
 //!
-//! A [`Manager`] has the table, and a [`Pass`] for each session. Whoever has a session's pass may open the session
-//! ([`Session::open`]), on any thread, and gets the pass back when it closes it ([`Session::close`]).
+//! A [`Manager`] has the table, and is made together with a [`Pass`] for each session. The owner of a pass may open its session
+//! ([`Session::open`]) on any thread, and gets the pass back by closing the session ([`Session::close`]).
 //!
 //! After MySQL 5.7, `MDL_map` and `MDL_context` of `sql/mdl.cc`; passes are this project's own.
 //!

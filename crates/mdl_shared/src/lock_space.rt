@@ -1,4 +1,4 @@
-//! A session as a lock space, of which it speaks for itself alone.
+//! A session as a lock space. It speaks for itself only.
 ghost use Rattle.mdl_session_laws.specs.SessionJoins.{Joins};
 ghost use Rattle.mdl_session_laws.specs.SessionSpaces.{SpeaksFor, own_of, numbers_of, Knows, IsSettledAs, HasMet, HasRead, HasSeen, Pins, Owes};
 ghost use Rattle.mdl_session_laws.proofs.CallLaws.{session-allowed, session-keeps, session-changes, session-others, session-rising, session-draws, session-others_draw, session-fits, session-lists, session-explains, session-upgrades};
@@ -17,7 +17,8 @@ use mdl_defs::{Change, DefCache, Standing};
 use mdl_key::{Key, Mode};
 use std::sync::Wait;
 
-/// A session is a lock space for its own calls: of the others' it tells nothing. It gives its own number as `who`.
+/// A session is a lock space for its own calls. It shows nothing of other sessions' calls. The caller passes the session's own number as
+/// `who`.
 impl<R: Wait> LockSpace for Session<R> {
     ghost speaks_for = { λ s. SpeaksFor (space_of s) };
 
@@ -39,7 +40,7 @@ impl<R: Wait> LockSpace for Session<R> {
 
     ghost owes = { λ s. Owes (space_of s) };
 
-    // A call joins what the session has before it to what it has after it, and its steps show what they met and did.
+    // What the session has before a call is joined to what it has after it, and the call's steps show what they met and did.
     ghost joins = { λ s call answer t. Joins (space_of s) call answer (space_of t) × Shows call answer s t };
 
     fn resolve(&mut self, _who: u16, key: &Key) -> Result<Place, SpaceError> {

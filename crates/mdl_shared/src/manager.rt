@@ -22,8 +22,9 @@ pub struct Manager {
 impl Manager {
     ghost use Rattle.mdl_shared.specs.Passes.{ArePasses, table_of};
 
-    /// A space of so many places and sessions, where nobody has asked for anything, and the passes of the sessions, which have the
-    /// numbers from 1 on, in order. There are 1 to [`MOST_PLACES`] places, and 1 to [`MOST_SESSIONS`] sessions.
+    /// Makes a space with `places` places and `sessions` sessions, which have nothing yet. Returns it with the sessions' passes, numbered
+    /// from 1 on, in order. There must be 1 to [`MOST_PLACES`] places and 1 to [`MOST_SESSIONS`] sessions: otherwise it fails with
+    /// [`NewError::BadPlaces`] or [`NewError::BadSessions`].
     pub fn new(alloc: Global, places: u16, sessions: u16) -> Result<(Manager, Vec<Pass>), NewError>
         ensures made { IfOk result (λ made. ((table_of made.0).slots ≡ places + 1) × ((table_of made.0).words ≡ word_count (places + 1) sessions) × (length made.1.items ≡ sessions)
             × ArePasses (table_of made.0) made.1.items) }
@@ -41,7 +42,7 @@ impl Manager {
         }
     }
 
-    // The same, where there can be such a space.
+    // The same for valid numbers.
     fn of(alloc: Global, places: usize, sessions: usize) -> Result<(Manager, Vec<Pass>), AllocError>
         requires places { places ≤ most_places }
         requires sessions { sessions ≤ most_sessions }

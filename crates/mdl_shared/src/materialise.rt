@@ -13,8 +13,8 @@ use mdl_calls::SpaceError;
 use std::sync::Wait;
 
 impl<R: Wait> Session<R> {
-    /// Makes slow ones of the session's fast tickets, one place after the other, so that they stand in the books. It has the same tickets as
-    /// before. If there is no room for those of a place, they stay fast, as those at places of greater numbers.
+    /// Makes the session's fast tickets slow, place by place: they are entered in the books. The session has the same tickets as before. If
+    /// there is no room for those of a place, they stay fast, as do those at places with greater numbers.
     ///
     /// A session that waits has no fast ticket.
     pub fn materialise(&mut self) -> Result<(), SpaceError>

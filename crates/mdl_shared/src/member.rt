@@ -12,10 +12,10 @@ use mdl_steps::{Ask, TableSeat};
 use mdl_visits::KnownKeys;
 use std::alloc::Global;
 
-/// A session's seat at the table, and its own lists of what the seat's view tells.
+/// A session's seat at the table, and its own lists, which say the same as the seat's view.
 #[derive(Drop)]
 pub(crate) struct Member {
-    /// Where its calls take memory.
+    /// The allocator that its calls use.
     pub(crate) alloc: Global,
     pub(crate) seat: TableSeat,
     /// The tickets that it has.
@@ -24,11 +24,11 @@ pub(crate) struct Member {
     pub(crate) known: KnownKeys,
     /// The number of its next ticket.
     pub(crate) next: u64,
-    /// The ticket that it waits for, where it has a wait.
+    /// The ticket that it waits for, if it has a wait.
     pub(crate) asks: Option<Ask>,
     /// The number of its last wait, or 0 before the first.
     pub(crate) waits: u64,
-    /// How many sessions the space has.
+    /// The number of sessions of the space.
     pub(crate) sessions: usize,
     ghost lawful: { ∥ IsMember (session_at seat sessions tickets.room) ∥₁ },
     ghost lists: { record { slow = tickets.slow; fast = tickets.fast; known = known.known; next = next; asks = asks; waits = waits } ≡ lists_seen seat.me.0 },
@@ -36,7 +36,7 @@ pub(crate) struct Member {
 }
 
 impl Member {
-    /// Of a session that has nothing yet. It takes no memory.
+    /// Makes the member of a session that has nothing yet. It takes no memory.
     pub(crate) fn new(alloc: Global, seat: TableSeat, sessions: usize) -> Member
         requires narrow { (0 < seat.table.slots) × (seat.table.slots ≤ 65536) }
         requires counted { (0 < seat.me.0.number) × (seat.me.0.number ≤ sessions) }

@@ -1,4 +1,4 @@
-//! Two tickets become one.
+//! Merges two tickets.
 ghost use Rattle.std.specs.Prelude.{◌≡◌, ◌∷◌, [], IfOk, None, Some};
 ghost use Rattle.mdl_key.specs.Refusals.{RefusesJust};
 ghost use Rattle.mdl_calls.specs.Words.{Merge, done};
@@ -23,9 +23,9 @@ use mdl_visits::merge;
 use std::sync::Wait;
 
 impl<R: Wait> Session<R> {
-    /// Lets a held ticket have the mode of another one of its place, which is at least as strong, and gives that one up. The first ticket keeps
-    /// its number. It takes memory only where the session has fast tickets, which become slow ones first, and is refused where there is no room
-    /// for them.
+    /// Gives a held ticket the mode of another one at its place, which is at least as strong, and releases the other one. The first ticket
+    /// keeps its number. If the session has fast tickets, they become slow first: that takes memory, and the call is refused if there is no
+    /// room for them.
     pub fn merge(&mut self, old: TicketId, new: TicketId) -> Result<(), SpaceError>
         ensures joined { Joins (space_of self.old) (Merge self.old.me.0.number old new) (done result) (space_of self.new) }
         ensures shown { Shows (Merge self.old.me.0.number old new) (done result) self.old self.new }
@@ -38,7 +38,7 @@ impl<R: Wait> Session<R> {
 }
 
 impl Member {
-    // The tickets of two numbers, where the first may take the mode of the second.
+    // The tickets with two numbers, if the first may take the mode of the second.
     fn mergeable(&self, old: TicketId, new: TicketId) -> Result<(Own, Own), SpaceError>
         ensures found { IfOk result (λ two. (numbered old (interleaved self.now.tickets.slow self.now.tickets.fast) ≡ Some two.0) × (numbered new (interleaved self.now.tickets.slow self.now.tickets.fast) ≡ Some two.1)) }
         ensures just { RefusesJust (merge_fault (numbered old (interleaved self.now.tickets.slow self.now.tickets.fast)) (numbered new (interleaved self.now.tickets.slow self.now.tickets.fast)) self.now.asks) result }
@@ -58,8 +58,8 @@ impl Member {
         Ok((kept, gone))
     }
 
-    // Lets a slow ticket have the mode of another slow one of its place, and gives that one up, under the latch of the place. The session has no
-    // fast ticket.
+    // Gives a slow ticket the mode of another slow one at its place, and releases the other one, under the latch of the place. The session
+    // has no fast ticket.
     fn merge_by_latch<R: Wait>(&mut self, rt: &R, kept: Own, gone: Own)
         requires held { (numbered kept.number self.old.tickets.slow ≡ Some kept) × (numbered gone.number self.old.tickets.slow ≡ Some gone) }
         requires clear { merge_fault (Some kept) (Some gone) self.old.asks ≡ None }

@@ -3,7 +3,7 @@ ghost use Rattle.std.specs.Prelude.{◌≡◌, None, length};
 
 use crate::member::Member;
 
-/// The right to one session of a space, while it isn't open. There is one for each session.
+/// The right to a session that isn't open. There is one for each session of a space.
 #[derive(Drop)]
 pub struct Pass {
     pub(crate) member: Member,
@@ -14,7 +14,7 @@ pub struct Pass {
 impl Pass {
     ghost use Rattle.mdl_shared.specs.Passes.{pass_number};
 
-    /// The session's number.
+    /// Returns the session's number.
     pub fn number(&self) -> u16
         ensures { result ≡ pass_number self.now }
     {

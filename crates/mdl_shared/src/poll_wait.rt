@@ -1,4 +1,4 @@
-//! How the session's own wait stands.
+//! The state of the session's own wait.
 ghost use Rattle.mdl_calls.specs.Words.{Poll_wait, polled};
 ghost use Rattle.mdl_session_laws.specs.SessionJoins.{Joins};
 ghost use Rattle.mdl_shared.specs.SessionViews.{space_of};
@@ -9,7 +9,7 @@ use crate::wait_words::settled_in;
 use mdl_calls::{Poll, SpaceError};
 
 impl<R> Session<R> {
-    /// How the session's wait stands. It takes no memory.
+    /// Returns the state of the session's wait. It takes no memory.
     pub fn poll_wait(&mut self) -> Result<Poll, SpaceError>
         ensures joined { Joins (space_of self.old) (Poll_wait self.old.me.0.number) (polled result) (space_of self.new) }
         ensures shown { Shows (Poll_wait self.old.me.0.number) (polled result) self.old self.new }

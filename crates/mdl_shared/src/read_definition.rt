@@ -1,4 +1,4 @@
-//! What a session reads under its tickets.
+//! Reads the definition of a key, under a ticket.
 ghost use Rattle.mdl_calls.specs.Words.{Read_definition, read};
 ghost use Rattle.mdl_session_laws.specs.SessionJoins.{Joins};
 ghost use Rattle.mdl_shared.specs.SessionViews.{space_of};
@@ -11,7 +11,7 @@ use mdl_visits::read_definition;
 use std::sync::Wait;
 
 impl<R: Wait> Session<R> {
-    /// What stands under the key of a ticket's place, and its version.
+    /// Returns the version of the key of a ticket's place, with its definition if there is one.
     pub fn read_definition(&mut self, id: TicketId) -> Result<Standing, SpaceError>
         ensures joined { Joins (space_of self.old) (Read_definition self.old.me.0.number id) (read result) (space_of self.new) }
         ensures shown { Shows (Read_definition self.old.me.0.number id) (read result) self.old self.new }

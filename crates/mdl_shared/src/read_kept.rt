@@ -1,4 +1,4 @@
-//! What stands under a ticket is read, from the session's cache where that keeps it.
+//! Reads the definition of a key under a ticket, from the session's cache if that keeps it.
 ghost use Rattle.std.specs.Prelude.{◌≡◌, ◌<◌, IfOk, OnErr};
 ghost use Rattle.mdl_calls.specs.Words.{AreMet, Read_kept, read};
 ghost use Rattle.mdl_session_laws.specs.SessionJoins.{Joins};
@@ -13,9 +13,10 @@ use mdl_defs::{DefCache, Standing};
 use std::sync::Wait;
 
 impl<R: Wait> Session<R> {
-    /// As [`Session::read_definition`], but what the cache keeps of the version that stands there is read without the latch. What is read under the latch is kept,
-    /// if there is a definition and memory for it. Each definition in the cache has to be one that this session read in this space. If memory runs out for a copy of
-    /// what the cache keeps, the ticket notes its version, and it comes first in the cache.
+    /// Like [`Session::read_definition`], but reads a definition without the latch if the cache keeps the one of the key's version. What is
+    /// read under the latch is kept in the cache, if there is a definition and memory for it. Each definition in the cache has to be one that
+    /// this session read in this space. If memory runs out for a copy of what the cache keeps, the version is noted under the ticket
+    /// nevertheless, and the definition comes first in the cache.
     pub fn read_kept(&mut self, id: TicketId, cache: &mut DefCache) -> Result<Standing, SpaceError>
         requires met { AreMet (HasMet (space_of self.old) self.old.me.0.number) cache.old.kept }
         ensures joined { Joins (space_of self.old) (Read_kept self.old.me.0.number id) (read result) (space_of self.new) }
@@ -46,7 +47,7 @@ impl<R: Wait> Session<R> {
     }
 }
 
-// Keeps a copy of the definition of a place, if there is one and there is memory for it.
+// Keeps a copy of the definition of a place in the cache, if there is a definition and memory for it.
 fn keep(cache: &mut DefCache, place: usize, standing: &Standing)
     requires within { place < 65536 }
     ensures kept { MayKeep place standing.now cache.old cache.new }

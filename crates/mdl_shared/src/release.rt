@@ -1,4 +1,4 @@
-//! Tickets are given up.
+//! Releases a ticket.
 ghost use Rattle.std.specs.Prelude.{◌≡◌, ◌∷◌, [], Some};
 ghost use Rattle.mdl_calls.specs.Words.{Release, done};
 ghost use Rattle.mdl_steps.specs.declared.deed.Deed.TheVariants.{Lose};
@@ -19,8 +19,8 @@ use mdl_visits::{release, reschedule};
 use std::sync::Wait;
 
 impl<R: Wait> Session<R> {
-    /// Gives up a ticket, and grants the waits at its place that can be granted then. A fast ticket goes by one step on the word of its place,
-    /// and the latch is taken only if that step finds that somebody may wait there. It takes no memory.
+    /// Releases a ticket, and grants the waits at its place that can be granted then. A fast ticket is released by one step on the word of
+    /// its place. The latch is taken then only if that step finds that a session may be waiting there. It takes no memory.
     pub fn release(&mut self, id: TicketId) -> Result<(), SpaceError>
         ensures joined { Joins (space_of self.old) (Release self.old.me.0.number id) (done result) (space_of self.new) }
         ensures shown { Shows (Release self.old.me.0.number id) (done result) self.old self.new }
@@ -40,7 +40,7 @@ impl<R: Wait> Session<R> {
 }
 
 impl Member {
-    // Gives up a fast ticket, and grants the waits at its place where they may have become grantable.
+    // Releases a fast ticket, and grants the waits at its place if any may have become grantable.
     fn give_up_fast<R: Wait>(&mut self, rt: &R, held: Own)
         requires held { numbered held.number self.old.tickets.fast ≡ Some held }
         ensures lost { HasDone held.place (Lose held.number ∷ []) (view_of self.old) (view_of self.new) }

@@ -1,4 +1,4 @@
-//! A fast ticket is given up without the latch of its place.
+//! Releases a fast ticket without the latch of its place.
 //!
 //! After MySQL 5.7, sql/mdl.cc: the fast path of `MDL_context::release_lock`.
 ghost use Rattle.std.specs.Prelude.{◌≡◌, None, IfErr, IfOk};
@@ -10,18 +10,18 @@ ghost use Rattle.mdl_shared.specs.FastCalls.{GaveUpFast};
 use crate::Session;
 use mdl_calls::{SpaceError, TicketId};
 
-/// What comes of a fast release.
+/// The result of a fast release.
 #[derive(Clone, Copy, Debug, PartialEq, Eq)]
 pub struct Released {
-    /// Whether waits at the place of the ticket may have become grantable. Then the session owes the place a [`Session::reschedule`].
+    /// Whether waits at the place of the ticket may have become grantable. If so, the session owes the place a [`Session::reschedule`].
     pub owes: bool,
 }
 
 impl<R> Session<R> {
-    /// Gives up a fast ticket without the latch of its place. It takes no memory.
+    /// Releases a fast ticket without the latch of its place. It takes no memory.
     ///
-    /// Whether the session owes its place a [`Session::reschedule`] is said by the flag SLOW of the word that its one step found. Until it makes
-    /// that call, waits there may stand that could be granted.
+    /// The session owes the ticket's place a [`Session::reschedule`] if its one step found the flag SLOW of the word up. Until it makes that
+    /// call, waits there that could be granted may be left ungranted.
     pub fn release_fast(&mut self, id: TicketId) -> Result<Released, SpaceError>
         ensures released { IfOk result (λ released. GaveUpFast id released.owes self.old self.new) }
         ensures refused { IfErr result (λ why. (why ≡ NotHeld) × (numbered id self.old.me.0.fast ≡ None) × (self.new ≡ self.old)) }

@@ -1,4 +1,4 @@
-//! The waits at a place are granted where the session gives up nothing.
+//! Grants the waits at a place, without any change of the session's own tickets.
 ghost use Rattle.std.specs.Prelude.{[], true, ◌≡◌};
 ghost use Rattle.mdl_visits.specs.Grantings.{HasRescheduled};
 ghost use Rattle.mdl_visits.specs.Visits.{Does};
@@ -12,8 +12,8 @@ use mdl_visits::reschedule;
 use std::sync::Wait;
 
 impl<R: Wait> Session<R> {
-    /// Grants the waits at a place that can be granted, the first in order of arrival first, and does nothing else. The session has resolved
-    /// a key to the place. It takes no memory.
+    /// Grants the waits at a place that can be granted, in order of arrival, and does nothing else. The session must have resolved a key to
+    /// the place. It takes no memory.
     pub fn reschedule(&mut self, place: Place)
         requires known { is_known place (space_of self.old).known ≡ true }
         ensures same { KeepsLists self.old self.new × RemembersWait self.old self.new }

@@ -1,4 +1,4 @@
-//! Room is made for tickets ahead.
+//! Makes room for tickets in advance.
 ghost use Rattle.std.specs.Prelude.{◌≡◌, IfErr, OnOk};
 ghost use Rattle.mdl_calls.specs.declared.space_error.SpaceError.TheVariants.{OutOfMemory};
 ghost use Rattle.mdl_shared.specs.SessionViews.{StaysSame};
@@ -8,8 +8,8 @@ use crate::Session;
 use mdl_calls::SpaceError;
 
 impl<R> Session<R> {
-    /// Makes room for so many more tickets, at whichever places. The next as many that the session gains take no memory of its own for them; for
-    /// fast tickets that is all that they take.
+    /// Makes room for `count` more tickets, at any places. The session's own list takes no memory for the next `count` tickets that it gets.
+    /// A fast ticket takes no other memory.
     pub fn reserve_tickets(&mut self, count: usize) -> Result<(), SpaceError>
         ensures same { StaysSame self.old self.new }
         ensures room { OnOk result (HasRoomFor count self.old.table.slots self.new.room) }

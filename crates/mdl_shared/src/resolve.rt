@@ -1,4 +1,4 @@
-//! The places of keys, as a session looks them up.
+//! Looks up the places of keys.
 ghost use Rattle.std.specs.Prelude.{◌≡◌, None};
 ghost use Rattle.mdl_calls.specs.Words.{Resolve, placed};
 ghost use Rattle.mdl_session_laws.specs.SessionJoins.{Joins};
@@ -13,7 +13,8 @@ use mdl_visits::{ResolveError, resolve};
 use std::sync::Wait;
 
 impl<R: Wait> Session<R> {
-    /// The place of a key, which stays its place. A new key takes the next place that is free. The directory is looked at once for a key.
+    /// Returns the place of a key, which never changes. A new key gets the next free place. The session looks in the directory once for each
+    /// key.
     pub fn resolve(&mut self, key: &Key) -> Result<Place, SpaceError>
         ensures joined { Joins (space_of self.old) (Resolve self.old.me.0.number key.now) (placed result) (space_of self.new) }
         ensures shown { Shows (Resolve self.old.me.0.number key.now) (placed result) self.old self.new }
@@ -24,7 +25,7 @@ impl<R: Wait> Session<R> {
         self.look_up(key)
     }
 
-    // The same of a key that it doesn't know, apart so that the way of a known key is short.
+    // The same for a key that the session doesn't know. It is apart so that the code for a known key is short.
     #[inline(never)]
     fn look_up(&mut self, key: &Key) -> Result<Place, SpaceError>
         requires unknown { place_known key.now self.old.me.0.known ≡ None }

@@ -1,4 +1,4 @@
-//! Deadlocks are looked for.
+//! Searches for a deadlock.
 ghost use Rattle.mdl_calls.specs.Words.{Search as Search_by, searched};
 ghost use Rattle.mdl_session_laws.specs.SessionJoins.{Joins};
 ghost use Rattle.mdl_shared.specs.SessionViews.{space_of};
@@ -11,10 +11,11 @@ use std::alloc::AllocError;
 use std::sync::Wait;
 
 impl<R: Wait> Session<R> {
-    /// Looks for a deadlock that the session waits in, by all books and the words of all waits at one moment. Where it waits in one, the wait of
-    /// the victim is settled, which may be the session's own; where another session has settled that first, this one looks again.
+    /// Searches for a deadlock that the session waits in, by the books of all places at one moment, and the words of all waits. If there is
+    /// one, the wait of its victim is settled, which may be the session's own. If another session settles that wait first, the search is
+    /// repeated.
     ///
-    /// The latches of all places that have a key are taken for it, so other sessions' calls there wait meanwhile.
+    /// It holds the latches of all places that have a key, so other sessions' calls there wait meanwhile.
     pub fn search_deadlock(&mut self) -> Result<Search, SpaceError>
         ensures joined { Joins (space_of self.old) (Search_by self.old.me.0.number) (searched result) (space_of self.new) }
         ensures shown { Shows (Search_by self.old.me.0.number) (searched result) self.old self.new }

@@ -5,15 +5,15 @@ use crate::member::Member;
 use crate::{Manager, Pass};
 use std::marker::Model;
 
-/// A session of a space. It has to be closed: it can't be dropped.
+/// A session of a lock space. It can't be dropped: it has to be closed ([`Session::close`]).
 ///
-/// `R` is what its calls have to wait by, where they wait.
+/// `R` is its way to wait while another session holds a latch that a call needs.
 pub struct Session<R> {
     pub(crate) rt: R,
     pub(crate) member: Member,
 }
 
-// A session's value is its seat at the table, with what it knows and has there. Its own lists are those (`Member`).
+// A session's value is its seat at the table, with what it knows and has there. The session's own lists hold the same (`Member`).
 impl<R> Model for Session<R> {
     ghost use Rattle.mdl_shared.specs.Passes.{view_of};
     ghost use Rattle.mdl_shared.specs.SessionViews.{SessionView};
@@ -23,7 +23,7 @@ impl<R> Model for Session<R> {
     ghost view = { λ s. view_of s.member };
 }
 
-/// A session isn't closed while it holds tickets or has a wait. Here it is again.
+/// Why [`Session::close`] failed: the session has a ticket or a wait, so it isn't closed. This is the session.
 pub struct HoldsTickets<R>(pub Session<R>);
 
 impl<R> Session<R> {
@@ -32,7 +32,7 @@ impl<R> Session<R> {
     ghost use Rattle.mdl_shared.specs.Passes.{pass_table, pass_view, table_of};
     ghost use Rattle.mdl_shared.specs.SessionViews.{space_of};
 
-    /// Opens the session of a pass, which is one of this manager's. It takes no memory.
+    /// Opens the session of a pass, which must be a pass of this manager. It takes no memory.
     pub fn open(rt: R, manager: &Manager, pass: Pass) -> Session<R>
         requires theirs { pass_table pass ≡ table_of manager.now }
         ensures opened { result ≡ pass_view pass }
@@ -43,7 +43,7 @@ impl<R> Session<R> {
         Session { rt, member }
     }
 
-    /// The session's number: that of its pass. As a lock space the session speaks for it, and for no other.
+    /// Returns the session's number, which is that of its pass. As a lock space the session speaks for this number only.
     pub fn number(&self) -> u16
         ensures number { result ≡ self.now.me.0.number }
         ensures speaks { SpeaksFor (space_of self.now) result }
@@ -58,8 +58,8 @@ impl<R: Drop> Session<R> {
     ghost use Rattle.mdl_shared.specs.Passes.{pass_view};
     ghost use Rattle.mdl_shared.specs.SessionViews.{space_of};
 
-    /// Closes the session, and gives its pass back. While it has a ticket or a wait, settled or not, that is refused, and the session
-    /// stays as it is. It takes no memory.
+    /// Closes the session, and returns its pass. Fails with [`HoldsTickets`] while the session has a ticket or a wait, settled or not: the
+    /// session is unchanged. It takes no memory.
     pub fn close(self) -> Result<Pass, HoldsTickets<R>>
         ensures { MatchResult result
             (λ pass. ((space_of self).own ≡ record { held = []; wait = None }) × (pass_view pass ≡ self))

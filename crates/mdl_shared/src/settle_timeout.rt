@@ -1,4 +1,4 @@
-//! The session's own wait is settled as a timeout.
+//! Settles the session's own wait as a timeout.
 ghost use Rattle.mdl_calls.specs.Words.{Settle_timeout, timed_out};
 ghost use Rattle.mdl_session_laws.specs.SessionJoins.{Joins};
 ghost use Rattle.mdl_shared.specs.SessionViews.{space_of};
@@ -10,7 +10,8 @@ use mdl_calls::{SpaceError, TimedOut};
 use mdl_steps::Loss;
 
 impl<R> Session<R> {
-    /// Settles the session's wait as a timeout, unless it is settled. It takes no memory.
+    /// Settles the session's wait as a timeout, unless it is settled already. Returns whether this call settled it, or how it was settled
+    /// before. It takes no memory.
     pub fn settle_timeout(&mut self) -> Result<TimedOut, SpaceError>
         ensures joined { Joins (space_of self.old) (Settle_timeout self.old.me.0.number) (timed_out result) (space_of self.new) }
         ensures shown { Shows (Settle_timeout self.old.me.0.number) (timed_out result) self.old self.new }

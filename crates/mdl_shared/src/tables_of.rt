@@ -10,8 +10,8 @@ use mdl_visits::{find_tables, tables_defined};
 use std::sync::Wait;
 
 impl<R: Wait> Session<R> {
-    /// The places of a schema's tables that have a definition, in the order of their keys. The session knows the schema's tables from
-    /// then on. The directory is looked at once, and then each table's place.
+    /// Returns the places of a schema's tables that have a definition, in the order of their keys. The session knows the keys of all the
+    /// schema's tables from then on. It looks in the directory once, and then at each table's place.
     pub fn tables_of(&mut self, schema: &str) -> Result<Vec<Place>, SpaceError>
         ensures joined { Joins (space_of self.old) (Tables_of self.old.me.0.number schema.now) (tables_told result) (space_of self.new) }
         ensures shown { Shows (Tables_of self.old.me.0.number schema.now) (tables_told result) self.old self.new }

@@ -42,8 +42,8 @@ pub(crate) struct Gained {
     pub(crate) fast: bool,
 }
 
-/// A session's tickets, in order of gain. A ticket is found by its number: the last one is looked at first, and the others are searched by
-/// halves. What there is at a place is found in an array, so most calls walk no tickets.
+/// A session's tickets, in the order in which it got them. A ticket is found by its number: the last ticket is compared first, then a binary
+/// search follows. An array has what is kept of each place, so most calls walk no tickets.
 #[derive(Drop)]
 pub(crate) struct Tickets {
     gained: Vec<Gained>,
@@ -69,7 +69,7 @@ impl Model for Tickets {
 }
 
 impl Tickets {
-    /// None. It takes no memory.
+    /// An empty list. It takes no memory.
     pub(crate) fn new(alloc: Global) -> Tickets
         ensures { (result.slow ≡ []) × (result.fast ≡ []) }
     {
@@ -80,14 +80,14 @@ impl Tickets {
         }
     }
 
-    /// Whether there is none.
+    /// Whether there is no ticket.
     pub(crate) fn is_empty(&self) -> bool
         ensures { result ≡ (length (interleaved self.now.slow self.now.fast) == 0) }
     {
         self.gained.is_empty()
     }
 
-    /// The ticket of a number.
+    /// Returns the ticket with a number.
     pub(crate) fn get(&self, id: TicketId) -> Option<Own>
         ensures found { result ≡ numbered id (interleaved self.now.slow self.now.fast) }
     {
@@ -95,7 +95,7 @@ impl Tickets {
         Some(own_of(&self.places, self.gained[at]))
     }
 
-    /// The ticket of a number, and whether it is a fast one.
+    /// Returns the ticket with a number, and whether it is fast.
     pub(crate) fn find(&self, id: TicketId) -> Option<(Own, bool)>
         ensures found { option_map (λ t. t.0) result ≡ numbered id (interleaved self.now.slow self.now.fast) }
         ensures fast { fast_found result ≡ numbered id self.now.fast }
@@ -105,7 +105,7 @@ impl Tickets {
         Some((own_of(&self.places, ticket), ticket.fast))
     }
 
-    /// The fast ticket of a number.
+    /// Returns the fast ticket with a number.
     pub(crate) fn get_fast(&self, id: TicketId) -> Option<Own>
         ensures found { result ≡ numbered id self.now.fast }
     {
@@ -118,14 +118,14 @@ impl Tickets {
         }
     }
 
-    /// How many fast tickets there are at a place.
+    /// Returns the number of fast tickets at a place.
     pub(crate) fn fast_at(&self, place: usize) -> usize
         ensures { result ≡ length (own_at place self.now.fast) }
     {
         fast_counted(&self.places, place)
     }
 
-    /// The version that is noted at a place, under a fast ticket or a slow one.
+    /// Returns the version that is noted under the tickets at a place, fast or slow.
     pub(crate) fn note_of(&self, place: usize) -> Option<u64>
         ensures { result ≡ first_note (own_at place self.now.fast ++ own_at place self.now.slow) }
     {
@@ -143,7 +143,7 @@ impl Tickets {
         first_fast(&self.places)
     }
 
-    /// The fast tickets at a place.
+    /// Returns the fast tickets at a place.
     pub(crate) fn list_fast(&self, place: usize) -> Result<Vec<Own>, AllocError>
         ensures { IfOk result (λ listed. listed.items ≡ own_at place self.now.fast) }
     {
@@ -170,7 +170,8 @@ impl Tickets {
         self.reserve_many(1, place + 1)
     }
 
-    /// Makes room for so many more tickets, at places below this one. It isn't inlined, so that [`Tickets::reserve`] is, where there is room.
+    /// Makes room for `count` more tickets, at places below `places`. It isn't inlined, so that [`Tickets::reserve`] is, for when there is
+    /// room.
     #[inline(never)]
     pub(crate) fn reserve_many(&mut self, count: usize, places: usize) -> Result<(), AllocError>
         requires { places ≤ 65536 }
@@ -183,7 +184,7 @@ impl Tickets {
         self.gained.reserve(count)
     }
 
-    /// Puts a new slow ticket last, with the note of those at its place. It takes no memory.
+    /// Adds a new slow ticket at the end, with the note of those at its place. It takes no memory.
     pub(crate) fn push_reserved(&mut self, number: TicketId, place: usize, mode: Mode)
         requires room { HasRoom place self.old.room }
         requires below { are_below number (interleaved self.old.slow self.old.fast) ≡ true }
@@ -197,7 +198,7 @@ impl Tickets {
             .push_reserved(new_ticket(number, place, mode, false));
     }
 
-    /// Puts a new fast ticket last, with the note of those at its place. It takes no memory.
+    /// Adds a new fast ticket at the end, with the note of those at its place. It takes no memory.
     pub(crate) fn push_fast(&mut self, number: TicketId, place: usize, mode: Mode)
         requires room { HasRoom place self.old.room }
         requires below { are_below number (interleaved self.old.slow self.old.fast) ≡ true }
@@ -212,7 +213,7 @@ impl Tickets {
             .push_reserved(new_ticket(number, place, mode, true));
     }
 
-    /// Strikes the ticket of a number at a place, if there is one.
+    /// Removes the ticket with a number at a place, if there is one.
     pub(crate) fn strike(&mut self, place: usize, id: TicketId)
         ensures struck { (self.new.slow ≡ without_at place id self.old.slow) × (self.new.fast ≡ without_at place id self.old.fast) }
         ensures freed { (t : Own) → numbered id self.old.fast ≡ Some t → t.place ≡ place → self.old.room.spare < self.new.room.spare }
@@ -229,7 +230,7 @@ impl Tickets {
         }
     }
 
-    // The same where it may stand before others, apart so that the look at the last ticket is inlined.
+    // The same for a ticket that may be before others. It is apart so that the check of the last ticket is inlined.
     #[inline(never)]
     fn strike_earlier(&mut self, place: usize, id: TicketId)
         ensures struck { (self.new.slow ≡ without_at place id self.old.slow) × (self.new.fast ≡ without_at place id self.old.fast) }
@@ -247,7 +248,7 @@ impl Tickets {
         }
     }
 
-    /// Writes another mode of the ticket of a number at a place, if there is one. It is a slow one.
+    /// Changes the mode of the ticket with a number at a place, if there is one. It isn't a fast one.
     pub(crate) fn set_mode(&mut self, place: usize, id: TicketId, mode: Mode)
         requires slow { numbered id self.old.fast ≡ None }
         ensures changed { (self.new.slow ≡ in_mode_at place id mode self.old.slow) × (self.new.fast ≡ self.old.fast) }
@@ -258,7 +259,7 @@ impl Tickets {
         }
     }
 
-    /// Makes slow tickets of the fast ones at a place. It takes no memory.
+    /// Makes the fast tickets at a place slow. It takes no memory.
     pub(crate) fn make_slow(&mut self, place: usize)
         ensures slow { self.new.slow ≡ interleaved self.old.slow (own_at place self.old.fast) }
         ensures fast { self.new.fast ≡ but_at place self.old.fast }
@@ -276,7 +277,7 @@ impl Tickets {
         note(&mut self.places, place, version);
     }
 
-    /// The tickets, as they are told.
+    /// Returns the tickets in the form that callers get.
     pub(crate) fn held(&self) -> Result<Vec<Held>, AllocError>
         ensures { IfOk result (λ held. held.items ≡ map told_of (interleaved self.now.slow self.now.fast)) }
     {
@@ -303,7 +304,7 @@ fn new_ticket(number: TicketId, place: usize, mode: Mode, fast: bool) -> Gained
     }
 }
 
-// Where the ticket of a number stands, among tickets whose numbers rise.
+// The index of the ticket with a number, among tickets whose numbers rise.
 fn index_of(tickets: &[Gained], id: TicketId) -> Option<usize>
     requires { AreRising tickets.now }
     ensures { MatchOption result (list_all (λ t. not (t.id == id)) tickets.now ≡ true) (λ at. StandsAt id at tickets.now) }
@@ -316,7 +317,7 @@ fn index_of(tickets: &[Gained], id: TicketId) -> Option<usize>
     search(tickets, id)
 }
 
-// The same by halves, apart so that the look at the last ticket is inlined.
+// The same by binary search. It is apart so that the check of the last ticket is inlined.
 #[inline(never)]
 fn search(tickets: &[Gained], id: TicketId) -> Option<usize>
     requires { AreRising tickets.now }
@@ -325,7 +326,7 @@ fn search(tickets: &[Gained], id: TicketId) -> Option<usize>
     tickets.binary_search_by_key(&id, |ticket| ticket.id).ok()
 }
 
-// The same, where the ticket is at a place.
+// The same, if the ticket is at this place.
 fn index_at(tickets: &[Gained], place: usize, id: TicketId) -> Option<usize>
     requires { AreRising tickets.now }
     ensures { MatchOption result (list_all (λ t. not (is_own place id (own_of [] t))) tickets.now ≡ true)
@@ -339,7 +340,7 @@ fn index_at(tickets: &[Gained], place: usize, id: TicketId) -> Option<usize>
     }
 }
 
-// Whether the last ticket, if it is the one of a number at a place, is a fast one.
+// Whether the last ticket is fast, if it has this number and is at this place.
 fn last_at(tickets: &[Gained], place: usize, id: TicketId) -> Option<bool>
     ensures { IfSome result (λ fast. IsLast place id fast tickets.now) }
 {
@@ -364,7 +365,7 @@ fn own_of(places: &[OfPlace], ticket: Gained) -> Own
     }
 }
 
-// A ticket as it is told.
+// A ticket in the form that callers get.
 fn told(ticket: Gained) -> Held
     ensures { result ≡ told_of (own_of [] ticket) }
 {
@@ -375,7 +376,7 @@ fn told(ticket: Gained) -> Held
     }
 }
 
-// Takes out the last ticket.
+// Removes the last ticket.
 fn take_last(tickets: &mut Vec<Gained>)
     requires { 0 < length tickets.old.items }
     ensures items { tickets.new.items ≡ remove tickets.old.items (length tickets.old.items - 1) }
@@ -384,7 +385,7 @@ fn take_last(tickets: &mut Vec<Gained>)
     tickets.pop();
 }
 
-// Takes out the ticket at an index, with a move of those that stand later.
+// Removes the ticket at an index, and moves the later ones.
 fn take_out(tickets: &mut Vec<Gained>, at: usize)
     requires { at < length tickets.old.items }
     ensures items { tickets.new.items ≡ remove tickets.old.items at }
@@ -393,7 +394,7 @@ fn take_out(tickets: &mut Vec<Gained>, at: usize)
     tickets.remove(at);
 }
 
-// Makes slow tickets of those at a place.
+// Makes the tickets at a place slow.
 fn slow_down(tickets: &mut Vec<Gained>, place: usize)
     ensures items { tickets.new.items ≡ map (slowed place) tickets.old.items }
     ensures capacity { vec_capacity tickets.new ≡ vec_capacity tickets.old }
@@ -403,7 +404,7 @@ fn slow_down(tickets: &mut Vec<Gained>, place: usize)
     }
 }
 
-// Whether a ticket is still a fast one, where those at a place are made slow.
+// Whether a ticket is still fast after those at a place are made slow.
 fn stays_fast(ticket: Gained, place: usize) -> bool
     ensures { result ≡ (ticket.fast && not (ticket.place == place)) }
 {
@@ -427,7 +428,7 @@ fn first_fast(places: &[OfPlace]) -> Option<usize>
     places.iter().position(|here| here.fast > 0)
 }
 
-// The version that is noted at a place, where tickets are counted there.
+// The version that is noted at a place, if tickets are counted there.
 fn note_counted(places: &[OfPlace], place: usize) -> Option<u64>
     ensures { result ≡ (if counted_at place places.now == 0 then None else noted_in place places.now) }
 {
@@ -435,7 +436,7 @@ fn note_counted(places: &[OfPlace], place: usize) -> Option<u64>
     if here.tickets > 0 { here.noted } else { None }
 }
 
-// Adds places without tickets until there are so many.
+// Adds places without tickets until there are at least `count`.
 fn reach(places: &mut Vec<OfPlace>, count: usize) -> Result<(), AllocError>
     ensures length { length places.old.items ≤ length places.new.items }
     ensures narrow { count ≤ 65536 → length places.old.items ≤ 65536 → length places.new.items ≤ 65536 }
@@ -504,7 +505,7 @@ fn uncount_fast(places: &mut Vec<OfPlace>, place: usize)
     places[place].fast -= 1;
 }
 
-// Counts no ticket at a place as a fast one any more, and tells how many were.
+// Counts no ticket at a place as fast any more, and returns how many were.
 fn clear_fast(places: &mut Vec<OfPlace>, place: usize) -> usize
     ensures fast { result ≡ fast_counted_at place places.old.items }
     ensures length { length places.new.items ≡ length places.old.items }
@@ -521,7 +522,7 @@ fn clear_fast(places: &mut Vec<OfPlace>, place: usize) -> usize
     }
 }
 
-// Notes a version at a place, if there is this place.
+// Notes a version at a place, if the list has this place.
 fn note(places: &mut Vec<OfPlace>, place: usize, version: u64)
     ensures length { length places.new.items ≡ length places.old.items }
     ensures counted { (q : ℕ) → counted_at q places.new.items ≡ counted_at q places.old.items }

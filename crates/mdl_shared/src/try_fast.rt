@@ -1,4 +1,4 @@
-//! A ticket is tried for without the latch of its place.
+//! Tries to get a ticket without the latch of its place.
 //!
 //! After MySQL 5.7, sql/mdl.cc: the fast path of `MDL_context::try_acquire_lock_impl`.
 ghost use Rattle.std.specs.Prelude.{◌≡◌, MatchResult, None, Some, true, IfErr, IfOk};
@@ -15,24 +15,24 @@ use mdl_calls::{Place, SpaceError, TicketId};
 use mdl_key::Mode;
 use mdl_word::Word;
 
-/// What comes of a try for a fast ticket.
+/// The result of a try for a fast ticket.
 #[derive(Clone, Copy, Debug, PartialEq, Eq)]
 pub enum Fast {
-    /// The session has a fast ticket of this number.
+    /// The session has a fast ticket with this number.
     Granted(TicketId),
-    /// The lock has, or may have, a ticket or a wait in an obtrusive mode, as its word says, which is this one.
+    /// The lock's word, which is this one, has the flag OBTRUSIVE up: the lock has, or may have, a ticket or a wait in an obtrusive mode.
     Obtruded(Word),
-    /// Others changed the lock's word before each of eight tries. This is the word that was found last.
+    /// Other sessions changed the lock's word before each of eight tries. This is the word that was found last.
     Contended(Word),
-    /// The session has 1,023 fast tickets there, as many as it may have.
+    /// The session has 1,023 fast tickets there, the most that it may have.
     Limit,
 }
 
 impl<R> Session<R> {
-    /// Tries for a fast ticket in an unobtrusive mode, without the latch of the place. The session has resolved a key to the place. What isn't
-    /// granted changes nothing, and may be asked for by [`Session::try_now`].
+    /// Tries to get a fast ticket in an unobtrusive mode, without the latch of the place. The session must have resolved a key to the place.
+    /// If no ticket is granted, nothing changes, and [`Session::try_now`] may be called for it.
     ///
-    /// It takes memory only where there is no room for one more ticket: after [`Session::reserve_tickets`] as many tickets are gained without.
+    /// It takes memory only if there is no room for one more ticket. [`Session::reserve_tickets`] makes room in advance.
     pub fn try_fast(&mut self, place: Place, mode: Mode) -> Result<Fast, SpaceError>
         requires known { is_known place (space_of self.old).known ≡ true }
         ensures tried { IfOk result (λ fast. HasTriedFast place mode fast self.old self.new) }
@@ -55,7 +55,7 @@ impl<R> Session<R> {
 }
 
 impl Member {
-    // What the word of a place counts a ticket in a mode by, where the session may wish for it.
+    // What a ticket in a mode adds to the word of a place, if the session may request it.
     fn fast_wished(&self, place: usize, mode: Mode) -> Result<u64, SpaceError>
         ensures { MatchResult result
             (λ one. (increment_at place mode self.now.known.known ≡ Some one)

@@ -1,4 +1,4 @@
-//! A lock is asked for, without waiting.
+//! Requests a lock, without waiting.
 ghost use Rattle.std.specs.Prelude.{◌≡◌, ◌⊎◌, [], None, Some, IfErr, IfOk, OnErr};
 ghost use Rattle.mdl_calls.specs.declared.space_error.SpaceError.TheVariants.{Full, OutOfMemory};
 ghost use Rattle.mdl_calls.specs.Words.{Try_now, attempted};
@@ -21,7 +21,7 @@ use mdl_visits::{Tried, try_now};
 use std::sync::Wait;
 
 impl<R: Wait> Session<R> {
-    /// Asks for a lock, without waiting. Nobody is waited for but those who hold the latch of a place.
+    /// Requests a lock, without waiting for it. The call waits only while another session holds the latch of a place.
     pub fn try_now(&mut self, place: Place, mode: Mode) -> Result<Attempt, SpaceError>
         ensures joined { Joins (space_of self.old) (Try_now self.old.me.0.number place mode) (attempted result) (space_of self.new) }
         ensures shown { Shows (Try_now self.old.me.0.number place mode) (attempted result) self.old self.new }
@@ -37,7 +37,7 @@ impl<R: Wait> Session<R> {
 }
 
 impl Member {
-    // The same by the latch of the place, at which there is room for a ticket. The session has no fast ticket.
+    // The same under the latch of the place. The session's list has room for a ticket there, and the session has no fast ticket.
     fn try_by_latch<R: Wait>(
         &mut self,
         rt: &R,

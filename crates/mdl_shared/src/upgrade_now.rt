@@ -1,4 +1,4 @@
-//! A ticket gets a stronger mode, without waiting.
+//! Gives a ticket a stronger mode, without waiting.
 ghost use Rattle.std.specs.Prelude.{◌≡◌, ◌∷◌, [], false, IfOk, None, Some};
 ghost use Rattle.mdl_key.specs.Refusals.{RefusesJust};
 ghost use Rattle.mdl_system.specs.Strength.{covers};
@@ -27,9 +27,9 @@ use mdl_visits::{Tried, upgrade_now};
 use std::sync::Wait;
 
 impl<R: Wait> Session<R> {
-    /// Asks for a stronger mode of a ticket, without waiting: of SU for SNW, SNRW or X, of SNW for SNRW or X, of SNRW for X. A mode that
-    /// the ticket's covers it has already. The session's other tickets don't stand in the way. It takes memory only where the session has fast
-    /// tickets, which become slow ones first, and is refused where there is no room for them.
+    /// Requests a stronger mode for a ticket, without waiting: from SU to SNW, SNRW or X, from SNW to SNRW or X, from SNRW to X. The
+    /// session's other tickets don't block it. If the ticket's mode covers the requested one, nothing changes. Otherwise the session's fast
+    /// tickets, if it has any, become slow first: that takes memory, and the call is refused if there is no room for them.
     pub fn upgrade_now(&mut self, id: TicketId, mode: Mode) -> Result<Upgrade, SpaceError>
         ensures joined { Joins (space_of self.old) (Upgrade_now self.old.me.0.number id mode) (upgrade_tried result) (space_of self.new) }
         ensures shown { Shows (Upgrade_now self.old.me.0.number id mode) (upgrade_tried result) self.old self.new }
@@ -44,7 +44,7 @@ impl<R: Wait> Session<R> {
 }
 
 impl Member {
-    // The ticket of a number, where it has a mode or may be upgraded to it.
+    // The ticket with a number, if its mode covers another one or may be upgraded to it.
     fn upgradable(&self, id: TicketId, mode: Mode) -> Result<Own, SpaceError>
         ensures found { IfOk result (λ held. numbered id (interleaved self.now.tickets.slow self.now.tickets.fast) ≡ Some held) }
         ensures just { RefusesJust (upgrade_fault mode self.now.known.known self.now.asks (numbered id (interleaved self.now.tickets.slow self.now.tickets.fast))) result }
@@ -61,7 +61,8 @@ impl Member {
         Ok(held)
     }
 
-    // Asks for a mode of a slow ticket, which it hasn't and may be upgraded to, under the latch of its place. The session has no fast ticket.
+    // Requests a mode for a slow ticket, under the latch of its place. The ticket's mode doesn't cover it, but may be upgraded to it. The
+    // session has no fast ticket.
     fn upgrade_by_latch<R: Wait>(&mut self, rt: &R, held: Own, mode: Mode) -> Upgrade
         requires held { numbered held.number self.old.tickets.slow ≡ Some held }
         requires clear { upgrade_fault mode self.old.known.known self.old.asks (Some held) ≡ None }
@@ -81,7 +82,7 @@ impl Member {
         Upgrade::Upgraded
     }
 
-    // Whether a ticket can have a mode, by the kind of its lock.
+    // Whether a ticket's mode covers a mode or may be upgraded to it, and the mode is one of its lock's kind.
     fn can_have(&self, held: Own, mode: Mode) -> bool
         ensures { result ≡ can_have mode held (kind_known held.place self.now.known.known) }
     {

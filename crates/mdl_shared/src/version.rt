@@ -1,4 +1,4 @@
-//! The version of a place is read without its latch.
+//! Reads the version of a place without its latch.
 ghost use Rattle.std.specs.Prelude.{◌≡◌, true};
 ghost use Rattle.mdl_session_laws.specs.SessionSpaces.{is_known};
 ghost use Rattle.mdl_shared.specs.SessionViews.{space_of};
@@ -8,10 +8,11 @@ use crate::Session;
 use mdl_calls::Place;
 
 impl<R> Session<R> {
-    /// How often what stands at a place was changed, by one step without its latch. The session has resolved a key to the place. It takes no memory.
+    /// Returns the version of a place: how often its key's definition was changed. One step reads it, without the latch. The session must
+    /// have resolved a key to the place. It takes no memory.
     ///
-    /// What stands in this version counts as read: no later read of the session finds an older one. Without a ticket of the place, that may be changed
-    /// right after.
+    /// The definition of this version counts as read: no later read of the session finds an older one. If the session has no ticket at the
+    /// place, the definition may be changed right after.
     pub fn version(&mut self, place: Place) -> u64
         requires known { is_known place (space_of self.old).known ≡ true }
         ensures read { ReadsVersion place result self.old self.new }

@@ -10,7 +10,7 @@ use crate::Session;
 use crate::wait_words::is_session;
 use mdl_steps::WaitWord;
 
-// The number of a wait, where a session has one, by its word.
+// The number of a session's wait, by the wait's word, if there is a wait.
 fn number_in(word: WaitWord) -> Option<u64>
     ensures { result ≡ number_in word.0 }
 {
@@ -22,7 +22,7 @@ fn number_in(word: WaitWord) -> Option<u64>
 }
 
 impl<R> Session<R> {
-    /// The number of any session's wait, if it has one. It takes no memory.
+    /// Returns the number of any session's wait, if it has one. It takes no memory.
     pub fn wait_of(&mut self, target: u16) -> Option<u64>
         ensures joined { Joins (space_of self.old) (Wait_of target) (Has_wait result) (space_of self.new) }
         ensures shown { Shows (Wait_of target) (Has_wait result) self.old self.new }

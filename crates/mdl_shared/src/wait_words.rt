@@ -1,4 +1,4 @@
-//! What the words of waits tell.
+//! What the words of waits say.
 ghost use Rattle.mdl_calls.specs.Limits.{is_within};
 ghost use Rattle.std.specs.Prelude.{false, true, ◌≡◌, ◌≢◌};
 ghost use Rattle.mdl_steps.specs.WaitStates.{unsettled_state, wait_in};
@@ -7,7 +7,7 @@ ghost use Rattle.mdl_shared.specs.SessionViews.{settled_of};
 use mdl_calls::Settled;
 use mdl_steps::WaitWord;
 
-/// How a wait is settled whose word is in this state.
+/// How a wait is settled, by the state of its word.
 pub(crate) fn settled_in(state: u64) -> Option<Settled>
     ensures { result ≡ settled_of state }
 {
@@ -20,7 +20,7 @@ pub(crate) fn settled_in(state: u64) -> Option<Settled>
     }
 }
 
-/// Whether a word is that of the unsettled wait of a number.
+/// Whether a word shows an unsettled wait with a number.
 pub(crate) fn is_open(word: WaitWord, number: u64) -> bool
     ensures open { result ≡ true → word.0 ≡ wait_in number unsettled_state }
     ensures other { result ≡ false → word.0 ≢ wait_in number unsettled_state }
@@ -28,7 +28,7 @@ pub(crate) fn is_open(word: WaitWord, number: u64) -> bool
     word.number() == number && word.state() == WaitWord::UNSETTLED
 }
 
-/// Whether a space of so many sessions has one of this number.
+/// Whether a space with `sessions` sessions has one with this number.
 pub(crate) fn is_session(session: u16, sessions: usize) -> bool
     ensures { result ≡ is_within sessions session }
 {

@@ -1,4 +1,4 @@
-//! What a wish for a lock has to pass before anything is tried.
+//! The checks that a request for a lock (a wish) has to pass before anything is tried.
 ghost use Rattle.std.specs.Prelude.{MatchResult, None, Some, ◌≡◌};
 ghost use Rattle.mdl_book.specs.declared.book_error.BookError.TheVariants as book;
 ghost use Rattle.mdl_calls.specs.declared.space_error.SpaceError.TheVariants as space;
@@ -11,7 +11,7 @@ use mdl_calls::SpaceError;
 use mdl_key::{Kind, Mode};
 
 impl Member {
-    /// The kind of the lock at a place where the session may wish for a mode.
+    /// Returns the kind of the lock at a place, if the session may request a mode there.
     pub(crate) fn kind_wished(&self, place: usize, mode: Mode) -> Result<Kind, SpaceError>
         ensures { MatchResult result
             (λ kind. (kind_known place self.now.known.known ≡ Some kind) × (wish_fault (Some kind) self.now.asks mode self.now.next ≡ None))
@@ -33,7 +33,7 @@ impl Member {
     }
 }
 
-/// Why a book refuses a new ticket, in the words of lock spaces.
+/// Converts the reason why a book refuses a new ticket to the error of a lock space.
 pub(crate) fn refusal(cause: BookError) -> SpaceError
     ensures full { cause ≡ book.Full → result ≡ space.Full }
     ensures memory { cause ≡ book.OutOfMemory → result ≡ space.OutOfMemory }

@@ -10,6 +10,6 @@ use Rattle.mdl_core.specs.Cores.{index_of}
 abbrev pub place_of : KeyName → List BookView → Option ℕ
 place_of key books = option_map (λ index. index + 1) (index_of key books)
 
--- each key is known with the place that it has, and a key that has none isn't known
+-- the map of known keys is right: it has each key that has a place, with that place, and no others
 pub record TellsPlaces (known : List (KeyName × ℕ)) (books : List BookView) : Type 0 where
   pub tells : (key : KeyName) → lookup (key_eq key) known ≡ place_of key books

@@ -1,4 +1,4 @@
--- The words of lower crates that the public clauses of this one cite, under this crate's own paths.
+-- The definitions of lower crates that the public clauses of this one cite, under this crate's own paths.
 pub use Rattle.mdl_calls.specs.Answers
 pub use Rattle.mdl_calls.specs.Calls
 pub use Rattle.mdl_calls.specs.Causes

@@ -25,7 +25,7 @@ use std::marker::Model;
 // The most tickets, and the most waits, that a session can number.
 const MOST_NUMBERS: u64 = (1 << 60) - 1;
 
-/// The lock space of one thread: whoever has it speaks for each of its sessions.
+/// The lock space of one thread. Its owner makes the calls of all its sessions.
 #[derive(Drop)]
 pub struct CoreSpace {
     alloc: Global,
@@ -56,8 +56,10 @@ impl Model for CoreSpace {
 }
 
 impl CoreSpace {
-    /// A space of so many places and sessions, where nobody has asked for anything: 1 to [`MOST_PLACES`] places, 1 to
-    /// [`MOST_SESSIONS`] sessions.
+    /// Makes a space of this number of places and sessions, where no key has a place and no session has a ticket or a wait.
+    ///
+    /// Fails with [`NewError::BadPlaces`] unless there are 1 to [`MOST_PLACES`] places, and with [`NewError::BadSessions`] unless there
+    /// are 1 to [`MOST_SESSIONS`] sessions.
     pub fn new(alloc: Global, places: u16, sessions: u16) -> Result<CoreSpace, NewError>
         ensures made { IfOk result (λ space. space ≡ empty_core places sessions) }
         ensures speaks { IfOk result (λ space. (who : ℕ) → 1 ≤ who → who ≤ sessions → SpeaksFor space who) }
@@ -88,11 +90,11 @@ impl CoreSpace {
         })
     }
 
-    /// The books of all places that have a key, place 1 first. It takes no memory.
+    /// Returns the books of all places that have a key, place 1 first. It takes no memory.
     ///
-    /// This is for tools that show locks: who holds each lock, and who waits for it. A wait that is granted stands among the granted
-    /// tickets, also before its session ends it. A wait that is lost (a victim, timed out or killed) stays among the waiting ones until its
-    /// session ends it by `LockSpace::end_wait`. How a wait is settled isn't in the book: `LockSpace::poll_wait` answers that.
+    /// This is for tools that show locks: who holds each lock, and who waits for it. The ticket of a granted wait is among the granted
+    /// tickets, even before its session ends the wait. The ticket of a lost wait (a victim, timed out or killed) stays among the waiting ones
+    /// until its session ends the wait by `LockSpace::end_wait`. How a wait is settled isn't in the book: `LockSpace::poll_wait` returns that.
     ///
     /// ```
     /// for book in space.books() {
@@ -110,7 +112,7 @@ impl CoreSpace {
         self.books.as_slice()
     }
 
-    /// The place of a key.
+    /// Returns the place of a key, which is the next free one if the key is new.
     pub(crate) fn place_key(&mut self, key: &Key) -> Result<Place, SpaceError>
         ensures { Makes true (resolving key.now) self.old (placed result) self.new }
     {
@@ -134,7 +136,7 @@ impl CoreSpace {
         Ok(place)
     }
 
-    /// The key of a place.
+    /// Returns the key of a place.
     pub(crate) fn key_at(&self, place: Place) -> Result<Key, SpaceError>
         ensures { Makes true (naming place) self.now (keyed result) self.now }
     {
@@ -148,7 +150,7 @@ impl CoreSpace {
         }
     }
 
-    /// Grants a lock, if it can be had now.
+    /// Grants a lock, if it can be granted now.
     pub(crate) fn try_lock(
         &mut self,
         who: u16,
@@ -170,7 +172,7 @@ impl CoreSpace {
         }
     }
 
-    /// Grants a lock, or begins a wait for it where it can't be had now.
+    /// Grants a lock, or begins a wait for it if it can't be granted now.
     pub(crate) fn begin_lock(
         &mut self,
         who: u16,
@@ -195,7 +197,7 @@ impl CoreSpace {
         }
     }
 
-    /// Looks for a deadlock that a session waits in, and settles the wait of its victim.
+    /// Searches for a deadlock that a session is part of, and settles the wait of its victim.
     pub(crate) fn find_victim(&mut self, who: u16) -> Result<Search, SpaceError>
         requires { SpeaksFor self.old who }
         ensures { Makes true (searching who) self.old (searched result) self.new }
@@ -210,7 +212,7 @@ impl CoreSpace {
         }
     }
 
-    /// How a session's wait stands.
+    /// Returns the state of a session's wait.
     pub(crate) fn poll(&self, who: u16) -> Result<Poll, SpaceError>
         requires { has_session who self.now ≡ true }
         ensures { Makes false (polling who) self.now (polled result) self.now }
@@ -224,7 +226,7 @@ impl CoreSpace {
         }
     }
 
-    /// Settles a session's wait as a timeout, unless it is settled.
+    /// Settles a session's wait as a timeout, unless it is settled already.
     pub(crate) fn time_out(&mut self, who: u16) -> Result<TimedOut, SpaceError>
         requires { has_session who self.old ≡ true }
         ensures { Makes false (timing_out who) self.old (timed_out result) self.new }
@@ -240,7 +242,7 @@ impl CoreSpace {
         Ok(TimedOut::ByThisCall)
     }
 
-    /// Ends a session's wait, which is settled: with the ticket if it was granted, else without.
+    /// Ends a session's settled wait. If it was granted, the session then holds the ticket.
     pub(crate) fn finish_wait(&mut self, who: u16) -> Result<Ended, SpaceError>
         requires { SpeaksFor self.old who }
         ensures { Makes false (ending who) self.old (ended result) self.new }
@@ -271,7 +273,7 @@ impl CoreSpace {
         }
     }
 
-    /// The number of any session's wait.
+    /// Returns the number of any session's wait.
     pub(crate) fn wait_number(&self, target: u16) -> Option<u64>
         ensures { Makes false (looking_after target) self.now (Has_wait result) self.now }
     {
@@ -284,7 +286,7 @@ impl CoreSpace {
         }
     }
 
-    /// Settles any session's wait of this number as killed, unless it is settled. Whether this call settled it.
+    /// Settles any session's wait of this number as killed, unless it is settled already. Returns whether this call settled it.
     pub(crate) fn kill_wait(&mut self, target: u16, number: u64) -> bool
         ensures { Makes false (killing target number) self.old (Has_killed result) self.new }
     {
@@ -302,7 +304,7 @@ impl CoreSpace {
         true
     }
 
-    /// Gives a held ticket up.
+    /// Releases a held ticket.
     pub(crate) fn give_back(&mut self, who: u16, id: TicketId) -> Result<(), SpaceError>
         requires { SpeaksFor self.old who }
         ensures { Makes false (releasing who id) self.old (done result) self.new }
@@ -314,7 +316,7 @@ impl CoreSpace {
         Ok(())
     }
 
-    /// Grants a second ticket of a held one's place.
+    /// Grants a second ticket at a held one's place.
     pub(crate) fn clone_held(
         &mut self,
         who: u16,
@@ -331,7 +333,7 @@ impl CoreSpace {
         self.grant_at(who, ticket.place, mode)
     }
 
-    /// The tickets that a session holds.
+    /// Returns the tickets that a session holds.
     pub(crate) fn list_held(&self, who: u16) -> Result<Vec<Held>, SpaceError>
         requires { has_session who self.now ≡ true }
         ensures { Makes true (listing who) self.now (listed result) self.now }
@@ -344,7 +346,7 @@ impl CoreSpace {
         Ok(tickets)
     }
 
-    /// Looks whether a session can clone a held ticket.
+    /// Checks that a session can clone a held ticket.
     fn check_clone(&self, who: u16, ticket: Held, mode: Mode) -> Result<(), SpaceError>
         requires session { has_session who self.now ≡ true }
         requires key { has_key ticket.place self.now ≡ true }
@@ -400,7 +402,7 @@ impl CoreSpace {
         self.serve(wait.place);
     }
 
-    /// Gives up a session's held ticket, and then grants waiters of its place.
+    /// Releases a session's held ticket, and then grants waiters of its place.
     fn free(&mut self, who: u16, ticket: Held)
         requires session { has_session who self.old ≡ true }
         requires key { has_key ticket.place self.old ≡ true }
@@ -414,7 +416,7 @@ impl CoreSpace {
         self.serve(ticket.place);
     }
 
-    /// Looks whether a session can ask for a lock.
+    /// Checks that a session can request a lock.
     fn check_request(&self, who: u16, place: Place, mode: Mode) -> Result<(), SpaceError>
         requires { has_session who self.now ≡ true }
         ensures refused { MatchResult result

@@ -1,4 +1,4 @@
-//! Granting a lock: a ticket in the lock's book, and the same ticket in the session's hands. And two tickets that become one.
+//! Granting a lock, as a ticket in the lock's book and in the session's seat, and merging two tickets into one.
 ghost use Rattle.std.specs.Prelude.{◌≡◌, ◌≢◌, ◌+◌, ◌<◌, ◌^◌, ◌⊎◌, None, IsSome, OnErr, MatchResult, nat_le, true, false};
 ghost use Rattle.mdl_book.specs.Books.{lock_kind, granting, enqueueing, changing, removing, ticket_count};
 ghost use Rattle.mdl_book.specs.Granting.{is_compatible, is_grantable};
@@ -11,17 +11,18 @@ use mdl_book::{Book, BookError, Ticket};
 use mdl_key::Mode;
 use mdl_word::Word;
 
-// The word of a lock: over one thread no ticket is a fast one.
+// The word of each lock: in the space of one thread no ticket is a fast one.
 pub(crate) const NO_FAST: Word = Word(0);
 
-/// Whether a session's wish for a mode can be granted now.
+/// Whether a session's request for a mode can be granted now.
 pub(crate) fn is_free(book: &Book, who: u16, mode: Mode) -> bool
     ensures { result ≡ is_grantable (lock_kind book.now) book.now.granted book.now.waiting who mode }
 {
     book.can_grant(who, mode, NO_FAST)
 }
 
-/// Grants a wish that clashes with no granted ticket. Where it is refused, nothing has changed.
+/// Grants a request that clashes with no granted ticket of another session, and returns the ticket's number. If it is refused, nothing has
+/// changed.
 pub(crate) fn give(
     seat: &mut Seat,
     book: &mut Book,
@@ -56,7 +57,7 @@ pub(crate) fn give(
     }
 }
 
-/// Begins a wait, and answers its number. Where it is refused, nothing has changed.
+/// Begins a wait, and returns its number. If it is refused, nothing has changed.
 pub(crate) fn queue(
     seat: &mut Seat,
     book: &mut Book,
@@ -89,7 +90,7 @@ pub(crate) fn queue(
     }
 }
 
-/// Lets one of a session's granted tickets have the mode of another, which goes.
+/// Gives one of a session's granted tickets the mode of another one, which is removed.
 pub(crate) fn fold(book: &mut Book, who: u16, kept: TicketId, gone: Held)
     requires kept { IsSome (ticket_of who kept book.old.granted) }
     requires gone { IsSome (ticket_of who gone.id book.old.granted) }
@@ -101,7 +102,7 @@ pub(crate) fn fold(book: &mut Book, who: u16, kept: TicketId, gone: Held)
     book.set_mode(who, kept, gone.mode, NO_FAST).unwrap();
 }
 
-// Why a book can't take a ticket that may stand there.
+// The error for a book that can't take a ticket because it is full or memory ran out.
 fn cause_of(error: BookError) -> SpaceError
     requires { (error ≡ BookError.Full) ⊎ (error ≡ BookError.OutOfMemory) }
     ensures { result ≡ cause_in error }

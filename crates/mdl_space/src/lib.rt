@@ -1,18 +1,16 @@
-//! The lock space: who holds which metadata lock and who waits for which, for numbered sessions, and what stands under the keys
-//! of the locks.
+//! The lock space: which session holds which metadata lock, which session waits for which, and the definitions of the locks'
+//! keys. Sessions are numbered.
 //!
-//! Whatever stands on the locks stands on the trait [`LockSpace`]: a session resolves a key to its place
-//! ([`LockSpace::resolve`]), asks for a lock there ([`LockSpace::try_now`], [`LockSpace::begin_wait`]), sees its wait
-//! through, lets a ticket have another mode ([`LockSpace::upgrade_now`], [`LockSpace::downgrade`], [`LockSpace::merge`]), reads and
-//! changes the key's definition under its tickets ([`LockSpace::read_definition`],
-//! [`LockSpace::change_definition`]), and gives them up ([`LockSpace::release`]). It is told the key of a place, too
-//! ([`LockSpace::key_of`]), and the tables of a schema ([`LockSpace::tables_of`]). Contracts see a call as what joins the space
-//! before it to the space after it, and what a session has as its own tickets and wait. Two calls that the laws of the trait
-//! speak of have no method as yet: a pin that is given up, and a definition read where it is kept.
+//! Code that uses the locks calls the trait [`LockSpace`]. A session resolves a key to its place ([`LockSpace::resolve`]), requests
+//! a lock there ([`LockSpace::try_now`], [`LockSpace::begin_wait`]), and ends its wait ([`LockSpace::end_wait`]). It changes the mode
+//! of a ticket ([`LockSpace::upgrade_now`], [`LockSpace::downgrade`], [`LockSpace::merge`]), reads and changes the key's definition
+//! under its tickets ([`LockSpace::read_definition`], [`LockSpace::read_kept`], [`LockSpace::change_definition`]), and releases
+//! them ([`LockSpace::release`]). It also gets the key of a place ([`LockSpace::key_of`]) and the tables of a schema
+//! ([`LockSpace::tables_of`]). In contracts a call is a relation of the space before it and the space after it, and what a session
+//! has is its held tickets and its wait. One call in the laws of the trait has no method yet: to give up a pin.
 //!
-//! [`CoreSpace`] is the space of one thread. Each of its calls is an event of the system of locks that a reader believes in,
-//! which stays lawful, and in which nobody is forgotten: the laws of that stand in `mdl_system` and `mdl_core`, and their names
-//! here too.
+//! [`CoreSpace`] is the space of one thread. Each of its calls is an event of the system of locks that is the model for readers.
+//! The system stays lawful, and nobody is forgotten in it. The laws are in `mdl_system` and `mdl_core`, and re-exported here.
 //!
 //! # Example
 //!

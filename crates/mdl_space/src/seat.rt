@@ -12,7 +12,7 @@ use std::marker::Model;
 
 /// A session's tickets and its wait.
 ///
-/// While there is a wait, there is room for the ticket that is waited for, so taking it up takes no memory.
+/// While there is a wait, there is room for the ticket that it is for, so ending the wait with that ticket takes no memory.
 #[derive(Drop)]
 pub(crate) struct Seat {
     held: Vec<Held>,
@@ -38,7 +38,7 @@ impl Model for Seat {
 }
 
 impl Seat {
-    /// Of a session that has nothing. It takes no memory.
+    /// Makes the seat of a session that has nothing. It takes no memory.
     pub(crate) fn new(alloc: Global) -> Seat
         ensures { result ≡ empty_seat }
     {
@@ -50,28 +50,28 @@ impl Seat {
         }
     }
 
-    /// The held tickets, in order of gain.
+    /// Returns the held tickets, in the order in which the session got them.
     pub(crate) fn held(&self) -> &[Held]
         ensures { result.now ≡ self.now.held }
     {
         &self.held
     }
 
-    /// The wait that isn't ended.
+    /// Returns the wait that isn't ended, if there is one.
     pub(crate) fn wait(&self) -> Option<Pending>
         ensures { result ≡ self.now.wait }
     {
         self.wait
     }
 
-    /// The number of the last ticket that the session gained or waited for.
+    /// Returns the number of the last ticket that the session got or waited for.
     pub(crate) fn last_ticket(&self) -> u64
         ensures { result ≡ self.now.last_ticket }
     {
         self.last_ticket
     }
 
-    /// The number of the last wait.
+    /// Returns the number of the last wait.
     pub(crate) fn last_wait(&self) -> u64
         ensures { result ≡ self.now.last_wait }
     {
@@ -98,7 +98,7 @@ impl Seat {
         }
     }
 
-    /// Puts a new ticket last.
+    /// Adds a new ticket at the end of the held ones.
     pub(crate) fn hold(&mut self, place: Place, mode: Mode) -> Result<(), SpaceError>
         requires numbers { self.old.last_ticket < 2 ^ 60 }
         requires idle { self.old.wait ≡ None }
@@ -115,7 +115,7 @@ impl Seat {
         Ok(())
     }
 
-    /// Takes the newest ticket back, as if it had never been.
+    /// Undoes the last `hold`: removes the newest ticket, and takes its number back.
     pub(crate) fn unhold(&mut self)
         requires { self.old.last_wait < self.old.last_ticket }
         ensures { (place : ℕ) (mode : Mode) (before : SeatView) → self.old ≡ holding place mode before → self.new ≡ before }
@@ -124,7 +124,7 @@ impl Seat {
         self.last_ticket -= 1;
     }
 
-    /// Begins a wait for a new ticket, and makes room for that.
+    /// Begins a wait for a new ticket, and makes room for that ticket.
     pub(crate) fn begin_wait(&mut self, place: Place, mode: Mode) -> Result<(), SpaceError>
         requires { self.old.last_ticket < 2 ^ 60 }
         ensures begun { OnOk result (self.new ≡ beginning_wait place mode self.old) }
@@ -146,7 +146,7 @@ impl Seat {
         Ok(())
     }
 
-    /// Takes the newest wait back, as if it had never been.
+    /// Undoes the last `begin_wait`: removes the wait, and takes its number and its ticket's back.
     pub(crate) fn unbegin_wait(&mut self)
         ensures { (place : ℕ) (mode : Mode) (before : SeatView) → before.wait ≡ None → self.old ≡ beginning_wait place mode before → self.new ≡ before }
     {
@@ -167,7 +167,7 @@ impl Seat {
         }
     }
 
-    /// Ends the wait with the ticket that was waited for. It takes no memory.
+    /// Ends the wait with the ticket that it was for. It takes no memory.
     pub(crate) fn take_up(&mut self, wait: Pending)
         requires { self.old.wait ≡ Some wait }
         ensures { self.new ≡ with_ticket_of wait self.old }
@@ -188,7 +188,7 @@ impl Seat {
         self.wait = None;
     }
 
-    /// The held ticket of a number.
+    /// Returns the held ticket of a number, if there is one.
     pub(crate) fn ticket(&self, id: TicketId) -> Option<Held>
         requires { IsTrue (are_rising self.now.held) }
         ensures { result ≡ find (is_number id) self.now.held }
@@ -199,7 +199,7 @@ impl Seat {
         }
     }
 
-    /// Gives up the ticket of a number, if it is held. It takes no memory.
+    /// Removes the ticket of a number, if it is held. It takes no memory.
     pub(crate) fn give_up(&mut self, id: TicketId)
         requires { IsTrue (are_rising self.old.held) }
         ensures { self.new ≡ without_ticket id self.old }
@@ -209,7 +209,7 @@ impl Seat {
         }
     }
 
-    /// Lets the ticket of a number, if it is held, have another mode.
+    /// Gives the ticket of a number, if it is held, another mode.
     pub(crate) fn set_mode(&mut self, id: TicketId, mode: Mode)
         requires { IsTrue (are_rising self.old.held) }
         ensures { self.new ≡ with_ticket_in id mode self.old }
@@ -219,7 +219,7 @@ impl Seat {
         }
     }
 
-    /// Lets the ticket of a number, if it is held, have the mode of another one, which is given up.
+    /// Gives the ticket of a number, if it is held, the mode of another one, which is removed.
     pub(crate) fn fold(&mut self, kept: TicketId, gone: Held)
         requires { IsTrue (are_rising self.old.held) }
         ensures { self.new ≡ with_ticket_in kept gone.mode (without_ticket gone.id self.old) }
@@ -229,7 +229,7 @@ impl Seat {
     }
 }
 
-// Where the ticket of a number stands, among tickets whose numbers rise.
+// The index of the ticket of a number, among tickets whose numbers rise.
 fn place_of(held: &[Held], id: TicketId) -> Option<usize>
     requires { IsTrue (are_rising held.now) }
     ensures { result ≡ position (is_number id) held.now }

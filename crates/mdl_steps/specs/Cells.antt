@@ -1,5 +1,5 @@
--- What the table has for one place: its words, its slot, and what each session knows and has there. A step at one place leaves
--- the cell of each other place the same.
+-- The cell of a place: its words, its slot, and what each session knows of the place and has there. A step at one place leaves the cells of all
+-- other places unchanged.
 use Rattle.std.specs.Prelude.{ℕ, ◌==◌, Bool, false, List, [], ◌∷◌, ◌++◌, filter, find, map, length, slice_index, if◌then◌else◌, Option, Some, None}
 use Rattle.std.specs.List.{list_any}
 use Rattle.std.specs.Option.{option_and_then, option_to_list}
@@ -28,7 +28,7 @@ pub record Asking : Type 0 where
   pub ticket : Ticket
   pub state : ℕ
 
--- all that a session has and knows at a place, but for the record of its latch
+-- all that a session has and knows at a place, except the record of the place's latch
 pub record Part : Type 0 where
   pub number : ℕ
   pub fast : List Own
@@ -37,34 +37,37 @@ pub record Part : Type 0 where
   pub reads : List Read
   pub owes : Bool
 
--- the record of the latch of a place, where the session holds it
+-- a session's number, and its record of the latch of a place if it holds that latch
 pub record Holder : Type 0 where
   pub number : ℕ
   pub held : Option LatchRecord
 
--- the record of the directory's latch, where the session holds it
+-- a session's number, and its record of the directory's latch if it holds that latch
 pub record Desk : Type 0 where
   pub number : ℕ
   pub directory : Option Keys
 
+-- those of a session's tickets that are at a place
 abbrev pub own_at : ℕ → List Own → List Own
 own_at place tickets = filter (λ t. t.place == place) tickets
 
--- the version that is noted at a place, under the first of these tickets that is there
+-- the version that is noted under the first of these tickets that is at the place, if there is one
 abbrev pub note_at : ℕ → List Own → Option ℕ
 note_at place tickets = option_and_then (λ (t : Own). t.noted) (find (λ (t : Own). t.place == place) tickets)
 
+-- what a session read at a place
 abbrev pub reads_at : ℕ → List Read → List Read
 reads_at place reads = filter (λ r. r.place == place) reads
 
+-- the record of the latch of a place, if it is among these
 abbrev pub held_at : ℕ → List LatchRecord → Option LatchRecord
 held_at place latches = find (λ h. h.place == place) latches
 
--- a session's ticket, as a book has it
+-- a ticket of a session, as a book has it
 abbrev pub ticket_by : ℕ → Own → Ticket
 ticket_by session t = record { session = session; number = t.number; mode = t.mode }
 
--- the ticket that a session waits for here, its wait's word being `word`
+-- the ticket that a session waits for, if that is at this place, and the state in the session's wait word `word`
 abbrev pub asking_at : ℕ → ℕ → ℕ → Option Ask → Option Asking
 asking_at place session word None = None
 asking_at place session word (Some a) =
@@ -72,7 +75,7 @@ asking_at place session word (Some a) =
     then Some (record { ticket = record { session = session; number = a.number; mode = a.mode }; state = wait_state word })
     else None
 
--- a part of a view, where the waits' words are given by the sessions' numbers
+-- what a view has at a place. `waits` gives the wait word of each session's number
 abbrev pub part_at : (ℕ → ℕ) → ℕ → View → Part
 part_at waits place v = record {
   number = v.number;
@@ -83,24 +86,28 @@ part_at waits place v = record {
   owes = list_any (λ p. p == place) v.owes;
 }
 
+-- the record of a place's latch in a view, if there is one
 abbrev pub holder_at : ℕ → View → Holder
 holder_at place v = record { number = v.number; held = held_at place v.latches }
 
+-- the record of the directory's latch in a view, if there is one
 abbrev pub desk_of : View → Desk
 desk_of v = record { number = v.number; directory = v.directory }
 
--- what a session knows of its own wait's word
+-- what a session knows of its own wait word: its number, its last wait's number, its request, and the state in which it met the word settled
 pub record Waiter : Type 0 where
   pub number : ℕ
   pub waits : ℕ
   pub asks : Option Ask
   pub told : Option ℕ
 
+-- what a view says of its session's own wait word
 abbrev pub waiter_of : View → Waiter
 waiter_of v = record { number = v.number; waits = v.waits; asks = v.asks; told = v.told }
 
 -- ---- what all of them have there
 
+-- the words of a place, its slot, and what each view has there. The slot is empty (`some none`) while a session has its content in hand
 pub record Cell : Type 0 where
   pub latch : ℕ
   pub word : ℕ
@@ -109,10 +116,11 @@ pub record Cell : Type 0 where
   pub holders : List Holder
   pub parts : List Part
 
--- the wait's word of a session
+-- the wait word of a session
 abbrev pub waits : State Slot View → ℕ → ℕ
 waits s session = slice_index s.words (wait_word (length s.homes) session)
 
+-- the cell of a place in a state of the table
 abbrev pub cell : State Slot View → ℕ → Cell
 cell s place = record {
   latch = slice_index s.words (latch_word place);
@@ -128,35 +136,35 @@ abbrev pub all_fast : List Part → List Ticket
 all_fast [] = []
 all_fast (x ∷ xs) = map (ticket_by x.number) x.fast ++ all_fast xs
 
--- how many tickets are of a class
+-- the number of these tickets that are of a class
 abbrev pub counted : Kind → ℕ → List Ticket → ℕ
 counted kind class tickets = count_by (is_of_class kind class) tickets
 
--- the ticket of a wait that was granted and isn't ended: it is in the granted list, and the session has yet to take it
+-- the ticket of a wait that is granted and not ended: it is in the granted list, but the session doesn't have it yet
 abbrev pub due : Option Asking → Option Ticket
 due None = None
 due (Some a) = if a.state == granted_state then Some a.ticket else None
 
--- the ticket of a wait that wasn't granted, or wasn't yet: it is in the waiting list
+-- the ticket of a wait that isn't granted, but unsettled or lost: it is in the waiting list
 abbrev pub pending : Option Asking → Option Ticket
 pending None = None
 pending (Some a) = if a.state == granted_state then None else Some a.ticket
 
--- a session's tickets that are in the granted list
+-- the tickets of a session in the granted list: that of its granted wait, and its slow ones
 abbrev pub slow_tickets : Part → List Ticket
 slow_tickets x = option_to_list (due x.asks) ++ map (ticket_by x.number) x.slow
 
 -- ---- views
 
--- numbers for so many sessions, up to these drawn and given
+-- the numbers for at most `most` sessions: the last one drawn, and the last one given to a session
 abbrev pub numbers_for : ℕ → ℕ → ℕ → Spare
 numbers_for most drawn given = record { most = most; drawn = drawn; given = given }
 
--- none
+-- no numbers for other sessions
 abbrev pub no_numbers : Spare
 no_numbers = numbers_for 0 0 0
 
--- a view with a number, or 0, and these numbers for others, that has nothing
+-- the view of a seat that has and knows nothing yet, with its number, or 0, and the numbers that it has for others
 abbrev pub blank : ℕ → Spare → View
 blank number spare = record {
   number = number;

@@ -31,29 +31,29 @@ use Rattle.mdl_steps.specs.Plays.{Mine, changed, logged}
 
 -- ---- the view
 
--- the word of a place was met, and stayed, at a step of this kind. Nothing else changed
+-- the word of a place was met by a step of this kind, and wasn't changed. Only the list of steps changed
 abbrev pub met_word_by : StepKind → ℕ → ℕ → Mine → Mine
 met_word_by kind place found m = (logged kind [] (lock_word place) found m.0.latches m.0, m.1)
 
--- it was read
+-- the word of a place was read
 abbrev pub met_word : ℕ → ℕ → Mine → Mine
 met_word = met_word_by step.ReadWord
 
--- it was to be exchanged for a fast grant, and was another one than the step expected
+-- the word of a place was to be exchanged for a fast grant, but wasn't the one that the step expected
 abbrev pub missed_fast : ℕ → ℕ → Mine → Mine
 missed_fast = met_word_by step.MissFast
 
--- a fast ticket of the next number
+-- a fast ticket, with the version that is noted under it, if one is
 abbrev pub fast_own : ℕ → ℕ → Mode → Option ℕ → Own
 fast_own number place mode noted = record { number = number; place = place; mode = mode; noted = noted }
 
--- a fast ticket was granted
+-- a fast ticket with the session's next number was granted
 abbrev pub granted_fast : ℕ → Mode → Option ℕ → ℕ → Mine → Mine
 granted_fast place mode noted found m =
     let v = record m.0 { fast = m.0.fast ++ fast_own m.0.next place mode noted ∷ []; next = m.0.next + 1 } in
     (logged step.GrantFast (Gain m.0.next mode ∷ []) (lock_word place) found m.0.latches v, m.1)
 
--- the tickets without the one with this number at a place
+-- the tickets except the one with this number at a place
 abbrev pub but_own : ℕ → ℕ → List Own → List Own
 but_own place number tickets = filter (λ t. not (is_own place number t)) tickets
 
@@ -71,15 +71,15 @@ moved place v = map (ticket_by v.number) (own_at place v.fast)
 abbrev pub granting_all : List Ticket → BookView → BookView
 granting_all tickets book = record book { granted = book.granted ++ tickets }
 
--- the record of a latch with such a book
+-- the record of a latch with these tickets at the end of its book's granted list
 abbrev pub with_granted : List Ticket → LatchRecord → LatchRecord
 with_granted tickets h = record h { book = granting_all tickets h.book }
 
--- the tickets at other places
+-- the tickets that aren't at this place
 abbrev pub but_at : ℕ → List Own → List Own
 but_at place tickets = filter (λ t. not (t.place == place)) tickets
 
--- the fast tickets at a place became slow ones, among the others by their numbers: the record of the latch has them granted in the book
+-- the fast tickets at a place became slow ones, in order of their numbers among the others. The record of the latch has them granted in the book
 abbrev pub materialised : ℕ → ℕ → Mine → Mine
 materialised place found m =
     let v = record m.0 { fast = but_at place m.0.fast; slow = interleaved m.0.slow (own_at place m.0.fast) } in
@@ -101,8 +101,8 @@ abbrev pub IsCounted : View → ℕ → Mode → ℕ → Type 0
 IsCounted v place mode one =
     (i : ℕ) × (k : Known) × (get_elem? v.known i ≡ some k) × (k.place ≡ place) × (increment_of (kind_of k.key.namespace) mode ≡ Some one)
 
--- a fast ticket may be granted, if the flag OBTRUSIVE is down: the session waits for nothing, and has room for one more fast ticket there. Where
--- it noted a version there, that is noted under the new ticket too
+-- a fast ticket may be granted, if the flag OBTRUSIVE is down: the session waits for nothing, and has fewer than `most_fast` fast tickets there. If
+-- it noted a version there, that is noted under the new ticket, too
 pub record MayGrantFast (place : ℕ) (mode : Mode) (noted : Option ℕ) (one : ℕ) (m : Mine) : Type 0 where
   pub idle : m.0.asks ≡ None
   pub counted_so : IsCounted m.0 place mode one

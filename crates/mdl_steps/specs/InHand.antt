@@ -1,4 +1,4 @@
--- What a session has in hand, lent to be written: the book of a place, or the directory.
+-- What a session has in hand, borrowed for writing: the book of a place, or the directory.
 use Rattle.std.specs.Prelude.{ℕ}
 use Rattle.std.specs.Borrow.{Fml, Lends, MutBor}
 use Rattle.atomic_table.specs.Lent.{seat_with}
@@ -14,10 +14,10 @@ use Rattle.mdl_steps.specs.declared.slot.Slot.TheVariants.{Directory, Place}
 use Rattle.mdl_steps.specs.declared.view.Keys.{Keys}
 use Rattle.mdl_steps.specs.declared.view.View.{View}
 
--- the seat ends with the book that was left behind the reference, in the place
+-- when the borrow ends, the seat has in hand, for the place, the book that the reference last had
 abbrev pub LendsBook : ℕ → MutBor (Seat Slot View) → MutBor BookView → Fml
 LendsBook place s r = Lends (seat.the_row slot.the_row view.the_row) book.the_row s r (λ book. seat_with s.now place (Place book))
 
--- the seat ends with the directory that was left behind the reference
+-- when the borrow ends, the seat has in hand the directory that the reference last had
 abbrev pub LendsDirectory : MutBor (Seat Slot View) → MutBor Keys → Fml
 LendsDirectory s r = Lends (seat.the_row slot.the_row view.the_row) directory.the_row s r (λ keys. seat_with s.now 0 (Directory keys))

@@ -1,13 +1,14 @@
--- Two lists of a session's tickets as one. A session gives its tickets rising numbers, so in order of numbers is in order of gain.
+-- Two lists of a session's tickets merged into one. A session gives its tickets rising numbers, so their order by number is the order in which the
+-- session got them.
 use Rattle.std.specs.Prelude.{nat_lt, List, [], ◌∷◌, if◌then◌else◌}
 use Rattle.mdl_steps.specs.declared.view.Own.{Own}
 
--- a ticket put among others, before the first that has a greater number
+-- the tickets with one more, put before the first that has a greater number
 abbrev pub inserted : Own → List Own → List Own
 inserted t [] = t ∷ []
 inserted t (u ∷ more) = if nat_lt t.number u.number then t ∷ u ∷ more else u ∷ inserted t more
 
--- the tickets of two lists, in order of their numbers where each list is so
+-- the tickets of two lists merged, in order of their numbers if each list is in that order
 abbrev pub interleaved : List Own → List Own → List Own
 interleaved slow [] = slow
 interleaved slow (f ∷ fast) = interleaved (inserted f slow) fast

@@ -1,8 +1,8 @@
--- Where the words of the table lie: eight to a place, so that each place has a cache line of its own, then a line on which
--- numbers are drawn, then a line for each session. The words between are a gap: no step touches them.
+-- The indices of the table's words. Each place has eight words, so that it has a cache line of its own. Then comes a line for the number that is
+-- drawn next, then a line for each session. No step touches the words between.
 use Rattle.std.specs.Prelude.{ℕ, ◌+◌, ◌-◌, ◌*◌, ◌/◌}
 
--- the number of the session that holds the latch of a place, or 0
+-- the word with the number of the session that holds the latch of a place, or 0
 abbrev pub latch_word : ℕ → ℕ
 latch_word place = 8 * place
 
@@ -10,22 +10,22 @@ latch_word place = 8 * place
 abbrev pub lock_word : ℕ → ℕ
 lock_word place = 8 * place + 1
 
--- the version of what is defined under the key of a place
+-- the word with the version of the key of a place
 abbrev pub version_word : ℕ → ℕ
 version_word place = 8 * place + 2
 
--- the number that the next session gets, in a table of so many slots
+-- the word with the number that the next session gets, in a table with `slots` slots
 abbrev pub enrol_word : ℕ → ℕ
 enrol_word slots = 8 * slots
 
--- the last wait of a session, with its state
+-- the word with the number and state of a session's last wait, in a table with `slots` slots
 abbrev pub wait_word : ℕ → ℕ → ℕ
 wait_word slots session = 8 * slots + 8 + 8 * session
 
--- how many words there are for so many slots and sessions
+-- the number of words of a table with these numbers of slots and sessions
 abbrev pub word_count : ℕ → ℕ → ℕ
 word_count slots sessions = 8 * slots + 16 + 8 * sessions
 
--- for how many sessions so many words have a wait's word, in a table of so many slots
+-- the number of sessions that have a wait word, in a table with these numbers of slots and words
 abbrev pub session_count : ℕ → ℕ → ℕ
 session_count slots words = words / 8 - (slots + 2)

@@ -1,9 +1,9 @@
--- Words on lists that the rule of the table is said in.
+-- Definitions on lists, which the rule of the table uses.
 use Rattle.std.specs.Prelude.{◌≡◌, List, [], ◌∷◌, None}
 use Rattle.mdl_book.specs.declared.ticket.Ticket.{Ticket}
 use Rattle.mdl_book.specs.Tickets.{ticket_of}
 
--- each element of the list is so
+-- `P` holds for each element of the list
 abbrev pub Each : {X : Type 0} → (X → Type 0) → List X → Type 0
 Each P [] = Unit {0}
 Each P (x ∷ xs) = P x × Each P xs

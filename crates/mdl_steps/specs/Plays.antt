@@ -1,6 +1,6 @@
--- What each kind of step lets its session know: by the step, what the seat knew, what the word was, and what it
--- knows then. Each is added to the session's list of steps: its kind, what the session did to its own tickets by it, the word, what that was
--- before, and the records of the latches that the session held.
+-- What a session knows after each kind of step, given the step, the seat before it, and the value that the step found in its word. Each step is
+-- added to the session's list of steps: its kind, what the session did to its own tickets, its word, the value of the word before, and the
+-- records of the latches that the session held.
 use Rattle.std.specs.Prelude.{◌≡◌, ◌≢◌, ℕ, ◌+◌, ◌-◌, ◌<◌, ◌≤◌, ◌==◌, not, Bool, true, ◌&&◌, ◌||◌, List, [], ◌∷◌, ◌++◌, map, filter, length, Some, None, if◌then◌else◌}
 use lib.ListN.{get_elem?}
 use mathlib.Core.Option.{some}
@@ -35,25 +35,29 @@ use Rattle.mdl_steps.specs.Lists.{Distinct, Each, Once}
 use Rattle.mdl_steps.specs.Rule.{AreUnmixed, TellsLists, KnowsKeys, IsUnused, NoteAgrees, ReadAgrees, key_at}
 use Rattle.mdl_steps.specs.WaitStates.{IsLost}
 
--- a session's seat: its view, and the slots that it took
+-- a session's seat: its view, and the contents of slots that it has in hand, the latest one first
 abbrev pub Mine : Type 0
 Mine = Me Slot View
 
--- with one step more: of this kind, with these deeds, on this word, which was found so, under the latches with these records. The session has
--- the directory's record that is in the view
+-- the view with one more step: its kind, its deeds, its word, the value found there, and the records of the latches held. The directory's record is
+-- the one in the view
 abbrev pub logged : StepKind → List Deed → ℕ → ℕ → List LatchRecord → View → View
 logged kind ds word found held v =
     record v { log = v.log ++ record { kind = kind; deeds = ds; word = word; found = found; held = held; directory = v.directory } ∷ [] }
 
 -- ---- the record of a latch
 
--- as the latch is taken: just the flags are up then that the lists need, granted tickets are compatible and in modes of the kind, the book has
--- of the session just the tickets that it has (but for one that it waits for), and it is the book of each key that is known to be here,
--- and of that which the directory has for the place, where the session holds its latch.
--- Each session waits at most once, for a mode of the kind, and so does the session itself where it met its wait lost. The definition fits
--- the key and its version: no version that the session read is newer, what it read of this one is just that, and this is the version that it noted.
--- Its fast tickets there are in unobtrusive modes and compatible with all granted tickets, and the version agrees with what is noted under them. No slow
--- ticket has the number of a fast one of its place
+-- a record of a latch as the session takes the latch:
+-- * The flags are up exactly if the lists need them, and no word is noted.
+-- * Granted tickets of different sessions are compatible, and in modes of the lock's kind.
+-- * The session's tickets in the granted list are its slow tickets there, except one that it waits for.
+-- * The book is that of each key that the session knows to be here. If the session holds the directory's latch, it is that of the key that the
+--   directory has for the place, or unused if the directory has none.
+-- * Each session waits at most once, for a mode of the lock's kind. If the session waits here and met its wait lost, its ticket is in the waiting list.
+-- * The definition is valid for the key and its version. No version that the session read here is newer, what it read of this version is this
+--   definition, and this is the version noted under its tickets here.
+-- * Its fast tickets here are at most `most_fast`, in unobtrusive modes, and compatible with the granted tickets of other sessions.
+-- * No slow ticket has the number of a fast ticket at the same place.
 pub record IsFresh (place : ℕ) (h : LatchRecord) (m : Mine) : Type 0 where
   pub here : h.place ≡ place
   pub exact : TellsLists h.book h.slow h.obtrusive
@@ -79,65 +83,65 @@ pub record IsFresh (place : ℕ) (h : LatchRecord) (m : Mine) : Type 0 where
   pub fast_beside : Each (λ (t : Own). is_compatible (lock_kind h.book) h.book.granted m.0.number t.mode ≡ true) (own_at place m.0.fast)
   pub unmixed : AreUnmixed m.0.fast m.0.slow
 
--- with a flag or both raised
+-- the record with the chosen flags raised
 abbrev pub raised : Bool → Bool → LatchRecord → LatchRecord
 raised slow obtrusive h = record h { slow = slow || h.slow; obtrusive = obtrusive || h.obtrusive }
 
--- with a word noted, where the flag OBTRUSIVE is up
+-- the record with a word noted, if the flag OBTRUSIVE is up
 abbrev pub noting : ℕ → LatchRecord → LatchRecord
 noting word h = record h { noted = if h.obtrusive then Some word else h.noted }
 
--- with the book as it is after some deeds, and the flags that stay. What was noted is forgotten with the flag OBTRUSIVE
+-- the record with this book, and with the flags lowered that aren't chosen. The noted word is dropped with the flag OBTRUSIVE
 abbrev pub lowered : BookView → Bool → Bool → LatchRecord → LatchRecord
 lowered book slow obtrusive h =
     record h { book = book; slow = slow && h.slow; obtrusive = obtrusive && h.obtrusive; noted = if obtrusive && h.obtrusive then h.noted else None }
 
--- with the definition that the lock's key has now
+-- the record with this version and definition of the lock's key
 abbrev pub restood : Standing → LatchRecord → LatchRecord
 restood standing h = record h { book = record h.book { standing = standing } }
 
 -- ---- the session's tickets
 
--- with this version noted under each ticket at a place
+-- the tickets with this version noted under each one at a place
 abbrev pub noting_version : ℕ → ℕ → List Own → List Own
 noting_version place version tickets = map (λ (t : Own). if t.place == place then record t { noted = Some version } else t) tickets
 
 -- ---- the view
 
--- with another record of the latch of a place
+-- the view with the record of the latch of a place changed by `f`
 abbrev pub changed : ℕ → (LatchRecord → LatchRecord) → View → View
 changed place f v = record v { latches = map (λ h. if h.place == place then f h else h) v.latches }
 
--- without the record of the latch of a place
+-- the view without the record of the latch of a place
 abbrev pub dropped : ℕ → View → View
 dropped place v = record v { latches = filter (λ h. not (h.place == place)) v.latches }
 
--- the latch of a place was found taken, or that of the directory. Nothing else changed
+-- the latch of a place, or of the directory (place 0), was found taken. Only the list of steps changed
 abbrev pub missed_latch : ℕ → ℕ → Mine → Mine
 missed_latch place found m = (logged step.MissLatch [] (latch_word place) found m.0.latches m.0, m.1)
 
--- the latch of a place was taken, with this record of it
+-- the latch of a place was taken, with this record of it, and the place's book is in hand
 abbrev pub latched : ℕ → LatchRecord → Mine → Mine
 latched place h m =
     (logged step.TakeLatch [] (latch_word place) 0 (h ∷ m.0.latches) (record m.0 { latches = h ∷ m.0.latches }), (place, slot.Place h.book) ∷ m.1)
 
--- the latch of a place, whose word had the session's number, was given back after some deeds
+-- the latch of a place was given back after some deeds. Its word had the session's number
 abbrev pub unlatched : ℕ → List Deed → Mine → Mine
 unlatched place ds m = (logged step.PutLatch ds (latch_word place) m.0.number m.0.latches (dropped place (all_done place ds m.0)), rest m.1)
 
--- the record of the latch of a place was changed by a step of this kind on its word
+-- the record of the latch of a place was changed by a step of this kind on the lock's word
 abbrev pub stepped : StepKind → ℕ → ℕ → (LatchRecord → LatchRecord) → Mine → Mine
 stepped kind place found f m =
     let v = changed place f m.0 in
     (logged kind [] (lock_word place) found v.latches v, m.1)
 
--- flags of a place were lowered after some deeds
+-- flags of a place's word were lowered after some deeds, and the latch's record has this book
 abbrev pub flags_lowered : ℕ → List Deed → ℕ → BookView → Bool → Bool → Mine → Mine
 flags_lowered place ds found book slow obtrusive m =
     let v = changed place (lowered book slow obtrusive) (all_done place ds m.0) in
     (logged (step.LowerFlags slow obtrusive) ds (lock_word place) found m.0.latches v, m.1)
 
--- the definition of a place was changed: the session knows it from then on, and has noted its version under each ticket that it has there. The
+-- the definition of a place was changed. It counts as read by the session, which has noted its version under each ticket that it has there. The
 -- version's word was one less before
 abbrev pub redefined : ℕ → Standing → Mine → Mine
 redefined place standing m =
@@ -149,7 +153,8 @@ redefined place standing m =
     } in
     (logged step.WriteVersion [] (version_word place) (standing.version - 1) v.latches known, m.1)
 
--- the latch of a place was given back with nothing changed, and the definition there was read
+-- the latch of a place was given back with nothing changed. The definition there counts as read, and its version is noted under each ticket of the
+-- session there
 abbrev pub read_and_put : ℕ → Standing → Mine → Mine
 read_and_put place standing m =
     let known = record (dropped place m.0) {
@@ -161,26 +166,26 @@ read_and_put place standing m =
 
 -- ---- the directory
 
--- as its latch is taken: different keys have different places, there are places for all of them, and each key that the session knows
--- is where it knows it to be
+-- the directory as its latch is taken: different keys have different places, there are places for all of them, and each key that the session
+-- knows is at the place where it knows the key to be
 pub record IsDirectory (slots : ℕ) (k : Keys) (m : Mine) : Type 0 where
   pub distinct : Distinct k.keys
   pub fit : length k.keys < slots
   pub known : KnowsKeys k.keys m.0
 
--- the directory's latch was taken, with this record of it
+-- the directory's latch was taken, with this record of it, and the directory is in hand
 abbrev pub consulted : Keys → Mine → Mine
 consulted k m = (logged step.TakeLatch [] (latch_word 0) 0 m.0.latches (record m.0 { directory = Some k }), (0, slot.Directory k) ∷ m.1)
 
--- it was given back, and the session knows these keys, too. The step has the record that there was
+-- the directory's latch was given back, and the session knows these keys, too. The step in the list has the directory's record
 abbrev pub informed : List Known → Mine → Mine
 informed more m = (record (logged step.PutLatch [] (latch_word 0) m.0.number m.0.latches m.0) { directory = None; known = m.0.known ++ more }, rest m.1)
 
--- with a key for the place after all others
+-- the directory with one more key, for the place after all others
 abbrev pub listing : KeyName → Keys → Keys
 listing key k = record { keys = k.keys ++ key ∷ [] }
 
--- the latch of a place was given back with the book of a new key, which the directory's record has from then on
+-- the latch of a place was given back with the book of a new key, and the directory's record has that key from then on
 abbrev pub named : ℕ → KeyName → Mine → Mine
 named place key m =
     let v = dropped place m.0 in
@@ -188,7 +193,7 @@ named place key m =
 
 -- ---- the kinds of step: the session keeps its number
 
--- the directory's latch is taken where it was free, and otherwise only that was met
+-- the directory's latch is taken if it was free, otherwise it is found taken
 abbrev pub takes_directory : Step Slot → Mine → ℕ → Mine → Type 0
 takes_directory st m found m′ =
     (m′.0.number ≡ m.0.number)
@@ -196,11 +201,11 @@ takes_directory st m found m′ =
     (found ≡ 0 → (k : Keys) × IsDirectory st.slots k m × (m′ ≡ consulted k m))
     × (found ≢ 0 → m′ ≡ missed_latch 0 found m))
 
--- the directory's latch is given back, and these keys are known from then on
+-- the directory's latch is given back, and the session knows these keys, too
 abbrev pub puts_directory : List Known → Step Slot → Mine → ℕ → Mine → Type 0
 puts_directory more st m found m′ = (m′.0.number ≡ m.0.number) × (st.word ≡ latch_word 0 → m′ ≡ informed more m)
 
--- the latch of a place is taken where it was free, and otherwise only that was met
+-- the latch of a place is taken if it was free, otherwise it is found taken
 abbrev pub takes_latch : Step Slot → Mine → ℕ → Mine → Type 0
 takes_latch st m found m′ =
     (m′.0.number ≡ m.0.number)
@@ -213,49 +218,49 @@ abbrev pub puts_latch : List Deed → Step Slot → Mine → ℕ → Mine → Ty
 puts_latch ds st m found m′ =
     (m′.0.number ≡ m.0.number) × ((place : ℕ) → st.word ≡ latch_word place → m′ ≡ unlatched place ds m)
 
--- the latch of a place is given back with nothing changed, and what the book in hand has is read
+-- the latch of a place is given back with nothing changed, and the definition of the book in hand counts as read
 abbrev pub puts_reading : Step Slot → Mine → ℕ → Mine → Type 0
 puts_reading st m found m′ =
     (m′.0.number ≡ m.0.number)
     × ((place : ℕ) (book : BookView) → st.word ≡ latch_word place → m.1 ≡ (place, slot.Place book) ∷ rest m.1 →
     m′ ≡ read_and_put place book.standing m)
 
--- the latch of a place is given back with the book of a new key in hand, which has the place from then on
+-- the latch of a place is given back with the book of a new key in hand, and the key has the place from then on
 abbrev pub puts_key : Step Slot → Mine → ℕ → Mine → Type 0
 puts_key st m found m′ =
     (m′.0.number ≡ m.0.number)
     × ((place : ℕ) (book : BookView) → st.word ≡ latch_word place → m.1 ≡ (place, slot.Place book) ∷ rest m.1 →
     m′ ≡ named place book.key m)
 
--- flags of a place are raised, by `|` with their number
+-- flags of a place's word are raised, by `|` with the number that has just their bits
 abbrev pub raises_flags : Step Slot → Mine → ℕ → Mine → Type 0
 raises_flags st m found m′ =
     (m′.0.number ≡ m.0.number)
     × ((place : ℕ) (slow obtrusive : Bool) → st.word ≡ lock_word place → st.first ≡ flags_alone slow obtrusive →
     m′ ≡ stepped (step.RaiseFlags slow obtrusive) place found (raised slow obtrusive) m)
 
--- the word of a place is read, and noted where that holds good
+-- the word of a place is read, and noted if the flag OBTRUSIVE is up by the record
 abbrev pub reads_word : Step Slot → Mine → ℕ → Mine → Type 0
 reads_word st m found m′ =
     (m′.0.number ≡ m.0.number)
     × ((place : ℕ) → st.word ≡ lock_word place → m′ ≡ stepped step.ReadWord place found (noting found) m)
 
--- flags of a place are lowered, by `&` with the number of all bits but theirs, after these deeds. The record's book is the one in
--- hand from then on
+-- flags of a place's word are lowered, by `&` with the number that has all bits except theirs, after these deeds. From then on the record's book is
+-- the one in hand
 abbrev pub lowers_flags : List Deed → Step Slot → Mine → ℕ → Mine → Type 0
 lowers_flags ds st m found m′ =
     (m′.0.number ≡ m.0.number)
     × ((place : ℕ) (slow obtrusive : Bool) (book : BookView) → st.word ≡ lock_word place → st.first ≡ all_but_flags slow obtrusive →
     m.1 ≡ (place, slot.Place book) ∷ rest m.1 → m′ ≡ flags_lowered place ds found book slow obtrusive m)
 
--- the version of a place is written: that of the book in hand, which the record has from then on
+-- the version of the book in hand is written into the version's word of its place. From then on the record has that version and its definition
 abbrev pub writes_version : Step Slot → Mine → ℕ → Mine → Type 0
 writes_version st m found m′ =
     (m′.0.number ≡ m.0.number)
     × ((place : ℕ) (book : BookView) → st.word ≡ version_word place → m.1 ≡ (place, slot.Place book) ∷ rest m.1 →
     m′ ≡ redefined place book.standing m)
 
--- a number is drawn for one more seat: the one after that which was drawn last
+-- a number is drawn for one more seat: the one after the last that was drawn
 abbrev pub enrols : Step Slot → Mine → ℕ → Mine → Type 0
 enrols st m found m′ =
     (found ≡ m.0.spare.drawn + 1)

@@ -1,13 +1,20 @@
 -- The rule of the table, which holds between any two steps of all sessions.
 --
--- Of each place: granted tickets of different sessions are compatible, fast and slow ones together (`lawful`); the word counts
--- just the fast tickets (`counted`); its flags show whether the lists hold any ticket, and any obtrusive one, exactly while
--- the latch is free, and at least so while it is taken (`free`, `flagged`); each session's slow tickets are those of it in the
--- granted list (`slow_held`); the version's word, the book, and what sessions read and noted agree (`versions_agree`); the definition
--- fits the key and its version (`stands`); a noted word counts at least the fast tickets (`noted_counts`); just the tickets of waits that
--- weren't granted are in the waiting list (`waiting`). Of the table: different keys have different places, and the book of a place
--- is that of its key (`directory_agrees`); a session's wait word has the number of its last wait, and a state that is idle exactly where it waits for
--- nothing (`waits_agree`).
+-- It says of each place:
+-- * Granted tickets of different sessions are compatible, fast and slow ones together (`lawful`).
+-- * The word counts exactly the fast tickets (`counted`).
+-- * While the latch is free, the word's flags are up exactly if the lists hold a ticket, or an obtrusive one (`free`). While it is taken, they are
+--   up at least then (`flagged`).
+-- * The tickets of a session in the granted list are its slow tickets, and the one of a granted wait that it hasn't ended (`slow_held`).
+-- * The version's word, the book, and what sessions read and noted agree (`version_is`, `versions_agree`).
+-- * The definition is valid for the key and its version (`stands`).
+-- * A noted word counts at least the fast tickets (`noted_counts`).
+-- * The waiting list has exactly the tickets of the waits that aren't granted (`waiting`).
+--
+-- It says of the whole table:
+-- * Different keys have different places (`distinct`), the directory has them (`directory_agrees`), and the book of a place is that of its key (`named`).
+-- * A session's wait word has the number of its last wait, and a state that is idle exactly if the session waits for nothing (`waits_agree`).
+-- * Sessions have different numbers (`enrolled`). A session's ticket numbers are below its next one, and what it knows of keys is true (`views`).
 use Rattle.std.specs.Prelude.{◌≡◌, ◌≢◌, ℕ, ◌+◌, ◌-◌, ◌<◌, ◌≤◌, Bool, true, not, List, [], ◌++◌, map, length, slice_index, slice_get, Option, Some, None}
 use Rattle.std.specs.List.{list_all}
 use Rattle.std.specs.Option.{option_to_list}
@@ -42,37 +49,39 @@ use Rattle.mdl_steps.specs.WaitStates.{IsSettled, IsState, idle_state, wait_numb
 
 -- ---- the clauses of one place
 
--- granted tickets are compatible, fast and slow ones together: each is in a mode of the kind, and a fast one is in no obtrusive mode
+-- granted tickets of different sessions are compatible, fast and slow ones together. Each is in a mode of the lock's kind, and no fast one is in
+-- an obtrusive mode
 pub record Lawful (kind : Kind) (fast granted : List Ticket) : Type 0 where
   pub compatible : is_lawful kind (fast ++ granted) ≡ true
   pub modes : list_all (λ t. is_mode_of kind t.mode) (fast ++ granted) ≡ true
   pub unobtrusive : list_all (λ t. not (is_obtrusive kind t.mode)) fast ≡ true
 
--- the word counts just the fast tickets, class by class, and has these flags
+-- the word counts exactly the fast tickets, class by class, and has these flags
 abbrev pub Counted : Kind → ℕ → List Ticket → Bool → Bool → Type 0
 Counted kind word fast slow obtrusive =
     Encodes word (counted kind 0 fast) (counted kind 1 fast) (counted kind 2 fast) slow obtrusive
 
--- the flags are up for each ticket in the lists that needs them
+-- each flag is up if the lists need it: `slow` if they hold a ticket, `obtrusive` if they hold an obtrusive one
 abbrev pub Flagged : BookView → Bool → Bool → Type 0
 Flagged book slow obtrusive = (has_tickets book ≡ true → slow ≡ true) × (has_obtrusive book ≡ true → obtrusive ≡ true)
 
--- and just for these
+-- each flag is up exactly if the lists need it
 abbrev pub TellsLists : BookView → Bool → Bool → Type 0
 TellsLists book slow obtrusive = (slow ≡ has_tickets book) × (obtrusive ≡ has_obtrusive book)
 
--- a session's slow tickets are those of its number in the granted list, and the one that its wait was granted
+-- the tickets of a session in the granted list are its slow tickets, and the ticket of its wait if that is granted and not ended. No slow ticket has
+-- the number of that ticket
 pub record SlowHeld (granted : List Ticket) (x : Part) : Type 0 where
   pub same : (number : ℕ) → ticket_of x.number number granted ≡ ticket_of x.number number (slow_tickets x)
   pub apart : (t : Ticket) → due x.asks ≡ Some t → ticket_of x.number t.number (map (ticket_by x.number) x.slow) ≡ None
 
--- a ticket of the list is of a session that has a view
+-- each ticket of the list is of a session that has a view
 abbrev pub Owned : List Part → List Ticket → Type 0
 Owned parts tickets =
     (session number : ℕ) (t : Ticket) → ticket_of session number tickets ≡ Some t →
     (j : ℕ) × (x : Part) × (get_elem? parts j ≡ some x) × (x.number ≡ session)
 
--- just the tickets of waits that weren't granted are in the waiting list, each once and in a mode of the kind
+-- the waiting list has exactly the tickets of the waits that aren't granted, each once and in a mode of the lock's kind
 pub record WaitingOk (kind : Kind) (parts : List Part) (waiting : List Ticket) : Type 0 where
   pub once : Once waiting
   pub modes : list_all (λ t. is_mode_of kind t.mode) waiting ≡ true
@@ -80,37 +89,37 @@ pub record WaitingOk (kind : Kind) (parts : List Part) (waiting : List Ticket) :
   pub same : (j : ℕ) (x : Part) → get_elem? parts j ≡ some x → (number : ℕ) →
       ticket_of x.number number waiting ≡ ticket_of x.number number (option_to_list (pending x.asks))
 
--- what was read is no newer than the definition of the book, and if it is as new it is that
+-- a version that was read is no newer than the book's. If it is the book's version, the definition that was read is the book's, too
 abbrev pub ReadAgrees : BookView → Read → Type 0
 ReadAgrees book r =
     (r.standing.version ≤ book.standing.version) × (r.standing.version ≡ book.standing.version → r.standing ≡ book.standing)
 
--- a version that is noted under a ticket is that of the book
+-- a version that is noted under a ticket is the book's version
 abbrev pub NoteAgrees : BookView → Own → Type 0
 NoteAgrees book t = (version : ℕ) → t.noted ≡ Some version → version ≡ book.standing.version
 
--- what a session read and noted at a place agrees with its book
+-- what a session read and noted at a place agrees with the place's book
 pub record ReadsAgree (book : BookView) (x : Part) : Type 0 where
   pub reads : Each (ReadAgrees book) x.reads
   pub fast : Each (NoteAgrees book) x.fast
   pub slow : Each (NoteAgrees book) x.slow
 
--- nobody has a ticket in the book or waits for one, and nothing was ever defined under its key
+-- the book has no granted or waiting ticket, no definition, and version 0
 abbrev pub IsUnused : BookView → Type 0
 IsUnused book = (book.granted ≡ []) × (book.waiting ≡ []) × (book.standing ≡ nothing_yet)
 
--- the book is that of the place's key. Where the place has none yet, the book is unused, and nobody has a fast ticket there
+-- the book is the one of the place's key. If the place has no key yet, the book is unused, and no session has a fast ticket there
 pub record Named (key : Option KeyName) (book : BookView) (parts : List Part) : Type 0 where
   pub key_is : (k : KeyName) → key ≡ Some k → book.key ≡ k
   pub vacant : key ≡ None → IsUnused book × (all_fast parts ≡ [])
 
--- what is said of one session's part
+-- the rule for what one session has at a place: its fast tickets aren't too many, its slow ones are in the book, and its versions are the book's
 pub record PartOk (book : BookView) (x : Part) : Type 0 where
   pub few : length x.fast ≤ most_fast
   pub slow_held : SlowHeld book.granted x
   pub versions_agree : ReadsAgree book x
 
--- what is said of the book, whoever holds the latch
+-- the rule for the book of a place, whether or not a session holds the latch
 pub record BookOk (key : Option KeyName) (version : ℕ) (parts : List Part) (book : BookView) : Type 0 where
   pub lawful : Lawful (lock_kind book) (all_fast parts) book.granted
   pub once : Once book.granted
@@ -121,12 +130,13 @@ pub record BookOk (key : Option KeyName) (version : ℕ) (parts : List Part) (bo
   pub named : Named key book parts
   pub each : (j : ℕ) (x : Part) → get_elem? parts j ≡ some x → PartOk book x
 
--- under the noted word the flag OBTRUSIVE is up, and the word counts at least the fast tickets
+-- if a word is noted, the flag OBTRUSIVE is up, and the noted word counts at least the fast tickets
 abbrev pub NotedCounts : Kind → List Ticket → Bool → Option ℕ → Type 0
 NotedCounts kind fast obtrusive noted =
     (word : ℕ) → noted ≡ Some word → (obtrusive ≡ true) × CoversFastTickets kind word fast
 
--- the record of a latch has the book and the flags as they are, and its session holds the latch
+-- the record of a latch has the place's book and flags, the latch's word has the number of the record's session, and a noted
+-- word counts at least the fast tickets
 pub record HeldOk (latch : ℕ) (parts : List Part) (book : BookView) (slow obtrusive : Bool) (number : ℕ) (h : LatchRecord) : Type 0 where
   pub mine : number ≡ latch
   pub some_session : 0 < number
@@ -135,7 +145,7 @@ pub record HeldOk (latch : ℕ) (parts : List Part) (book : BookView) (slow obtr
   pub obtrusive_is : h.obtrusive ≡ obtrusive
   pub noted_counts : NotedCounts (lock_kind book) (all_fast parts) obtrusive h.noted
 
--- the rule at one place, whose book is at home while the latch is free, and otherwise with the session that holds the latch
+-- the rule for one place. Its book is in its slot while the latch is free, otherwise in the record of the session that holds the latch
 pub record PlaceOk (key : Option KeyName) (c : Cell) : Type 0 where
   pub book : BookView
   pub slow : Bool
@@ -150,8 +160,8 @@ pub record PlaceOk (key : Option KeyName) (c : Cell) : Type 0 where
 
 -- ---- the clauses of the whole table
 
--- the first seat draws numbers in turn, each for one more seat; so sessions have numbers of their own, from 1 on, and there are no
--- more of them than there may be
+-- the first seat draws numbers in turn, each for one more seat. So each session has a number of its own, from 1 on, and there are at most `most`
+-- sessions
 pub record Enrolled (most drawn : ℕ) (numbers : List ℕ) (spares : List Spare) : Type 0 where
   pub limit : most ≤ most_enrolled
   pub first : Spare
@@ -164,8 +174,8 @@ pub record Enrolled (most drawn : ℕ) (numbers : List ℕ) (spares : List Spare
   pub apart : (i j n : ℕ) → get_elem? numbers i ≡ some n → get_elem? numbers j ≡ some n → 0 < n → i ≡ j
   pub room : length numbers ≡ first.given + 1
 
--- a session's wait word has the number of its last wait, and a state: idle exactly where it waits for nothing. Where the session met it
--- settled, it is so
+-- a session's wait word has the number of its last wait, and a state, which is idle exactly if the session waits for nothing. A session that waits
+-- does so at a place of the table. If it met the word settled, the word still has that state
 pub record WaitOk (slots word : ℕ) (x : Waiter) : Type 0 where
   pub number : wait_number word ≡ x.waits
   pub state : IsState (wait_state word)
@@ -173,21 +183,21 @@ pub record WaitOk (slots word : ℕ) (x : Waiter) : Type 0 where
   pub asks : (a : Ask) → x.asks ≡ Some a → (wait_state word ≢ idle_state) × (0 < a.place) × (a.place < slots)
   pub told : (state : ℕ) → x.told ≡ Some state → IsSettled state × (wait_state word ≡ state)
 
--- it is so of each session, and the wait word of a number that no session has yet is 0
+-- this holds for each session, and the wait word of a number that no session has yet is 0
 pub record WaitsAgree (slots most : ℕ) (waits : ℕ → ℕ) (waiters : List Waiter) : Type 0 where
   pub each : (j : ℕ) (x : Waiter) → get_elem? waiters j ≡ some x → WaitOk slots (waits x.number) x
   pub unused : (n : ℕ) → n ≤ most → ((j : ℕ) (x : Waiter) → get_elem? waiters j ≡ some x → x.number ≢ n) → waits n ≡ 0
 
--- a ticket has another number than one of its place
+-- two tickets at one place have different numbers
 abbrev pub IsUnlike : Own → Own → Type 0
 IsUnlike t u = u.place ≡ t.place → u.number ≢ t.number
 
--- no slow ticket has the number of a fast one of its place
+-- no slow ticket has the number of a fast ticket at the same place
 abbrev pub AreUnmixed : List Own → List Own → Type 0
 AreUnmixed fast slow = Each (λ t. Each (IsUnlike t) slow) fast
 
--- a session's tickets have numbers below its next one, its slow ones others than its fast ones of their place, and the one that it waits for has
--- none of theirs. While it waits it has no fast ticket
+-- a session's tickets, and the one that it waits for, have numbers below its next one. No slow ticket has the number of a fast ticket at the same
+-- place, or of the ticket that the session waits for. A session that waits has no fast ticket
 pub record Numbered (v : View) : Type 0 where
   pub fast : Each (λ (t : Own). t.number < v.next) v.fast
   pub slow : Each (λ (t : Own). t.number < v.next) v.slow
@@ -196,21 +206,23 @@ pub record Numbered (v : View) : Type 0 where
   pub apart : (a : Ask) → v.asks ≡ Some a → Each (λ (t : Own). t.number ≢ a.number) v.slow
   pub unfast : (a : Ask) → v.asks ≡ Some a → v.fast ≡ []
 
--- the key of a place
+-- the key of a place from 1 on, if it has one
 abbrev pub key_at : List KeyName → ℕ → Option KeyName
 key_at keys place = slice_get keys (place - 1)
 
--- what a session knows of keys is so
+-- each key that a session knows is at the place where the session knows it to be
 abbrev pub KnowsKeys : List KeyName → View → Type 0
 KnowsKeys keys v = Each (λ (k : Known). (0 < k.place) × (key_at keys k.place ≡ Some k.key)) v.known
 
--- the directory is at home while its latch is free, and otherwise its holder has recorded it
+-- the directory is in slot 0 while its latch is free, otherwise in the record of the session that holds the latch, whose number the word has
 pub record DirectoryOk (latch : ℕ) (home : Maybe (Maybe Slot)) (desks : List Desk) (keys : List KeyName) : Type 0 where
   pub free : latch ≡ 0 → home ≡ some (some (slot.Directory (record { keys = keys })))
   pub taken : latch ≢ 0 → (j : ℕ) × (d : Desk) × (k : Keys) × (get_elem? desks j ≡ some d) × (d.directory ≡ Some k)
   pub held : (j : ℕ) (d : Desk) → get_elem? desks j ≡ some d → (k : Keys) → d.directory ≡ Some k →
       (d.number ≡ latch) × (0 < latch) × (k.keys ≡ keys)
 
+-- the rule of the table. It has words for its slots and for at most `most` sessions, `keys` are the keys that have places, in order of these, and the
+-- clauses above hold for each view and each place
 pub record Rule (s : State Slot View) : Type 0 where
   pub most : ℕ
   pub wide : length s.words ≡ word_count (length s.homes) most

@@ -1,4 +1,4 @@
--- What the rule of the table comes to, in words of its own. The rule holds between any two steps of all sessions.
+-- What follows from the rule of the table, in plainer terms. The rule holds between any two steps of all sessions.
 use Rattle.std.specs.Prelude.{◌≡◌, ◌≢◌, ℕ, ◌<◌, true, List, ◌++◌, length, slice_index, Some, None}
 use mathlib.Core.Option.{some}
 use lib.ListN.{get_elem?}
@@ -20,7 +20,7 @@ use Rattle.mdl_steps.specs.Layout.{latch_word, lock_word, version_word}
 use Rattle.mdl_steps.specs.Rule.{Rule, Counted, Flagged}
 use Rattle.mdl_steps.specs.WaitStates.{IsState, granted_state, idle_state, wait_number, wait_state}
 
--- the fast tickets that all sessions have at a place
+-- the fast tickets of all sessions at a place
 abbrev pub fast_at : State Slot View → ℕ → List Ticket
 fast_at s place = all_fast (cell s place).parts
 
@@ -37,9 +37,9 @@ FreeLocksAreAsTheirWordsTell =
     × Counted (lock_kind book) (slice_index s.words (lock_word place)) (fast_at s place) (has_tickets book) (has_obtrusive book)
     × StandsTogether s place book
 
--- while a session holds the latch, the latch's word has its number, its record has the book as it is, its word counts exactly
--- the fast tickets held, its two flags are those of the record and up for each ticket in the lists that needs them, and granted tickets of different
--- sessions are compatible
+-- while a session holds a lock's latch, the latch's word has the session's number, the lock's word counts exactly the fast tickets held, its two
+-- flags are those of the session's record and up if the lists of the record's book need them, and granted tickets of different sessions, by that
+-- book, are compatible
 abbrev pub HeldLocksAreAsTheirRecordsTell : Type 0
 HeldLocksAreAsTheirRecordsTell =
     (s : State Slot View) → Rule s → (place : ℕ) → 0 < place → place < length s.homes →
@@ -54,15 +54,15 @@ TakenLatchesAreHeld =
     (s : State Slot View) → Rule s → (place : ℕ) → 0 < place → place < length s.homes → slice_index s.words (latch_word place) ≢ 0 →
     (i : ℕ) × (v : View) × (h : LatchRecord) × (get_elem? s.views i ≡ some v) × (held_at place v.latches ≡ Some h) × (slice_index s.words (latch_word place) ≡ v.number)
 
--- a version that a session noted under a ticket is the current one, as long as it has the ticket
+-- a version that a session noted under a ticket is the current one as long as the session has the ticket
 abbrev pub NotedVersionsStand : Type 0
 NotedVersionsStand =
     (s : State Slot View) → Rule s → (i : ℕ) (v : View) → get_elem? s.views i ≡ some v →
     (k : ℕ) (t : Own) → get_elem? (v.slow ++ v.fast) k ≡ some t → 0 < t.place → t.place < length s.homes →
     (version : ℕ) → t.noted ≡ Some version → slice_index s.words (version_word t.place) ≡ version
 
--- what a session read in the current version is the definition: no two reads of it differ, while the latch is free the book has it, and
--- while a session holds the latch the book by its record
+-- what a session read in the current version is the key's definition: all its reads of that version are the same, while the latch is free the book
+-- in the slot has it, and while a session holds the latch the book in that session's record has it
 abbrev pub ReadsAreOfWhatStands : Type 0
 ReadsAreOfWhatStands =
     (s : State Slot View) → Rule s → (i : ℕ) (v : View) → get_elem? s.views i ≡ some v →
@@ -71,9 +71,9 @@ ReadsAreOfWhatStands =
     × (slice_index s.words (latch_word r.place) ≡ 0 → (book : BookView) × (get_elem? s.homes r.place ≡ some (some (slot.Place book))) × (book.standing ≡ r.standing))
     × ((j : ℕ) (w : View) (h : LatchRecord) → get_elem? s.views j ≡ some w → held_at r.place w.latches ≡ Some h → h.book.standing ≡ r.standing)
 
--- a session's wait word has the number of its last wait, and its state: idle where the session waits for nothing. Where it waits, its ticket
--- is in the granted list of the lock's book while the state is granted, and otherwise in the waiting list. While the latch is free the book is
--- at home
+-- a session's wait word has the number of its last wait, and a state, which is idle if the session waits for nothing. If the session waits, the state
+-- isn't idle, and while the lock's latch is free, the session's ticket is in the granted list of the book in the slot if the state is granted, and
+-- otherwise in the waiting list
 abbrev pub WaitersAreAsTheirWordsTell : Type 0
 WaitersAreAsTheirWordsTell =
     (s : State Slot View) → Rule s → (i : ℕ) (v : View) → get_elem? s.views i ≡ some v →
@@ -83,7 +83,7 @@ WaitersAreAsTheirWordsTell =
     × (wait_state (waits s v.number) ≡ granted_state → ticket_of v.number a.number book.granted ≡ Some (record { session = v.number; number = a.number; mode = a.mode }))
     × (wait_state (waits s v.number) ≢ granted_state → ticket_of v.number a.number book.waiting ≡ Some (record { session = v.number; number = a.number; mode = a.mode }))))
 
--- each ticket in the waiting list of a free lock's book is of a session that waits for it and wasn't granted it
+-- while a lock's latch is free, each ticket in the waiting list of its book is of a session that waits for it and whose wait isn't granted
 abbrev pub NobodyElseWaits : Type 0
 NobodyElseWaits =
     (s : State Slot View) → Rule s → (place : ℕ) → 0 < place → place < length s.homes → slice_index s.words (latch_word place) ≡ 0 →

@@ -1,4 +1,4 @@
--- The tables of a schema, as the directory has them.
+-- The tables of a schema by the directory.
 use Rattle.std.specs.Prelude.{◌≡◌, ℕ, ◌+◌, ◌<◌, Bool, true, false, not, ◌&&◌, List, [], ◌∷◌, ◌++◌, filter, All, Some, if◌then◌else◌}
 use Rattle.std.specs.List.{list_any}
 use Rattle.std.specs.Str.{bytes_eq}
@@ -9,20 +9,20 @@ use Rattle.mdl_steps.specs.declared.view.Keys.{Keys}
 use Rattle.mdl_steps.specs.declared.view.Known.{Known}
 use Rattle.mdl_steps.specs.Rule.{key_at}
 
--- whether keys of a namespace are those of tables
+-- whether the keys of a namespace are keys of tables
 abbrev pub is_of_tables : Namespace → Bool
 is_of_tables Table = true
 is_of_tables _ = false
 
--- whether a key is that of a table of this schema
+-- whether a key is the key of a table of this schema
 abbrev pub is_table_of : List ℕ → KeyName → Bool
 is_table_of schema key = is_of_tables key.namespace && bytes_eq key.schema schema
 
--- a key and its place, where it is that of a table of this schema
+-- the key with its place if it is the key of a table of this schema, otherwise nothing
 abbrev pub table_at : List ℕ → ℕ → KeyName → List Known
 table_at schema place key = if is_table_of schema key then record { key = key; place = place } ∷ [] else []
 
--- the tables of this schema and their places, by keys of which the first has this place
+-- the tables of this schema with their places, given keys of which the first has this place and each other the next one
 abbrev pub tables_from : List ℕ → ℕ → List KeyName → List Known
 tables_from schema place [] = []
 tables_from schema place (key ∷ keys) = table_at schema place key ++ tables_from schema (place + 1) keys
@@ -35,6 +35,6 @@ StandThere k known = All (λ (x : Known). (0 < x.place) × (key_at k.keys x.plac
 abbrev pub is_known : List Known → KeyName → Bool
 is_known known key = list_any (λ (k : Known). key_eq k.key key) known
 
--- those of some keys that it doesn't know
+-- those of the keys `more` that aren't among the known ones
 abbrev pub unknown : List Known → List Known → List Known
 unknown known more = filter (λ (k : Known). not (is_known known k.key)) more

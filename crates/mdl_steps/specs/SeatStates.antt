@@ -8,13 +8,13 @@ use Rattle.mdl_steps.specs.Plays.{Mine, logged}
 use Rattle.mdl_steps.specs.Seats.{IsSized}
 use Rattle.mdl_steps.specs.WaitSeats.{IsSession}
 
--- which table it is at, and what the session knows and has there. The session's number is that of its view
+-- the table of a seat, and what the session knows and has there. The session's number is that of its view
 pub record SeatState : Type 0 where
   pub table : TableId
   pub me : Mine
 
--- what goes for each seat: it is of the table that it has, which has words for its slots, a directory, and a word of the session's wait; and the
--- session's number is that of the view
+-- what holds for each seat: it belongs to the table that it has, which has words for its slots, a directory, and the session's wait word. The
+-- session's number is that of its view
 pub record IsSeat (table of : TableId) (number : ℕ) (me : Mine) : Type 0 where
   pub same : of ≡ table
   pub sized : IsSized table
@@ -22,11 +22,11 @@ pub record IsSeat (table of : TableId) (number : ℕ) (me : Mine) : Type 0 where
   pub numbered : me.0.number ≡ number
   pub session : IsSession table number
 
--- the seat is at its table still, and what the session knows and has there changed so
+-- the seat is still at its table, and what the session knows and has there changed according to `Changes`
 abbrev pub AtItsTable : SeatState → SeatState → (Mine → Mine → Type 0) → Type 0
 AtItsTable s s′ Changes = (s′.table ≡ s.table) × Changes s.me s′.me
 
--- a session's seat at first: it has drawn its number, and has nothing
+-- the seat of a new session: it has its number, the step that drew that, and nothing else
 abbrev pub enrolled_seat : TableId → ℕ → SeatState
 enrolled_seat table number =
     record { table = table; me = (logged step.Enrol [] (enrol_word table.slots) number [] (blank number no_numbers), []) }

@@ -22,15 +22,15 @@ use Rattle.mdl_steps.specs.Plays.{Mine, logged, noting_version}
 
 -- ---- the view
 
--- with this version noted under each ticket at a place. What was read stays
+-- the view with this version noted under each ticket at a place. What was read is unchanged
 abbrev pub noting_found : ℕ → ℕ → View → View
 noting_found place found v = record v { fast = noting_version place found v.fast; slow = noting_version place found v.slow }
 
--- and with what is defined in it, as read there
+-- the view with this version noted under each ticket at a place, and with its definition as read there
 abbrev pub knowing : ℕ → Standing → View → View
 knowing place standing v = let w = noting_found place standing.version v in record w { reads = w.reads ++ record { place = place; standing = standing } ∷ [] }
 
--- the version of a place was read: the session has noted it under each ticket that it has there, and what is defined in it counts as read
+-- the version of a place was read. The session has noted it under each ticket that it has there, and the definition of that version counts as read
 abbrev pub learnt_version : ℕ → Standing → Mine → Mine
 learnt_version place standing m = (logged step.ReadVersion [] (version_word place) standing.version m.0.latches (knowing place standing m.0), m.1)
 
@@ -38,11 +38,11 @@ learnt_version place standing m = (logged step.ReadVersion [] (version_word plac
 abbrev pub met_version : ℕ → ℕ → Mine → Mine
 met_version place found m = (logged step.ReadVersion [] (version_word place) found m.0.latches m.0, m.1)
 
--- likewise, and the session has noted it under each ticket that it has there
+-- the version of a place was read, and the session has noted it under each ticket that it has there
 abbrev pub noted_version : ℕ → ℕ → Mine → Mine
 noted_version place found m = (logged step.ReadVersion [] (version_word place) found m.0.latches (noting_found place found m.0), m.1)
 
--- it is noted where a cache that keeps these definitions has one of just this version of the place
+-- the version of a place was read, and is noted if a cache that keeps these definitions has one of exactly this version of the place
 abbrev pub found_version : List Kept → ℕ → ℕ → Mine → Mine
 found_version kept place found m =
     let v = option_map_or (λ _. noting_found place found m.0) (kept_of place found kept) m.0 in
@@ -50,26 +50,26 @@ found_version kept place found m =
 
 -- ---- what the session knows by it
 
--- it read no newer version there
+-- the session read no newer version at a place
 abbrev pub ReadNoneNewer : ℕ → ℕ → Mine → Type 0
 ReadNoneNewer place version m = Each (λ (r : Read). r.standing.version ≤ version) (reads_at place m.0.reads)
 
--- all that it read there of this version is the same
+-- all that the session read of this version at a place is the same
 abbrev pub ReadOneStanding : ℕ → ℕ → Mine → Type 0
 ReadOneStanding place version m =
     (r q : Read) → Contains (reads_at place m.0.reads) r → Contains (reads_at place m.0.reads) q →
     r.standing.version ≡ version → q.standing.version ≡ version → r.standing ≡ q.standing
 
--- this is defined at a place, by all that the session knows of that: no version that it read there is newer, what it read of this one is just that, and
--- this is the version that it noted under a ticket there. So what it reads under a ticket twice is the same, unless it changed that itself. And it may
--- stand under each key that the session knows to be there
+-- a version and definition agree with all that the session knows of a place. No version that it read there is newer, what it read of this version is
+-- this definition, and each version that it noted under a ticket there is this one. So what it reads twice under a ticket is the same, unless it
+-- changed that itself. And the definition is valid for each key that the session knows to be there
 pub record Follows (place : ℕ) (standing : Standing) (m : Mine) : Type 0 where
   pub reads : Each (λ (r : Read). (r.standing.version ≤ standing.version) × (r.standing.version ≡ standing.version → r.standing ≡ standing)) (reads_at place m.0.reads)
   pub fits : (i : ℕ) (k : Known) → get_elem? m.0.known i ≡ some k → k.place ≡ place → MayStand k.key.namespace standing
   pub noted : Each (λ (t : Own). (version : ℕ) → t.noted ≡ Some version → version ≡ standing.version) (own_at place m.0.slow)
   pub fast_noted : Each (λ (t : Own). (version : ℕ) → t.noted ≡ Some version → version ≡ standing.version) (own_at place m.0.fast)
 
--- it has learnt the version of a place by a step, and what is defined in it, which follows all that it knew
+-- by a step the session has learnt the version of a place, with a definition that agrees with all that it knew
 pub record LearnsVersion (place version : ℕ) (m m′ : Mine) : Type 0 where
   pub standing : Standing
   pub found : standing.version ≡ version
@@ -78,11 +78,11 @@ pub record LearnsVersion (place version : ℕ) (m m′ : Mine) : Type 0 where
 
 -- ---- the kinds of step: the session keeps its number
 
--- the version of a place is read, whoever holds the latch
+-- the version of a place is read, whether or not a session holds the latch
 abbrev pub reads_version : Step Slot → Mine → ℕ → Mine → Type 0
 reads_version st m found m′ = (m′.0.number ≡ m.0.number) × ((place : ℕ) → st.word ≡ version_word place → LearnsVersion place found m m′)
 
--- it is looked for in a cache that keeps these definitions, and noted where that has one of it
+-- the version of a place is read, looked up in a cache that keeps these definitions, and noted if the cache has one of that version
 abbrev pub finds_version : List Kept → Step Slot → Mine → ℕ → Mine → Type 0
 finds_version kept st m found m′ =
     (m′.0.number ≡ m.0.number)

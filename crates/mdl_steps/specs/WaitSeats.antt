@@ -1,4 +1,4 @@
--- What a caller has to know to make a step on a wait's word.
+-- What must hold for a caller to make a step on a wait word.
 use Rattle.std.specs.Prelude.{◌≡◌, ℕ, ◌<◌, true, [], Some, None}
 use Rattle.atomic_table.specs.Seated.{TableId}
 use Rattle.mdl_key.specs.declared.mode.Mode.{Mode}
@@ -17,11 +17,12 @@ use Rattle.mdl_steps.specs.Rule.{Flagged}
 use Rattle.mdl_steps.specs.WaitPlays.{asked_ticket}
 use Rattle.mdl_steps.specs.WaitStates.{IsLost}
 
--- the wait word of a session is among the words
+-- the table has a wait word for the session
 abbrev pub IsSession : TableId → ℕ → Type 0
 IsSession id session = (0 < session) × (wait_word id.slots session < id.words)
 
--- the seat holds the latch of the place and may open a wait there: it has none yet, nor any fast ticket, and the flags are up that its ticket needs
+-- the seat holds the latch of the place and may open a wait for a mode there: the session waits for nothing, has no fast ticket at all, has looked up
+-- the place's key, and the flags are up that the lists need with its ticket
 pub record MayOpen (place : ℕ) (mode : Mode) (h : LatchRecord) (m : Mine) : Type 0 where
   pub recorded : held_at place m.0.latches ≡ Some h
   pub idle : m.0.asks ≡ None
@@ -30,8 +31,8 @@ pub record MayOpen (place : ℕ) (mode : Mode) (h : LatchRecord) (m : Mine) : Ty
   pub mode_is : is_mode_of (lock_kind h.book) mode ≡ true
   pub flagged : Flagged (enqueueing (asked_ticket mode m.0) h.book) h.slow h.obtrusive
 
--- the seat holds the latch of the place, and the waiting ticket of a session there is compatible with all that is granted, and waits behind no
--- other waiting one
+-- the seat holds the latch of the place, and the waiting ticket of a session there is compatible with all that other sessions hold, and is behind no
+-- other session's waiting ticket
 pub record MayGrant (place session ticket : ℕ) (h : LatchRecord) (m : Mine) : Type 0 where
   pub recorded : held_at place m.0.latches ≡ Some h
   pub wish : Ticket

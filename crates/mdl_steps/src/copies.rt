@@ -1,4 +1,4 @@
-//! Copies of books, which a session takes along as it leaves their places.
+//! Copies of books, which a session keeps after it has given their latches back.
 ghost use Rattle.std.specs.Prelude.{◌≡◌, [], ◌∷◌, ◌++◌, IfOk, OnOk, OnErr};
 ghost use Rattle.mdl_book.specs.declared.book_view.BookView.{BookView};
 ghost use Rattle.mdl_steps.specs.declared.slot.Slot.TheVariants as slot;
@@ -23,7 +23,7 @@ pub struct BookCopy {
     pub granted: Vec<Ticket>,
     /// The waiting tickets, in order of arrival.
     pub waiting: Vec<Ticket>,
-    /// The definition under the key, if any, and how often that was changed.
+    /// The key's version (how often its definition was changed), with its definition if there is one.
     pub standing: Standing,
 }
 
@@ -41,7 +41,7 @@ impl Model for BookCopy {
 }
 
 impl TableSeat {
-    /// Puts the lists of the book in hand behind others. Nothing else changes, and nothing at all where memory runs out.
+    /// Appends the lists of the book in hand to `lists`. Nothing else changes. If memory runs out, nothing changes at all.
     pub fn copy_lists(&mut self, latch: &Latched, lists: &mut ListCopies) -> Result<(), AllocError>
         requires carried { (book : BookView) × (self.old.me.1 ≡ (latch.now.place, slot.Place book) ∷ rest self.old.me.1) }
         ensures same { self.new ≡ self.old }
@@ -54,7 +54,7 @@ impl TableSeat {
         lists.add(book)
     }
 
-    /// The book in hand, copied. Nothing changes, also where memory runs out.
+    /// Returns a copy of the book in hand. Nothing changes, even if memory runs out.
     pub fn copy_book(&mut self, latch: &Latched, alloc: Global) -> Result<BookCopy, AllocError>
         requires carried { (book : BookView) × (self.old.me.1 ≡ (latch.now.place, slot.Place book) ∷ rest self.old.me.1) }
         ensures same { self.new ≡ self.old }
@@ -66,7 +66,7 @@ impl TableSeat {
     }
 }
 
-// A copy of a book.
+// Returns a copy of a book.
 fn copied(alloc: Global, book: &Book) -> Result<BookCopy, AllocError>
     ensures { IfOk result (λ copy. copy ≡ book.now) }
 {

@@ -1,4 +1,4 @@
-//! The directory's latch: which key has which place.
+//! The directory's latch. The directory says which key has which place.
 ghost use Rattle.std.specs.Prelude.{◌≡◌, ◌≢◌, ℕ, ◌<◌, ◌∷◌, length, MatchOption};
 ghost use Rattle.mdl_steps.specs.declared.slot.Slot.TheVariants as slot;
 ghost use Rattle.mdl_steps.specs.declared.view.Keys.{Keys};
@@ -18,7 +18,8 @@ pub struct LatchedDirectory {
 }
 
 impl TableSeat {
-    /// Takes the directory's latch, if it is free. It comes before the latches of all places, so the session holds none of these.
+    /// Takes the directory's latch if it is free, otherwise returns `None`. It comes before the latches of all places, so the session must
+    /// hold none of these.
     pub fn take_directory(&mut self) -> Option<LatchedDirectory>
         requires first { length self.old.me.0.latches ≡ 0 }
         ensures taken { MatchOption result
@@ -40,7 +41,7 @@ impl TableSeat {
         Some(LatchedDirectory { marker: () })
     }
 
-    /// Gives the directory's latch back. From then on the session knows the key of a place, if it has one; place 0 has none.
+    /// Gives the directory's latch back. From then on the session knows the key of this place, if the place has one. Place 0 has none.
     pub fn put_directory(&mut self, latch: LatchedDirectory, place: usize)
         requires put { MayInform self.old.me }
         ensures made { self.new ≡ record self.old { me = informed (learnt self.old.me place) self.old.me } }
@@ -58,7 +59,7 @@ impl TableSeat {
             .shared
             .store::<PutDirectory<J>>(&mut self.seat, DIRECTORY_LATCH, 0);
     }
-    /// Gives the directory's latch back. From then on the session knows those of these keys that it didn't know.
+    /// Gives the directory's latch back. From then on the session also knows those of the given keys that it didn't know.
     pub fn put_directory_telling(&mut self, latch: LatchedDirectory, known: &[Known])
         requires put { (k : Keys) × HasDirectory k self.old.me × StandThere k known.now }
         ensures made { self.new ≡ record self.old { me = informed (unknown self.old.me.0.known known.now) self.old.me } }

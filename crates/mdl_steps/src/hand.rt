@@ -12,7 +12,7 @@ use crate::{Directory, Slot, View};
 use atomic_table::Seat;
 use mdl_book::Book;
 
-/// The book of the place whose latch the session took last.
+/// Borrows the book of the place whose latch the session took last.
 pub(crate) fn book_in_hand<'a>(
     seat: &'a mut Seat<Slot, View>,
     top: &'a LockTable,
@@ -29,7 +29,7 @@ pub(crate) fn book_in_hand<'a>(
     }
 }
 
-/// The directory, whose latch the session took last.
+/// Borrows the directory, whose latch the session took last.
 pub(crate) fn directory_in_hand<'a>(
     seat: &'a mut Seat<Slot, View>,
     top: &'a LockTable,

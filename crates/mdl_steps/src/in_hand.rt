@@ -1,4 +1,4 @@
-//! The book in hand: under its latch a session reads and writes the book as plain memory, which is no step.
+//! The book in hand: while a session holds a place's latch, it reads and writes the book as plain memory, which is no step.
 ghost use Rattle.std.specs.Prelude.{◌≡◌, ◌∷◌, is_some, IfOk, OnOk, OnErr};
 ghost use Rattle.std.specs.Option.{ok_or};
 ghost use Rattle.mdl_key.specs.Refusals.{Refuses, RefusesJust};
@@ -21,7 +21,7 @@ use mdl_word::Word;
 use std::alloc::AllocError;
 
 impl TableSeat {
-    /// Which flags of the place's word the lists of the book in hand need. Nothing changes.
+    /// Returns which flags of the place's word the lists of the book in hand need. Nothing changes.
     pub fn needs(&mut self, latch: &Latched) -> Needs
         requires carried { (book : BookView) × (self.old.me.1 ≡ (latch.now.place, slot.Place book) ∷ rest self.old.me.1) }
         ensures same { self.new ≡ self.old }
@@ -32,8 +32,8 @@ impl TableSeat {
         book.needs()
     }
 
-    /// Whether the book in hand lets the session's wish for a mode be granted, the place's word being `word`. All fast tickets that the
-    /// word counts are taken for those of other sessions. Nothing changes.
+    /// Whether the session's request for a mode can be granted, by the book in hand and the place's word `word`. All fast tickets that the
+    /// word counts are taken for tickets of other sessions. Nothing changes.
     pub fn can_grant(&mut self, latch: &Latched, mode: Mode, word: Word) -> bool
         requires carried { (book : BookView) × (self.old.me.1 ≡ (latch.now.place, slot.Place book) ∷ rest self.old.me.1) }
         ensures same { self.new ≡ self.old }
@@ -45,7 +45,7 @@ impl TableSeat {
         book.can_grant(session, mode, word)
     }
 
-    /// The version of the definition in the book in hand. Nothing changes.
+    /// Returns the version in the book in hand. Nothing changes.
     pub fn version(&mut self, latch: &Latched) -> u64
         requires carried { (book : BookView) × (self.old.me.1 ≡ (latch.now.place, slot.Place book) ∷ rest self.old.me.1) }
         ensures same { self.new ≡ self.old }
@@ -67,7 +67,7 @@ impl TableSeat {
         book.definition().is_some()
     }
 
-    /// The definition in the book in hand and its version, copied. Nothing changes, also if memory runs out.
+    /// Returns a copy of the version and the definition in the book in hand. Nothing changes, even if memory runs out.
     pub fn standing(&mut self, latch: &Latched) -> Result<Standing, AllocError>
         requires carried { (book : BookView) × (self.old.me.1 ≡ (latch.now.place, slot.Place book) ∷ rest self.old.me.1) }
         ensures same { self.new ≡ self.old }
@@ -78,7 +78,7 @@ impl TableSeat {
         book.read()
     }
 
-    /// Writes a ticket of the session into the book in hand, the place's word being `word`. What waits doesn't count here.
+    /// Adds a granted ticket of the session to the book in hand. `word` is the place's word. Waiting tickets aren't considered.
     pub fn write_gain(
         &mut self,
         latch: &Latched,
@@ -102,7 +102,7 @@ impl TableSeat {
         book.grant(ticket, word)
     }
 
-    /// Writes another mode of a ticket of the session into the book in hand, the place's word being `word`. What waits doesn't count here.
+    /// Changes the mode of a granted ticket of the session in the book in hand. `word` is the place's word. Waiting tickets aren't considered.
     pub fn write_mode(
         &mut self,
         latch: &Latched,
@@ -122,7 +122,7 @@ impl TableSeat {
         book.set_mode(session, number, mode, word)
     }
 
-    /// Takes a ticket of the session out of the book in hand.
+    /// Removes a granted ticket of the session from the book in hand, and returns it.
     pub fn write_loss(&mut self, latch: &Latched, number: u64) -> Result<Ticket, BookError>
         requires carried { (book : BookView) × (self.old.me.1 ≡ (latch.now.place, slot.Place book) ∷ rest self.old.me.1) }
         ensures written { (book : BookView) → self.old.me.1 ≡ (latch.now.place, slot.Place book) ∷ rest self.old.me.1
@@ -136,8 +136,8 @@ impl TableSeat {
         book.remove(session, number)
     }
 
-    /// Changes the definition in the book in hand, and returns its version, one greater than before. `Drop` takes no
-    /// memory. The version's word follows with [`TableSeat::write_version`].
+    /// Changes the definition in the book in hand, and returns its version, which is one greater than before. `Drop` takes no
+    /// memory. [`TableSeat::write_version`] has to write the version's word afterwards.
     pub fn write_change(&mut self, latch: &Latched, change: &Change) -> Result<u64, ChangeError>
         requires carried { (book : BookView) × (self.old.me.1 ≡ (latch.now.place, slot.Place book) ∷ rest self.old.me.1) }
         ensures written { (book : BookView) → self.old.me.1 ≡ (latch.now.place, slot.Place book) ∷ rest self.old.me.1

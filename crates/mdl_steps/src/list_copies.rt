@@ -1,4 +1,4 @@
-//! The tickets of some locks, copied into one list. A second list says where those of each lock are.
+//! Copies of the tickets of several locks, in one list. A second list says where the tickets of each lock are.
 ghost use Rattle.std.specs.Prelude.{◌≡◌, [], ◌∷◌, ◌++◌, ◌<◌, length, get_or, OnOk, OnErr};
 ghost use Rattle.mdl_steps.specs.Copies.{no_queues, queues_of};
 
@@ -7,20 +7,20 @@ use mdl_key::Namespace;
 use std::alloc::{AllocError, Global};
 use std::marker::Model;
 
-// The locks that there is room for at least, once there are any, with two tickets each.
+// The number of locks, with two tickets each, for which room is made before the first one is added.
 const LEAST_ROOM: usize = 64;
 
-/// Where a lock's tickets are among those of all.
+/// Where a lock's tickets are in the list of all tickets.
 #[derive(Clone, Copy)]
 pub(crate) struct Extent {
     namespace: Namespace,
-    // The place of the first granted ticket, that of the first waiting one, and that behind the last.
+    // The index of the first granted ticket, the index of the first waiting ticket, and the index after the last ticket.
     granted: usize,
     waiting: usize,
     end: usize,
 }
 
-/// The lists of some locks, each with the lock's namespace. Who waits for whom hangs on no more.
+/// The granted and waiting lists of several locks, with each lock's namespace. They suffice to tell which session waits for which.
 #[derive(Drop)]
 pub struct ListCopies {
     tickets: Vec<Ticket>,
@@ -39,7 +39,7 @@ impl Model for ListCopies {
 }
 
 impl ListCopies {
-    /// Those of no lock. It takes no memory.
+    /// Returns the lists of no locks. It takes no memory.
     pub fn new(alloc: Global) -> ListCopies
         ensures { result ≡ [] }
     {
@@ -49,14 +49,14 @@ impl ListCopies {
         }
     }
 
-    /// How many locks there are.
+    /// Returns the number of locks.
     pub fn count(&self) -> usize
         ensures { result ≡ length self.now }
     {
         self.extents.len()
     }
 
-    /// The namespace of a lock, its granted tickets and its waiting ones, each in order.
+    /// Returns the namespace of the lock at an index, its granted tickets and its waiting tickets, each in order.
     pub fn lock(&self, at: usize) -> (Namespace, &[Ticket], &[Ticket])
         requires { at < length self.now }
         ensures { (result.0, (result.1.now, result.2.now)) ≡ get_or self.now at no_queues }
@@ -69,7 +69,7 @@ impl ListCopies {
         )
     }
 
-    /// Makes room for many locks before the first one comes, so that memory isn't taken for each of the first few. They stay the same.
+    /// Makes room for many locks before the first one is added, so that the first few don't take memory one by one. The lists are unchanged.
     pub(crate) fn make_room(&mut self) -> Result<(), AllocError>
         ensures { self.new ≡ self.old }
     {
@@ -80,7 +80,7 @@ impl ListCopies {
         Ok(())
     }
 
-    /// Puts those of a lock behind the others.
+    /// Appends the lists of a lock.
     pub(crate) fn add(&mut self, book: &Book) -> Result<(), AllocError>
         ensures added { OnOk result (self.new ≡ self.old ++ queues_of book.now ∷ []) }
         ensures kept { OnErr result (self.new ≡ self.old) }

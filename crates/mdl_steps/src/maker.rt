@@ -1,4 +1,4 @@
-//! Seats for the sessions.
+//! Makes tables and the seats of their sessions.
 ghost use Rattle.std.specs.Arc.{arc_value};
 ghost use Rattle.std.specs.Prelude.{◌≡◌, ℕ, ◌+◌, ◌^◌, ◌<◌, ◌≤◌, [], length, IfOk, MatchOption};
 ghost use Rattle.mdl_steps.specs.Cells.{blank, numbers_for};
@@ -17,10 +17,10 @@ use atomic_table::{Refused, Seat, Table};
 use std::alloc::{AllocError, Global};
 use std::sync::Arc;
 
-/// The table, which owns its words and slots. Its field `shared` is what sessions see.
+/// A table, which owns its words and slots. Its field `shared` is the part that sessions use.
 pub type OwnedTable = Table<Slot, View, usize, Order, Global>;
 
-/// The first seat at the table, from which those of the sessions are split off.
+/// The first seat at a table. The seats of the sessions are split off from it.
 #[derive(Drop)]
 pub struct Maker {
     most: usize,
@@ -33,7 +33,7 @@ pub struct Maker {
 }
 
 impl Maker {
-    /// Makes a table of so many places, none of which has a key yet, for so many sessions, and its first seat.
+    /// Makes a table with this number of places and room for this number of sessions, and its first seat. No place has a key yet.
     pub fn of_places(
         alloc: Global,
         places: usize,
@@ -49,7 +49,7 @@ impl Maker {
         Maker::open(alloc, &words, slots, sessions)
     }
 
-    /// Makes a table for so many sessions of these words and slots, and its first seat.
+    /// Makes a table from given words and slots, with room for this number of sessions, and its first seat.
     pub fn open(
         alloc: Global,
         words: &[u64],
@@ -73,7 +73,7 @@ impl Maker {
         }
     }
 
-    /// A seat at the table for one more session, unless all have theirs. Sessions have the numbers from 1 on, in turn.
+    /// Makes a seat at the table for one more session. Returns `None` if all sessions have seats. Sessions get the numbers from 1 on, in turn.
     pub fn enrol(&mut self, table: Arc<OwnedTable, Global>) -> Option<TableSeat>
         requires mine { self.old.seat.table_id ≡ (arc_value table).shared.table_id }
         requires sized { IsSized self.old.seat.table_id }

@@ -1,9 +1,9 @@
-//! A new key gets a place: the next one that has none.
+//! How a new key gets a place: the first place that has no key.
 //!
-//! The session takes the directory's latch, looks the key up ([`TableSeat::place_of`]), and where it isn't there adds it to the
-//! directory in hand ([`TableSeat::list_key`]). It takes the latch of the next place ([`TableSeat::key_count`] and one), where nobody has
-//! ever been, leaves the key's empty book there ([`TableSeat::name_book`]), and gives the place to the key with that latch
-//! ([`TableSeat::put_latch_naming`]). Then the directory's latch is given back.
+//! The session takes the directory's latch and looks the key up ([`TableSeat::place_of`]). If the key isn't there, the session adds it to
+//! the directory in hand ([`TableSeat::list_key`]). It takes the latch of the next place ([`TableSeat::key_count`] plus one), whose book is
+//! unused, writes the key's empty book there ([`TableSeat::name_book`]), and gives that latch back, which gives the place to the key
+//! ([`TableSeat::put_latch_naming`]). Then it gives the directory's latch back.
 ghost use Rattle.std.specs.Prelude.{◌≡◌, ◌∷◌, length, None, OnOk, OnErr};
 ghost use Rattle.mdl_book.specs.declared.book_view.BookView.{BookView};
 ghost use Rattle.mdl_book.specs.Books.{empty_book};
@@ -25,7 +25,7 @@ use mdl_key::Key;
 use std::alloc::{AllocError, Global};
 
 impl Directory {
-    /// The place of a key, if it has one.
+    /// Returns the place of a key, if it has one.
     pub fn place_of(&self, key: &Key) -> Option<usize>
         ensures { result ≡ place_among key.now self.now.keys }
     {
@@ -36,7 +36,7 @@ impl Directory {
 }
 
 impl TableSeat {
-    /// The place of a key by the directory in hand, if it has one. Nothing changes.
+    /// Returns the place of a key by the directory in hand, if it has one. Nothing changes.
     pub fn place_of(&mut self, _latch: &LatchedDirectory, key: &Key) -> Option<usize>
         requires carried { (k : Keys) × (self.old.me.1 ≡ (0, slot.Directory k) ∷ rest self.old.me.1) }
         ensures same { self.new ≡ self.old }
@@ -47,7 +47,7 @@ impl TableSeat {
         directory.place_of(key)
     }
 
-    /// How many keys have a place by the directory in hand: these are the places from 1 on. Nothing changes.
+    /// Returns the number of keys in the directory in hand. Their places are those from 1 up to this number. Nothing changes.
     pub fn key_count(&mut self, _latch: &LatchedDirectory) -> usize
         requires carried { (k : Keys) × (self.old.me.1 ≡ (0, slot.Directory k) ∷ rest self.old.me.1) }
         ensures same { self.new ≡ self.old }
@@ -58,8 +58,8 @@ impl TableSeat {
         directory.keys.len()
     }
 
-    /// Adds a key that has no place yet to the directory in hand, for the next place. The directory's latch can be given back only once
-    /// the place has it ([`TableSeat::put_latch_naming`]).
+    /// Adds a key that has no place yet to the directory in hand, for the next place. The directory's latch can't be given back before the
+    /// place has been given to the key ([`TableSeat::put_latch_naming`]).
     #[tactic(auto, using(crate::proofs::Looking::goes_last))]
     pub fn list_key(&mut self, _latch: &LatchedDirectory, key: Key) -> Result<(), AllocError>
         requires new { (k : Keys) × (self.old.me.1 ≡ (0, slot.Directory k) ∷ rest self.old.me.1) × (place_among key k.keys ≡ None) }
@@ -72,7 +72,7 @@ impl TableSeat {
         Ok(())
     }
 
-    /// Leaves the empty book of a key in hand in the place of that which was there.
+    /// Replaces the book in hand with the empty book of a key.
     pub fn name_book(&mut self, latch: &Latched, alloc: Global, key: Key)
         requires carried { (book : BookView) × (self.old.me.1 ≡ (latch.now.place, slot.Place book) ∷ rest self.old.me.1) }
         ensures written { self.new ≡ record self.old { me = written latch.now.place (empty_book key) self.old.me } }
@@ -80,7 +80,7 @@ impl TableSeat {
         *book_in_hand(&mut self.seat, &self.table.shared, latch.place) = Book::new(alloc, key);
     }
 
-    /// Gives the latch of a place back and the place to the key of the book in hand, which is last in the directory in hand.
+    /// Gives the latch of a place back, and gives the place to the key of the book in hand. The key is the last one in the directory in hand.
     pub fn put_latch_naming(&mut self, latch: Latched, _directory: &LatchedDirectory)
         requires place { IsPlace self.old.table latch.place }
         requires put { (key : KeyName) × (k : Keys) × (h : LatchRecord) × MayName latch.place key k h self.old.me }

@@ -1,4 +1,4 @@
-//! What a table is made of, before any session has a number.
+//! The words and slots of a new table, before any session has a number.
 ghost use Rattle.std.specs.Prelude.{◌≡◌, ◌^◌, ◌<◌, ◌≤◌, IfOk};
 ghost use Rattle.mdl_steps.specs.Limits.{most_enrolled};
 ghost use Rattle.mdl_steps.specs.Openings.{opening_words, opening_slots};
@@ -10,7 +10,7 @@ use mdl_book::Book;
 use mdl_key::Key;
 use std::alloc::{AllocError, Global};
 
-// The words of a table of so many slots: all are 0, but that the first number to be drawn is 1.
+// Returns the words of a new table: all are 0, except that the first number to be drawn is 1.
 pub(crate) fn opening_words(
     alloc: Global,
     slots: usize,
@@ -25,7 +25,7 @@ pub(crate) fn opening_words(
     Ok(words)
 }
 
-// The slots of a table of so many places: an empty directory, and books that nobody uses. A place gets its key later.
+// Returns the slots of a new table: an empty directory, and an unused book for each place. A place gets its key later.
 pub(crate) fn opening_slots(alloc: Global, places: usize) -> Result<Vec<Slot>, AllocError>
     ensures { IfOk result (λ slots. slots.items ≡ opening_slots places) }
 {

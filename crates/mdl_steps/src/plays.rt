@@ -1,4 +1,4 @@
-//! The rule of the table, and what each kind of step lets its session know.
+//! The rule of the table, and what the session knows after each kind of step.
 ghost use Rattle.std.specs.Prelude.{ℕ, List, [], Option, None};
 ghost use Rattle.mdl_key.specs.declared.mode.Mode.{Mode};
 ghost use Rattle.mdl_key.specs.declared.mode.Mode.TheVariants.{S};
@@ -16,7 +16,7 @@ use crate::{Slot, View};
 use atomic_table::{Play, Split, TableRule};
 use std::marker::{Brand, PhantomData};
 
-/// The rule of the table. Its parameter is how many sessions there may be.
+/// The rule of the table. Its parameter is the greatest number of sessions.
 pub struct Order;
 
 impl TableRule<Slot, View, usize> for Order {
@@ -69,7 +69,7 @@ impl Play<Slot, View> for WriteVersion {
     ghost then = { writes_version };
 }
 
-/// Which deeds a step is made with.
+/// The deeds that a step is made with.
 pub(crate) trait Doing {
     ghost deeds: { List Deed };
 }
@@ -88,14 +88,14 @@ impl<J: Doing> Play<Slot, View> for PutLatch<J> {
     ghost then = { puts_latch J.deeds };
 }
 
-/// A latch is given back, and the definition was read.
+/// A latch is given back, and the definition counts as read.
 pub(crate) struct PutReading;
 
 impl Play<Slot, View> for PutReading {
     ghost then = { puts_reading };
 }
 
-/// A latch is given back, and its place has a new key.
+/// A latch is given back, and its place gets a new key.
 pub(crate) struct PutKey;
 
 impl Play<Slot, View> for PutKey {
@@ -118,7 +118,7 @@ impl Play<Slot, View> for TakeDirectory {
     ghost then = { takes_directory };
 }
 
-/// Which keys a session knows of from a step on.
+/// The keys that a session knows from a step on.
 pub(crate) trait Learning {
     ghost learnt: { List Known };
 }
@@ -128,7 +128,7 @@ impl Learning for Brand {
     ghost learnt = { [] };
 }
 
-/// The directory's latch is given back, and some keys are known.
+/// The directory's latch is given back, and the session knows some more keys.
 pub(crate) struct PutDirectory<J: Learning> {
     marker: PhantomData<J>,
 }
@@ -137,7 +137,7 @@ impl<J: Learning> Play<Slot, View> for PutDirectory<J> {
     ghost then = { puts_directory J.learnt };
 }
 
-/// A wait's word is read.
+/// A wait word is read.
 pub(crate) struct ReadWait;
 
 impl Play<Slot, View> for ReadWait {
@@ -165,7 +165,7 @@ impl Play<Slot, View> for EndLost {
     ghost then = { ends_lost };
 }
 
-/// What a wait is opened for.
+/// The place and the mode that a wait is opened for.
 pub(crate) trait Wishing {
     ghost place: { ℕ };
 
@@ -188,7 +188,7 @@ impl<J: Wishing> Play<Slot, View> for OpenWait<J> {
     ghost then = { opens_wait J.place J.mode };
 }
 
-/// Where a ticket waits that is granted, and its number.
+/// The place and the number of the waiting ticket that is granted.
 pub(crate) trait Granting {
     ghost place: { ℕ };
 
@@ -225,7 +225,7 @@ impl Play<Slot, View> for ReadVersion {
     ghost then = { reads_version };
 }
 
-/// What the cache keeps that a version is looked for in.
+/// The definitions in the cache that a version is looked up in.
 pub(crate) trait FindingVersion {
     ghost kept: { List Kept };
 }
@@ -235,7 +235,7 @@ impl FindingVersion for Brand {
     ghost kept = { [] };
 }
 
-/// A version is looked for in a cache, without the latch.
+/// A version is read without the latch, and looked up in a cache.
 pub(crate) struct FindVersion<J: FindingVersion> {
     marker: PhantomData<J>,
 }
@@ -244,7 +244,7 @@ impl<J: FindingVersion> Play<Slot, View> for FindVersion<J> {
     ghost then = { finds_version J.kept };
 }
 
-/// Which fast ticket is granted.
+/// The mode of the fast ticket that is granted, and the version noted under it.
 pub(crate) trait GrantingFast {
     ghost mode: { Mode };
 
@@ -267,7 +267,7 @@ impl<J: GrantingFast> Play<Slot, View> for GrantFast<J> {
     ghost then = { grants_fast J.mode J.noted };
 }
 
-/// Which fast ticket is released.
+/// The number of the fast ticket that is released.
 pub(crate) trait ReleasingFast {
     ghost number: { ℕ };
 }

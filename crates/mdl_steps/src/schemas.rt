@@ -1,4 +1,4 @@
-//! The tables of a schema, as the directory in hand has them.
+//! The tables of a schema by the directory in hand.
 ghost use Rattle.std.specs.Prelude.{◌≡◌, ◌∷◌, ◌++◌, IfOk, OnOk};
 ghost use Rattle.mdl_steps.specs.declared.slot.Slot.TheVariants as slot;
 ghost use Rattle.mdl_steps.specs.declared.view.Keys.{Keys};
@@ -13,7 +13,7 @@ use mdl_key::{Key, Namespace};
 use std::alloc::{AllocError, Global};
 
 impl Directory {
-    /// The tables of a schema and their places, in the order of the places. It looks at each key.
+    /// Returns the tables of a schema with their places, in the order of the places. It looks at each key.
     pub fn tables_of(&self, alloc: Global, schema: &str) -> Result<Vec<Known>, AllocError>
         ensures { IfOk result (λ tables. tables.items ≡ tables_from schema.now 1 self.now.keys) }
     {
@@ -21,7 +21,7 @@ impl Directory {
     }
 }
 
-// The same by the keys.
+// Does the same for the list of keys.
 fn list_tables(keys: &[Key], alloc: Global, schema: &str) -> Result<Vec<Known>, AllocError>
     ensures { IfOk result (λ tables. tables.items ≡ tables_from schema.now 1 keys.now) }
 {
@@ -32,7 +32,7 @@ fn list_tables(keys: &[Key], alloc: Global, schema: &str) -> Result<Vec<Known>, 
     Ok(tables)
 }
 
-// Lists a key and its place, where it is that of a table of the schema.
+// Appends a key with its place if it is the key of a table of the schema.
 fn list_table(
     tables: &mut Vec<Known>,
     schema: &str,
@@ -48,7 +48,7 @@ fn list_table(
     Ok(())
 }
 
-// Whether a key is that of a table of the schema.
+// Whether a key is the key of a table of the schema.
 fn is_table_of(key: &Key, schema: &str) -> bool
     ensures { result ≡ is_table_of schema.now key.now }
 {
@@ -56,8 +56,8 @@ fn is_table_of(key: &Key, schema: &str) -> bool
 }
 
 impl TableSeat {
-    /// The tables of a schema and their places by the directory in hand, in the order of the places. Nothing changes, also where memory
-    /// runs out.
+    /// Returns the tables of a schema with their places by the directory in hand, in the order of the places. Nothing changes, even if
+    /// memory runs out.
     pub fn tables_of(
         &mut self,
         _latch: &LatchedDirectory,

@@ -1,11 +1,11 @@
-//! What the slots of the table hold.
+//! The contents of the table's slots.
 use indexmap::IndexSet;
 use mdl_book::Book;
 use mdl_key::Key;
 use std::marker::Model;
 
-/// Which key has which place: the keys in the order of their places, from place 1 on. A key is found by its hash, so looking it up takes as
-/// long among many keys as among few.
+/// The directory: the keys in the order of their places, from place 1 on. A key is found by its hash, so a lookup takes as long among many
+/// keys as among few.
 #[derive(Drop)]
 pub struct Directory {
     /// The keys.
@@ -20,7 +20,7 @@ impl Model for Directory {
     ghost view = { λ directory. record { keys = directory.keys.keys } };
 }
 
-/// What a slot of the table holds: slot 0 the directory, each other the book of its place.
+/// The contents of a slot of the table: slot 0 has the directory, each other slot the book of its place.
 #[derive(Drop)]
 pub enum Slot {
     /// The directory.

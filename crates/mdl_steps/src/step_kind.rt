@@ -1,6 +1,6 @@
 //! The kinds of step.
 
-/// What a step of a session did. The word beside it says at which place, or on whose wait: the directory's latch is that of place 0.
+/// What a step of a session did. The step's word shows the place, or the session whose wait it was. The directory's latch is that of place 0.
 #[derive(Clone, Copy, Debug, PartialEq, Eq)]
 pub enum StepKind {
     /// A number was drawn for one more session.
@@ -13,18 +13,18 @@ pub enum StepKind {
     PutLatch,
     /// Flags of a place's word were raised.
     RaiseFlags {
-        /// Whether the flag [`SLOW`](mdl_word::Word::SLOW) was.
+        /// Whether the flag [`SLOW`](mdl_word::Word::SLOW) was raised.
         slow: bool,
-        /// Whether the flag [`OBTRUSIVE`](mdl_word::Word::OBTRUSIVE) was.
+        /// Whether the flag [`OBTRUSIVE`](mdl_word::Word::OBTRUSIVE) was raised.
         obtrusive: bool,
     },
     /// A place's word was read, with its latch or without.
     ReadWord,
-    /// Flags of a place's word were lowered, all but these.
+    /// The flags of a place's word were lowered, except those that are true here.
     LowerFlags {
-        /// Whether the flag `SLOW` was left as it was.
+        /// Whether the flag `SLOW` was left unchanged.
         slow: bool,
-        /// Whether the flag `OBTRUSIVE` was left as it was.
+        /// Whether the flag `OBTRUSIVE` was left unchanged.
         obtrusive: bool,
     },
     /// A place's version was written.
@@ -37,7 +37,7 @@ pub enum StepKind {
     GrantWait,
     /// A wait was settled as lost.
     SettleWait,
-    /// A wait wasn't settled: its word was another one than the step expected.
+    /// A wait wasn't settled, since its word wasn't the one that the step expected.
     MissWait,
     /// A wait's word was read.
     ReadWait,
@@ -45,10 +45,10 @@ pub enum StepKind {
     EndWait,
     /// A fast ticket was granted.
     GrantFast,
-    /// A fast ticket wasn't granted: the place's word was another one than the step expected.
+    /// A fast ticket wasn't granted, since the place's word wasn't the one that the step expected.
     MissFast,
     /// A fast ticket was released.
     ReleaseFast,
-    /// Fast tickets at a place became slow ones.
+    /// The session's fast tickets at a place became slow ones.
     Materialise,
 }

@@ -1,4 +1,4 @@
-//! The steps of a session.
+//! The table, a session's seat, and its steps on the words of a place under the place's latch.
 ghost use Rattle.std.specs.Prelude.{◌≡◌, ◌≢◌, ℕ, nat_lt, ◌&&◌, ◌+◌, ◌*◌, ◌^◌, ◌<◌, ◌∷◌, [], Some, MatchOption};
 ghost use Rattle.mdl_book.specs.declared.book_view.BookView.{BookView};
 ghost use Rattle.mdl_steps.specs.declared.slot.Slot.TheVariants as slot;
@@ -22,17 +22,17 @@ use std::sync::Arc;
 
 /// The table as its sessions see it: its words, and a slot for each place. Slot 0 has the directory, each other the book of its place.
 ///
-/// Eight words make a line, as long as a cache line. With `n` slots the words are:
+/// Eight words make a line, which is as long as a cache line. With `n` slots the words are:
 ///
 /// | index                 | name           | what it holds |
 /// |-----------------------|----------------|---------------|
 /// | `8 * place`           | `latch_word`   | the number of the session that holds the latch of the place, or 0. Place 0 is the directory's |
 /// | `8 * place + 1`       | `lock_word`    | the word of the lock at the place: a [`Word`](mdl_word::Word) |
-/// | `8 * place + 2`       | `version_word` | the version of what is defined under the key of the place |
+/// | `8 * place + 2`       | `version_word` | the version of the key of the place |
 /// | `8 * n`               | `enrol_word`   | the number that the next session gets |
-/// | `8 * n + 8 + 8 * s`   | [`wait_word`]  | the last wait of session `s`, from 1 on, and its state: a [`WaitWord`](crate::WaitWord) |
+/// | `8 * n + 8 + 8 * s`   | [`wait_word`]  | the number and state of the last wait of session `s`, which is at least 1: a [`WaitWord`](crate::WaitWord) |
 ///
-/// No step touches the words between.
+/// No step touches any other word.
 pub type LockTable = Shared<Slot, View, usize, Order>;
 
 /// A session's seat at the table: the table, the session's number, and what it knows and has there.
@@ -60,7 +60,7 @@ pub struct Latched {
 }
 
 impl Latched {
-    /// The place.
+    /// Returns the place.
     pub fn place(&self) -> usize
         ensures { result ≡ self.now.place }
     {
@@ -69,35 +69,36 @@ impl Latched {
 }
 
 impl TableSeat {
-    /// The session's number.
+    /// Returns the session's number.
     pub fn number(&self) -> u16
         ensures { result ≡ self.now.me.0.number }
     {
         self.number
     }
 
-    /// How many slots the table has: one for each of its places, and one for the directory.
+    /// Returns the number of the table's slots: one for each place, and one for the directory.
     pub fn slot_count(&self) -> usize
         ensures { result ≡ self.now.table.slots }
     {
         self.table.slot_count()
     }
 
-    /// Whether the table has the word of a session's wait.
+    /// Whether the table has a wait word for the session.
     pub fn has_session(&self, session: u16) -> bool
         ensures { result ≡ (nat_lt 0 session && nat_lt (wait_word self.now.table.slots session) self.now.table.words) }
     {
         session > 0 && wait_word(self.table.slot_count(), session) < self.table.word_count()
     }
 
-    /// For how many sessions the table has a wait's word.
+    /// Returns the number of sessions for which the table has a wait word.
     pub fn session_count(&self) -> usize
         ensures { result ≡ session_count self.now.table.slots self.now.table.words }
     {
         session_count(self.table.slot_count(), self.table.word_count())
     }
 
-    /// Takes the latch of a place, if it is free. Latches are taken in rising order of their places.
+    /// Takes the latch of a place if it is free, otherwise returns `None`. Latches are taken in rising order: the session may hold latches of
+    /// lower places only.
     pub fn take_latch(&mut self, place: usize) -> Option<Latched>
         requires place { IsPlace self.old.table place }
         requires rising { IsRising place self.old.me }
@@ -121,7 +122,7 @@ impl TableSeat {
         Some(Latched { place })
     }
 
-    /// Raises flags of the place's word.
+    /// Raises the chosen flags of the place's word.
     pub fn raise_flags(&mut self, latch: &Latched, slow: bool, obtrusive: bool)
         requires place { IsPlace self.old.table latch.now.place }
         requires held { (h : LatchRecord) × (held_at latch.now.place self.old.me.0.latches ≡ Some h) }
@@ -136,7 +137,7 @@ impl TableSeat {
         );
     }
 
-    /// Reads the place's word, and notes it where the flag [`Word::OBTRUSIVE`] is up.
+    /// Reads the place's word. If the flag [`Word::OBTRUSIVE`] is up by the latch's record, the record notes the word.
     pub fn read_word(&mut self, latch: &Latched) -> Word
         requires place { IsPlace self.old.table latch.now.place }
         requires held { (h : LatchRecord) × (held_at latch.now.place self.old.me.0.latches ≡ Some h) }
@@ -151,8 +152,8 @@ impl TableSeat {
         )
     }
 
-    /// Writes the version of the book in hand, in which the session has changed the definition. From then on it has noted that version
-    /// under each ticket that it has there, and has read the definition.
+    /// Writes the version of the book in hand, in which the session has changed the definition, into the version's word. From then on the
+    /// session has noted that version under each ticket that it has there, and the definition counts as read.
     pub fn write_version(&mut self, latch: &Latched)
         requires place { IsPlace self.old.table latch.now.place }
         requires written { MayWriteVersion latch.now.place self.old.me }
@@ -167,7 +168,8 @@ impl TableSeat {
             .store::<WriteVersion>(&mut self.seat, version_word(latch.place), version);
     }
 
-    /// Leaves just these flags of the place's word up, after some deeds that are in the book in hand.
+    /// Lowers the flags of the place's word whose arguments are false. `deeds` says what the session has done to its tickets in the book in
+    /// hand, which must not need a flag that is lowered.
     pub fn lower_flags(&mut self, latch: &Latched, slow: bool, obtrusive: bool, deeds: &[Deed])
         requires place { IsPlace self.old.table latch.now.place }
         requires lowered { MayLower latch.now.place deeds.now slow obtrusive self.old.me }
@@ -201,7 +203,8 @@ impl TableSeat {
         );
     }
 
-    /// Gives the latch back, after some deeds that are in the book in hand.
+    /// Gives the latch back. `deeds` says what the session has done to its tickets in the book in hand. Exactly the flags that the book needs
+    /// must be up.
     pub fn put_latch(&mut self, latch: Latched, deeds: &[Deed])
         requires place { IsPlace self.old.table latch.place }
         requires put { MayPut latch.place deeds.now self.old.me }
@@ -211,8 +214,8 @@ impl TableSeat {
         self.put_latch_after::<Brand>(place, deeds);
     }
 
-    /// Gives the latch back with nothing changed. The session has read the definition in the book in hand, and notes its version under each
-    /// ticket that it has there.
+    /// Gives the latch back with nothing changed. The definition in the book in hand counts as read, and its version is noted under each
+    /// ticket that the session has there.
     pub fn put_latch_reading(&mut self, latch: Latched)
         requires place { IsPlace self.old.table latch.place }
         requires put { MayPut latch.place [] self.old.me }

@@ -1,4 +1,4 @@
-//! Steps on a place's version that need no latch.
+//! Steps that read a place's version without its latch.
 ghost use Rattle.std.specs.Prelude.{◌≡◌, ℕ, ◌*◌, ◌+◌, ◌^◌, ◌<◌, [], None, Some};
 ghost use Rattle.mdl_defs.specs.Caches.{kept_of};
 ghost use Rattle.mdl_defs.specs.declared.definition.Definition.{Definition};
@@ -12,10 +12,9 @@ use mdl_defs::DefCache;
 use std::marker::Brand;
 
 impl TableSeat {
-    /// Reads the version of what is defined under the key of a place, and notes it under each ticket that the session has there. The session needs no latch
-    /// for it.
+    /// Reads the version of the key of a place, and notes it under each ticket that the session has there. The session needs no latch for it.
     ///
-    /// What is defined in this version counts as read from then on, though the session doesn't see it: no later read finds an older version.
+    /// The definition of this version counts as read from then on, though the session doesn't see it: no later read finds an older version.
     pub fn read_version(&mut self, place: usize) -> u64
         requires place { IsPlace self.old.table place }
         ensures learnt { LearnsVersion place result self.old.me self.new.me }
@@ -26,7 +25,8 @@ impl TableSeat {
             .load::<ReadVersion>(&mut self.seat, version_word(place))
     }
 
-    /// Reads the version of a place for a cache, without the latch. Where the cache keeps a definition of this version of the place, the session notes the version under each ticket that it has there.
+    /// Reads the version of a place for a cache, without the latch. If the cache keeps a definition of this version of the place, the
+    /// session notes the version under each ticket that it has there.
     ///
     /// The definition needn't be read again then: MySQL 5.7 compares the version of a table's `TABLE_SHARE` with the known one so, in
     /// `check_and_update_table_version` of `sql/sql_base.cc`. The cache isn't looked at here.

@@ -1,10 +1,11 @@
-//! What a session knows of the table, what it has there, and the steps that it made: plain data, of which no value is made.
+//! A session's view: what it knows of the table, what it has there, and the steps that it made. A view exists in proofs only. Programs
+//! make values of [`Own`], [`Ask`] and [`Known`], too.
 use crate::{Deed, StepKind};
 use mdl_book::BookView;
 use mdl_defs::Standing;
 use mdl_key::{Key, Mode};
 
-/// A ticket that a session has: granted in a book's list, or only counted by a word.
+/// A ticket that a session has. It is in a book's granted list, or only counted by a lock's word.
 #[derive(Clone, Copy, Debug, PartialEq, Eq)]
 pub struct Own {
     /// The number that the session gave it.
@@ -13,7 +14,7 @@ pub struct Own {
     pub place: usize,
     /// The mode that is held.
     pub mode: Mode,
-    /// The version of the lock's definition, where the session has noted it under this ticket.
+    /// The version of the lock's definition, if the session has noted it under this ticket.
     pub noted: Option<u64>,
 }
 
@@ -24,7 +25,7 @@ pub struct Ask {
     pub number: u64,
     /// The place of its lock.
     pub place: usize,
-    /// The mode that is wished for.
+    /// The requested mode.
     pub mode: Mode,
 }
 
@@ -33,13 +34,14 @@ pub struct Ask {
 pub struct LatchRecord {
     /// The place whose latch it is.
     pub place: usize,
-    /// The lock's book, which the session alone can change meanwhile.
+    /// The lock's book. No other session can change it while this one holds the latch.
     pub book: BookView,
     /// The flag [`SLOW`](mdl_word::Word::SLOW) of the lock's word, as the session last met or left it.
     pub slow: bool,
-    /// The flag [`OBTRUSIVE`](mdl_word::Word::OBTRUSIVE), likewise.
+    /// The flag [`OBTRUSIVE`](mdl_word::Word::OBTRUSIVE), as the session last met or left it.
     pub obtrusive: bool,
-    /// A word that was read under the raised flag `OBTRUSIVE`. While the flag is up nobody joins those that it counts.
+    /// A word that was read while the flag `OBTRUSIVE` was up. No fast ticket is granted while the flag stays up, so the word counts at
+    /// least the fast tickets that there are.
     pub noted: Option<u64>,
 }
 
@@ -50,16 +52,16 @@ pub struct Keys {
     pub keys: [Key; 0],
 }
 
-/// What a session read under a lock's key.
+/// A key's version and definition, as a session read them.
 #[derive(Drop)]
 pub struct Read {
     /// The place of the lock.
     pub place: usize,
-    /// The definition that it had, if any, and its version.
+    /// The version of the lock's key, with its definition if there was one.
     pub standing: Standing,
 }
 
-/// The place of a key, as a session looked it up.
+/// A key and its place, which a session looked up.
 #[derive(Drop)]
 pub struct Known {
     /// The key.
@@ -75,7 +77,7 @@ pub struct Settlement {
     pub session: u64,
     /// The number of its wait.
     pub wait: u64,
-    /// The state that the wait's word has from then on: granted, or how the wait was lost.
+    /// The state that the wait word has from then on: granted, or how the wait was lost.
     pub state: u64,
 }
 
@@ -84,65 +86,65 @@ pub struct Settlement {
 pub struct Met {
     /// What the step did.
     pub kind: StepKind,
-    /// What the session did to its own tickets at the step, the first one first: the deeds that a latch was given back or flags
-    /// were lowered after, the gain of a fast grant, and the loss of a fast release. No other step has any.
+    /// What the session did to its own tickets, in order. A step that gave a latch back or lowered flags has the deeds done before
+    /// it, a fast grant has its gain, and a fast release its loss. No other step has any.
     pub deeds: [Deed; 0],
-    /// Which word it was on, that is, at which place, or on which session's wait.
+    /// The index of the step's word, which shows the place, or the session whose wait it was.
     pub word: usize,
-    /// What the word was just before. A store doesn't read the word: there it is what the rule says that the word was.
+    /// The value of the word just before the step. A store doesn't read the word: there it is the value that the rule says the word had.
     pub found: u64,
-    /// The records of the latches that the session held at the step: those before it where the step gave one back or
-    /// lowered flags, otherwise those after it.
+    /// The records of the latches that the session held at the step: those before it if the step gave a latch back or lowered
+    /// flags, otherwise those after it.
     pub held: [LatchRecord; 0],
-    /// The record of the directory's latch, where the session held that at the step: the one before it where the step gave
-    /// it back, otherwise the one after it.
+    /// The record of the directory's latch, if the session held that latch at the step: the record before it if the step gave
+    /// the latch back, otherwise the record after it.
     pub directory: Option<Keys>,
 }
 
 /// The numbers that the first seat draws for the sessions. Any other seat has none.
 #[derive(Drop)]
 pub struct Spare {
-    /// How many may be drawn, which is how many sessions there may be.
+    /// How many numbers may be drawn, which is the greatest number of sessions.
     pub most: u64,
-    /// The last one that was drawn, or 0.
+    /// The last number that was drawn, or 0.
     pub drawn: u64,
-    /// The last one that a session got, or 0.
+    /// The last number that a session got, or 0.
     pub given: u64,
 }
 
 /// The view of a session: only its own steps change it.
 #[derive(Drop)]
 pub struct View {
-    /// The session's number, from 1 on, and 0 before it has one.
+    /// The session's number, from 1 on, or 0 if it has none.
     pub number: u64,
-    /// The numbers that it draws for seats that are split off.
+    /// The numbers that it draws for seats that are split off from it.
     pub spare: Spare,
     /// The number of its next ticket.
     pub next: u64,
     /// The number of its last wait.
     pub waits: u64,
-    /// The ticket that it waits for, where it waits.
+    /// The ticket that it waits for, if it waits.
     pub asks: Option<Ask>,
-    /// The state in which it met its wait's word settled, where it did: the word stays so until the session ends the wait.
+    /// The state of its wait, if it met its wait word settled. The word keeps this state until the session ends the wait.
     pub told: Option<u64>,
-    /// The waits that it settled, the first one first.
+    /// The waits that it settled, in order.
     pub settles: [Settlement; 0],
-    /// Its tickets that are only counted.
+    /// Its fast tickets, which only a word counts.
     pub fast: [Own; 0],
-    /// Its tickets that are in books.
+    /// Its slow tickets, which are in books.
     pub slow: [Own; 0],
-    /// The records of the latches that it holds, the last one first.
+    /// The records of the latches that it holds, the latest one first.
     pub latches: [LatchRecord; 0],
-    /// The record of the directory's latch, where it holds that.
+    /// The record of the directory's latch, if it holds that latch.
     pub directory: Option<Keys>,
-    /// The places of keys that it looked up.
+    /// The keys that it looked up, with their places.
     pub known: [Known; 0],
-    /// What it read.
+    /// The versions and definitions that it read.
     pub reads: [Read; 0],
-    /// The places whose waiters it has yet to look through.
+    /// The places whose waiters it has yet to check.
     pub owes: [u64; 0],
     /// Whether it has yet to search for a deadlock.
     pub searches: bool,
-    /// Its steps, the first one first.
+    /// Its steps, in order.
     pub log: [Met; 0],
 }

@@ -2,7 +2,7 @@
 ghost use Rattle.std.specs.Prelude.{◌≡◌, ◌<◌, ◌^◌};
 ghost use Rattle.mdl_steps.specs.WaitStates.{lost_state, wait_in, wait_number, wait_state};
 
-/// The word of a session's wait, as a step met it: eight times the number of the session's last wait and a state.
+/// The word of a session's wait, as a step met it: eight times the number of the session's last wait, plus a state.
 ///
 /// | bits    | what they hold                                                                                |
 /// |---------|-----------------------------------------------------------------------------------------------|
@@ -16,7 +16,7 @@ pub struct WaitWord(pub u64);
 pub enum Loss {
     /// As the victim of a deadlock.
     Victim,
-    /// By its timeout.
+    /// By a timeout.
     Timeout,
     /// Killed by a session.
     Killed,
@@ -33,17 +33,17 @@ impl WaitWord {
     pub const VICTIM: u64 = 3;
     /// The state of a wait that was lost by its timeout and isn't ended.
     pub const TIMEOUT: u64 = 4;
-    /// The state of a wait that was lost since a session killed it, and isn't ended.
+    /// The state of a wait that was lost because a session killed it, and isn't ended.
     pub const KILLED: u64 = 5;
 
-    /// The number of the session's last wait, or 0 before the first.
+    /// Returns the number of the session's last wait, or 0 before the first.
     pub fn number(self) -> u64
         ensures { result ≡ wait_number self.0 }
     {
         self.0 / 8
     }
 
-    /// The state: one of the above.
+    /// Returns the state: one of the constants above.
     pub fn state(self) -> u64
         ensures { result ≡ wait_state self.0 }
     {
@@ -52,7 +52,7 @@ impl WaitWord {
 }
 
 impl Loss {
-    /// The state of a wait that was lost so and isn't ended.
+    /// Returns the state of a wait that was lost in this way and isn't ended.
     pub fn state(self) -> u64
         ensures { result ≡ lost_state self }
     {
@@ -64,7 +64,7 @@ impl Loss {
     }
 }
 
-// The word of a wait in a state.
+// Returns the word of the wait with this number, in this state.
 pub(crate) fn word_in(wait: u64, state: u64) -> u64
     requires { (wait < 2 ^ 61) × (state < 8) }
     ensures { result ≡ wait_in wait state }

@@ -15,7 +15,7 @@ use mdl_key::Mode;
 use mdl_word::Word;
 
 impl TableSeat {
-    /// Whether a ticket waits by the book in hand. Nothing changes.
+    /// Whether the waiting list of the book in hand has a ticket. Nothing changes.
     pub fn has_waiters(&mut self, latch: &Latched) -> bool
         requires carried { (book : BookView) × (self.old.me.1 ≡ (latch.now.place, slot.Place book) ∷ rest self.old.me.1) }
         ensures same { self.new ≡ self.old }
@@ -26,8 +26,8 @@ impl TableSeat {
         !book.waiting().is_empty()
     }
 
-    /// The session and number of the first waiting ticket that can be granted by the book in hand, of those whose sessions are
-    /// `unsettled`, the place's word being `word`. Nothing changes.
+    /// Returns the session and number of the first waiting ticket of the book in hand that can be granted, among those whose sessions
+    /// are in `unsettled`. `word` is the place's word. Nothing changes.
     pub fn next_grantable(
         &mut self,
         latch: &Latched,
@@ -43,7 +43,7 @@ impl TableSeat {
         book.next_grantable(word, unsettled)
     }
 
-    /// Writes a ticket of the session, which waits there last, into the book in hand. Its wait is opened with [`TableSeat::open_wait`].
+    /// Adds a ticket of the session to the end of the waiting list of the book in hand. [`TableSeat::open_wait`] opens its wait.
     pub fn write_wish(&mut self, latch: &Latched, number: u64, mode: Mode) -> Result<(), BookError>
         requires carried { (book : BookView) × (self.old.me.1 ≡ (latch.now.place, slot.Place book) ∷ rest self.old.me.1) }
         ensures written { (book : BookView) → self.old.me.1 ≡ (latch.now.place, slot.Place book) ∷ rest self.old.me.1
@@ -61,8 +61,8 @@ impl TableSeat {
         book.enqueue(ticket)
     }
 
-    /// Writes a waiting ticket of a session as granted last into the book in hand. Its wait is granted with [`TableSeat::grant_wait`]. It
-    /// takes no memory.
+    /// Moves a waiting ticket of a session to the end of the granted list of the book in hand, and returns it. [`TableSeat::grant_wait`]
+    /// grants its wait. It takes no memory.
     pub fn write_admission(
         &mut self,
         latch: &Latched,
@@ -80,7 +80,8 @@ impl TableSeat {
         book.admit(session, number)
     }
 
-    /// Takes a waiting ticket of the session out of the book in hand. Its wait is ended with [`TableSeat::end_lost`]. It takes no memory.
+    /// Removes a waiting ticket of the session from the book in hand, and returns it. [`TableSeat::end_lost`] ends its wait. It takes no
+    /// memory.
     pub fn write_withdrawal(&mut self, latch: &Latched, number: u64) -> Result<Ticket, BookError>
         requires carried { (book : BookView) × (self.old.me.1 ≡ (latch.now.place, slot.Place book) ∷ rest self.old.me.1) }
         ensures written { (book : BookView) → self.old.me.1 ≡ (latch.now.place, slot.Place book) ∷ rest self.old.me.1

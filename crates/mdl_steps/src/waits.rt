@@ -1,4 +1,4 @@
-//! Steps on the words of waits.
+//! Steps on wait words.
 ghost use Rattle.std.specs.Prelude.{◌≡◌, ◌≢◌, ℕ, ◌+◌, ◌*◌, ◌^◌, ◌<◌, Some};
 ghost use Rattle.mdl_book.specs.declared.book_view.BookView.{BookView};
 ghost use Rattle.mdl_steps.specs.declared.view.Ask.{Ask};
@@ -18,8 +18,8 @@ use mdl_key::Mode;
 use std::marker::Brand;
 
 impl TableSeat {
-    /// Opens a wait for a mode at the place: its ticket, which has the session's next number, waits there last. `wait` is the wait's
-    /// number, one more than that of the session's last wait.
+    /// Opens a wait for a mode at the place. Its ticket has the session's next number and is the last one in the waiting list. `wait` is the
+    /// wait's number: one more than the number of the session's last wait.
     pub fn open_wait(&mut self, latch: &Latched, mode: Mode, wait: u64)
         requires place { IsPlace self.old.table latch.now.place }
         requires opened { (h : LatchRecord) × MayOpen latch.now.place mode h self.old.me }
@@ -50,7 +50,7 @@ impl TableSeat {
         );
     }
 
-    /// Reads the wait's word of a session. Where it is the session's own and settled, it stays so until the session ends the wait.
+    /// Reads the wait word of a session. If it is the session's own word and is settled, it doesn't change until the session ends the wait.
     pub fn read_wait(&mut self, session: u16) -> WaitWord
         requires session { IsSession self.old.table session }
         ensures made { self.new ≡ record self.old { me = met_wait self.old.table.slots session result.0 self.old.me } }
@@ -60,8 +60,8 @@ impl TableSeat {
         WaitWord(self.table.shared.load::<ReadWait>(&mut self.seat, index))
     }
 
-    /// Settles a wait of a session as lost, if it is the session's last one and unsettled, and returns the word that was met. No latch
-    /// is needed: the ticket waits on until its session ends the wait.
+    /// Settles a wait of a session as lost, if it is the session's last one and unsettled. Returns the word that the exchange found. No
+    /// latch is needed: the ticket stays in the waiting list until its session ends the wait.
     pub fn settle_wait(&mut self, session: u16, wait: u64, how: Loss) -> WaitWord
         requires session { IsSession self.old.table session }
         requires wait { wait < 2 ^ 61 }
@@ -81,7 +81,8 @@ impl TableSeat {
         )
     }
 
-    /// Grants a wait of a session, whose ticket waits at the place, if the wait is unsettled, and returns the word that was met.
+    /// Grants a wait of a session, whose ticket is in the waiting list of the place, if the wait is unsettled. Returns the word that the
+    /// exchange found. `ticket` is the ticket's number, and `wait` the wait's number.
     pub fn grant_wait(&mut self, latch: &Latched, session: u16, ticket: u64, wait: u64) -> WaitWord
         requires place { IsPlace self.old.table latch.now.place }
         requires session { IsSession self.old.table session }
@@ -128,7 +129,7 @@ impl TableSeat {
         )
     }
 
-    /// Ends the session's own wait, which it met granted: the ticket is its own from then on. `wait` is the wait's number.
+    /// Ends the session's own wait, which it met granted. From then on the session has the ticket. `wait` is the wait's number.
     pub fn end_granted(&mut self, wait: u64)
         requires told { self.old.me.0.told ≡ Some granted_state }
         requires wait { (wait ≡ self.old.me.0.waits) × (wait < 2 ^ 60) }
@@ -142,7 +143,7 @@ impl TableSeat {
         );
     }
 
-    /// Ends the session's own wait, which it met lost: its ticket no longer waits at the place. `wait` is the wait's number.
+    /// Ends the session's own wait, which it met lost. Its ticket is removed from the waiting list. `wait` is the wait's number.
     pub fn end_lost(&mut self, latch: &Latched, wait: u64)
         requires place { IsPlace self.old.table latch.now.place }
         requires cancelled { (h : LatchRecord) × MayCancel latch.now.place h self.old.me }

@@ -1,4 +1,4 @@
--- Whatever step is made, by whichever session, is one event of the table's system, or does nothing there: which event, by the kind of step. If the
+-- Each step that a session may make is one event of the table's system, or leaves the system unchanged. Its kind decides which event it is. If the
 -- step is at a place, the event is one of the place's key.
 use Rattle.std.specs.Prelude.{◌≡◌, ◌≢◌, ◌⊎◌, ℕ, suc, ◌+◌, ◌-◌, ◌%◌, ◌^◌, ◌<◌, false, List, [], length, Some}
 use mathlib.Core.Option.{some}
@@ -37,15 +37,15 @@ use Rattle.mdl_steps_laws.specs.WaitsTold.{code_of}
 
 -- ---- a whole step: what it leaves in its word, which was `found`, what it does with slots, and what its session has to know besides
 
--- the word stays, and no slot is moved
+-- the word is unchanged, and no slot is moved
 abbrev pub Meets : ℕ → ℕ → Act Slot → Type 0
 Meets found left act = (left ≡ found) × (act ≡ keeps)
 
--- this is left there
+-- the step leaves `written` in the word, and no slot is moved
 abbrev pub Writes : ℕ → ℕ → Act Slot → Type 0
 Writes written left act = (left ≡ written) × (act ≡ keeps)
 
--- a free latch is taken, with its slot; one that isn't free stays
+-- a free latch is taken, with its slot. A latch that isn't free is left unchanged
 abbrev pub Takes : ℕ → Mine → ℕ → ℕ → Act Slot → Type 0
 Takes place m found left act =
     (0 < m.0.number) × (found ≡ 0 → (left ≡ m.0.number) × ((x : Slot) × (act ≡ takes place x))) × (found ≢ 0 → Meets found left act)
@@ -54,7 +54,7 @@ Takes place m found left act =
 abbrev pub Gives : ℕ → Act Slot → Type 0
 Gives left act = (left ≡ 0) × (act ≡ gives)
 
--- a word is exchanged where it is the expected one
+-- a word is exchanged if it is the expected one, otherwise it is unchanged. No slot is moved
 abbrev pub Swaps : ℕ → ℕ → ℕ → ℕ → Act Slot → Type 0
 Swaps expected new found left act = (act ≡ keeps) × (found ≡ expected → left ≡ new) × (found ≢ expected → left ≡ found)
 
@@ -62,7 +62,7 @@ Swaps expected new found left act = (act ≡ keeps) × (found ≡ expected → l
 abbrev pub HasLatch : ℕ → Mine → Type 0
 HasLatch place m = (h : LatchRecord) × (held_at place m.0.latches ≡ Some h)
 
--- so it is of each kind of step
+-- the step is whole: this holds for its kind
 abbrev pub IsWhole : State Slot View → ℕ → Act Slot → {st : Step Slot} {m : Mine} {found : ℕ} {m′ : Mine} → Makes st m found m′ → Type 0
 IsWhole s left act {st} (Makes.DrawsNumber _) = (st.word ≡ enrol_word st.slots) × (act ≡ keeps)
 IsWhole s left act {st} {m} {found} (Makes.TakesDirectory _ _) = Takes 0 m found left act
@@ -96,7 +96,8 @@ IsWhole s left act {st} {m} {found} (Makes.ReleasesFast place number _ _) =
 IsWhole s left act {st} {m} {found} (Makes.Materialises place weight _ _ _ _) =
     HasPlace s place × Writes ((found + (2 ^ 64 - weight)) % 2 ^ 64) left act
 
--- and of what happens to the table: what a seat has in hand after a step shows which slot it took or gave back
+-- the turn is whole: a step is whole, and what its seat has in hand afterwards shows which slot it took or gave back. A seat that is split off gets the
+-- number that was drawn for it
 abbrev pub IsWholeTurn : {s t : State Slot View} → Turn s t → Type 0
 IsWholeTurn {s} (Turn.Steps id m m′ st left act _ made _) =
     (st.slots ≡ length s.homes) × Valid s.homes m.1 act × (m′.1 ≡ carried_after m.1 act) × IsWhole s left act made
@@ -108,20 +109,20 @@ IsWholeTurn (Turn.Splits v first more _ _ _ _ _) = (first ≡ first_after v) × 
 abbrev pub IsKeyAt : State Slot View → ℕ → KeyName → Type 0
 IsKeyAt s place key = (keys : List KeyName) × AreKeysOf s keys × ((i : ℕ) × (place ≡ suc i) × (get_elem? keys i ≡ some key))
 
--- the place has a key, of which this is so
+-- the place has a key, for which `P` holds
 abbrev pub Under : State Slot View → ℕ → (KeyName → Type 0) → Type 0
 Under s place P = (key : KeyName) × IsKeyAt s place key × P key
 
--- where the exchange found the expected word this is so; otherwise nothing is done
+-- `P` holds if the exchange found the expected word. Otherwise the system is unchanged
 abbrev pub IfMet : ℕ → ℕ → Type 0 → State Slot View → State Slot View → Type 0
 IfMet expected found P s t = (found ≡ expected → P) × (found ≢ expected → Rests s t)
 
--- these deeds of a session at a place are one event, if there is any
+-- these deeds of a session at a place are one event under the place's key. If there are none, the system is unchanged
 abbrev pub BringsDeedsAt : ℕ → ℕ → List Deed → State Slot View → State Slot View → Type 0
 BringsDeedsAt session place [] s t = Rests s t
 BringsDeedsAt session place deeds s t = Under s place (λ key. BringsDeeds session key deeds s t)
 
--- which event is brought by each kind of step. All that aren't named bring none
+-- the event that each kind of step is. The kinds that aren't named leave the system unchanged
 abbrev pub BringsOrRests : (s t : State Slot View) → {st : Step Slot} {m : Mine} {found : ℕ} {m′ : Mine} → Makes st m found m′ → Type 0
 BringsOrRests s t {st} {m} (Makes.PutsLatch place deeds _ _ _) = BringsDeedsAt m.0.number place deeds s t
 BringsOrRests s t {st} {m} (Makes.LowersFlags place deeds _ _ _ _ _ _) = BringsDeedsAt m.0.number place deeds s t
@@ -146,17 +147,19 @@ BringsOrRests s t {st} {m} (Makes.ReleasesFast place number _ _) =
     Under s place (λ key. (x : Ticket) × IsOf m.0.number number x × Brings (Release (of_lock key x)) s t)
 BringsOrRests s t _ = Rests s t
 
+-- the same for a turn. Splitting a seat off leaves the system unchanged
 abbrev pub TurnBrings : {s t : State Slot View} → Turn s t → Type 0
 TurnBrings {s} {t} (Turn.Steps _ _ _ _ _ _ _ made _) = BringsOrRests s t made
 TurnBrings {s} {t} (Turn.Splits _ _ _ _ _ _ _ _) = Rests s t
 
 -- ---- the law
 
--- the rule holds before and after, as it does between any two steps
+-- each whole turn is one event or leaves the system unchanged, as its kind of step says. The rule holds before and after, as it does between any two
+-- steps
 abbrev pub EachStepIsOneEvent : Type 0
 EachStepIsOneEvent = (s t : State Slot View) → Rule s → Rule t → (turn : Turn s t) → IsWholeTurn turn → TurnBrings turn
 
--- in short, of whichever systems the table has before and after: one event leads from one to the other, or they are the same
+-- in short: whichever systems the table has before and after a whole turn, one event leads from one to the other, or they are the same
 abbrev pub EachStepHappensOrRests : Type 0
 EachStepHappensOrRests =
     (s t : State Slot View) → Rule s → Rule t → (turn : Turn s t) → IsWholeTurn turn → (a b : System Definition) → IsTold s a → IsTold t b →

@@ -36,8 +36,8 @@ after_word s place word id me = record {
   views = slice_set s.views id me.0;
 }
 
--- a fast grant is the event of a grant, also where the session has another ticket of the key: while the flag OBTRUSIVE is down, each wish that
--- the word counts is grantable
+-- a fast grant is a grant in the system, even if the session has another ticket of the key: while the flag OBTRUSIVE is down, each request that the
+-- word can count is grantable
 abbrev pub GrantingFastGrants : Type 0
 GrantingFastGrants =
     (s : State Slot View) → Rule s → (keys : List KeyName) → AreKeysOf s keys → (i : ℕ) (key : KeyName) → get_elem? keys i ≡ some key →
@@ -46,7 +46,7 @@ GrantingFastGrants =
     Brings (Grant (of_lock key (record { session = me.0.number; number = me.0.next; mode = mode })))
     s (after_word s (suc i) (word_at s (suc i) + one) id (granted_fast (suc i) mode noted (word_at s (suc i)) me))
 
--- a fast release is the event of a release
+-- a fast release is a release in the system
 abbrev pub ReleasingFastReleases : Type 0
 ReleasingFastReleases =
     (s : State Slot View) → Rule s → (keys : List KeyName) → AreKeysOf s keys → (i : ℕ) (key : KeyName) → get_elem? keys i ≡ some key →
@@ -55,20 +55,20 @@ ReleasingFastReleases =
     Brings (Release (of_lock key (ticket_by me.0.number may.ticket)))
     s (after_word s (suc i) ((word_at s (suc i) + (2 ^ 64 - one)) % 2 ^ 64) id (released_fast (suc i) number (word_at s (suc i)) me))
 
--- to materialise under the latch is to do nothing: the session holds the same tickets, as slow ones
+-- materialising under the latch leaves the system unchanged: the session holds the same tickets, as slow ones
 abbrev pub MaterialisingRests : Type 0
 MaterialisingRests =
     (s : State Slot View) → Rule s → (keys : List KeyName) → AreKeysOf s keys → (i : ℕ) (key : KeyName) → get_elem? keys i ≡ some key →
     (id : ℕ) (me : Mine) → get_elem? s.views id ≡ some me.0 → (weight : ℕ) (h : LatchRecord) → MayMaterialise (suc i) weight h me →
     Rests s (after_word s (suc i) ((word_at s (suc i) + (2 ^ 64 - weight)) % 2 ^ 64) id (materialised (suc i) (word_at s (suc i)) me))
 
--- to read the word of a place without its latch, or to find there another than a fast grant expects, is to do nothing
+-- reading the word of a place without its latch, or finding a word that isn't the one that a fast grant expects, leaves the system unchanged
 abbrev pub ReadingUnlatchedRests : Type 0
 ReadingUnlatchedRests =
     (s : State Slot View) → Rule s → (place : ℕ) → 0 < place → place < length s.homes → (id : ℕ) (me : Mine) → get_elem? s.views id ≡ some me.0 →
     (kind : StepKind) → Rests s (after_word s place (word_at s place) id (met_word_by kind place (word_at s place) me))
 
--- a session that waits has no fast ticket, nor has one that hasn't ended its granted wait
+-- a session that waits, or that hasn't ended its granted wait, has no fast ticket
 abbrev pub WaitersHaveNoFastTickets : Type 0
 WaitersHaveNoFastTickets =
     (s : State Slot View) → Rule s → (system : System Definition) → (told : IsTold s system) →

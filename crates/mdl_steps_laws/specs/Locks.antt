@@ -1,8 +1,8 @@
 -- The locks of the running table, and the system that they make.
 --
--- A lock is what a key has: the fast tickets of all sessions, which are in no list, and the book. The table keeps both under the key's
--- place: the fast tickets are in the sessions' views, and the book is in the place's slot, or with the session that holds its latch. A
--- reader of the system needs to know of no place, latch or view.
+-- The lock of a key has the fast tickets of all sessions, which are in no list, and the book. The table keeps both at the key's place: the
+-- fast tickets are in the sessions' views, and the book is in the place's slot, or with the session that holds its latch. A reader of the
+-- system needs to know nothing of places, latches and views.
 use Rattle.std.specs.Prelude.{◌≡◌, ◌≢◌, ℕ, suc, List, [], ◌++◌, map, slice_index, Some, Contains}
 use mathlib.Core.Option.{some}
 use lib.ListN.{get_elem?}
@@ -24,31 +24,33 @@ use Rattle.mdl_steps.specs.RuleLaws.{fast_at}
 use Rattle.mdl_system.specs.BookLaws.{IsGrantedByLists}
 use Rattle.mdl_system.specs.Systems.{GrantedWait, System, Versioned, Waiter}
 
+-- a lock: the fast tickets of all sessions, and the book
 pub record Lock : Type 0 where
   pub fast : List Ticket
   pub book : BookView
 
--- all its granted tickets
+-- all granted tickets of a lock, fast and slow ones
 abbrev pub granted_of : Lock → List Ticket
 granted_of lock = lock.fast ++ lock.book.granted
 
--- that of a key which nobody ever had
+-- the lock of a key that has no place: no tickets, no definition, and version 0
 abbrev pub empty_lock : KeyName → Lock
 empty_lock key = record { fast = []; book = empty_book key }
 
 -- ---- the locks of the running table
 
--- the book of a place: in its slot while the latch is free, and otherwise as the session that holds the latch has recorded it
+-- the book of a place: in its slot while the latch is free, otherwise in the record of the session that holds the latch
 pub record IsBookAt (s : State Slot View) (place : ℕ) (book : BookView) : Type 0 where
   pub free : slice_index s.words (latch_word place) ≡ 0 → get_elem? s.homes place ≡ some (some (slot.Place book))
   pub taken : (i : ℕ) (v : View) → get_elem? s.views i ≡ some v → (h : LatchRecord) → held_at place v.latches ≡ Some h → h.book ≡ book
 
--- the keys that have places, in order of these from 1 on: those of the directory, which is in slot 0 or with the session that holds its latch
+-- the keys that have places, in the order of their places from 1 on: those of the directory, which is in slot 0, or in the record of the session that
+-- holds its latch
 pub record AreKeysOf (s : State Slot View) (keys : List KeyName) : Type 0 where
   pub free : slice_index s.words (latch_word 0) ≡ 0 → get_elem? s.homes 0 ≡ some (some (slot.Directory (record { keys = keys })))
   pub taken : (i : ℕ) (v : View) → get_elem? s.views i ≡ some v → (k : Keys) → v.directory ≡ Some k → k.keys ≡ keys
 
--- the lock of a key is what its place has; a key that has no place has an empty one
+-- the lock of a key is what its place has. A key that has no place has an empty lock
 pub record AreLocksOf (s : State Slot View) (locks : KeyName → Lock) : Type 0 where
   pub keys : List KeyName
   pub keys_are : AreKeysOf s keys
@@ -58,18 +60,18 @@ pub record AreLocksOf (s : State Slot View) (locks : KeyName → Lock) : Type 0 
 
 -- ---- the system of the locks
 
--- the definition in a book, as the system has it
+-- the version and definition of a book, as the system has them
 abbrev pub versioned : Standing → Versioned Definition
 versioned standing = record { version = standing.version; definition = standing.definition }
 
--- a ticket is granted in the system where it is among the granted tickets of its key's lock; the tickets of those who wait are the waiting
--- ones of the book, in their order; and so is the definition. The states of waits are in no book
+-- the system of these locks. A ticket is granted in the system exactly if it is among the granted tickets of its key's lock. The waiters' tickets
+-- are the waiting tickets of the book, in their order. Versions and definitions are those of the books. The states of waits are in no book
 pub record Tells (locks : KeyName → Lock) (system : System Definition) : Type 0 where
   pub keyed : (key : KeyName) → (locks key).book.key ≡ key
   pub granted : IsGrantedByLists system (λ key. granted_of (locks key))
   pub waiting : (key : KeyName) → map (λ (waiter : Waiter). waiter.ticket) (system.waiting key) ≡ (locks key).book.waiting
   pub definitions : (key : KeyName) → system.definitions key ≡ versioned (locks key).book.standing
 
--- no wait of a session that is granted and not ended is for the ticket of this number
+-- the session has no wait, granted and not ended, for the ticket with this number
 abbrev pub IsOfNoWait : {D : Type 0} → System D → ℕ → ℕ → Type 0
 IsOfNoWait system session number = (wait : GrantedWait) → Contains system.unended wait → wait.session ≡ session → wait.ticket ≢ number

@@ -1,4 +1,5 @@
--- The steps by which nothing is done in the table's system, a law for each kind: whichever systems the table has before and after are one. (For three kinds more see `WaitLaws` and `FastLaws`.) The rule holds after each step, as it does between any two.
+-- The steps that leave the table's system unchanged, with a law for each kind: whichever systems the table has before and after, they are the same.
+-- (For three more kinds see `WaitLaws` and `FastLaws`.) The rule holds after each step, as it does between any two.
 use Rattle.std.specs.Prelude.{◌≡◌, ◌≢◌, ℕ, ◌<◌, Bool, List, [], ◌∷◌, ◌++◌, length, slice_index, slice_set, Some}
 use mathlib.Core.Option.{some, none}
 use lib.ListN.{get_elem?}
@@ -24,11 +25,11 @@ use Rattle.mdl_steps_laws.specs.WaitLaws.{Rests}
 
 -- ---- tables after a step of a seat
 
--- no slot was moved: the step left this in a word
+-- the table after a step that left `left` in a word and moved no slot
 abbrev pub after_step : State Slot View → ℕ → ℕ → ℕ → Mine → State Slot View
 after_step s word left id me = record { words = slice_set s.words word left; homes = s.homes; views = slice_set s.views id me.0 }
 
--- the latch of a place was taken, or that of the directory, and the slot with it
+-- the table after the latch of a place, or of the directory (place 0), was taken, and the content of its slot with it
 abbrev pub after_taking : State Slot View → ℕ → ℕ → Mine → State Slot View
 after_taking s place id me = record {
   words = slice_set s.words (latch_word place) me.0.number;
@@ -36,7 +37,7 @@ after_taking s place id me = record {
   views = slice_set s.views id me.0;
 }
 
--- it was given back, and this slot with it
+-- the table after the latch was given back, and this content of its slot with it
 abbrev pub after_giving : State Slot View → ℕ → Slot → ℕ → Mine → State Slot View
 after_giving s place given id me = record {
   words = slice_set s.words (latch_word place) 0;
@@ -44,47 +45,50 @@ after_giving s place given id me = record {
   views = slice_set s.views id me.0;
 }
 
--- to come from one table to another, of which the rule holds, too, is to do nothing
+-- a step from the first table to the second leaves the system unchanged, if the rule holds of the second
 abbrev pub IsRest : State Slot View → State Slot View → Type 0
 IsRest s s′ = Rule s′ → Rests s s′
 
 -- ---- numbers
 
--- a number is drawn for one more seat
+-- drawing a number for one more seat leaves the system unchanged
 abbrev pub DrawingRests : Type 0
 DrawingRests =
     (s : State Slot View) → Rule s → (id : ℕ) (me me′ : Mine) → get_elem? s.views id ≡ some me.0 →
     (st : Step Slot) (found left : ℕ) → enrols st me found me′ → IsRest s (after_step s (enrol_word (length s.homes)) left id me′)
 
--- a seat is split off from the first one: what that keeps, what the new one gets (the number, and the step that drew it), and the table then
+-- the view of the first seat after a seat is split off from it
 abbrev pub first_after : View → View
 first_after v = record v { spare = record v.spare { given = v.spare.drawn }; log = [] }
 
+-- the view of the new seat: it gets the number that was drawn, and the step that drew it
 abbrev pub split_off : View → View
 split_off v = record (blank v.spare.drawn no_numbers) { log = v.log }
 
+-- the table after a seat is split off from the first one
 abbrev pub after_split : State Slot View → View → State Slot View
 after_split s v = record { words = s.words; homes = s.homes; views = slice_set s.views 0 (first_after v) ++ split_off v ∷ [] }
 
+-- splitting a seat off from the first one leaves the system unchanged
 abbrev pub SplittingRests : Type 0
 SplittingRests = (s : State Slot View) → Rule s → (v : View) → get_elem? s.views 0 ≡ some v → IsRest s (after_split s v)
 
 -- ---- the directory
 
--- its latch is taken
+-- taking the directory's latch leaves the system unchanged
 abbrev pub ConsultingRests : Type 0
 ConsultingRests =
     (s : State Slot View) → Rule s → (id : ℕ) (me : Mine) → get_elem? s.views id ≡ some me.0 → 0 < me.0.number →
     IsFree s 0 → (k : Keys) → get_elem? s.homes 0 ≡ some (some (slot.Directory k)) → IsRest s (after_taking s 0 id (consulted k me))
 
--- or is found taken
+-- finding the directory's latch taken leaves the system unchanged
 abbrev pub MissingDirectoryRests : Type 0
 MissingDirectoryRests =
     (s : State Slot View) → Rule s → (id : ℕ) (me me′ : Mine) → get_elem? s.views id ≡ some me.0 →
     (st : Step Slot) (found : ℕ) → st.word ≡ latch_word 0 → found ≡ slice_index s.words (latch_word 0) → found ≢ 0 → takes_directory st me found me′ →
     IsRest s (after_step s (latch_word 0) found id me′)
 
--- it is given back, and keys are known from then on
+-- giving the directory's latch back, after which the session knows more keys, leaves the system unchanged
 abbrev pub InformingRests : Type 0
 InformingRests =
     (s : State Slot View) → Rule s → (id : ℕ) (me : Mine) → get_elem? s.views id ≡ some me.0 → (k : Keys) → me.0.directory ≡ Some k →
@@ -92,33 +96,34 @@ InformingRests =
 
 -- ---- the latch of a place
 
--- it is taken
+-- taking the latch of a place leaves the system unchanged
 abbrev pub TakingRests : Type 0
 TakingRests =
     (s : State Slot View) → Rule s → (place : ℕ) → HasPlace s place → (id : ℕ) (me : Mine) → get_elem? s.views id ≡ some me.0 → 0 < me.0.number →
     IsFree s place → (h : LatchRecord) → IsFresh place h me → get_elem? s.homes place ≡ some (some (slot.Place h.book)) →
     IsRest s (after_taking s place id (latched place h me))
 
--- or is found taken
+-- finding the latch of a place taken leaves the system unchanged
 abbrev pub MissingRests : Type 0
 MissingRests =
     (s : State Slot View) → Rule s → (place : ℕ) → HasPlace s place → (id : ℕ) (me me′ : Mine) → get_elem? s.views id ≡ some me.0 →
     (st : Step Slot) (found : ℕ) → st.word ≡ latch_word place → found ≡ slice_index s.words (latch_word place) → found ≢ 0 →
     takes_latch st me found me′ → IsRest s (after_step s (latch_word place) found id me′)
 
--- it is given back with nothing done
+-- giving the latch of a place back with nothing done leaves the system unchanged
 abbrev pub PuttingRests : Type 0
 PuttingRests =
     (s : State Slot View) → Rule s → (place : ℕ) → HasPlace s place → (id : ℕ) (me : Mine) → get_elem? s.views id ≡ some me.0 →
     (h : LatchRecord) → held_at place me.0.latches ≡ Some h → IsRest s (after_giving s place (slot.Place h.book) id (unlatched place [] me))
 
--- or with a reading
+-- giving the latch of a place back after reading the definition leaves the system unchanged
 abbrev pub PuttingReadingRests : Type 0
 PuttingReadingRests =
     (s : State Slot View) → Rule s → (place : ℕ) → HasPlace s place → (id : ℕ) (me : Mine) → get_elem? s.views id ≡ some me.0 →
     (h : LatchRecord) → held_at place me.0.latches ≡ Some h → IsRest s (after_giving s place (slot.Place h.book) id (read_and_put place h.book.standing me))
 
--- or with the empty book of a new key, which gets the place: its lock was empty before, too
+-- giving the latch of a place back with the empty book of a new key, which gets the place, leaves the system unchanged: the key's lock was empty
+-- before, too
 abbrev pub NamingRests : Type 0
 NamingRests =
     (s : State Slot View) → Rule s → (place : ℕ) → HasPlace s place → (id : ℕ) (me : Mine) → get_elem? s.views id ≡ some me.0 →
@@ -127,7 +132,7 @@ NamingRests =
 
 -- ---- its word, under the latch
 
--- flags are raised
+-- raising flags leaves the system unchanged
 abbrev pub RaisingRests : Type 0
 RaisingRests =
     (s : State Slot View) → Rule s → (place : ℕ) → HasPlace s place → (id : ℕ) (me me′ : Mine) → get_elem? s.views id ≡ some me.0 →
@@ -135,14 +140,14 @@ RaisingRests =
     st.word ≡ lock_word place → st.first ≡ flags_alone slow obtrusive → raises_flags st me found me′ →
     IsRest s (after_step s (lock_word place) left id me′)
 
--- it is read
+-- reading the word under the latch leaves the system unchanged
 abbrev pub ReadingRests : Type 0
 ReadingRests =
     (s : State Slot View) → Rule s → (place : ℕ) → HasPlace s place → (id : ℕ) (me me′ : Mine) → get_elem? s.views id ≡ some me.0 →
     (h : LatchRecord) → held_at place me.0.latches ≡ Some h → (st : Step Slot) (found : ℕ) →
     st.word ≡ lock_word place → reads_word st me found me′ → IsRest s (after_step s (lock_word place) found id me′)
 
--- flags are lowered with nothing done
+-- lowering flags with nothing done leaves the system unchanged
 abbrev pub LoweringRests : Type 0
 LoweringRests =
     (s : State Slot View) → Rule s → (place : ℕ) → HasPlace s place → (id : ℕ) (me : Mine) → get_elem? s.views id ≡ some me.0 →
@@ -151,7 +156,7 @@ LoweringRests =
 
 -- ---- its version, without the latch
 
--- it is read
+-- reading the version without the latch leaves the system unchanged
 abbrev pub ReadingVersionRests : Type 0
 ReadingVersionRests =
     (s : State Slot View) → Rule s → (place : ℕ) → HasPlace s place → (id : ℕ) (me me′ : Mine) → get_elem? s.views id ≡ some me.0 →
@@ -159,7 +164,7 @@ ReadingVersionRests =
     reads_version st me found me′ →
     IsRest s (after_step s (version_word place) found id me′)
 
--- it is looked for in a cache
+-- looking the version up in a cache, without the latch, leaves the system unchanged
 abbrev pub FindingVersionRests : Type 0
 FindingVersionRests =
     (s : State Slot View) → Rule s → (place : ℕ) → HasPlace s place → (id : ℕ) (me me′ : Mine) → get_elem? s.views id ≡ some me.0 →

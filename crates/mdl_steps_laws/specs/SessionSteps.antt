@@ -1,4 +1,4 @@
--- The steps of sessions, by their kinds, and what happens to the table by them.
+-- The steps of sessions, by their kinds, and how they change the table.
 use Rattle.std.specs.Prelude.{◌≡◌, ◌⊎◌, ℕ, ◌+◌, Bool, List, [], ◌∷◌, ◌++◌, Option, Some, Contains, slice_index, slice_set}
 use mathlib.Core.Option.{some}
 use lib.ListN.{get_elem?}
@@ -23,8 +23,8 @@ use Rattle.mdl_steps.specs.VersionPlays.{finds_version, reads_version}
 use Rattle.mdl_steps.specs.WaitPlays.{ends_granted, ends_lost, opens_wait, reads_wait, settles_granted, settles_lost}
 use Rattle.mdl_steps.specs.WaitStates.{unsettled_state, wait_in}
 
--- the step `st` of a seat, which found its word to be `found`, makes m′ of what the seat was: by its kind, the word that it is on, what the session
--- has to know to make it, and the play
+-- the step `st` of a seat, which found `found` in its word, changes the seat from `m` to `m′`. Each kind of step has its word, what must hold for the
+-- session to make it, and the play
 pub data Makes (st : Step Slot) (m : Mine) (found : ℕ) (m′ : Mine) : Type 0 where
   DrawsNumber : enrols st m found m′ → Makes st m found m′
   TakesDirectory : st.word ≡ latch_word 0 → takes_directory st m found m′ → Makes st m found m′
@@ -60,26 +60,26 @@ pub data Makes (st : Step Slot) (m : Mine) (found : ℕ) (m′ : Mine) : Type 0 
   Materialises : (place weight : ℕ) (h : LatchRecord) → MayMaterialise place weight h m →
       st.word ≡ lock_word place → materialises st m found m′ → Makes st m found m′
 
--- what happens to the table: a seat makes a step, or the first seat gives a number that it drew to one more seat
+-- a change of the table: a seat makes a step, or one more seat is split off from the first one, with a number that the first one drew
 pub data Turn (s t : State Slot View) : Type 0 where
   Steps : (id : ℕ) (m m′ : Mine) (st : Step Slot) (left : ℕ) (act : Act Slot) → get_elem? s.views id ≡ some m.0 →
       Makes st m (slice_index s.words st.word) m′ → t ≡ stepped s st.word left id m.1 m′.0 act → Turn s t
   Splits : (v first more : View) → get_elem? s.views 0 ≡ some v → first.fast ≡ v.fast → first.slow ≡ v.slow → first.reads ≡ v.reads →
       t ≡ record { words = s.words; homes = s.homes; views = slice_set s.views 0 first ++ more ∷ [] } → Turn s t
 
--- by this step the session gives up its ticket of this number
+-- by this step the session loses its ticket with this number at the place
 abbrev pub GivesUp : ℕ → ℕ → {st : Step Slot} {m : Mine} {found : ℕ} {m′ : Mine} → Makes st m found m′ → Type 0
 GivesUp place number (Makes.PutsLatch q deeds _ _ _) = (q ≡ place) × Contains deeds (Lose number)
 GivesUp place number (Makes.LowersFlags q deeds _ _ _ _ _ _) = (q ≡ place) × Contains deeds (Lose number)
 GivesUp place number (Makes.ReleasesFast q n _ _) = (q ≡ place) × (n ≡ number)
 GivesUp place number _ = ⊥
 
--- by this step it changes the definition
+-- by this step the session changes the definition at the place
 abbrev pub Changes : ℕ → {st : Step Slot} {m : Mine} {found : ℕ} {m′ : Mine} → Makes st m found m′ → Type 0
 Changes place (Makes.WritesVersion q _ _ _) = q ≡ place
 Changes place _ = ⊥
 
--- what happens is no such step of this seat
+-- the turn is no step by which this seat loses the ticket or changes the definition
 abbrev pub Spares : ℕ → ℕ → ℕ → {s t : State Slot View} → Turn s t → Type 0
 Spares seat place number (Turn.Steps id _ _ _ _ _ _ made _) = id ≡ seat → ¬ (GivesUp place number made ⊎ Changes place made)
 Spares seat place number (Turn.Splits _ _ _ _ _ _ _ _) = Unit {0}

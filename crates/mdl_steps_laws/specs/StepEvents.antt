@@ -1,5 +1,5 @@
--- Each step by which a latch is put, flags are lowered or a version is written is one event of the table's system, or does nothing there. The laws
--- ask only that the session may make the step, and the rule.
+-- Each step that gives a latch back, lowers flags or writes a version is one event of the table's system, or leaves the system unchanged. The laws
+-- require only that the session may make the step, and the rule.
 use Rattle.std.specs.Prelude.{◌≡◌, ◌⊎◌, ℕ, suc, Bool, List, [], ◌∷◌, slice_set}
 use mathlib.Core.Option.{some}
 use lib.ListN.{get_elem?}
@@ -28,7 +28,7 @@ use Rattle.mdl_steps_laws.specs.WaitLaws.{Brings, Rests}
 
 -- ---- the table after a step
 
--- a seat has put the latch of a place, with a book, after deeds (the play `unlatched`)
+-- a seat has given the latch of a place back, with a book, after deeds (the play `unlatched`)
 abbrev pub after_put : State Slot View → ℕ → List Deed → BookView → ℕ → Mine → State Slot View
 after_put s place ds book id me = record {
   words = slice_set s.words (latch_word place) 0;
@@ -36,7 +36,7 @@ after_put s place ds book id me = record {
   views = slice_set s.views id (unlatched place ds me).0;
 }
 
--- a seat has lowered flags of a place, whose word was `found` and is `left` then, after deeds (the play `flags_lowered`)
+-- a seat has lowered flags of a place, whose word was `found` before and is `left` afterwards, after deeds (the play `flags_lowered`)
 abbrev pub after_lowering : State Slot View → ℕ → List Deed → ℕ → ℕ → BookView → Bool → Bool → ℕ → Mine → State Slot View
 after_lowering s place ds found left book slow obtrusive id me = record {
   words = slice_set s.words (lock_word place) left;
@@ -44,7 +44,7 @@ after_lowering s place ds found left book slow obtrusive id me = record {
   views = slice_set s.views id (flags_lowered place ds found book slow obtrusive me).0;
 }
 
--- a seat has written the version of a place, with the definition that it has from then on (the play `redefined`)
+-- a seat has written the version of a place, which has this definition from then on (the play `redefined`)
 abbrev pub after_writing : State Slot View → ℕ → Standing → ℕ → Mine → State Slot View
 after_writing s place standing id me = record {
   words = slice_set s.words (version_word place) standing.version;
@@ -54,12 +54,13 @@ after_writing s place standing id me = record {
 
 -- ---- what the step brings
 
--- a ticket is the session's, and has this number
+-- the ticket is the session's, and has this number
 abbrev pub IsOf : ℕ → ℕ → Ticket → Type 0
 IsOf session number t = (t.session ≡ session) × (t.number ≡ number)
 
--- from one table to another a session does this under a key, which is one event: a ticket that it gains is granted or cloned, one that it alters is
--- upgraded or downgraded, one that it loses is released, and one that takes the mode of another, which is lost, is merged with it
+-- from one table to another a session does these deeds under a key, which are one event, or leave the system unchanged if there are none. A ticket that
+-- it gains is granted or cloned, one that it alters is upgraded or downgraded, one that it loses is released, and one that takes the mode of another,
+-- which is lost, is merged with that
 abbrev pub BringsDeeds : ℕ → KeyName → List Deed → State Slot View → State Slot View → Type 0
 BringsDeeds session key [] s s′ = Rests s s′
 BringsDeeds session key (Gain number mode ∷ []) s s′ =
@@ -72,7 +73,7 @@ BringsDeeds session key (Alter kept mode ∷ Lose lost ∷ []) s s′ =
     (t u : Ticket) × IsOf session kept t × IsOf session lost u × (u.mode ≡ mode) × Brings (Merge (of_lock key t) (of_lock key u)) s s′
 BringsDeeds session key _ s s′ = ⊥
 
--- the latch of a key's place is put after deeds that the session may do by one step
+-- giving back the latch of a key's place, after deeds that the session may do by one step, is their event
 abbrev pub PuttingBrings : Type 0
 PuttingBrings =
     (s : State Slot View) → Rule s → (keys : List KeyName) → AreKeysOf s keys → (i : ℕ) (key : KeyName) → get_elem? keys i ≡ some key →
@@ -80,7 +81,7 @@ PuttingBrings =
     Rule (after_put s (suc i) ds (all_booked me.0.number ds h.book) id me) →
     BringsDeeds me.0.number key ds s (after_put s (suc i) ds (all_booked me.0.number ds h.book) id me)
 
--- flags are lowered after such deeds
+-- lowering flags after such deeds is their event
 abbrev pub LoweringBrings : Type 0
 LoweringBrings =
     (s : State Slot View) → Rule s → (keys : List KeyName) → AreKeysOf s keys → (i : ℕ) (key : KeyName) → get_elem? keys i ≡ some key →
@@ -89,7 +90,7 @@ LoweringBrings =
     Rule (after_lowering s (suc i) ds found left (all_booked me.0.number ds h.book) slow obtrusive id me) →
     BringsDeeds me.0.number key ds s (after_lowering s (suc i) ds found left (all_booked me.0.number ds h.book) slow obtrusive id me)
 
--- the version of a key's place is written after a change that the session may make
+-- writing the version of a key's place, after a change that the session may make, changes the definition in the system
 abbrev pub WritingBrings : Type 0
 WritingBrings =
     (s : State Slot View) → Rule s → (keys : List KeyName) → AreKeysOf s keys → (i : ℕ) (key : KeyName) → get_elem? keys i ≡ some key →

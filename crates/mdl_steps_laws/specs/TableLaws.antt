@@ -1,4 +1,4 @@
--- What the rule of the running table comes to in the system of locks.
+-- What the rule of the running table means in the system of locks.
 use Rattle.std.specs.Prelude.{◌≡◌, ◌≢◌, ℕ, suc, ◌<◌, map, Some, None}
 use mathlib.Core.Option.{some}
 use lib.ListN.{get_elem?}
@@ -31,20 +31,20 @@ RunningTablesAreLawful =
     (s : State Slot View) → Rule s → (locks : KeyName → Lock) → AreLocksOf s locks →
     (system : System Definition) → Tells locks system → IsLawful system
 
--- the number of a session's next ticket is new
+-- the number of a session's next ticket is one that none of its granted tickets has
 abbrev pub NextNumbersAreNew : Type 0
 NextNumbersAreNew =
     (s : State Slot View) → Rule s → (locks : KeyName → Lock) → AreLocksOf s locks → (system : System Definition) → Tells locks system →
     (j : ℕ) (v : View) → get_elem? s.views j ≡ some v → 0 < v.number → IsNewNumber system v.number v.next
 
--- the session's one ticket of this number there, which is in the granted list
+-- this is the session's only ticket with this number in the lock, and it is in the granted list
 pub record IsOnly (session number : ℕ) (lock : Lock) (t : Ticket) : Type 0 where
   pub found : ticket_of session number lock.book.granted ≡ Some t
   pub once : Once lock.book.granted
   pub not_fast : ticket_of session number lock.fast ≡ None
 
--- the slow ticket that a session has by its view is its only one in the lock of that number; and the session holds it, but where it is that
--- of a wait
+-- a slow ticket in a session's view is the session's only ticket with that number in the lock, and the session holds it, unless it is the ticket of a
+-- wait
 abbrev pub OwnTicketsAreHeld : Type 0
 OwnTicketsAreHeld =
     (s : State Slot View) → Rule s → (locks : KeyName → Lock) → (are : AreLocksOf s locks) → (system : System Definition) → Tells locks system →
@@ -54,7 +54,7 @@ OwnTicketsAreHeld =
     NotWaited v number → IsOfNoWait system v.number number →
     IsOnly v.number number (locks key) t × IsHeld system v.number (of_lock key t)
 
--- what changes at one place changes the lock of its key alone
+-- a change at one place changes only the lock of the place's key
 abbrev pub OnePlaceIsOneLock : Type 0
 OnePlaceIsOneLock =
     (s s′ : State Slot View) → Rule s → (old new : KeyName → Lock) → (are : AreLocksOf s old) → AreKeysOf s′ are.keys →

@@ -1,5 +1,5 @@
--- The steps on the words of waits are events of the table's system. Each is one step, which changes the word, and the record of a latch with it:
--- what its session writes into the book in hand before that or after it is no part of the system.
+-- The steps on wait words are events of the table's system. Each step changes the word, and with it the record of a latch if it is made under one.
+-- What the session writes into the book in hand before or after the step is no part of the system.
 use Rattle.std.specs.Prelude.{◌≡◌, ℕ, suc, ◌+◌, ◌<◌, true, length, List, Some, slice_set}
 use Rattle.std.specs.FinSet as set
 use Rattle.std.specs.Ordering.{nat_cmp}
@@ -38,16 +38,16 @@ use Rattle.mdl_steps_laws.specs.WaitsTold.{TellsWaits, code_of}
 abbrev pub IsTold : State Slot View → System Definition → Type 0
 IsTold s system = (locks : KeyName → Lock) × AreLocksOf s locks × Tells locks system × TellsWaits s system
 
--- an event leads from one table to another: the rule holds of that, and the event happens, whichever systems they have
+-- an event leads from one table to another: the rule holds of the second, and whichever systems the two have, the event happens between these
 abbrev pub Brings : Event Change → State Slot View → State Slot View → Type 0
 Brings event s s′ =
     Rule s′ × ((a b : System Definition) → IsTold s a → IsTold s′ b → Happens (λ (at : KeyName). applied at.namespace) event a b)
 
--- nothing is done from one table to another: the rule holds of that, and whichever systems they have are one
+-- the system is unchanged from one table to another: the rule holds of the second, and whichever systems the two have, they are the same
 abbrev pub Rests : State Slot View → State Slot View → Type 0
 Rests s s′ = Rule s′ × ((a b : System Definition) → IsTold s a → IsTold s′ b → SameSystem a b)
 
--- the table after a step of a seat by which the wait word of a session became this
+-- the table after a step of a seat that made this the wait word of a session
 abbrev pub after_wait : State Slot View → ℕ → ℕ → ℕ → Mine → State Slot View
 after_wait s session word id me = record {
   words = slice_set s.words (wait_word (length s.homes) session) word;
@@ -55,7 +55,7 @@ after_wait s session word id me = record {
   views = slice_set s.views id me.0;
 }
 
--- the state of a wait that was lost so
+-- the state of a wait that was lost in this way
 abbrev pub lost_as : Loss → WaitState
 lost_as loss.Victim = Victim
 lost_as loss.Timeout = TimedOut
@@ -63,7 +63,7 @@ lost_as loss.Killed = Killed
 
 -- ---- the laws
 
--- to open a wait under the latch of its place is to begin it: its ticket joins the end of those that wait
+-- opening a wait under the latch of its place begins it in the system: its ticket is added to the end of the waiting tickets
 abbrev pub OpeningBegins : Type 0
 OpeningBegins =
     (s : State Slot View) → Rule s → (keys : List KeyName) → AreKeysOf s keys → (i : ℕ) (key : KeyName) → get_elem? keys i ≡ some key →
@@ -71,7 +71,7 @@ OpeningBegins =
     Brings (BeginWait key (record { ticket = asked_ticket mode me.0; wait = me.0.waits + 1; state = Unsettled }))
     s (after_wait s me.0.number (wait_in (me.0.waits + 1) unsettled_state) id (opened (length s.homes) (suc i) mode me))
 
--- to settle an unsettled wait as lost, which no latch is needed for, is to lose it: its ticket waits on, at some key
+-- settling an unsettled wait as lost, which needs no latch, loses it in the system. Its ticket stays among the waiting tickets of some key
 abbrev pub SettlingLoses : Type 0
 SettlingLoses =
     (s : State Slot View) → Rule s → (id : ℕ) (me : Mine) → get_elem? s.views id ≡ some me.0 →
@@ -80,7 +80,7 @@ SettlingLoses =
     × Brings (SettleLost key (record { ticket = ticket; wait = number; state = Unsettled }) (lost_as how))
     s (after_wait s session (wait_in number (lost_state how)) id (settled_lost (length s.homes) session number (lost_state how) me))
 
--- to grant an unsettled wait under the latch of its place is to grant the waiter
+-- granting an unsettled wait under the latch of its place grants the waiter in the system
 abbrev pub GrantingGrantsWaiters : Type 0
 GrantingGrantsWaiters =
     (s : State Slot View) → Rule s → (keys : List KeyName) → AreKeysOf s keys → (i : ℕ) (key : KeyName) → get_elem? keys i ≡ some key →
@@ -89,7 +89,7 @@ GrantingGrantsWaiters =
     Brings (GrantWaiter key (record { ticket = may.wish; wait = number; state = Unsettled }))
     s (after_wait s session (wait_in number granted_state) id (settled_granted (length s.homes) (suc i) session ticket number me))
 
--- the ticket that the book finds next may be granted, by the word that was noted while the flag OBTRUSIVE is up
+-- the waiting ticket that a search of the book finds next may be granted, if the search uses the noted word while the flag OBTRUSIVE is up
 abbrev pub NextMayBeGranted : Type 0
 NextMayBeGranted =
     (s : State Slot View) → Rule s → (keys : List KeyName) → AreKeysOf s keys → (i : ℕ) (key : KeyName) → get_elem? keys i ≡ some key →
@@ -98,7 +98,7 @@ NextMayBeGranted =
     (unsettled : set.FinSet nat_cmp) (t : Ticket) → books.next_grantable word unsettled h.book ≡ Some t →
     (may : MayGrant (suc i) t.session t.number h me) × (may.wish ≡ t)
 
--- to end a wait that was met granted is to end a granted wait: from then on its session holds the ticket that it asked for
+-- ending a wait that was met granted ends a granted wait in the system: from then on its session holds the ticket that it requested
 abbrev pub EndingHolds : Type 0
 EndingHolds =
     (s : State Slot View) → Rule s → (id : ℕ) (me : Mine) → get_elem? s.views id ≡ some me.0 → 0 < me.0.number → me.0.told ≡ Some granted_state →
@@ -106,7 +106,7 @@ EndingHolds =
     × Brings (EndGrantedWait (record { session = me.0.number; wait = me.0.waits; ticket = a.number }))
     s (after_wait s me.0.number (wait_in me.0.waits idle_state) id (ended_granted (length s.homes) me))
 
--- to end a wait that was met lost, under the latch of its place, is to end a lost wait, as it was lost: its ticket goes
+-- ending a wait that was met lost, under the latch of its place, ends a wait in the system that was lost in this way: its ticket is removed
 abbrev pub EndingLeaves : Type 0
 EndingLeaves =
     (s : State Slot View) → Rule s → (keys : List KeyName) → AreKeysOf s keys → (i : ℕ) (key : KeyName) → get_elem? keys i ≡ some key →
@@ -118,7 +118,7 @@ EndingLeaves =
       state = how;
     })) s (after_wait s me.0.number (wait_in me.0.waits idle_state) id (ended_lost (length s.homes) (suc i) may.ask.number may.state me))
 
--- to read a wait word, or to meet there another than the one that was to be settled, is to do nothing
+-- reading a wait word, or meeting one that isn't the word to be settled, leaves the system unchanged
 abbrev pub MeetingRests : Type 0
 MeetingRests =
     (s : State Slot View) → Rule s → (id : ℕ) (me : Mine) → get_elem? s.views id ≡ some me.0 → (session : ℕ) (kind : StepKind) →

@@ -1,10 +1,10 @@
-//! The headline, as one law, proved as the contract of a function that does nothing.
+//! The headline: the main result as one law, proved as the contract of a function that does nothing.
 ghost use Rattle.mdl_steps_laws.specs.Headline.{FreeLocksAreInOrder, ReadsStand, NotesStay, ReadingsNote, VersionsNote, HitsNote, DefinitionsStay};
 
 /// Whenever a lock's latch is free, its word counts exactly the fast tickets held, its two flags show whether its lists hold an obtrusive
-/// ticket or any ticket, and granted tickets of different sessions are compatible by the matrix; every atomic step in every interleaving
-/// keeps this, so the definition a session reads under a ticket stays the same until it gives the ticket up or changes the definition
-/// itself.
+/// ticket or any ticket, and granted tickets of different sessions are compatible by the matrix. Every atomic step in every interleaving
+/// keeps this. So the definition that a session reads under a ticket stays the same until the session releases the ticket or changes the
+/// definition itself.
 pub fn definitions_stay()
     ensures free { FreeLocksAreInOrder }
     ensures noted { ReadingsNote }

@@ -1,7 +1,7 @@
-//! The running table is tied to the system of locks that a reader believes: which locks, and which system, a state of the table has
-//! (`specs/Locks`), that this system is lawful, and that each step of a session is one event of it or does nothing there
-//! (`specs/EachStep`), whether it is made under a latch (`specs/StepEvents`), on the words of waits (`specs/WaitLaws`) or by a lock word's
-//! fast path (`specs/FastLaws`).
+//! Laws that tie the shared table to the system of locks (`mdl_system`), which is the model for readers. They say which locks, and which
+//! system, a state of the table has (`specs/Locks`), that this system is lawful, and that each step of a session is one event of it or
+//! leaves it unchanged (`specs/EachStep`). Steps are made under a latch (`specs/StepEvents`), on wait words (`specs/WaitLaws`), or by a lock
+//! word's fast path (`specs/FastLaws`).
 //!
 //! There is no code here: each law is the contract of a function that does nothing.
 #![tactic(auto)]

@@ -1,78 +1,78 @@
-//! The steps by which nothing is done in the table's system. Each law is proved as the contract of a function that does
+//! The steps that leave the table's system unchanged. Each law is proved as the contract of a function that does
 //! nothing.
 ghost use Rattle.mdl_steps_laws.specs.RestLaws.{DrawingRests, SplittingRests, ConsultingRests, MissingDirectoryRests, InformingRests, TakingRests, MissingRests, PuttingRests, PuttingReadingRests, NamingRests, RaisingRests, ReadingRests, LoweringRests, ReadingVersionRests, FindingVersionRests};
 
-/// As a number is drawn for one more session, nothing happens in the system.
+/// Drawing a number for one more session leaves the system unchanged.
 pub fn drawing_rests()
     ensures { DrawingRests }
 {}
 
-/// Nor does it as the session's seat is split off with it.
+/// Splitting off the session's seat leaves the system unchanged.
 pub fn splitting_rests()
     ensures { SplittingRests }
 {}
 
-/// Nor as the directory's latch is taken.
+/// Taking the directory's latch leaves the system unchanged.
 pub fn consulting_rests()
     ensures { ConsultingRests }
 {}
 
-/// Or is found taken.
+/// Finding the directory's latch taken leaves the system unchanged.
 pub fn missing_directory_rests()
     ensures { MissingDirectoryRests }
 {}
 
-/// Or is put.
+/// Giving the directory's latch back leaves the system unchanged.
 pub fn informing_rests()
     ensures { InformingRests }
 {}
 
-/// Nothing happens as the latch of a place is taken.
+/// Taking the latch of a place leaves the system unchanged.
 pub fn taking_rests()
     ensures { TakingRests }
 {}
 
-/// Or is found taken.
+/// Finding the latch of a place taken leaves the system unchanged.
 pub fn missing_rests()
     ensures { MissingRests }
 {}
 
-/// Or is put with nothing done.
+/// Giving the latch of a place back with nothing done leaves the system unchanged.
 pub fn putting_rests()
     ensures { PuttingRests }
 {}
 
-/// Or with a reading.
+/// Giving the latch of a place back after reading the definition leaves the system unchanged.
 pub fn putting_reading_rests()
     ensures { PuttingReadingRests }
 {}
 
-/// Or with the book of a new key, which gets the place.
+/// Giving the latch of a place back with the book of a new key, which gets the place, leaves the system unchanged.
 pub fn naming_rests()
     ensures { NamingRests }
 {}
 
-/// Nothing happens as flags are raised.
+/// Raising flags leaves the system unchanged.
 pub fn raising_rests()
     ensures { RaisingRests }
 {}
 
-/// Or as a lock's word is read under its latch.
+/// Reading a lock's word under its latch leaves the system unchanged.
 pub fn reading_rests()
     ensures { ReadingRests }
 {}
 
-/// Or as flags are lowered with nothing done.
+/// Lowering flags with nothing done leaves the system unchanged.
 pub fn lowering_rests()
     ensures { LoweringRests }
 {}
 
-/// Or as a place's version is read without its latch.
+/// Reading a place's version without its latch leaves the system unchanged.
 pub fn reading_version_rests()
     ensures { ReadingVersionRests }
 {}
 
-/// Or as it is looked for in a cache.
+/// Looking a place's version up in a cache, without the latch, leaves the system unchanged.
 pub fn finding_version_rests()
     ensures { FindingVersionRests }
 {}

@@ -1,4 +1,4 @@
--- What a session's calls ask of its context and of its cache of definitions, and what they leave of them.
+-- What a session's calls require of its context and of its cache of definitions, and what they preserve.
 use Rattle.std.specs.Prelude.{◌≡◌, ℕ, ◌≤◌, None}
 use Rattle.mdl_defs.specs.Caches.{CacheView, most_kept}
 use Rattle.mdl_calls.specs.Words.{AreMet}
@@ -6,23 +6,23 @@ use Rattle.mdl_calls.specs.declared.lock_space.LockSpace.{Ghosts}
 use Rattle.mdl_context.specs.Contexts.{Attends, ContextView, LeavesOthers}
 use Rattle.mdl_stmt.specs.Players.{PlayerView}
 
--- a cache can keep so many definitions
+-- a valid capacity of a cache of definitions
 abbrev pub IsCapacity : ℕ → Type 0
 IsCapacity capacity = (1 ≤ capacity) × (capacity ≤ most_kept)
 
--- a context attends to its space, and a cache keeps only what its session met there
+-- a context attends to its space, and a cache keeps only definitions that its session met there
 pub record AttendsWith {S : Type 0} (members : Ghosts S) (space : S) (context : ContextView) (cache : CacheView) : Type 0 where
   pub attends : Attends members space context
   pub met : AreMet (members.has_met space context.who) cache.kept
 
--- a session attends to its space, and waits for nothing
+-- a session is ready for a call: it attends to its space, and has no wait
 pub record IsReady {S : Type 0} (members : Ghosts S) (space : S) (player : PlayerView) : Type 0 where
   pub attends : Attends members space player.context
   pub met : AreMet (members.has_met space player.context.who) player.cache.kept
   pub idle : player.context.wait ≡ None
 
--- a session goes on: it is the same one, other sessions keep what they had and knew, it attends to its space, and its cache keeps as
--- many definitions as before, all of them met
+-- what each call preserves: the session is the same one, other sessions keep what they had and knew, the session attends to its
+-- space, and its cache has the same capacity and keeps only definitions that it met
 pub record GoesOn {S : Type 0} (members : Ghosts S) (before : S) (old : PlayerView) (after : S) (new : PlayerView) : Type 0 where
   pub who : new.context.who ≡ old.context.who
   pub others : LeavesOthers members old.context.who before after
@@ -30,12 +30,13 @@ pub record GoesOn {S : Type 0} (members : Ghosts S) (before : S) (old : PlayerVi
   pub met : AreMet (members.has_met after new.context.who) new.cache.kept
   pub capacity : new.cache.capacity ≡ old.cache.capacity
 
--- the same of a context alone: it attends to its space, and waits for nothing
+-- a context is ready for a call: it attends to its space, and has no wait
 pub record IsIdle {S : Type 0} (members : Ghosts S) (space : S) (context : ContextView) : Type 0 where
   pub attends : Attends members space context
   pub idle : context.wait ≡ None
 
--- and it goes on
+-- what each call preserves of a context: it is of the same session, other sessions keep what they had and knew, and it attends to
+-- its space
 pub record ContextGoesOn {S : Type 0} (members : Ghosts S) (before : S) (old : ContextView) (after : S) (new : ContextView) : Type 0 where
   pub who : new.who ≡ old.who
   pub others : LeavesOthers members old.who before after

@@ -1,5 +1,5 @@
--- What the code tells of a lock that it asked for, of a row that it played, and of a statement's progress. A clause says of what was
--- done so far that whatever follows it follows from the start.
+-- What the code returns about a lock that it requested, a row that it played, and a statement's progress. A clause relates the work
+-- done so far to the whole row: each run of what is left makes a run of the row from its start.
 use Rattle.std.specs.Prelude.{◌≡◌, ℕ, List, None, Result, Ok, Err, Vec}
 use Rattle.mdl_key.specs.declared.mode.Mode.{Mode}
 use Rattle.mdl_key.specs.declared.mode.Mode.TheVariants.{IX}
@@ -33,46 +33,47 @@ use Rattle.mdl_stmt.specs.Players.{PlayerView}
 use Rattle.mdl_stmt.specs.Stages.{lock_rest_by, rest_of}
 use Rattle.mdl_rows.specs.Statements.{ddl_lock, end_under}
 
--- how far a statement has come, as its runner tells it
+-- how far a statement has come, from the progress that its runner returns
 abbrev pub paused : Progress → Session → Pause
 paused (Waiting key mode) session = Begins_to_wait key mode session
 paused Pending session = Waits_on session
 paused (Done reply) session = Ends reply session
 
--- the same where memory may have run out
+-- the same, if memory may have run out
 abbrev pub ran : {E : Type 0} → Result Progress E → Session → Pause
 ran (Ok progress) session = paused progress session
 ran (Err _) session = Faults session
 
--- a session that no statement of which waits, as its player keeps it
+-- a session without a waiting statement, from its player
 abbrev pub at_rest : PlayerView → Session
 at_rest player = record { context = player.context; state = player.state; left = None }
 
--- what a session does from one state comes to what it does from another: whatever follows there, follows here
+-- a session's work from an earlier state reduces to its work from a later one: each run from the later state gives a run from the
+-- earlier one, with the same result
 pub record Comes {S : Type 0} (joins : S → Call → Answer → S → Type 0) (a : S) (before : PlayerView) (here : Mark → Session → Program Pause) (b : S) (after : PlayerView) (there : Mark → Session → Program Pause) : Type 0 where
   pub so : (mark : Mark) (pause : Pause) (c : S) → Runs joins b (there mark (at_rest after)) pause c → Runs joins a (here mark (at_rest before)) pause c
 
--- a session begins to wait for a lock, which is to lead to this
+-- a session's work runs until it begins to wait for this lock, and this rest is left once the lock is granted
 pub record Waits {S : Type 0} (joins : S → Call → Answer → S → Type 0) (a : S) (before : PlayerView) (here : Mark → Session → Program Pause) (key : KeyName) (mode : Mode) (rest : ℕ → Row Reply) (b : S) (after : PlayerView) : Type 0 where
   pub so : (mark : Mark) → Runs joins a (here mark (at_rest before)) (Begins_to_wait key mode (with_left (at_rest after) (record { rest = rest; mark = mark }))) b
 
--- one thing was asked for: it was had, or the statement is to end
+-- one step of a row was made: it succeeded, or the statement is to end
 abbrev pub IsStep : {S A : Type 0} → (S → Call → Answer → S → Type 0) → Row A → S → PlayerView → Result A Ending → S → PlayerView → Type 0
 IsStep {S} {A} joins act a before (Ok x) b after = (rest : A → Row Reply) → Comes joins a before (play (act >>= rest)) b after (play (rest x))
 IsStep {S} {A} joins act a before (Err ending) b after = (rest : A → Row Reply) → Comes joins a before (play (act >>= rest)) b after (closing ending)
 
--- a list, as a step tells it
+-- the result of a step that returns a list
 abbrev pub items_told : {A Z : Type 0} → Result (Vec A Z) Ending → Result (List A) Ending
 items_told (Ok list) = Ok list.items
 items_told (Err ending) = Err ending
 
--- a lock was asked for: it is had, it is waited for, or the statement is to end
+-- the result of a request: the lock is held, or waited for, or the statement is to end
 abbrev pub IsGot : {S : Type 0} → (S → Call → Answer → S → Type 0) → Wish → S → PlayerView → Got ℕ → S → PlayerView → Type 0
 IsGot joins wish a before (Had id) b after = (rest : ℕ → Row Reply) → Comes joins a before (play (Acquire wish rest)) b after (play (rest id))
 IsGot joins wish a before (got.Waits key) b after = (rest : ℕ → Row Reply) → Waits joins a before (play (Acquire wish rest)) key wish.mode rest b after
 IsGot joins wish a before (got.Ends ending) b after = (rest : ℕ → Row Reply) → Comes joins a before (play (Acquire wish rest)) b after (closing ending)
 
--- a ticket was to be upgraded: it is, that is waited for, or the statement is to end
+-- the result of an upgrade of a ticket: it is done, or waited for, or the statement is to end
 abbrev pub IsRaised : {S : Type 0} → (S → Call → Answer → S → Type 0) → ℕ → KeyName → Mode → S → PlayerView → Got ℕ → S → PlayerView → Type 0
 IsRaised joins id key mode a before (Had new) b after = (rest : ℕ → Row Reply) → Comes joins a before (play (Upgrade id key mode rest)) b after (play (rest new))
 IsRaised joins id key mode a before (got.Waits told) b after = (rest : ℕ → Row Reply) → Waits joins a before (play (Upgrade id key mode rest)) told mode rest b after
@@ -83,7 +84,7 @@ abbrev pub IsPlayed : {S : Type 0} → (S → Call → Answer → S → Type 0) 
 IsPlayed joins row a before (played.Ends ending) b after = Comes joins a before (play row) b after (closing ending)
 IsPlayed joins row a before (played.Waits key mode stage) b after = Waits joins a before (play row) key mode (rest_of stage) b after
 
--- it has one only where it began to wait
+-- the session has no wait after a request, unless it began to wait
 abbrev pub IdleUnlessGot : {A : Type 0} → Got A → PlayerView → Type 0
 IdleUnlessGot (Had x) player = player.context.wait ≡ None
 IdleUnlessGot (got.Waits key) player = Unit {0}
@@ -93,30 +94,30 @@ abbrev pub IdleUnlessPlayed : Played → PlayerView → Type 0
 IdleUnlessPlayed (played.Ends ending) player = player.context.wait ≡ None
 IdleUnlessPlayed (played.Waits key mode stage) player = Unit {0}
 
--- a wait that can't be told was given up, and the statement is to end for want of memory
+-- a wait that can't be reported was given up, and the statement is to end because memory ran out
 pub record IsDropped {S : Type 0} (joins : S → Call → Answer → S → Type 0) (a : S) (before : PlayerView) (b : S) (after : PlayerView) : Type 0 where
   pub so : (mark : Mark) (pause : Pause) (c : S) → Runs joins b (closing Starves mark (at_rest after)) pause c
       → Runs joins a (call.◌>>=◌ (giving_up_wait before.context) (untold mark (at_rest before))) pause c
 
--- the lock of all writes was given up that was to become the global read lock, where there was one, and what else goes is to go
+-- the GLOBAL lock of an unfinished global read lock was released, if there was one, and the other tickets are still to be released
 abbrev pub IsWithoutHalf : {S : Type 0} → (S → Call → Answer → S → Type 0) → Ending → S → PlayerView → S → PlayerView → Type 0
 IsWithoutHalf {S} joins ending a before b after =
     (mark : Mark) (pause : Pause) (c : S) → Runs joins b (letting_go ending mark (at_rest after)) pause c → Runs joins a (closing ending mark (at_rest before)) pause c
 
--- a wait has begun, and is to be told
+-- a wait has begun, and is to be reported: it is, or memory ran out and it was given up
 abbrev pub IsTold : {S : Type 0} → (S → Call → Answer → S → Type 0) → KeyName → S → PlayerView → Got ℕ → S → PlayerView → Type 0
 IsTold {S} joins key a before (Had id) b after = ⊥
 IsTold {S} joins key a before (got.Waits other) b after = (other ≡ key) × (a ≡ b) × (after ≡ before)
 IsTold {S} joins key a before (got.Ends ending) b after = (ending ≡ Starves) × IsDropped joins a before b after
 
--- a transaction was committed: it is over, its lock is waited for, or the statement is to end
+-- a transaction was to be committed: it is, or its COMMIT lock is waited for, or the statement is to end
 abbrev pub IsCommitted : {S : Type 0} → (S → Call → Answer → S → Type 0) → Act → S → PlayerView → Got (Unit {0}) → S → PlayerView → Type 0
 IsCommitted joins act a before (Had _) b after = (rest : Row Reply) → Comes joins a before (play (act >> rest)) b after (play rest)
 IsCommitted joins act a before (got.Waits key) b after =
     (rest : Row Reply) → Waits joins a before (play (act >> rest)) key IX (λ lock. end_under lock >> rest) b after
 IsCommitted joins act a before (got.Ends ending) b after = (rest : Row Reply) → Comes joins a before (play (act >> rest)) b after (closing ending)
 
--- locks of a list were asked for, each by this wish: all are had, one is waited for, or the statement is to end
+-- the locks of a list were requested, each by this wish (request): all are held, or one is waited for, or the statement is to end
 abbrev pub IsListedBy : {S : Type 0} → (S → Call → Answer → S → Type 0) → (KeyName → Wish) → LockList → S → PlayerView → Listed → S → PlayerView → Type 0
 IsListedBy joins wish locks a before (listed.Had all) b after =
     (rest : List ℕ → Row Reply) → Comes joins a before (play (lock_rest_by wish locks rest)) b after (play (rest all.tickets))
@@ -125,23 +126,23 @@ IsListedBy joins wish locks a before (listed.Waits key mode had) b after =
 IsListedBy joins wish locks a before (listed.Ends ending) b after =
     (rest : List ℕ → Row Reply) → Comes joins a before (play (lock_rest_by wish locks rest)) b after (closing ending)
 
--- so it was with locks of DDL
+-- the same, for the locks of DDL
 abbrev pub IsListed : {S : Type 0} → (S → Call → Answer → S → Type 0) → LockList → S → PlayerView → Listed → S → PlayerView → Type 0
 IsListed joins = IsListedBy joins ddl_lock
 
--- its keys stay
+-- the keys of the list are unchanged
 abbrev pub KeepsKeys : LockList → Listed → Type 0
 KeepsKeys locks (listed.Had all) = all.keys ≡ locks.keys
 KeepsKeys locks (listed.Waits key mode had) = had.keys ≡ locks.keys
 KeepsKeys locks (listed.Ends ending) = Unit {0}
 
--- there is a wait only where one has begun
+-- the session has no wait after the request of a list, unless it began to wait
 abbrev pub IdleUnlessListed : Listed → PlayerView → Type 0
 IdleUnlessListed (listed.Had all) player = player.context.wait ≡ None
 IdleUnlessListed (listed.Waits key mode had) player = Unit {0}
 IdleUnlessListed (listed.Ends ending) player = player.context.wait ≡ None
 
--- a row was played so far, and then the statement was ended, or what is left of it was copied
+-- a row was played up to its end or a wait, and then the statement was ended, or what is left of it was copied
 abbrev pub IsSettled : {S : Type 0} → (S → Call → Answer → S → Type 0) → Played → Mark → S → PlayerView → Turn → S → PlayerView → Type 0
 IsSettled joins (played.Ends ending) mark a before turn b after =
     (turn.work ≡ None) × Runs joins a (closing ending mark (at_rest before)) (ran turn.progress (at_rest after)) b

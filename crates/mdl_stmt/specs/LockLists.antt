@@ -1,12 +1,12 @@
--- Locks that are asked for one after the other, as the code keeps them.
+-- Locks that are requested one after the other, as the code represents them.
 use Rattle.std.specs.Prelude.{ℕ, List, [], ◌∷◌, ◌++◌, length, nat_lt, if◌then◌else◌}
 use Rattle.mdl_key.specs.Keys.{KeyName}
 
--- their keys, and the tickets of the first of them, which are held
+-- the keys of the locks, and the tickets of the first of them, which are held
 pub record LockList : Type 0 where
   pub keys : List KeyName
   pub tickets : List ℕ
 
--- with the ticket of the next one, if one is left
+-- the list with the ticket of the next lock, if one is left
 abbrev pub with_ticket : ℕ → LockList → LockList
 with_ticket ticket locks = if nat_lt (length locks.tickets) (length locks.keys) then record locks { tickets = locks.tickets ++ ticket ∷ [] } else locks

@@ -1,4 +1,4 @@
--- A session as its player and its runner keep it.
+-- A session as its player and its runner represent it.
 use Rattle.std.specs.Prelude.{ℕ, Bool, List, Option}
 use Rattle.mdl_defs.specs.Caches.{CacheView}
 use Rattle.mdl_context.specs.Contexts.{ContextView}
@@ -8,19 +8,20 @@ use Rattle.mdl_rows.specs.declared.state.Savepoint.{Savepoint}
 use Rattle.mdl_rows.specs.States.{State}
 use Rattle.mdl_stmt.specs.declared.runner.Work.{Work}
 
--- what of its state a session keeps until it gives it up
+-- the part of a session's state that it keeps until it releases it: locked tables, their scopes' tickets, the
+-- global read lock
 pub record ExplicitLocks : Type 0 where
   pub locked : List Locked
   pub scopes : List ℕ
   pub read_lock : Option ReadLock
 
--- a session between statements, or while a statement of it is run
+-- a session between statements, or while one of its statements runs
 pub record PlayerView : Type 0 where
   pub context : ContextView
   pub state : State
   pub cache : CacheView
 
--- what a session keeps, by what it keeps until it gives it up, and its transaction
+-- a session's state, from its explicit locks and its transaction
 abbrev pub state_of : ExplicitLocks → Bool → Bool → List Savepoint → State
 state_of explicit is_open has_written savepoints =
     record {
@@ -32,18 +33,18 @@ state_of explicit is_open has_written savepoints =
       read_lock = explicit.read_lock;
     }
 
--- a session that keeps this
+-- a session, from its parts
 abbrev pub player_of : CacheView → ExplicitLocks → ContextView → Bool → Bool → List Savepoint → PlayerView
 player_of cache explicit context is_open has_written savepoints =
     record { context = context; state = state_of explicit is_open has_written savepoints; cache = cache }
 
--- a session as its runner keeps it
+-- a session as its runner represents it
 pub record RunnerView : Type 0 where
   pub context : ContextView
   pub state : State
   pub work : Option Work
   pub cache : CacheView
 
--- the same without its statement
+-- the session without its waiting statement
 abbrev pub player_in : RunnerView → PlayerView
 player_in runner = record { context = runner.context; state = runner.state; cache = runner.cache }

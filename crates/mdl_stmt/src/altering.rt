@@ -24,7 +24,8 @@ use mdl_syntax::{Algorithm, Alteration, Statement};
 use std::alloc::Global;
 
 impl<S: LockSpace> Player<S> {
-    /// Performs an ALTER TABLE of a table. No transaction is open when it begins to alter it.
+    /// Performs an ALTER TABLE of a table: checks the session's locks, commits an open transaction, and then alters
+    /// the table.
     pub(crate) fn alter_first<'s>(
         &mut self,
         space: &mut S,
@@ -69,7 +70,7 @@ impl<S: LockSpace> Player<S> {
         }
     }
 
-    /// Locks a table's schema, under the lock of all writes, and alters the table.
+    /// Locks a table's schema, under the GLOBAL lock, and alters the table.
     pub(crate) fn lock_schema_and_alter<'s>(
         &mut self,
         space: &mut S,
@@ -139,7 +140,7 @@ impl<S: LockSpace> Player<S> {
         }
     }
 
-    /// Alters a table under its lock, if it can be altered so.
+    /// Alters a table under its lock, if the change can be made.
     pub(crate) fn alter_under<'s>(
         &mut self,
         space: &mut S,
@@ -160,7 +161,8 @@ impl<S: LockSpace> Player<S> {
         }
     }
 
-    /// Raises a table's lock so that nobody writes while it is copied, and changes it then.
+    /// Upgrades a table's lock so that no other session writes while the table is copied, and then changes the
+    /// table.
     fn alter_by_copy<'s>(
         &mut self,
         space: &mut S,
@@ -183,7 +185,8 @@ impl<S: LockSpace> Player<S> {
         }
     }
 
-    /// Raises a table's lock so that nobody uses it, opens it again while it is altered, and changes it then.
+    /// Upgrades a table's lock so that no other session uses the table, downgrades it while the table is altered,
+    /// and then changes the table.
     fn alter_in_place<'s>(
         &mut self,
         space: &mut S,
@@ -206,7 +209,7 @@ impl<S: LockSpace> Player<S> {
         }
     }
 
-    /// Opens a table again whose lock was raised, and changes it then.
+    /// Downgrades a table's lock that was upgraded, and then changes the table.
     pub(crate) fn reopen_and_change<'s>(
         &mut self,
         space: &mut S,
@@ -222,7 +225,7 @@ impl<S: LockSpace> Player<S> {
         self.raise_and_change(space, alteration, ticket)
     }
 
-    /// Raises a table's lock so that nobody uses it, and changes it.
+    /// Upgrades a table's lock so that no other session uses the table, and changes the table.
     pub(crate) fn raise_and_change<'s>(
         &mut self,
         space: &mut S,
@@ -245,7 +248,7 @@ impl<S: LockSpace> Player<S> {
         }
     }
 
-    /// Changes a table that nobody else uses.
+    /// Changes a table that no other session uses.
     pub(crate) fn change_table<'s>(
         &mut self,
         space: &mut S,
@@ -263,7 +266,7 @@ impl<S: LockSpace> Player<S> {
         }
     }
 
-    /// Looks whether a table is there, and can be changed so.
+    /// Checks that a change of a table's definition can be made, and that its versions haven't reached the limit.
     pub(crate) fn check_change(
         &mut self,
         space: &mut S,
@@ -288,7 +291,7 @@ impl<S: LockSpace> Player<S> {
         Ok(())
     }
 
-    /// Goes on once the lock that was waited for is had.
+    /// Continues once the awaited lock is held.
     pub(crate) fn go_on_altering<'s>(
         &mut self,
         space: &mut S,
@@ -314,7 +317,7 @@ impl<S: LockSpace> Player<S> {
     }
 }
 
-/// Looks whether what stands can be changed so.
+/// Checks that a definition can be changed in this way.
 fn can_become(alloc: Global, definition: &Option<Definition>, change: &Change) -> Result<(), Ending>
     ensures { MatchResult result
         (λ _. change_fault definition.now change.now ≡ None)

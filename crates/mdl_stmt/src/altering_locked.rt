@@ -15,7 +15,7 @@ use mdl_space::{LockSpace, TicketId};
 use mdl_syntax::{Alteration, Statement};
 
 impl<S: LockSpace> Player<S> {
-    /// Performs one where the session has locked tables.
+    /// Performs an ALTER TABLE of a session that has locked tables.
     pub(crate) fn alter_among_locked<'s>(
         &mut self,
         space: &mut S,
@@ -36,7 +36,7 @@ impl<S: LockSpace> Player<S> {
         self.commit_first(space, statement)
     }
 
-    /// Clones the lock that the session has of a table, and alters the table.
+    /// Clones the session's lock of a table, and alters the table.
     pub(crate) fn alter_locked<'s>(
         &mut self,
         space: &mut S,
@@ -63,7 +63,7 @@ impl<S: LockSpace> Player<S> {
         }
     }
 
-    /// Alters a table of those that the session has locked, if it can be altered so.
+    /// Alters a table that the session has locked, if the change can be made.
     pub(crate) fn alter_locked_under<'s>(
         &mut self,
         space: &mut S,
@@ -89,7 +89,7 @@ impl<S: LockSpace> Player<S> {
         }
     }
 
-    /// Changes a table that nobody else uses, and lets its lock be what it was.
+    /// Changes a table that no other session uses, and downgrades its lock to the former mode.
     pub(crate) fn change_and_lower<'s>(
         &mut self,
         space: &mut S,

@@ -20,7 +20,7 @@ use mdl_rows::Ending;
 use mdl_space::{LockSpace, TicketId};
 use std::alloc::Global;
 
-// The most versions of what stands under a key.
+// The greatest version of a key.
 pub(crate) const MOST_VERSIONS: u64 = 1_000_000;
 
 impl<S: LockSpace> Player<S> {
@@ -53,7 +53,7 @@ impl<S: LockSpace> Player<S> {
         }
     }
 
-    /// Locks a table's schema, under the lock of all writes, and creates the table.
+    /// Locks a table's schema, under the GLOBAL lock, and creates the table.
     pub(crate) fn lock_schema_and_create<'s>(
         &mut self,
         space: &mut S,
@@ -138,7 +138,7 @@ impl<S: LockSpace> Player<S> {
         }
     }
 
-    /// Looks whether a schema is there.
+    /// Checks that a schema exists.
     pub(crate) fn check_schema(&mut self, space: &mut S, schema: TicketId) -> Result<(), Ending>
         requires ready { IsReady S.LockSpace space.old self.old }
         ensures run { IsStep S.joins (check_schema schema) space.old self.old result space.new self.new }
@@ -156,7 +156,7 @@ impl<S: LockSpace> Player<S> {
         }
     }
 
-    /// Looks whether a table can be created.
+    /// Checks that a table can be created.
     fn check_new(
         &mut self,
         space: &mut S,
@@ -184,7 +184,7 @@ impl<S: LockSpace> Player<S> {
         Ok(())
     }
 
-    /// Lets a table stand.
+    /// Defines a table.
     fn make_table(
         &mut self,
         space: &mut S,
@@ -205,7 +205,7 @@ impl<S: LockSpace> Player<S> {
         }
     }
 
-    /// Goes on once the lock that was waited for is had.
+    /// Continues once the awaited lock is held.
     pub(crate) fn go_on_creating<'s>(
         &mut self,
         space: &mut S,
@@ -225,7 +225,7 @@ impl<S: LockSpace> Player<S> {
     }
 }
 
-/// The key of a table's schema. It is refused only for want of memory: a table's schema has a name.
+/// The key of a table's schema. Fails only if memory runs out: a table's schema has a name.
 pub(crate) fn schema_of(alloc: Global, table: &Key) -> Result<Key, KeyError>
     ensures made { IfOk result (λ key. key ≡ schema_of table.now) }
     ensures refused { Refuses (name_fault table.now.schema) KeyError.OutOfMemory result }

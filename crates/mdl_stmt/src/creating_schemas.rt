@@ -43,7 +43,7 @@ impl<S: LockSpace> Player<S> {
         }
     }
 
-    /// Locks a schema under the lock of all writes, and creates it.
+    /// Locks a schema under the GLOBAL lock, and creates it.
     pub(crate) fn lock_and_create_schema<'s>(&mut self, space: &mut S, name: &'s Name) -> Played<'s>
         requires ready { IsReady S.LockSpace space.old self.old }
         ensures run { IsPlayed S.joins (lock_and_create_schema name.now) space.old self.old result space.new self.new }
@@ -85,7 +85,7 @@ impl<S: LockSpace> Player<S> {
         }
     }
 
-    /// Looks whether a schema can be created.
+    /// Checks that a schema can be created.
     fn check_new_schema(&mut self, space: &mut S, ticket: TicketId) -> Result<(), Ending>
         requires ready { IsReady S.LockSpace space.old self.old }
         ensures run { IsStep S.joins (check_new_schema ticket) space.old self.old result space.new self.new }
@@ -105,7 +105,7 @@ impl<S: LockSpace> Player<S> {
         Ok(())
     }
 
-    /// Goes on once the lock that was waited for is had.
+    /// Continues once the awaited lock is held.
     pub(crate) fn go_on_creating_schema<'s>(
         &mut self,
         space: &mut S,

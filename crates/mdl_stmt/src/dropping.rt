@@ -34,7 +34,7 @@ impl<S: LockSpace> Player<S> {
         }
     }
 
-    /// Gets the locks of all writes and of the tables' schemas that are left, and drops the tables.
+    /// Gets the remaining locks of GLOBAL and the tables' schemas, and drops the tables.
     pub(crate) fn lock_scopes<'s>(
         &mut self,
         space: &mut S,
@@ -68,7 +68,7 @@ impl<S: LockSpace> Player<S> {
         }
     }
 
-    /// Gets the locks of tables that are left, and drops the tables.
+    /// Gets the remaining locks of tables, and drops the tables.
     pub(crate) fn lock_tables<'s>(&mut self, space: &mut S, locks: LockList) -> Played<'s>
         requires ready { IsReady S.LockSpace space.old self.old }
         ensures run { IsPlayed S.joins (lock_rest locks drop_under) space.old self.old result space.new self.new }
@@ -86,7 +86,7 @@ impl<S: LockSpace> Player<S> {
         }
     }
 
-    /// Drops tables under their locks: all, or none where one is missing.
+    /// Drops tables under their locks: all, or none if one doesn't exist or can't be changed once more.
     fn drop_under<'s>(&mut self, space: &mut S, tickets: &[TicketId]) -> Played<'s>
         requires ready { IsReady S.LockSpace space.old self.old }
         ensures run { IsPlayed S.joins (drop_under tickets.now) space.old self.old result space.new self.new }
@@ -105,7 +105,7 @@ impl<S: LockSpace> Player<S> {
         }
     }
 
-    /// Looks whether there are all these tables.
+    /// Checks that all these tables exist.
     pub(crate) fn all_stand(&mut self, space: &mut S, tickets: &[TicketId]) -> Result<(), Ending>
         requires ready { IsReady S.LockSpace space.old self.old }
         ensures run { IsStep S.joins (for_each stands tickets.now) space.old self.old result space.new self.new }
@@ -120,7 +120,7 @@ impl<S: LockSpace> Player<S> {
         Ok(())
     }
 
-    /// Looks whether there is such a table.
+    /// Checks that a table exists.
     fn stands(&mut self, space: &mut S, ticket: TicketId) -> Result<(), Ending>
         requires ready { IsReady S.LockSpace space.old self.old }
         ensures run { IsStep S.joins (stands ticket) space.old self.old result space.new self.new }
@@ -133,7 +133,7 @@ impl<S: LockSpace> Player<S> {
         }
     }
 
-    /// Looks whether all these tables can be changed once more.
+    /// Checks that all these tables can be changed once more, before the limit of versions.
     pub(crate) fn all_can_change(
         &mut self,
         space: &mut S,
@@ -152,7 +152,7 @@ impl<S: LockSpace> Player<S> {
         Ok(())
     }
 
-    /// Looks whether a table can be changed once more.
+    /// Checks that a table can be changed once more, before the limit of versions.
     pub(crate) fn can_change(&mut self, space: &mut S, ticket: TicketId) -> Result<(), Ending>
         requires ready { IsReady S.LockSpace space.old self.old }
         ensures run { IsStep S.joins (can_change ticket) space.old self.old result space.new self.new }
@@ -170,7 +170,7 @@ impl<S: LockSpace> Player<S> {
         }
     }
 
-    /// Lets none of these tables stand.
+    /// Removes the definitions of all these tables.
     pub(crate) fn drop_all(&mut self, space: &mut S, tickets: &[TicketId]) -> Result<(), Ending>
         requires ready { IsReady S.LockSpace space.old self.old }
         ensures run { IsStep S.joins (for_each (λ ticket. redefine ticket change.Drop) tickets.now) space.old self.old result space.new self.new }
@@ -185,7 +185,7 @@ impl<S: LockSpace> Player<S> {
         Ok(())
     }
 
-    /// Goes on once the lock that was waited for is had.
+    /// Continues once the awaited lock is held.
     pub(crate) fn go_on_dropping<'s>(
         &mut self,
         space: &mut S,

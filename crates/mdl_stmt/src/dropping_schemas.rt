@@ -42,7 +42,7 @@ impl<S: LockSpace> Player<S> {
         }
     }
 
-    /// Locks a schema under the lock of all writes, and drops it.
+    /// Locks a schema under the GLOBAL lock, and drops it.
     pub(crate) fn lock_and_drop_schema<'s>(&mut self, space: &mut S, name: &'s Name) -> Played<'s>
         requires ready { IsReady S.LockSpace space.old self.old }
         ensures run { IsPlayed S.joins (lock_and_drop_schema name.now) space.old self.old result space.new self.new }
@@ -68,7 +68,7 @@ impl<S: LockSpace> Player<S> {
         }
     }
 
-    /// Drops a schema and its tables under its lock, once theirs are had.
+    /// Locks the tables of a schema under the schema's lock, and drops both.
     pub(crate) fn drop_schema_under<'s>(
         &mut self,
         space: &mut S,
@@ -126,7 +126,7 @@ impl<S: LockSpace> Player<S> {
         Ok(keys)
     }
 
-    /// Gets the locks of a schema's tables that are left, and drops the tables and the schema.
+    /// Gets the remaining locks of a schema's tables, and drops the tables and the schema.
     pub(crate) fn lock_within<'s>(
         &mut self,
         space: &mut S,
@@ -151,7 +151,7 @@ impl<S: LockSpace> Player<S> {
         }
     }
 
-    /// Drops a schema behind its tables, under all their locks.
+    /// Drops a schema's tables and then the schema, under all their locks.
     fn drop_with<'s>(&mut self, space: &mut S, schema: TicketId, tables: &[TicketId]) -> Played<'s>
         requires ready { IsReady S.LockSpace space.old self.old }
         ensures run { IsPlayed S.joins (drop_with schema tables.now) space.old self.old result space.new self.new }
@@ -173,7 +173,7 @@ impl<S: LockSpace> Player<S> {
         }
     }
 
-    /// Goes on once the lock that was waited for is had.
+    /// Continues once the awaited lock is held.
     pub(crate) fn go_on_dropping_schema<'s>(
         &mut self,
         space: &mut S,

@@ -1,4 +1,4 @@
-//! What a session keeps locked until it gives it up.
+//! What a session keeps locked until it releases it.
 ghost use Rattle.std.specs.Prelude.{◌≡◌, [], Some, None, find, is_some};
 ghost use Rattle.std.specs.Option.{option_map};
 ghost use Rattle.mdl_key.specs.Keys.{key_eq};
@@ -27,7 +27,7 @@ impl Model for ExplicitLocks {
 }
 
 impl ExplicitLocks {
-    /// None. It takes no memory.
+    /// Creates a session's explicit locks: none yet. Takes no memory.
     pub(crate) fn new(alloc: Global) -> ExplicitLocks
         ensures { result ≡ record { locked = []; scopes = []; read_lock = None } }
     {
@@ -59,7 +59,8 @@ impl ExplicitLocks {
         self.read_lock
     }
 
-    /// The ticket of the lock of all writes, where the COMMIT lock isn't had beside it.
+    /// The ticket of the GLOBAL lock, if the session has begun to get the global read lock but doesn't hold the
+    /// COMMIT lock yet.
     pub(crate) fn lone_ticket(&self) -> Option<TicketId>
         ensures { result ≡ lone_ticket self.now.read_lock }
     {
@@ -74,7 +75,7 @@ impl ExplicitLocks {
         }
     }
 
-    /// Notes that all writes are locked.
+    /// Notes that the session holds the GLOBAL lock, the first half of the global read lock.
     pub(crate) fn lock_writes(&mut self, global: TicketId)
         ensures { self.new ≡ record self.old { read_lock = Some (record { global = global; commit = None }) } }
     {
@@ -84,7 +85,7 @@ impl ExplicitLocks {
         });
     }
 
-    /// Notes that all commits are locked beside all writes.
+    /// Notes that the session holds the COMMIT lock too, so that it has the whole global read lock.
     pub(crate) fn lock_commits(&mut self, commit: TicketId)
         ensures { self.new ≡ record self.old { read_lock = option_map (with_commit commit) self.old.read_lock } }
     {
@@ -93,7 +94,7 @@ impl ExplicitLocks {
         }
     }
 
-    /// The session has no global read lock any more.
+    /// Notes that the session has no global read lock any more.
     pub(crate) fn clear_read_lock(&mut self)
         ensures { self.new ≡ record self.old { read_lock = None } }
     {
@@ -119,14 +120,14 @@ impl ExplicitLocks {
         &self.locked
     }
 
-    /// The tickets of their scopes.
+    /// The tickets of the locked tables' scopes.
     pub(crate) fn scopes(&self) -> &[TicketId]
         ensures { result.now ≡ self.now.scopes }
     {
         &self.scopes
     }
 
-    /// These tables are locked, in place of those that were.
+    /// Notes these locked tables, in place of the former ones.
     pub(crate) fn lock(&mut self, locked: Vec<Locked>, scopes: Vec<TicketId>)
         ensures { self.new ≡ record self.old { locked = locked.items; scopes = scopes.items } }
     {
@@ -134,7 +135,7 @@ impl ExplicitLocks {
         self.scopes = scopes;
     }
 
-    /// No table is locked any more.
+    /// Notes that no table is locked any more.
     pub(crate) fn clear_tables(&mut self)
         ensures { self.new ≡ record self.old { locked = []; scopes = [] } }
     {

@@ -20,7 +20,8 @@ use mdl_space::{LockSpace, TicketId};
 use mdl_syntax::Statement;
 
 impl<S: LockSpace> Player<S> {
-    /// Performs a statement that is refused where tables are locked, and before which an open transaction is committed.
+    /// Performs FLUSH TABLES WITH READ LOCK: it is refused if the session has locked tables, and commits an open transaction
+    /// first.
     pub(crate) fn flush<'s>(&mut self, space: &mut S, statement: &'s Statement) -> Played<'s>
         requires ready { IsReady S.LockSpace space.old self.old }
         ensures run { IsPlayed S.joins (flush_first (after_commit statement.now)) space.old self.old result space.new self.new }
@@ -46,7 +47,7 @@ impl<S: LockSpace> Player<S> {
         self.get_read_lock(space)
     }
 
-    /// Locks all writes, and then all commits.
+    /// Gets the GLOBAL lock in mode S, and then the COMMIT lock.
     fn get_read_lock<'s>(&mut self, space: &mut S) -> Played<'s>
         requires ready { IsReady S.LockSpace space.old self.old }
         ensures run { IsPlayed S.joins get_read_lock space.old self.old result space.new self.new }
@@ -66,7 +67,7 @@ impl<S: LockSpace> Player<S> {
         }
     }
 
-    /// Locks all commits beside all writes.
+    /// Gets the COMMIT lock in mode S too, under the GLOBAL lock.
     pub(crate) fn lock_commits<'s>(&mut self, space: &mut S, global: TicketId) -> Played<'s>
         requires ready { IsReady S.LockSpace space.old self.old }
         ensures run { IsPlayed S.joins (lock_commits global) space.old self.old result space.new self.new }
@@ -98,7 +99,7 @@ impl<S: LockSpace> Player<S> {
         Ending::Answers(Reply::Ok)
     }
 
-    /// Gives up the lock of all writes that was to become the global read lock, as a statement ends before it had the other one.
+    /// Releases the GLOBAL lock if it is half of a global read lock, because the statement ends before it got the COMMIT lock.
     pub(crate) fn drop_half(&mut self, space: &mut S, ending: &Ending)
         requires ready { IsReady S.LockSpace space.old self.old }
         ensures run { IsWithoutHalf S.joins ending.now space.old self.old space.new self.new }
@@ -114,7 +115,7 @@ impl<S: LockSpace> Player<S> {
         }
     }
 
-    /// The ticket of that lock, if there is one: no transaction is open then.
+    /// The ticket of such a half read lock, if there is one. There is none while a transaction stays open.
     fn half_lock(&self, ending: &Ending) -> Option<TicketId>
         ensures { result ≡ half_lock (state_after ending.now self.now.state) }
     {
@@ -125,7 +126,7 @@ impl<S: LockSpace> Player<S> {
         }
     }
 
-    /// Goes on once the lock that was waited for is had.
+    /// Continues once the awaited lock is held.
     pub(crate) fn go_on_flushing<'s>(
         &mut self,
         space: &mut S,

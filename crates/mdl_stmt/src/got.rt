@@ -1,36 +1,36 @@
-//! What comes of what statements ask for.
+//! The results of what statements request.
 use crate::lock_list::LockList;
 use crate::stage::Stage;
 use mdl_key::{Key, Mode};
 use mdl_rows::Ending;
 
-/// What comes of locks that are asked for.
+/// The result of a request for locks.
 #[derive(Drop)]
 pub enum Got<T> {
-    /// They are had.
+    /// The locks are held.
     Had(T),
-    /// One of this key is waited for.
+    /// The session waits for the lock of this key.
     Waits(Key),
-    /// The statement is to end so.
+    /// The statement is to end with this ending.
     Ends(Ending),
 }
 
-/// What comes of a list of locks.
+/// The result of a request for a list of locks.
 #[derive(Drop)]
 pub enum Listed {
-    /// They are had.
+    /// The locks are held.
     Had(LockList),
-    /// One of this key in this mode is waited for, and these were had.
+    /// The session waits for the lock of this key in this mode, and holds the locks before it in this list.
     Waits(Key, Mode, LockList),
-    /// The statement is to end so.
+    /// The statement is to end with this ending.
     Ends(Ending),
 }
 
 /// How far a statement has come.
 #[derive(Drop)]
 pub enum Played<'s> {
-    /// It is to end so.
+    /// The statement is to end with this ending.
     Ends(Ending),
-    /// It waits for a lock of this key in this mode, and this is left of it.
+    /// The statement waits for the lock of this key in this mode, and this is left of it.
     Waits(Key, Mode, Stage<'s>),
 }

@@ -1,4 +1,4 @@
-//! Statements that are over or wait, and are kept only in part while they wait.
+//! Statements of an `OwnedRunner`, of which only a copy of what is left is kept while they wait.
 ghost use Rattle.std.specs.Prelude.{◌≡◌, None, Some};
 ghost use Rattle.mdl_calls.specs.Words.{Runs};
 ghost use Rattle.mdl_stmt.specs.Attendance.{AttendsWith, GoesOn, IsReady};
@@ -43,7 +43,7 @@ impl<S: LockSpace> Player<S> {
         self.settle(space, played, mark)
     }
 
-    /// Goes on with a statement that waits.
+    /// Continues a waiting statement.
     pub(crate) fn go_on_kept(&mut self, space: &mut S, work: KeptWork) -> Turn
         requires attends { AttendsWith S.LockSpace space.old self.old.context self.old.cache }
         ensures run { Runs S.joins space.old (going_on_kept (session_with self.old (Some work))) (ran result.progress (session_with self.new result.work)) space.new }
@@ -88,7 +88,7 @@ impl<S: LockSpace> Player<S> {
         }
     }
 
-    // Goes on with a statement that has the lock that it waited for.
+    // Continues a statement whose wait was granted.
     fn proceed_kept(&mut self, space: &mut S, work: KeptWork, ticket: TicketId) -> Turn
         requires ready { IsReady S.LockSpace space.old self.old }
         ensures run { Runs S.joins space.old (play_kept (rest_of_kept work.stage ticket) work.mark (at_rest self.old)) (ran result.progress (session_with self.new result.work)) space.new }
@@ -135,7 +135,7 @@ impl<S: LockSpace> Player<S> {
         }
     }
 
-    // Goes on with DROP TABLE.
+    // Continues DROP TABLE.
     fn proceed_dropping(
         &mut self,
         space: &mut S,
@@ -159,7 +159,7 @@ impl<S: LockSpace> Player<S> {
         }
     }
 
-    // Goes on with DROP SCHEMA.
+    // Continues DROP SCHEMA.
     fn proceed_dropping_schema(
         &mut self,
         space: &mut S,
@@ -188,7 +188,7 @@ impl<S: LockSpace> Player<S> {
         }
     }
 
-    // Goes on with a statement at a stage.
+    // Continues a statement at a stage.
     fn proceed_at(&mut self, space: &mut S, stage: Stage<'_>, ticket: TicketId, mark: Mark) -> Turn
         requires ready { IsReady S.LockSpace space.old self.old }
         ensures run { Runs S.joins space.old (play_kept (rest_of stage.entry ticket) mark (at_rest self.old)) (ran result.progress (session_with self.new result.work)) space.new }
@@ -199,7 +199,7 @@ impl<S: LockSpace> Player<S> {
         self.settle(space, played, mark)
     }
 
-    /// Ends a statement that came so far, or keeps what is left of it while it waits.
+    /// Ends a statement, or if it waits, keeps a copy of what is left of it.
     pub(crate) fn settle(&mut self, space: &mut S, played: Played<'_>, mark: Mark) -> Turn
         requires attends { AttendsWith S.LockSpace space.old self.old.context self.old.cache }
         requires idle { IdleUnlessPlayed played self.old }
@@ -213,7 +213,7 @@ impl<S: LockSpace> Player<S> {
         }
     }
 
-    // Keeps what is left of a statement that waits, or gives the wait up if there is no memory for that.
+    // Keeps a copy of what is left of a waiting statement, or gives up the wait if memory runs out for that.
     fn keep_wait(
         &mut self,
         space: &mut S,

@@ -1,4 +1,4 @@
-//! The stages of statements that wait, with copies of what they need of the statement, so that it can be dropped.
+//! The stages of waiting statements, with copies of what they need of the statement, so that it can be dropped.
 ghost use Rattle.std.specs.Prelude.{◌≡◌, IfOk};
 ghost use Rattle.mdl_stmt.specs.KeptStages.{rest_of_kept, rest_of_kept_creating, rest_of_kept_creating_schema, rest_of_kept_dropping, rest_of_kept_dropping_schema, rest_of_kept_writing};
 ghost use Rattle.mdl_stmt.specs.Stages.{rest_of, rest_of_creating, rest_of_creating_schema, rest_of_dropping, rest_of_dropping_schema, rest_of_writing};
@@ -16,7 +16,7 @@ use mdl_space::TicketId;
 use mdl_syntax::{Alteration, Name, Priority, Statement, TableLocks, Tables};
 use std::alloc::{AllocError, Global};
 
-/// What is left of a statement that waits, and where its session stood as it began.
+/// What is left of a waiting statement, and its session's mark when the statement began.
 #[derive(Drop)]
 pub struct KeptWork {
     pub(crate) stage: KeptStage,
@@ -79,7 +79,7 @@ pub enum KeptDroppingSchema {
 }
 
 impl KeptStage {
-    /// A stage, with copies of what it borrows.
+    /// Copies a stage, with all that it borrows.
     pub(crate) fn keep(alloc: Global, stage: Stage<'_>) -> Result<KeptStage, AllocError>
         ensures { IfOk result (λ kept. rest_of_kept kept ≡ rest_of stage.entry) }
     {
@@ -119,7 +119,7 @@ impl KeptWriting {
         }
     }
 
-    /// The stage again.
+    /// The stage, borrowing from this copy.
     pub(crate) fn lend(&self) -> Writing<'_>
         ensures { rest_of_writing result ≡ rest_of_kept_writing self.now }
     {
@@ -146,7 +146,7 @@ impl KeptCreating {
         }
     }
 
-    /// The stage again.
+    /// The stage, borrowing from this copy.
     pub(crate) fn lend(&self) -> Creating<'_>
         ensures { rest_of_creating result ≡ rest_of_kept_creating self.now }
     {
@@ -168,7 +168,7 @@ impl KeptCreatingSchema {
         }
     }
 
-    /// The stage again.
+    /// The stage, borrowing from this copy.
     pub(crate) fn lend(&self) -> CreatingSchema<'_>
         ensures { rest_of_creating_schema result ≡ rest_of_kept_creating_schema self.now }
     {

@@ -1,4 +1,4 @@
-//! Keys in their order.
+//! Lists of locks in key order.
 ghost use Rattle.std.specs.Prelude.{◌≡◌, [], ◌∷◌, map, IfOk};
 ghost use Rattle.mdl_key.specs.Keys.{global_key};
 ghost use Rattle.mdl_rows.specs.KeyOrder.{placed, in_key_order};
@@ -13,7 +13,7 @@ use mdl_syntax::{LockType, TableLock};
 use std::alloc::{AllocError, Global};
 use std::cmp::Ordering;
 
-/// Puts a key in its place among keys in order, unless it is there.
+/// Inserts a key at its place among ordered keys, unless it is there.
 fn place(keys: &mut Vec<Key>, key: Key) -> Result<(), AllocError>
     ensures { IfOk result (λ _. keys.new.items ≡ placed key keys.old.items) }
 {
@@ -47,7 +47,7 @@ pub(crate) fn in_key_order(alloc: Global, tables: &[Key]) -> Result<LockList, Ou
     listed(alloc, keys)
 }
 
-/// The lock of all writes, and those of the tables' schemas in key order.
+/// The GLOBAL lock, and the locks of the tables' schemas in key order.
 pub(crate) fn scopes_of(alloc: Global, tables: &[Key]) -> Result<LockList, OutOfMemory>
     ensures { IfOk result (λ locks. locks ≡ record { keys = global_key ∷ in_key_order (map schema_of tables.now); tickets = [] }) }
 {
@@ -66,7 +66,7 @@ pub(crate) fn scopes_of(alloc: Global, tables: &[Key]) -> Result<LockList, OutOf
     listed(alloc, keys)
 }
 
-/// Whether it is for writing.
+/// Whether a table is locked for writing.
 pub(crate) fn is_write(lock_type: LockType) -> bool
     ensures { result ≡ is_write lock_type }
 {
@@ -85,7 +85,7 @@ pub(crate) fn may_write(tables: &[TableLock], table: &Key) -> bool
         .any(|lock| is_write(lock.lock_type) && *table == lock.table)
 }
 
-/// The locks of what is around the tables that are locked for writing.
+/// The locks of the scopes of the tables that are locked for writing: GLOBAL and their schemas, or none.
 pub(crate) fn scopes_around(alloc: Global, tables: &[TableLock]) -> Result<LockList, OutOfMemory>
     ensures { IfOk result (λ locks. locks ≡ record { keys = scopes_around (written_tables tables.now); tickets = [] }) }
 {

@@ -8,7 +8,7 @@ ghost use Rattle.mdl_rows.specs.Leavings.{leaving_from};
 use mdl_context::Context;
 use mdl_space::LockSpace;
 
-// Gives up the wait of a context, where there is one, and then all that it holds.
+// Gives up the wait of a context, if there is one, and then releases all its tickets.
 pub(crate) fn give_all_up<S: LockSpace>(context: &mut Context<S>, space: &mut S)
     requires { Attends S.LockSpace space.old context.old }
     ensures run { Runs S.joins space.old (leaving_from context.old.wait context.old) tt space.new }

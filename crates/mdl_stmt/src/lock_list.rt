@@ -1,4 +1,4 @@
-//! Locks of a list.
+//! Lists of locks.
 ghost use Rattle.std.specs.Prelude.{◌≡◌, [], length, position, slice_get, IfOk};
 ghost use Rattle.std.specs.Option.{option_map};
 ghost use Rattle.mdl_key.specs.Keys.{key_eq};
@@ -11,7 +11,7 @@ use mdl_syntax::TableLocks;
 use std::alloc::{AllocError, Global};
 use std::marker::Model;
 
-/// Locks that are asked for one after the other.
+/// Locks that are requested one after the other.
 #[derive(Drop)]
 pub struct LockList {
     keys: Vec<Key>,
@@ -31,7 +31,7 @@ impl Model for LockList {
 }
 
 impl LockList {
-    /// The locks of these keys, none of which is held.
+    /// Creates the list of these keys' locks, none of which is held yet.
     pub fn new(alloc: Global, keys: Vec<Key>) -> Result<LockList, AllocError>
         ensures { IfOk result (λ locks. locks ≡ record { keys = keys.items; tickets = [] }) }
     {
@@ -40,14 +40,14 @@ impl LockList {
         Ok(LockList { keys, tickets })
     }
 
-    /// The key of the next one, if one is left.
+    /// The key of the next lock, if one is left.
     pub fn next(&self) -> Option<&Key>
         ensures { option_map (λ key. key.now) result ≡ slice_get self.now.keys (length self.now.tickets) }
     {
         self.keys.get(self.tickets.len())
     }
 
-    /// These locks, with the ticket of the next one, if one is left.
+    /// The list with the ticket of the next lock, if one is left.
     pub fn with(mut self, ticket: TicketId) -> LockList
         ensures { result ≡ with_ticket ticket self }
     {
@@ -57,7 +57,7 @@ impl LockList {
         self
     }
 
-    /// The ticket of a key; 0, which is no ticket, where it has none.
+    /// The ticket of a key, or 0, which is no ticket, if it has none.
     pub fn ticket_of(&self, key: &Key) -> TicketId
         ensures { result ≡ ticket_of key.now self.now.keys self.now.tickets }
     {
@@ -84,7 +84,7 @@ impl LockList {
         &self.tickets
     }
 
-    /// The tickets alone.
+    /// Returns the tickets, without the keys.
     pub fn into_tickets(self) -> Vec<TicketId>
         ensures { result.items ≡ self.tickets }
     {
@@ -97,11 +97,11 @@ impl LockList {
 pub enum Locking<'s> {
     /// A change of definitions.
     Ddl,
-    /// LOCK TABLES, which names these.
+    /// LOCK TABLES of these tables.
     Tables(&'s TableLocks),
 }
 
-// The place of a key.
+// The index of a key.
 fn place_of(keys: &[Key], key: &Key) -> Option<usize>
     ensures { result ≡ position (key_eq key.now) keys.now }
 {

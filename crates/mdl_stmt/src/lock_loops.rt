@@ -1,4 +1,4 @@
-//! Locks of a list, one after the other.
+//! Requests for the locks of a list, one after the other.
 ghost use Rattle.std.specs.Prelude.{◌≡◌};
 ghost use Rattle.mdl_stmt.specs.Attendance.{GoesOn, IsReady};
 ghost use Rattle.mdl_stmt.specs.Gets.{IsListed, IsListedBy, IdleUnlessListed, KeepsKeys};
@@ -14,7 +14,7 @@ use mdl_key::{Duration, Key, Mode, Namespace};
 use mdl_space::LockSpace;
 
 impl<S: LockSpace> Player<S> {
-    /// Gets the locks that are left of a list, for a change of definitions.
+    /// Gets the remaining locks of a list, for a change of definitions.
     pub(crate) fn lock_all(&mut self, space: &mut S, locks: LockList) -> Listed
         requires ready { IsReady S.LockSpace space.old self.old }
         ensures run { IsListed S.joins locks space.old self.old result space.new self.new }
@@ -25,7 +25,7 @@ impl<S: LockSpace> Player<S> {
         self.lock_each(space, Locking::Ddl, locks)
     }
 
-    /// Gets the locks that are left of a list.
+    /// Gets the remaining locks of a list.
     pub(crate) fn lock_each(
         &mut self,
         space: &mut S,
@@ -67,7 +67,7 @@ fn mode_of(locking: Locking<'_>, key: &Key) -> Mode
     }
 }
 
-/// For how long it is.
+/// The duration for which a key is locked.
 fn duration_of(locking: Locking<'_>, key: &Key) -> Duration
     ensures { result ≡ (wish_by locking.entry key.now).duration }
 {
@@ -87,7 +87,7 @@ fn ddl_mode(key: &Key) -> Mode
     }
 }
 
-/// For how long DDL locks a key.
+/// The duration for which DDL locks a key.
 fn ddl_duration(key: &Key) -> Duration
     ensures { result ≡ (ddl_lock key.now).duration }
 {

@@ -19,7 +19,7 @@ use mdl_syntax::{Statement, TableLock, TableLocks};
 use std::alloc::Global;
 
 impl<S: LockSpace> Player<S> {
-    /// Performs LOCK TABLES of these tables, which this statement is.
+    /// Performs LOCK TABLES of these tables. `statement` is the whole statement.
     pub(crate) fn lock_first<'s>(
         &mut self,
         space: &mut S,
@@ -37,14 +37,14 @@ impl<S: LockSpace> Player<S> {
         self.commit_first(space, statement)
     }
 
-    /// Whether the session's own global read lock keeps these from being locked.
+    /// Whether the session's own global read lock forbids it to lock these tables.
     fn locks_out(&self, tables: &TableLocks) -> bool
         ensures { result ≡ (writes_any tables.now && is_some self.now.state.read_lock) }
     {
         writes_any(tables.as_slice()) && self.explicit.has_read_lock()
     }
 
-    /// Gives up tables that were locked before, and locks these, once no transaction is open.
+    /// Releases tables that were locked before, and locks these, once no transaction is open.
     pub(crate) fn lock_these<'s>(&mut self, space: &mut S, tables: &'s TableLocks) -> Played<'s>
         requires ready { IsReady S.LockSpace space.old self.old }
         ensures run { IsPlayed S.joins (lock_tables_after_commit tables.now) space.old self.old result space.new self.new }
@@ -58,7 +58,7 @@ impl<S: LockSpace> Player<S> {
         }
     }
 
-    /// Gets the locks that are left around the tables, and locks the tables.
+    /// Gets the remaining locks of the tables' scopes, and locks the tables.
     pub(crate) fn lock_around<'s>(
         &mut self,
         space: &mut S,
@@ -97,7 +97,7 @@ impl<S: LockSpace> Player<S> {
         }
     }
 
-    /// Gets the locks of tables that are left, and keeps all.
+    /// Gets the remaining locks of tables, and keeps all locks.
     pub(crate) fn lock_each_named<'s>(
         &mut self,
         space: &mut S,
@@ -123,7 +123,7 @@ impl<S: LockSpace> Player<S> {
         }
     }
 
-    /// Keeps all tickets, and the tables locked, until the session gives them up.
+    /// Makes all tickets explicit, and notes that the tables are locked, if all tables exist.
     fn keep_locked(
         &mut self,
         space: &mut S,
@@ -150,7 +150,7 @@ impl<S: LockSpace> Player<S> {
         Ending::Answers(Reply::Ok)
     }
 
-    /// Goes on once the lock that was waited for is had.
+    /// Continues once the awaited lock is held.
     pub(crate) fn go_on_locking<'s>(
         &mut self,
         space: &mut S,
@@ -179,7 +179,7 @@ fn writes_any(tables: &[TableLock]) -> bool
     tables.iter().any(|lock| is_write(lock.lock_type))
 }
 
-/// Tables with their tickets.
+/// The locked tables with their tickets.
 fn locked_by(
     alloc: Global,
     tables: &[TableLock],

@@ -1,13 +1,13 @@
-//! Want of memory.
+//! Out of memory.
 use std::alloc::AllocError;
 
-/// A statement found no memory, and has ended: what it had gained is given up. What it needs of memory it asks for before its first
-/// change of a definition; so one that changes no more than one definition has changed none. Or there was no memory for the cache of a
-/// new session.
+/// A statement ran out of memory and has ended: the tickets that it had gained are released. A statement takes its memory before its
+/// first change of a definition, so one that changes at most one definition has changed none. Or memory ran out for the cache of a new
+/// session.
 #[derive(Clone, Copy, Debug, PartialEq, Eq)]
 pub struct OutOfMemory;
 
-/// Want of memory is that of whoever ran the statement, too.
+/// A caller can pass the error on as its own lack of memory.
 impl From<OutOfMemory> for AllocError {
     fn from(_want: OutOfMemory) -> AllocError {
         AllocError

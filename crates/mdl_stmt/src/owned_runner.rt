@@ -1,4 +1,4 @@
-//! Statements of a session that doesn't keep them.
+//! A session's statements, not borrowed while they wait.
 ghost use Rattle.std.specs.Prelude.{◌≡◌, None, IfOk, IsSome, is_some, []};
 ghost use Rattle.mdl_calls.specs.Words.{Runs};
 ghost use Rattle.mdl_context.specs.Contexts.{Attends, LeavesOthers};
@@ -19,8 +19,8 @@ use std::alloc::Global;
 use std::marker::Model;
 use std::mem::{drop, replace};
 
-/// A session's statements, one after the other. Each is borrowed only while it starts, so a server can drop it as soon as
-/// [`OwnedRunner::start`] returns: what a wait needs of its statement is copied as the wait begins.
+/// Runs a session's statements, one after the other. Each is borrowed only while it starts, so a server can drop it as soon as
+/// [`OwnedRunner::start`] returns. What a wait needs of its statement is copied when the wait begins.
 ///
 /// Apart from that copy it is a [`Runner`](crate::Runner).
 #[derive(Drop)]
@@ -41,8 +41,8 @@ impl<S: LockSpace> Model for OwnedRunner<S> {
 }
 
 impl<S: LockSpace> OwnedRunner<S> {
-    /// A session that has done nothing. Its cache keeps at most so many definitions that its statements read: 1 to
-    /// [`MOST_KEPT`](mdl_defs::MOST_KEPT). Memory is taken for the empty cache.
+    /// Creates a session that has done nothing. Its cache keeps at most `cache` definitions that its statements read: 1 to
+    /// [`MOST_KEPT`](mdl_defs::MOST_KEPT). Takes memory for the empty cache.
     pub fn new(alloc: Global, who: u16, cache: u16) -> Result<OwnedRunner<S>, OutOfMemory>
         requires capacity { IsCapacity cache }
         ensures made { IfOk result (λ runner. runner ≡ record { context = record { who = who; kept = []; known = []; wait = None }; state = at_first; work = None; cache = record { kept = []; capacity = cache } }) }
@@ -60,8 +60,8 @@ impl<S: LockSpace> OwnedRunner<S> {
 
     /// Starts a statement. No statement of the session may be waiting.
     ///
-    /// If the statement begins to wait and there is no memory for the copy, its wait is given up, and the statement ends for want of
-    /// memory.
+    /// If the statement begins to wait and memory runs out for the copy, its wait is given up, and the statement ends with
+    /// [`OutOfMemory`].
     pub fn start(&mut self, space: &mut S, statement: &Statement) -> Result<Progress, OutOfMemory>
         requires attends { AttendsWith S.LockSpace space.old self.old.context self.old.cache }
         requires idle { self.old.work ≡ None }
@@ -76,7 +76,7 @@ impl<S: LockSpace> OwnedRunner<S> {
         turn.progress
     }
 
-    /// Goes on with the statement that waits. One has to be waiting.
+    /// Continues the waiting statement. A statement must be waiting.
     ///
     /// If the statement begins to wait again, what it needs is copied again.
     pub fn go_on(&mut self, space: &mut S) -> Result<Progress, OutOfMemory>
@@ -94,8 +94,8 @@ impl<S: LockSpace> OwnedRunner<S> {
         turn.progress
     }
 
-    /// Ends the session: a statement that waits is lost, and all that the session holds is given up. It takes no memory,
-    /// unless a wait for an upgrade is granted already; all is given up in any case.
+    /// Ends the session: abandons a waiting statement, and releases all that the session holds. Takes no memory, unless a wait for
+    /// an upgrade is granted already. Everything is released in any case.
     pub fn leave(self, space: &mut S)
         requires attends { Attends S.LockSpace space.old self.context }
         ensures run { Runs S.joins space.old (leaving (session_kept self)) tt space.new }

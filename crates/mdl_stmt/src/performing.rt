@@ -1,4 +1,4 @@
-//! Statements performed, gone on with and ended.
+//! How statements are performed, continued and ended.
 ghost use Rattle.std.specs.Prelude.{◌≡◌, None, Ok};
 ghost use Rattle.mdl_calls.specs.Words.{Runs};
 ghost use Rattle.mdl_stmt.specs.Attendance.{GoesOn, IsReady};
@@ -58,7 +58,8 @@ impl<S: LockSpace> Player<S> {
         }
     }
 
-    // Performs a statement that changes definitions. No transaction is open when it does, and nothing is locked as a whole.
+    // Performs a statement that changes definitions. It is refused if the session has the global read lock or locked
+    // tables, and commits an open transaction first.
     fn define<'s>(&mut self, space: &mut S, statement: &'s Statement) -> Played<'s>
         requires ready { IsReady S.LockSpace space.old self.old }
         ensures run { IsPlayed S.joins (ddl_first (after_commit statement.now)) space.old self.old result space.new self.new }
@@ -74,7 +75,7 @@ impl<S: LockSpace> Player<S> {
         self.commit_first(space, statement)
     }
 
-    /// Goes on with a statement that has the lock that it waited for, up to its end or to the next wait.
+    /// Continues a statement whose wait was granted, up to its end or to the next wait.
     pub(crate) fn proceed<'s>(
         &mut self,
         space: &mut S,
@@ -132,7 +133,7 @@ impl<S: LockSpace> Player<S> {
         }
     }
 
-    /// Lets the tickets go that go as a statement ends.
+    /// Releases the tickets that the end of a statement releases.
     fn let_go(&mut self, space: &mut S, ending: &Ending, mark: Mark)
         requires ready { IsReady S.LockSpace space.old self.old }
         ensures run { Runs S.joins space.old (giving_up (gone_at ending.now self.old.state.is_open mark self.old.context.kept) self.old.context) (Ok tt, self.new.context) space.new }

@@ -1,4 +1,4 @@
-//! What a session is asked for, one thing after the other.
+//! A session as its statements use it: its locks, its state and its cache.
 ghost use Rattle.std.specs.Prelude.{◌≡◌, None, Ok, IfOk, []};
 ghost use Rattle.mdl_stmt.specs.Attendance.{AttendsWith, GoesOn, IsCapacity, IsReady};
 ghost use Rattle.mdl_context.specs.Wishes.{Wish, wish_of};
@@ -19,7 +19,8 @@ use mdl_space::{LockSpace, Settled, SpaceError, TicketId};
 use std::alloc::Global;
 use std::marker::Model;
 
-/// A session's tickets, its transaction, what it keeps until it gives it up, and the definitions that it read.
+/// A session's tickets, its transaction, what it keeps locked until it releases it, and the definitions that it
+/// read.
 #[derive(Drop)]
 pub(crate) struct Player<S: LockSpace> {
     pub(crate) alloc: Global,
@@ -40,7 +41,7 @@ impl<S: LockSpace> Model for Player<S> {
 }
 
 impl<S: LockSpace> Player<S> {
-    /// A session that has done nothing, with a cache for at most so many definitions. It keeps none yet.
+    /// Creates a session that has done nothing, with an empty cache for at most `cache` definitions.
     pub(crate) fn new(alloc: Global, who: u16, cache: u16) -> Result<Player<S>, OutOfMemory>
         requires capacity { IsCapacity cache }
         ensures made { IfOk result (λ player. player ≡ record { context = record { who = who; kept = []; known = []; wait = None }; state = at_first; cache = record { kept = []; capacity = cache } }) }
@@ -60,7 +61,7 @@ impl<S: LockSpace> Player<S> {
         }
     }
 
-    /// Asks for a lock.
+    /// Gets a lock, or begins to wait for it.
     pub(crate) fn get(&mut self, space: &mut S, request: Request<'_>) -> Got<TicketId>
         requires ready { IsReady S.LockSpace space.old self.old }
         ensures run { IsGot S.joins (wish_of request.entry) space.old self.old result space.new self.new }
@@ -74,7 +75,7 @@ impl<S: LockSpace> Player<S> {
         }
     }
 
-    /// Asks for a lock, but doesn't wait for it.
+    /// Gets a lock if that needs no wait.
     pub(crate) fn try_to_get(
         &mut self,
         space: &mut S,
@@ -92,7 +93,7 @@ impl<S: LockSpace> Player<S> {
         }
     }
 
-    /// Asks for a stronger mode of a ticket of this key.
+    /// Upgrades a ticket of this key to a stronger mode, or begins to wait for that.
     pub(crate) fn raise(
         &mut self,
         space: &mut S,
@@ -112,7 +113,7 @@ impl<S: LockSpace> Player<S> {
         }
     }
 
-    /// Gives a ticket a weaker mode.
+    /// Downgrades a ticket to a weaker mode.
     pub(crate) fn lower(&mut self, space: &mut S, ticket: TicketId, mode: Mode)
         requires ready { IsReady S.LockSpace space.old self.old }
         ensures run { IsStep S.joins (downgrade ticket mode) space.old self.old (Ok tt) space.new self.new }
@@ -122,7 +123,7 @@ impl<S: LockSpace> Player<S> {
         let _lowered = self.context.downgrade(space, ticket, mode);
     }
 
-    /// Tells that a wait has begun, or gives it up where there is no memory for that.
+    /// Returns that a wait has begun, or gives up the wait if memory runs out for a copy of the key.
     pub(crate) fn tell_wait(&mut self, space: &mut S, key: &Key) -> Got<TicketId>
         requires attends { AttendsWith S.LockSpace space.old self.old.context self.old.cache }
         ensures run { IsTold S.joins key.now space.old self.old result space.new self.new }
@@ -138,7 +139,7 @@ impl<S: LockSpace> Player<S> {
         }
     }
 
-    /// Gives up a wait that can't be told or kept. A ticket that it had gained is released.
+    /// Gives up a wait that can't be reported or kept. A ticket that it had gained is released.
     pub(crate) fn drop_wait(&mut self, space: &mut S)
         requires attends { AttendsWith S.LockSpace space.old self.old.context self.old.cache }
         ensures run { IsDropped S.joins space.old self.old space.new self.new }
@@ -154,7 +155,7 @@ impl<S: LockSpace> Player<S> {
     }
 }
 
-/// How a statement ends that a lock space refuses something.
+/// How a statement ends when a lock space refuses a call.
 pub(crate) fn ending_of_refusal(refusal: SpaceError) -> Ending
     ensures { result ≡ ending_of_refusal refusal }
 {
@@ -165,7 +166,7 @@ pub(crate) fn ending_of_refusal(refusal: SpaceError) -> Ending
     }
 }
 
-/// The same, where a context was asked.
+/// How a statement ends when a context refuses a call.
 pub(crate) fn ending_of_error(error: ContextError) -> Ending
     ensures { result ≡ ending_of_error error }
 {
@@ -175,7 +176,7 @@ pub(crate) fn ending_of_error(error: ContextError) -> Ending
     }
 }
 
-/// How a statement ends whose wait was lost: for a user-level lock, or for another one.
+/// How a statement ends whose wait was lost. `user` says whether the wait was for a user-level lock.
 pub(crate) fn ending_of_loss(user: bool, how: Settled) -> Ending
     ensures { result ≡ ending_of_loss user how }
 {

@@ -1,4 +1,4 @@
-//! What a session reads, changes and kills.
+//! How a session reads and changes definitions, and kills waits.
 ghost use Rattle.std.specs.Prelude.{◌≡◌, ◌++◌, ◌∷◌, [], None, Ok, MatchResult};
 ghost use Rattle.mdl_stmt.specs.Attendance.{GoesOn, IsReady};
 ghost use Rattle.mdl_stmt.specs.Gets.{IsStep, items_told};
@@ -23,7 +23,7 @@ pub(crate) fn failing(number: ErrorNumber) -> Ending
 }
 
 impl<S: LockSpace> Player<S> {
-    /// What stands under the key of a ticket. The cache may have it.
+    /// The version and definition of a ticket's key. They may come from the cache.
     pub(crate) fn read(&mut self, space: &mut S, ticket: TicketId) -> Result<Standing, Ending>
         requires ready { IsReady S.LockSpace space.old self.old }
         ensures run { IsStep S.joins (read ticket) space.old self.old result space.new self.new }
@@ -36,7 +36,7 @@ impl<S: LockSpace> Player<S> {
         }
     }
 
-    /// Changes what stands under the key of a ticket.
+    /// Changes the definition of a ticket's key.
     pub(crate) fn redefine(
         &mut self,
         space: &mut S,
@@ -80,7 +80,7 @@ impl<S: LockSpace> Player<S> {
         }
     }
 
-    /// Kills the wait that a session has.
+    /// Kills the wait of a session, if it has one.
     pub(crate) fn kill(&mut self, space: &mut S, target: u16)
         requires ready { IsReady S.LockSpace space.old self.old }
         ensures run { IsStep S.joins (kill target) space.old self.old (Ok tt) space.new self.new }
@@ -92,7 +92,7 @@ impl<S: LockSpace> Player<S> {
         }
     }
 
-    /// What stands under the key of a table's ticket, if there is such a table.
+    /// The version and definition of a table, by its ticket. Fails if there is no such table.
     pub(crate) fn exists(&mut self, space: &mut S, ticket: TicketId) -> Result<Standing, Ending>
         requires ready { IsReady S.LockSpace space.old self.old }
         ensures run { IsStep S.joins (exists ticket) space.old self.old result space.new self.new }
@@ -109,7 +109,7 @@ impl<S: LockSpace> Player<S> {
         Ok(standing)
     }
 
-    /// Shows a table behind others.
+    /// Reads a table's definition and shows it, after the tables already shown.
     pub(crate) fn show(
         &mut self,
         space: &mut S,
@@ -140,7 +140,7 @@ fn columns_of(alloc: Global, definition: Option<Definition>) -> Columns
     }
 }
 
-/// A table behind others, unless there is no memory.
+/// Adds a table after those already shown, unless memory runs out.
 fn shown_behind(
     alloc: Global,
     mut shown: TablesShown,

@@ -40,7 +40,7 @@ impl<S: LockSpace> Player<S> {
         }
     }
 
-    /// Gets the locks of all writes and of the schemas of both names that are left, and renames the table.
+    /// Gets the remaining locks of GLOBAL and the schemas of both names, and renames the table.
     pub(crate) fn lock_rename_scopes<'s>(
         &mut self,
         space: &mut S,
@@ -89,7 +89,7 @@ impl<S: LockSpace> Player<S> {
         }
     }
 
-    /// Gets the locks of the names that are left, and renames the table.
+    /// Gets the remaining locks of both names, and renames the table.
     pub(crate) fn lock_names<'s>(
         &mut self,
         space: &mut S,
@@ -141,7 +141,7 @@ impl<S: LockSpace> Player<S> {
         self.move_definition(space, definition, from, to)
     }
 
-    /// Looks whether there is no table of a name.
+    /// Checks that there is no table of a name.
     fn is_free(&mut self, space: &mut S, ticket: TicketId) -> Result<(), Ending>
         requires ready { IsReady S.LockSpace space.old self.old }
         ensures run { IsStep S.joins (is_free ticket) space.old self.old result space.new self.new }
@@ -159,7 +159,7 @@ impl<S: LockSpace> Player<S> {
         }
     }
 
-    /// The definition of a table, if there is such a table.
+    /// The definition of a table. Fails if there is no such table.
     fn definition_under(&mut self, space: &mut S, ticket: TicketId) -> Result<Definition, Ending>
         requires ready { IsReady S.LockSpace space.old self.old }
         ensures run { IsStep S.joins (definition_under ticket) space.old self.old result space.new self.new }
@@ -172,7 +172,7 @@ impl<S: LockSpace> Player<S> {
         }
     }
 
-    /// Lets a definition stand under another name. Only the first of the changes takes memory.
+    /// Moves a definition to another name. Only the first of the two changes takes memory.
     fn move_definition<'s>(
         &mut self,
         space: &mut S,
@@ -197,7 +197,7 @@ impl<S: LockSpace> Player<S> {
         }
     }
 
-    /// Goes on once the lock that was waited for is had.
+    /// Continues once the awaited lock is held.
     pub(crate) fn go_on_renaming<'s>(
         &mut self,
         space: &mut S,
@@ -220,7 +220,7 @@ impl<S: LockSpace> Player<S> {
     }
 }
 
-/// A definition that has to be there.
+/// The definition, or an error if there is none.
 fn found(definition: Option<Definition>) -> Result<Definition, Ending>
     ensures { MatchResult result (λ it. definition ≡ Some it) (λ ending. (definition ≡ None) × (ending ≡ Answers (Error NoSuchTable))) }
 {
@@ -230,7 +230,7 @@ fn found(definition: Option<Definition>) -> Result<Definition, Ending>
     }
 }
 
-/// Both names of a table.
+/// Copies both names of a table.
 fn both(from: &Key, to: &Key) -> Result<[Key; 2], AllocError>
     ensures { IfOk result (λ names. names ≡ from.now ∷ to.now ∷ []) }
 {

@@ -49,7 +49,7 @@ impl<S: LockSpace> Player<S> {
         Ending::Answers(Reply::Columns(shown))
     }
 
-    /// Shows a table under the lock that is held, behind those that were shown.
+    /// Shows a table that the session has locked, after those already shown.
     fn show_held(
         &mut self,
         space: &mut S,
@@ -68,7 +68,7 @@ impl<S: LockSpace> Player<S> {
         self.show(space, shown, table, ticket)
     }
 
-    /// Locks and shows each of these tables from one on, behind those that were shown.
+    /// Locks and shows each of these tables, from index `from` on, after those already shown.
     pub(crate) fn show_from<'s>(
         &mut self,
         space: &mut S,
@@ -104,7 +104,7 @@ impl<S: LockSpace> Player<S> {
         Played::Ends(Ending::Answers(Reply::Columns(shown)))
     }
 
-    /// Shows the table at this place among these, whose lock is had, and then the others.
+    /// Shows the table at index `at`, whose lock is held, and then the later ones.
     pub(crate) fn show_next<'s>(
         &mut self,
         space: &mut S,
@@ -164,7 +164,7 @@ impl<S: LockSpace> Player<S> {
         self.wrote(space)
     }
 
-    /// Gets the lock of all writes, and writes to a table.
+    /// Gets the GLOBAL lock, and writes to a table.
     fn lock_writes<'s>(&mut self, space: &mut S, table: &'s Key, priority: Priority) -> Played<'s>
         requires ready { IsReady S.LockSpace space.old self.old }
         ensures run { IsPlayed S.joins (lock_writes table.now priority) space.old self.old result space.new self.new }
@@ -188,7 +188,7 @@ impl<S: LockSpace> Player<S> {
         }
     }
 
-    /// Locks a table and writes to it, under the lock of all writes.
+    /// Locks a table and writes to it, under the GLOBAL lock.
     pub(crate) fn lock_and_write<'s>(
         &mut self,
         space: &mut S,
@@ -244,7 +244,7 @@ impl<S: LockSpace> Player<S> {
         }
     }
 
-    /// Goes on once the lock that was waited for is had.
+    /// Continues once the awaited lock is held.
     pub(crate) fn go_on_writing<'s>(
         &mut self,
         space: &mut S,

@@ -1,4 +1,4 @@
-//! Statements of a session, one after the other.
+//! A session's statements, one after the other.
 ghost use Rattle.std.specs.Prelude.{◌≡◌, None, IfOk, IsSome, IfSome, is_some, []};
 ghost use Rattle.mdl_calls.specs.Words.{Runs};
 ghost use Rattle.mdl_context.specs.Contexts.{Attends, LeavesOthers};
@@ -24,14 +24,14 @@ use std::alloc::Global;
 use std::marker::Model;
 use std::mem::drop;
 
-/// What is left of a statement that waits.
+/// What is left of a waiting statement, and its session's mark when the statement began.
 #[derive(Drop)]
 pub struct Work<'s> {
     stage: Stage<'s>,
     mark: Mark,
 }
 
-/// A session's statements, one after the other.
+/// Runs a session's statements, one after the other.
 #[derive(Drop)]
 pub struct Runner<'s, S: LockSpace> {
     player: Player<S>,
@@ -50,8 +50,8 @@ impl<'s, S: LockSpace> Model for Runner<'s, S> {
 }
 
 impl<'s, S: LockSpace> Runner<'s, S> {
-    /// A session that has done nothing. Its cache keeps at most so many definitions that its statements read: 1 to
-    /// [`MOST_KEPT`](mdl_defs::MOST_KEPT). Memory is taken for the empty cache.
+    /// Creates a session that has done nothing. Its cache keeps at most `cache` definitions that its statements read: 1
+    /// to [`MOST_KEPT`](mdl_defs::MOST_KEPT). Takes memory for the empty cache.
     pub fn new(alloc: Global, who: u16, cache: u16) -> Result<Runner<'s, S>, OutOfMemory>
         requires capacity { IsCapacity cache }
         ensures made { IfOk result (λ runner. runner ≡ record { context = record { who = who; kept = []; known = []; wait = None }; state = at_first; work = None; cache = record { kept = []; capacity = cache } }) }
@@ -91,7 +91,7 @@ impl<'s, S: LockSpace> Runner<'s, S> {
         }
     }
 
-    /// Goes on with the statement that waits. One has to be waiting.
+    /// Continues the waiting statement. A statement must be waiting.
     pub fn go_on(&mut self, space: &mut S) -> Result<Progress, OutOfMemory>
         requires attends { AttendsWith S.LockSpace space.old self.old.context self.old.cache }
         requires waits { IsSome self.old.work }
@@ -110,8 +110,8 @@ impl<'s, S: LockSpace> Runner<'s, S> {
         }
     }
 
-    /// Ends the session: a statement that waits is lost, and all that the session holds is given up. It takes no memory,
-    /// unless a wait for an upgrade is granted already; all is given up in any case.
+    /// Ends the session: abandons a waiting statement, and releases all that the session holds. Takes no memory, unless
+    /// a wait for an upgrade is granted already. Everything is released in any case.
     ///
     /// After MySQL 5.7, `THD::cleanup` of `sql/sql_class.cc`.
     pub fn leave(self, space: &mut S)
@@ -127,7 +127,7 @@ impl<'s, S: LockSpace> Runner<'s, S> {
         drop(player);
     }
 
-    // Ends the statement that waited.
+    // Ends the waiting statement.
     fn end_with(&mut self, space: &mut S, ending: Ending) -> Result<Progress, OutOfMemory>
         requires ready { IsReady S.LockSpace space.old (player_in self.old) }
         requires waited { IsSome self.old.work }
@@ -138,7 +138,7 @@ impl<'s, S: LockSpace> Runner<'s, S> {
         self.player.close(space, ending, work.mark)
     }
 
-    // Goes on with a statement that has the lock that it waited for.
+    // Continues a statement whose wait was granted.
     fn go_on_with(&mut self, space: &mut S, ticket: TicketId) -> Result<Progress, OutOfMemory>
         requires ready { IsReady S.LockSpace space.old (player_in self.old) }
         requires waited { IsSome self.old.work }

@@ -26,7 +26,7 @@ impl Model for Savepoints {
 }
 
 impl Savepoints {
-    /// None. It takes no memory.
+    /// Creates an empty list of savepoints. Takes no memory.
     pub(crate) fn new(alloc: Global) -> Savepoints
         ensures { result ≡ [] }
     {
@@ -35,14 +35,14 @@ impl Savepoints {
         }
     }
 
-    /// All go.
+    /// Removes all savepoints.
     pub(crate) fn clear(&mut self)
         ensures { self.new ≡ [] }
     {
         self.list.clear();
     }
 
-    /// Puts a savepoint last, in place of an older one of its name.
+    /// Adds a savepoint at the end, and removes an older one of its name.
     pub(crate) fn save(&mut self, name: &Name, mark: Mark) -> Result<(), AllocError>
         ensures saved { OnOk result (self.new ≡ with_savepoint name.now mark self.old) }
         ensures unchanged { OnErr result (self.new ≡ self.old) }
@@ -54,7 +54,7 @@ impl Savepoints {
         Ok(())
     }
 
-    /// Goes back to the savepoint of a name, if there is one: later ones go. Where the session stood there.
+    /// Goes back to the savepoint of a name, if there is one: removes the later ones, and returns its mark.
     pub(crate) fn go_back(&mut self, name: &Name) -> Option<Mark>
         ensures found { result ≡ savepoint_mark name.now self.old }
         ensures kept { self.new ≡ up_to name.now self.old }
@@ -82,7 +82,7 @@ fn leave_others(list: &mut Vec<Savepoint>, name: &Name)
     list.retain(|savepoint| !is_named(savepoint, name));
 }
 
-// The place of the first savepoint of a name.
+// The index of the first savepoint of a name.
 fn place_of(list: &[Savepoint], name: &Name) -> Option<usize>
     ensures { result ≡ position (is_named name.now) list.now }
 {

@@ -1,4 +1,4 @@
-//! What a statement waits for: the lock that it waits for, with all that is needed once it is had.
+//! The lock that a statement waits for, with all that is needed once it is granted.
 use crate::TablesShown;
 use crate::lock_list::LockList;
 use mdl_defs::Columns;
@@ -11,7 +11,7 @@ use mdl_syntax::{Alteration, Name, Priority, Statement, TableLocks, Tables};
 pub enum Stage<'s> {
     /// The COMMIT lock, and then what is left of the statement.
     Commit(&'s Statement),
-    /// SELECT: the lock of the table at this place among these; those before it were shown.
+    /// SELECT: the lock of the table at this index of these tables. The tables before it are shown already.
     Select(&'s [Key], usize, TablesShown),
     /// INSERT, UPDATE or DELETE.
     Write(Writing<'s>),
@@ -23,7 +23,7 @@ pub enum Stage<'s> {
     Drop(Dropping<'s>),
     /// DROP SCHEMA.
     DropSchema(DroppingSchema<'s>),
-    /// RENAME TABLE, of the first as the second.
+    /// RENAME TABLE of `from` to `to`.
     Rename {
         from: &'s Key,
         to: &'s Key,
@@ -42,9 +42,9 @@ pub enum Stage<'s> {
 /// The lock that a write waits for.
 #[derive(Clone, Copy)]
 pub enum Writing<'s> {
-    /// That of all writes.
+    /// The GLOBAL lock.
     Global(&'s Key, Priority),
-    /// That of the table.
+    /// The lock of the table.
     Table,
     /// The COMMIT lock, for a write that is a transaction of its own.
     Commit,
@@ -53,87 +53,87 @@ pub enum Writing<'s> {
 /// The lock that CREATE TABLE waits for.
 #[derive(Clone, Copy)]
 pub enum Creating<'s> {
-    /// That of all writes.
+    /// The GLOBAL lock.
     Global(&'s Key, &'s Columns),
-    /// That of the table's schema.
+    /// The lock of the table's schema.
     Schema(&'s Key, &'s Columns),
-    /// The table's own, under that of its schema.
+    /// The table's own lock. The schema's is held, by this ticket.
     Table(&'s Columns, TicketId),
 }
 
 /// The lock that CREATE SCHEMA waits for.
 #[derive(Clone, Copy)]
 pub enum CreatingSchema<'s> {
-    /// That of all writes.
+    /// The GLOBAL lock.
     Global(&'s Name),
-    /// The schema's own.
+    /// The schema's own lock.
     Schema,
 }
 
 /// The lock that DROP TABLE waits for.
 #[derive(Drop)]
 pub enum Dropping<'s> {
-    /// That of all writes or of a schema.
+    /// The GLOBAL lock or the lock of a schema.
     Scopes(&'s Tables, LockList),
-    /// That of a table.
+    /// The lock of a table.
     Tables(LockList),
 }
 
 /// The lock that DROP SCHEMA waits for.
 #[derive(Drop)]
 pub enum DroppingSchema<'s> {
-    /// That of all writes.
+    /// The GLOBAL lock.
     Global(&'s Name),
-    /// The schema's own.
+    /// The schema's own lock.
     Schema(&'s Name),
-    /// That of a table of the schema, under the schema's own.
+    /// The lock of a table of the schema. The schema's own lock is held, by this ticket.
     Tables(TicketId, LockList),
 }
 
 /// The lock that RENAME TABLE waits for.
 #[derive(Drop)]
 pub enum Renaming {
-    /// That of all writes or of a schema.
+    /// The GLOBAL lock or the lock of a schema.
     Scopes(LockList),
-    /// That of one of the names, under that of the schema that the table comes into.
+    /// The lock of one of the names. The lock of the new name's schema is held, by this ticket.
     Names(TicketId, LockList),
 }
 
 /// The lock that FLUSH TABLES WITH READ LOCK waits for.
 #[derive(Clone, Copy)]
 pub enum Flushing {
-    /// That of all writes.
+    /// The GLOBAL lock.
     Global,
-    /// The COMMIT lock beside it.
+    /// The COMMIT lock. The GLOBAL lock is held.
     Commit,
 }
 
 /// The lock that ALTER TABLE waits for.
 #[derive(Clone, Copy)]
 pub enum Altering {
-    /// That of all writes.
+    /// The GLOBAL lock.
     Global,
-    /// That of the table's schema.
+    /// The lock of the table's schema.
     Schema,
-    /// The table's own.
+    /// The table's own lock.
     Table,
-    /// It raised against writes, so that the table can be copied.
+    /// The table's lock upgraded to SNW, which blocks writes, so that the table can be copied.
     Copy,
-    /// It raised against all others, before the table is altered where it stands.
+    /// The table's lock upgraded to X, which blocks all other sessions, before the table is altered in place.
     InPlace,
-    /// It raised against all others, for the change.
+    /// The table's lock upgraded to X, for the change.
     Change,
-    /// The clone of it, where the session has locked the table.
+    /// A clone of the table's lock, if the session has locked the table.
     Locked,
-    /// The clone raised against all others, for the change.
+    /// The clone upgraded to X, for the change.
     ChangeLocked,
 }
 
 /// The lock that LOCK TABLES waits for.
 #[derive(Drop)]
 pub enum LockingTables {
-    /// That of all writes or of a schema, around tables that are locked for writing.
+    /// The GLOBAL lock or the lock of a schema, for tables that are locked for writing.
     Scopes(LockList),
-    /// That of a table, under these of scopes.
+    /// The lock of a table. The locks of the scopes are held, by these tickets.
     Tables(Vec<TicketId>, LockList),
 }

@@ -16,7 +16,7 @@ use mdl_space::{LockSpace, TicketId};
 use mdl_syntax::{Name, Statement};
 
 impl<S: LockSpace> Player<S> {
-    /// Ends the transaction: its tickets go, and those of the statement.
+    /// Ends the transaction: releases its tickets, and those of the statement.
     pub(crate) fn end_transaction(&mut self, space: &mut S)
         requires ready { IsReady S.LockSpace space.old self.old }
         ensures run { IsStep S.joins end_transaction space.old self.old (Ok tt) space.new self.new }
@@ -29,7 +29,7 @@ impl<S: LockSpace> Player<S> {
         self.savepoints.clear();
     }
 
-    /// Ends the transaction under the COMMIT lock, which goes then.
+    /// Ends the transaction under the COMMIT lock, and then releases that lock.
     pub(crate) fn end_under(&mut self, space: &mut S, lock: TicketId)
         requires ready { IsReady S.LockSpace space.old self.old }
         ensures run { IsStep S.joins (end_under lock) space.old self.old (Ok tt) space.new self.new }
@@ -80,7 +80,7 @@ impl<S: LockSpace> Player<S> {
         Got::Had(())
     }
 
-    /// Commits an open transaction, and then does what is left of the statement.
+    /// Commits an open transaction, and then performs the rest of the statement.
     pub(crate) fn commit_first<'s>(&mut self, space: &mut S, statement: &'s Statement) -> Played<'s>
         requires ready { IsReady S.LockSpace space.old self.old }
         ensures run { IsPlayed S.joins (commit_first (after_commit statement.now)) space.old self.old result space.new self.new }
@@ -94,7 +94,7 @@ impl<S: LockSpace> Player<S> {
         }
     }
 
-    /// Does what is left of a statement once the transaction that was open is committed.
+    /// Performs the rest of a statement once an open transaction is committed.
     pub(crate) fn after_commit<'s>(&mut self, space: &mut S, statement: &'s Statement) -> Played<'s>
         requires ready { IsReady S.LockSpace space.old self.old }
         ensures run { IsPlayed S.joins (after_commit statement.now) space.old self.old result space.new self.new }
@@ -115,7 +115,7 @@ impl<S: LockSpace> Player<S> {
         }
     }
 
-    /// Opens a transaction: tables that are locked are given up.
+    /// Opens a transaction, and releases locked tables.
     fn begin(&mut self, space: &mut S) -> Ending
         requires ready { IsReady S.LockSpace space.old self.old }
         ensures run { IsPlayed S.joins begin_after_commit space.old self.old (played.Ends result) space.new self.new }
@@ -127,7 +127,7 @@ impl<S: LockSpace> Player<S> {
         Ending::Answers(Reply::Ok)
     }
 
-    /// Rolls an open transaction back.
+    /// Rolls back an open transaction.
     pub(crate) fn rollback(&mut self, space: &mut S)
         requires ready { IsReady S.LockSpace space.old self.old }
         ensures run { IsStep S.joins rollback space.old self.old (Ok tt) space.new self.new }
@@ -139,7 +139,7 @@ impl<S: LockSpace> Player<S> {
         }
     }
 
-    /// Marks the session's place in an open transaction by a name.
+    /// Saves the session's current mark under a name, if a transaction is open.
     pub(crate) fn save(&mut self, space: &mut S, name: &Name) -> Ending
         requires ready { IsReady S.LockSpace space.old self.old }
         ensures run { IsPlayed S.joins (save name.now) space.old self.old (played.Ends result) space.new self.new }

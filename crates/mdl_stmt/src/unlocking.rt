@@ -1,4 +1,4 @@
-//! UNLOCK TABLES, and what else a session gives up that it has kept until then.
+//! UNLOCK TABLES, and the release of other explicit locks.
 ghost use Rattle.std.specs.Prelude.{◌≡◌, [], None, Ok, map};
 ghost use Rattle.mdl_stmt.specs.Attendance.{ContextGoesOn, GoesOn, IsIdle, IsReady};
 ghost use Rattle.mdl_stmt.specs.Gets.{IsPlayed, IsStep};
@@ -14,7 +14,7 @@ use mdl_rows::{Ending, Locked, ReadLock};
 use mdl_space::{LockSpace, TicketId};
 
 impl<S: LockSpace> Player<S> {
-    /// Gives locked tables up, with their scopes.
+    /// Releases locked tables, with their scopes.
     pub(crate) fn unlock_tables(&mut self, space: &mut S)
         requires ready { IsReady S.LockSpace space.old self.old }
         ensures run { IsStep S.joins unlock_tables space.old self.old (Ok tt) space.new self.new }
@@ -27,7 +27,7 @@ impl<S: LockSpace> Player<S> {
         self.explicit.clear_tables();
     }
 
-    /// Gives locked tables up, and the global read lock.
+    /// Releases locked tables, and the global read lock.
     pub(crate) fn unlock(&mut self, space: &mut S) -> Ending
         requires ready { IsReady S.LockSpace space.old self.old }
         ensures run { IsPlayed S.joins unlock space.old self.old (played.Ends result) space.new self.new }
@@ -39,7 +39,7 @@ impl<S: LockSpace> Player<S> {
         Ending::Answers(Reply::Ok)
     }
 
-    /// Gives the global read lock up.
+    /// Releases the global read lock.
     fn give_up_read_lock(&mut self, space: &mut S)
         requires ready { IsReady S.LockSpace space.old self.old }
         ensures run { IsStep S.joins give_up_read_lock space.old self.old (Ok tt) space.new self.new }

@@ -38,7 +38,7 @@ impl<S: LockSpace> Player<S> {
         }
     }
 
-    /// Releases the ticket of a name that was gained last. Where there is none, it finds out whether another session holds the name.
+    /// Releases the session's last ticket of a name. If it has none, finds out whether another session holds the name.
     pub(crate) fn release_lock(&mut self, space: &mut S, name: &Name) -> Ending
         requires ready { IsReady S.LockSpace space.old self.old }
         ensures run { IsPlayed S.joins (release_lock name.now) space.old self.old (played.Ends result) space.new self.new }
@@ -57,7 +57,8 @@ impl<S: LockSpace> Player<S> {
         }
     }
 
-    /// Finds out whether another session holds a lock that this one doesn't hold. Where none does, the lock is had, and goes at once.
+    /// Finds out whether another session holds a lock that this one doesn't hold. If none does, this session gets the lock, and
+    /// releases it at once.
     fn look_for_holder(&mut self, space: &mut S, lock: &Key) -> Ending
         requires ready { IsReady S.LockSpace space.old self.old }
         ensures run { IsPlayed S.joins (give_back lock.now None) space.old self.old (played.Ends result) space.new self.new }

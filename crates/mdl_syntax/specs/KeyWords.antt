@@ -2,7 +2,7 @@
 use Rattle.std.specs.Prelude.{ℕ, List, [], ◌∷◌, Option, Some, None, if◌then◌else◌}
 use Rattle.mdl_lines.specs.Lines.{same_text}
 
--- what stands behind these key words, where a statement begins with them
+-- the words after these key words, if a statement begins with them
 abbrev pub behind : List (List ℕ) → List (List ℕ) → Option (List (List ℕ))
 behind [] words = Some words
 behind (key_word ∷ key_words) [] = None

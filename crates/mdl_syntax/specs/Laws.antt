@@ -1,4 +1,4 @@
--- Laws of what is read of a script. The limits are this project's own choice.
+-- Laws of what is read from a script. The limits are this project's own choice.
 use Rattle.std.specs.Prelude.{◌≡◌, ℕ, ◌+◌, ◌≤◌, false, List, [], ◌∷◌, length, None, IfOk}
 use Rattle.std.specs.List.{All, IsDistinct}
 use Rattle.mdl_key.specs.declared.namespace.Namespace.TheVariants.{Table}
@@ -17,7 +17,7 @@ use Rattle.mdl_syntax.specs.Scripts.{parsed}
 abbrev pub IsName : List ℕ → Type 0
 IsName name = name_fault name ≡ None
 
--- the key of a table, with a name of its schema and its own
+-- the key of a table, whose schema and table are names
 abbrev pub IsTable : KeyName → Type 0
 IsTable key = (key.namespace ≡ Table) × IsName key.schema × IsName key.table
 
@@ -29,7 +29,7 @@ AreTables tables = (1 ≤ length tables) × (length tables ≤ 8) × IsDistinct 
 abbrev pub AreColumns : List (List ℕ) → Type 0
 AreColumns columns = (1 ≤ length columns) × (length columns ≤ most_columns) × All IsName columns
 
--- a column that a table gains or loses
+-- a change that adds or drops a column
 abbrev pub IsColumnChange : Change → Type 0
 IsColumnChange (AddColumn column) = IsName column
 IsColumnChange (DropColumn column) = IsName column
@@ -62,11 +62,11 @@ IsWithinLimits (ReleaseLock name) = IsName name
 abbrev pub StatementsAreWithinLimits : Type 0
 StatementsAreWithinLimits = (text : List ℕ) → IfOk (parsed text) (All (λ line. IsScriptSession line.session × IsWithinLimits line.statement))
 
--- lines whose numbers rise, from this one on
+-- lines with rising numbers, from this one on
 abbrev pub RiseFrom : ℕ → List Line → Type 0
 RiseFrom number [] = Unit {0}
 RiseFrom number (line ∷ lines) = (number ≤ line.number) × RiseFrom (line.number + 1) lines
 
--- the lines that are read stand in the order of their numbers, which are counted from 1
+-- the lines that are read are in the order of their numbers, which are counted from 1
 abbrev pub LineNumbersRise : Type 0
 LineNumbersRise = (text : List ℕ) → IfOk (parsed text) (RiseFrom 1)

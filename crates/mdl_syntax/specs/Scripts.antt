@@ -25,6 +25,6 @@ abbrev pub lines_say : ℕ → List (List ℕ) → Result (List Line) (ℕ × Li
 lines_say number [] = Ok []
 lines_say number (line ∷ lines) = said_before number (line_says number line) (lines_say (number + 1) lines)
 
--- what a script says, whose lines are counted from 1
+-- what a script says, its lines counted from 1
 abbrev pub parsed : List ℕ → Result (List Line) (ℕ × LineError)
 parsed text = lines_say 1 (lines_of text)

@@ -1,4 +1,4 @@
-//! The forms of statements: key words, and what stands behind them.
+//! The forms of statements: key words, and what follows them.
 ghost use Rattle.std.specs.Prelude.{◌≡◌, ◌<◌, ◌++◌, ◌∷◌, [], Ok, Err, length, map, IfOk, MatchResult};
 ghost use Rattle.mdl_key.specs.Keys.{table_key};
 ghost use Rattle.mdl_lines.specs.Lines.{words_of};
@@ -19,7 +19,7 @@ use mdl_lines::{LineError, session_of};
 use std::alloc::{AllocError, Global};
 use std::{mem, str};
 
-/// The statement that words say. What refuses them is told also where memory ran out.
+/// Returns the statement that words say. Words that are wrong are refused also if memory ran out before.
 pub(crate) fn statement_of(alloc: Global, words: &[u8]) -> Result<Statement, NoStatement>
     ensures { ReadsAs (forms.statement_of (words_of words.now)) result }
 {
@@ -58,14 +58,14 @@ pub(crate) fn statement_of(alloc: Global, words: &[u8]) -> Result<Statement, NoS
     }
 }
 
-// What has no form, or a word too few or too many.
+// Refuses words that have no form, or are one too few or too many.
 fn bad_word() -> Result<Statement, NoStatement>
     ensures { result ≡ Err (NoStatement.Refused LineError.BadWord) }
 {
     Err(NoStatement::Refused(LineError::BadWord))
 }
 
-// A statement, where no word is left.
+// Returns the statement, if no word is left.
 fn no_more(statement: Statement, words: &[u8]) -> Result<Statement, NoStatement>
     ensures { ReadsAs (forms.no_more statement (words_of words.now)) result }
 {
@@ -78,7 +78,7 @@ fn no_more(statement: Statement, words: &[u8]) -> Result<Statement, NoStatement>
     }
 }
 
-// One name.
+// Reads one name.
 fn one_name(alloc: Global, words: &[u8]) -> Result<Name, NoStatement>
     ensures { ReadsAs (forms.one_name (words_of words.now)) result }
 {
@@ -97,7 +97,7 @@ fn one_name(alloc: Global, words: &[u8]) -> Result<Name, NoStatement>
     }
 }
 
-// One table.
+// Reads one table.
 fn one_table(alloc: Global, words: &[u8]) -> Result<Key, NoStatement>
     ensures { ReadsAs (forms.one_table (words_of words.now)) result }
 {
@@ -113,7 +113,7 @@ fn one_table(alloc: Global, words: &[u8]) -> Result<Key, NoStatement>
     Ok(key_of(alloc, &table)?)
 }
 
-// The key of a table, whose names were looked at.
+// Returns the key of a table whose names have been checked.
 fn key_of(alloc: Global, name: &TableName) -> Result<Key, AllocError>
     ensures { IfOk result (λ key. key ≡ table_key name.now.schema.now name.now.table.now) }
 {
@@ -123,7 +123,7 @@ fn key_of(alloc: Global, name: &TableName) -> Result<Key, AllocError>
     }
 }
 
-// A write of one table.
+// Reads a write of one table.
 fn write(alloc: Global, words: &[u8]) -> Result<Statement, NoStatement>
     ensures { ReadsAs (write_of (words_of words.now)) result }
 {
@@ -139,7 +139,7 @@ fn write(alloc: Global, words: &[u8]) -> Result<Statement, NoStatement>
     }
 }
 
-// Tables.
+// Reads tables.
 fn some_tables(alloc: Global, words: &[u8]) -> Result<Tables, NoStatement>
     ensures { ReadsAs (forms.some_tables (words_of words.now)) result }
 {
@@ -147,7 +147,7 @@ fn some_tables(alloc: Global, words: &[u8]) -> Result<Tables, NoStatement>
     Ok(keys_of(alloc, names.as_slice())?)
 }
 
-// The keys of tables, whose names were looked at.
+// Returns the keys of tables whose names have been checked.
 fn keys_of(alloc: Global, names: &[TableName]) -> Result<Tables, AllocError>
     ensures { IfOk result (λ tables. tables ≡ map (λ name. table_key name.schema.now name.table.now) names.now) }
 {
@@ -158,7 +158,7 @@ fn keys_of(alloc: Global, names: &[TableName]) -> Result<Tables, AllocError>
     Ok(tables)
 }
 
-// A new table or schema.
+// Reads a new table or schema.
 fn create(alloc: Global, words: &[u8]) -> Result<Statement, NoStatement>
     ensures { ReadsAs (create_of (words_of words.now)) result }
 {
@@ -171,7 +171,7 @@ fn create(alloc: Global, words: &[u8]) -> Result<Statement, NoStatement>
     }
 }
 
-// Tables or a schema to be dropped.
+// Reads the tables or the schema to drop.
 fn drop(alloc: Global, words: &[u8]) -> Result<Statement, NoStatement>
     ensures { ReadsAs (drop_of (words_of words.now)) result }
 {
@@ -184,7 +184,7 @@ fn drop(alloc: Global, words: &[u8]) -> Result<Statement, NoStatement>
     }
 }
 
-// A new table, and its columns.
+// Reads a new table and its columns.
 fn create_table(alloc: Global, words: &[u8]) -> Result<Statement, NoStatement>
     ensures { ReadsAs (forms.makes (λ named. CreateTable named.0 named.1) forms.table_and_columns (words_of words.now)) result }
 {
@@ -201,7 +201,7 @@ fn create_table(alloc: Global, words: &[u8]) -> Result<Statement, NoStatement>
     })
 }
 
-// Columns. Where one finds no room, those behind it are looked at all the same.
+// Reads columns. If memory runs out for one, those after it are still checked.
 fn some_columns(alloc: Global, words: &[u8]) -> Result<Columns, NoStatement>
     ensures { ReadsAs (forms.some_columns (words_of words.now)) result }
 {
@@ -229,7 +229,7 @@ fn some_columns(alloc: Global, words: &[u8]) -> Result<Columns, NoStatement>
     Ok(columns)
 }
 
-// Puts a column last, whose name was looked at.
+// Appends a column whose name has been checked.
 fn push_column(alloc: Global, columns: &mut Columns, name: &str) -> Result<(), AllocError>
     ensures { IfOk result (λ _. columns.new ≡ columns.old ++ name.now ∷ []) }
 {
@@ -239,7 +239,7 @@ fn push_column(alloc: Global, columns: &mut Columns, name: &str) -> Result<(), A
     }
 }
 
-// A table that gets another name.
+// Reads a table and its new name, after RENAME.
 fn rename(alloc: Global, words: &[u8]) -> Result<Statement, NoStatement>
     ensures { ReadsAs (rename_of (words_of words.now)) result }
 {
@@ -249,7 +249,7 @@ fn rename(alloc: Global, words: &[u8]) -> Result<Statement, NoStatement>
     }
 }
 
-// A table, and the name that it gets.
+// Reads a table and its new name.
 fn rename_table(alloc: Global, words: &[u8]) -> Result<Statement, NoStatement>
     ensures { ReadsAs (forms.makes (λ named. RenameTable named.0 named.1) forms.table_to_table (words_of words.now)) result }
 {
@@ -269,7 +269,7 @@ fn rename_table(alloc: Global, words: &[u8]) -> Result<Statement, NoStatement>
     })
 }
 
-// Locks given up.
+// Reads what follows UNLOCK.
 fn unlock(words: &[u8]) -> Result<Statement, NoStatement>
     ensures { ReadsAs (unlock_of (words_of words.now)) result }
 {
@@ -279,7 +279,7 @@ fn unlock(words: &[u8]) -> Result<Statement, NoStatement>
     }
 }
 
-// The global read lock.
+// Reads what follows FLUSH: the request for the global read lock.
 fn flush(words: &[u8]) -> Result<Statement, NoStatement>
     ensures { ReadsAs (flush_of (words_of words.now)) result }
 {
@@ -298,7 +298,7 @@ fn flush(words: &[u8]) -> Result<Statement, NoStatement>
     }
 }
 
-// A table whose columns change.
+// Reads an alteration of a table, after ALTER.
 fn alter(alloc: Global, words: &[u8]) -> Result<Statement, NoStatement>
     ensures { ReadsAs (alter_of (words_of words.now)) result }
 {
@@ -308,7 +308,7 @@ fn alter(alloc: Global, words: &[u8]) -> Result<Statement, NoStatement>
     }
 }
 
-// A table, a change of its columns, and how it is altered.
+// Reads a table, a change of its columns, and how it is altered.
 fn alter_table(alloc: Global, words: &[u8]) -> Result<Statement, NoStatement>
     ensures { ReadsAs (forms.makes AlterTable forms.alteration (words_of words.now)) result }
 {
@@ -326,7 +326,7 @@ fn alter_table(alloc: Global, words: &[u8]) -> Result<Statement, NoStatement>
     }))
 }
 
-// A column to be added or dropped, and how the table is altered.
+// Reads a column to add or drop, and how its table is altered.
 fn column_change(alloc: Global, words: &[u8]) -> Result<(Change, Algorithm), NoStatement>
     ensures { ReadsAs (forms.column_change (words_of words.now)) result }
 {
@@ -341,7 +341,7 @@ fn column_change(alloc: Global, words: &[u8]) -> Result<(Change, Algorithm), NoS
     Ok((Change::DropColumn(column), algorithm))
 }
 
-// A column, and how its table is altered.
+// Reads a column, and how its table is altered.
 fn column_and_algorithm(alloc: Global, words: &[u8]) -> Result<(Column, Algorithm), NoStatement>
     ensures { ReadsAs (forms.column_and_algorithm (words_of words.now)) result }
 {
@@ -358,7 +358,7 @@ fn column_and_algorithm(alloc: Global, words: &[u8]) -> Result<(Column, Algorith
     }
 }
 
-// How a table is altered.
+// Reads how a table is altered.
 fn one_algorithm(words: &[u8]) -> Result<Algorithm, NoStatement>
     ensures { ReadsAs (forms.one_algorithm (words_of words.now)) result }
 {
@@ -374,7 +374,7 @@ fn one_algorithm(words: &[u8]) -> Result<Algorithm, NoStatement>
     Ok(algorithm)
 }
 
-// The algorithm of a name.
+// Returns the algorithm that a word names.
 fn algorithm_of(word: &[u8]) -> Option<Algorithm>
     ensures { result ≡ forms.algorithm_of word.now }
 {
@@ -384,7 +384,7 @@ fn algorithm_of(word: &[u8]) -> Option<Algorithm>
     (word == b"INPLACE".as_slice()).then_some(Algorithm::Inplace)
 }
 
-// Tables to lock.
+// Reads the tables to lock.
 fn lock_tables(alloc: Global, words: &[u8]) -> Result<Statement, NoStatement>
     ensures { ReadsAs (lock_of (words_of words.now)) result }
 {
@@ -394,7 +394,7 @@ fn lock_tables(alloc: Global, words: &[u8]) -> Result<Statement, NoStatement>
     }
 }
 
-// Tables, and behind each what it is locked for. Where one finds no room, those behind it are looked at all the same.
+// Reads tables, each followed by the type of its lock. If memory runs out for one, those after it are still checked.
 fn some_locks(alloc: Global, words: &[u8]) -> Result<TableLocks, NoStatement>
     ensures { ReadsAs (forms.some_locks (words_of words.now)) result }
 {
@@ -417,7 +417,7 @@ fn some_locks(alloc: Global, words: &[u8]) -> Result<TableLocks, NoStatement>
     Ok(locks)
 }
 
-// What the first word says that a table is locked for, and the words behind it.
+// Returns the lock type that the first word names, and the words after it.
 fn one_lock_type(words: &[u8]) -> Result<(LockType, &[u8]), LineError>
     ensures said { MatchResult result (λ found. next_lock_type (words_of words.now) ≡ Ok (found.0, words_of found.1.now)) (λ error. next_lock_type (words_of words.now) ≡ Err error) }
     ensures shorter { IfOk result (λ found. length found.1.now < length words.now) }
@@ -431,7 +431,7 @@ fn one_lock_type(words: &[u8]) -> Result<(LockType, &[u8]), LineError>
     }
 }
 
-// What a word says that a table is locked for.
+// Returns the lock type that a word names.
 fn lock_type_of(word: &[u8]) -> Option<LockType>
     ensures { result ≡ forms.lock_type_of word.now }
 {
@@ -444,7 +444,7 @@ fn lock_type_of(word: &[u8]) -> Option<LockType>
     None
 }
 
-// Puts a table last, whose name was looked at.
+// Appends a table whose name has been checked.
 fn push_lock(
     alloc: Global,
     locks: &mut TableLocks,
@@ -457,7 +457,7 @@ fn push_lock(
     locks.push(TableLock { table, lock_type })
 }
 
-// A session's wait to be killed.
+// Reads the session whose wait to kill, after KILL.
 fn kill(words: &[u8]) -> Result<Statement, NoStatement>
     ensures { ReadsAs (kill_of (words_of words.now)) result }
 {
@@ -467,7 +467,7 @@ fn kill(words: &[u8]) -> Result<Statement, NoStatement>
     }
 }
 
-// A session to kill.
+// Reads the session whose wait to kill.
 fn kill_query(words: &[u8]) -> Result<Statement, NoStatement>
     ensures { ReadsAs (forms.makes KillQuery forms.one_session (words_of words.now)) result }
 {
@@ -480,14 +480,14 @@ fn kill_query(words: &[u8]) -> Result<Statement, NoStatement>
     no_more(Statement::KillQuery(session), rest)
 }
 
-// A user-level lock to get.
+// Reads the name of a user-level lock to get.
 fn get_lock(alloc: Global, words: &[u8]) -> Result<Statement, NoStatement>
     ensures { ReadsAs (forms.makes GetLock forms.one_name (words_of words.now)) result }
 {
     Ok(Statement::GetLock(one_name(alloc, words)?))
 }
 
-// A user-level lock to release.
+// Reads the name of a user-level lock to release.
 fn release_lock(alloc: Global, words: &[u8]) -> Result<Statement, NoStatement>
     ensures { ReadsAs (forms.makes ReleaseLock forms.one_name (words_of words.now)) result }
 {

@@ -5,7 +5,7 @@ ghost use Rattle.mdl_syntax.specs.KeyWords.{behind};
 
 use crate::words::split_word;
 
-/// What stands behind a key word, where the first word is that one.
+/// Returns the words after a key word, if the first word is that key word.
 pub(crate) fn behind<'a>(key_word: &str, words: &'a [u8]) -> Option<&'a [u8]>
     ensures { MatchOption result (behind (key_word.now ∷ []) (words_of words.now) ≡ None)
         (λ rest. behind (key_word.now ∷ []) (words_of words.now) ≡ Some (words_of rest.now)) }

@@ -1,8 +1,8 @@
 //! The script language of statements: what a line can ask for, and how it is read.
 //!
 //! [`parse`] reads a [`Script`]: its [`Line`]s, each of which asks a session for a [`Statement`]. A statement's tables are
-//! [`Tables`], each the key of its lock, those of LOCK TABLES are [`TableLocks`], and a savepoint's name is a [`Name`]. The forms of statements stand in one table,
-//! key words first.
+//! [`Tables`], each the key of its lock, those of LOCK TABLES are [`TableLocks`], and a savepoint's name is a [`Name`]. One
+//! table in `specs/Forms` has the forms of all statements, key words first.
 //!
 //! # Example
 //!

@@ -13,8 +13,8 @@ use mdl_lines::{Fault, LineError, is_comment, session_of, strip_carriage_return}
 use std::alloc::Global;
 use std::mem::drop;
 
-/// The lines of a script, or the number and the error of its first bad line, which is told also where memory ran out
-/// before it.
+/// Returns the lines of a script. Refused with the number and the error of its first bad line, also if memory ran out before
+/// that line.
 pub fn parse(alloc: Global, text: &[u8]) -> Result<Script, Fault>
     ensures parsed { IfOk result (λ script. parsed text.now ≡ Ok script) }
     ensures refused { IfErr result (λ fault. IsFaultOf (parsed text.now) fault) }
@@ -38,7 +38,7 @@ pub fn parse(alloc: Global, text: &[u8]) -> Result<Script, Fault>
     }
 }
 
-// Adds a line to those that had room, and says whether it has room too.
+// Adds a line, if there was room for those before it, and returns whether there is room for it too.
 fn push_in_room(lines: &mut Vec<Line>, has_room: bool, line: Line) -> bool
     ensures { result ≡ true → (has_room ≡ true) × (lines.new.items ≡ lines.old.items ++ line ∷ []) }
 {
@@ -50,7 +50,7 @@ fn push_in_room(lines: &mut Vec<Line>, has_room: bool, line: Line) -> bool
     lines.push(line).is_ok()
 }
 
-// What the line of this number says.
+// Returns what the line of this number asks for, or `None` if it asks for nothing.
 fn line_says(alloc: Global, number: u64, line: &[u8]) -> Result<Option<Line>, NoStatement>
     ensures { ReadsAs (line_says number line.now) result }
 {
@@ -60,7 +60,7 @@ fn line_says(alloc: Global, number: u64, line: &[u8]) -> Result<Option<Line>, No
     words_say(alloc, number, line)
 }
 
-// What its words say.
+// Returns what the words of a line ask for, or `None` if there are no words.
 fn words_say(alloc: Global, number: u64, line: &[u8]) -> Result<Option<Line>, NoStatement>
     ensures { ReadsAs (words_say number (words_of line.now)) result }
 {

@@ -22,7 +22,7 @@ impl Model for Name {
 }
 
 impl Name {
-    /// The name that a text is. What is no name is refused as in a key.
+    /// Returns the name with this text. A text that isn't a name is refused as in a key.
     pub fn new(alloc: Global, text: &str) -> Result<Name, KeyError>
         ensures made { IfOk result (λ name. name ≡ text.now) }
         ensures refused { Refuses (name_fault text.now) KeyError.OutOfMemory result }
@@ -34,7 +34,7 @@ impl Name {
         }
     }
 
-    /// The name's text.
+    /// Returns the name's text.
     pub fn as_str(&self) -> &str
         ensures { result.now ≡ self.now }
     {

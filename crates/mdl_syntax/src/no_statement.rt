@@ -1,13 +1,13 @@
-//! Why words give no statement.
+//! Why no statement can be read.
 ghost use Rattle.std.specs.Prelude.{◌≡◌};
 
 use mdl_lines::LineError;
 use std::alloc::AllocError;
 
-/// Why words give no statement.
+/// Why no statement can be read.
 #[derive(Clone, Copy, Debug, PartialEq, Eq)]
 pub(crate) enum NoStatement {
-    /// A word is at fault.
+    /// A word is wrong or missing.
     Refused(LineError),
     /// Memory ran out.
     Memory,

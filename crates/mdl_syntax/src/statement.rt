@@ -25,7 +25,7 @@ pub enum Statement {
     Write {
         /// The table written to.
         table: Key,
-        /// Whether the write was asked for with `LOW_PRIORITY`.
+        /// Whether the write has `LOW_PRIORITY`.
         priority: Priority,
     },
     /// `CREATE TABLE`, with 1 to [`MOST_COLUMNS`](mdl_defs::MOST_COLUMNS) columns, which may be named twice.
@@ -43,12 +43,12 @@ pub enum Statement {
     DropSchema(Name),
     /// `RENAME TABLE` of one table to another name.
     RenameTable {
-        /// The table, by the name that it has.
+        /// The table, by its present name.
         from: Key,
-        /// The name that it gets.
+        /// Its new name.
         to: Key,
     },
-    /// `UNLOCK TABLES`: locked tables and the global read lock are given up.
+    /// `UNLOCK TABLES`: the locked tables and the global read lock are released.
     UnlockTables,
     /// `FLUSH TABLES WITH READ LOCK`: the session gets the global read lock.
     FlushTablesWithReadLock,
@@ -58,7 +58,7 @@ pub enum Statement {
     LockTables(TableLocks),
     /// `KILL QUERY` of a session, from 1 to [`MOST_SESSIONS`](mdl_key::MOST_SESSIONS).
     KillQuery(u16),
-    /// `TIMEOUT`: the session gives up its own wait.
+    /// `TIMEOUT`: the session's own wait times out.
     Timeout,
     /// `GET_LOCK` and the name of a user-level lock.
     GetLock(Name),
@@ -111,7 +111,7 @@ pub struct Alteration {
     pub table: Key,
     /// The column that it gains or loses.
     pub change: Change,
-    /// How it is altered.
+    /// How the table is altered.
     pub algorithm: Algorithm,
 }
 
@@ -132,7 +132,7 @@ impl Clone for Alteration {
 pub enum Algorithm {
     /// Its rows are copied to a new table, while it can be read.
     Copy,
-    /// It is altered where it stands, while it can be read and written.
+    /// It is altered in place, while it can be read and written.
     Inplace,
 }
 
@@ -145,11 +145,11 @@ pub enum LockType {
     Write,
 }
 
-/// How a write stands behind reads that wait.
+/// The priority of a write over reads that wait.
 #[derive(Clone, Copy, Debug, PartialEq, Eq)]
 pub enum Priority {
-    /// Written without a word on it.
+    /// Without `LOW_PRIORITY`.
     Normal,
-    /// Written with `LOW_PRIORITY`.
+    /// With `LOW_PRIORITY`.
     Low,
 }

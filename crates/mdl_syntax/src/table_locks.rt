@@ -6,7 +6,7 @@ use mdl_key::Key;
 use std::alloc::{AllocError, Global};
 use std::marker::Model;
 
-/// A table that is to be locked.
+/// A table to lock.
 #[derive(Drop)]
 pub struct TableLock {
     /// The table.
@@ -42,7 +42,7 @@ impl Model for TableLocks {
 }
 
 impl TableLocks {
-    /// No tables. It takes no memory.
+    /// Returns an empty list. Takes no memory.
     pub fn new(alloc: Global) -> TableLocks
         ensures { result ≡ [] }
     {
@@ -51,7 +51,7 @@ impl TableLocks {
         }
     }
 
-    /// Puts a table last.
+    /// Appends a table.
     pub fn push(&mut self, lock: TableLock) -> Result<(), AllocError>
         ensures pushed { OnOk result (self.new ≡ self.old ++ lock ∷ []) }
         ensures unchanged { OnErr result (self.new ≡ self.old) }
@@ -60,7 +60,7 @@ impl TableLocks {
         Ok(())
     }
 
-    /// The tables, in order.
+    /// Returns the tables, in order.
     pub fn as_slice(&self) -> &[TableLock]
         ensures { result.now ≡ self.now }
     {

@@ -1,4 +1,4 @@
-//! The names that words write, before memory is taken for them.
+//! The names in the words of a line, before memory is taken for them.
 ghost use Rattle.std.specs.Prelude.{◌≡◌, ◌<◌, ◌≤◌, ◌++◌, ◌∷◌, [], List, Some, None, Ok, Err, length, map, position, take, MatchOption, MatchResult};
 ghost use Rattle.std.specs.List.{list_any};
 ghost use Rattle.mdl_key.specs.Keys.{KeyName, key_eq, table_key};
@@ -26,7 +26,7 @@ pub(crate) struct TableName<'a> {
     pub(crate) table: &'a str,
 }
 
-/// The name that a word is.
+/// Returns the word as a name, if it is one.
 pub(crate) fn name_of(word: &[u8]) -> Option<&str>
     ensures { MatchOption result (name_of word.now ≡ None) (λ name. name_of word.now ≡ Some name.now) }
 {
@@ -35,7 +35,7 @@ pub(crate) fn name_of(word: &[u8]) -> Option<&str>
     Some(name)
 }
 
-/// The table that a word names.
+/// Returns the table that a word names.
 pub(crate) fn table_of(word: &[u8]) -> Option<TableName<'_>>
     ensures { MatchOption result (table_of word.now ≡ None) (λ name. table_of word.now ≡ Some (table_key name.schema.now name.table.now)) }
 {
@@ -45,14 +45,14 @@ pub(crate) fn table_of(word: &[u8]) -> Option<TableName<'_>>
     }
 }
 
-// The place of the first dot.
+// Returns where the first dot is.
 fn first_dot(word: &[u8]) -> Option<usize>
     ensures { result ≡ position is_dot word.now }
 {
     word.iter().position(|byte| *byte == b'.')
 }
 
-// The table of this name in this schema.
+// Returns the table of this name in this schema.
 fn table_in<'a>(schema: &'a [u8], table: &'a [u8]) -> Option<TableName<'a>>
     ensures { MatchOption result (table_in schema.now table.now ≡ None) (λ name. table_in schema.now table.now ≡ Some (table_key name.schema.now name.table.now)) }
 {
@@ -61,7 +61,7 @@ fn table_in<'a>(schema: &'a [u8], table: &'a [u8]) -> Option<TableName<'a>>
     Some(TableName { schema, table })
 }
 
-/// The one table that words name, which isn't this one.
+/// Returns the one table that words name, which must differ from the given one.
 pub(crate) fn other_table<'a>(
     table: &TableName,
     words: &'a [u8],
@@ -111,7 +111,7 @@ impl<'a> Model for TableNames<'a> {
 }
 
 impl<'a> TableNames<'a> {
-    /// No tables.
+    /// Returns an empty list.
     pub(crate) fn none() -> TableNames<'a>
         ensures { result ≡ [] }
     {
@@ -124,7 +124,7 @@ impl<'a> TableNames<'a> {
         }
     }
 
-    /// The tables that words name.
+    /// Returns the tables that words name.
     pub(crate) fn read(words: &'a [u8]) -> Result<TableNames<'a>, LineError>
         ensures { MatchResult result (λ tables. listed more_tables (words_of words.now) ≡ Ok tables) (λ error. listed more_tables (words_of words.now) ≡ Err error) }
     {
@@ -140,7 +140,7 @@ impl<'a> TableNames<'a> {
         Ok(tables)
     }
 
-    /// One more, which a word names.
+    /// Adds the table that a word names.
     pub(crate) fn add(&mut self, word: &'a [u8]) -> Result<TableName<'a>, LineError>
         ensures { MatchResult result
             (λ name. (next_table self.old word.now ≡ Ok (table_key name.schema.now name.table.now)) × (self.new ≡ self.old ++ table_key name.schema.now name.table.now ∷ []))
@@ -160,14 +160,14 @@ impl<'a> TableNames<'a> {
         Ok(name)
     }
 
-    // Whether a table is among them.
+    // Whether the list has this table.
     fn has(&self, name: &TableName) -> bool
         ensures { result ≡ list_any (key_eq (table_key name.now.schema.now name.now.table.now)) self.now }
     {
         self.as_slice().iter().any(|other| is_same(name, other))
     }
 
-    /// The tables, in order.
+    /// Returns the tables, in order.
     pub(crate) fn as_slice(&self) -> &[TableName<'a>]
         ensures { self.now ≡ map (λ name. table_key name.schema.now name.table.now) result.now }
     {

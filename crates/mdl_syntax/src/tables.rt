@@ -21,7 +21,7 @@ impl Model for Tables {
 }
 
 impl Tables {
-    /// No tables. It takes no memory.
+    /// Returns an empty list. Takes no memory.
     pub fn new(alloc: Global) -> Tables
         ensures { result ≡ [] }
     {
@@ -30,7 +30,7 @@ impl Tables {
         }
     }
 
-    /// No tables, and room for so many of them and no more: scripts keep their tables to their ends.
+    /// Returns an empty list with room for `most` tables and no more. A script keeps its tables until its end.
     pub(crate) fn with_room(alloc: Global, most: usize) -> Result<Tables, AllocError>
         ensures { IfOk result (λ tables. tables ≡ []) }
     {
@@ -39,7 +39,7 @@ impl Tables {
         })
     }
 
-    /// Puts a table last.
+    /// Appends a table.
     pub fn push(&mut self, table: Key) -> Result<(), AllocError>
         ensures pushed { OnOk result (self.new ≡ self.old ++ table ∷ []) }
         ensures unchanged { OnErr result (self.new ≡ self.old) }
@@ -48,7 +48,7 @@ impl Tables {
         Ok(())
     }
 
-    /// The tables, in order.
+    /// Returns the tables, in order.
     pub fn as_slice(&self) -> &[Key]
         ensures { result.now ≡ self.now }
     {

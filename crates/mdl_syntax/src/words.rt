@@ -4,7 +4,7 @@ ghost use Rattle.mdl_lines.specs.Lines.{is_blank, words_of};
 
 use mdl_lines::is_blank;
 
-/// The first word, and what stands behind it.
+/// Returns the first word, and what follows it.
 pub(crate) fn split_word(line: &[u8]) -> Option<(&[u8], &[u8])>
     ensures word { MatchOption result (words_of line.now ≡ []) (λ found. words_of line.now ≡ found.0.now ∷ words_of found.1.now) }
     ensures shorter { IfSome result (λ found. length found.1.now < length line.now) }
@@ -24,7 +24,7 @@ pub(crate) fn split_word(line: &[u8]) -> Option<(&[u8], &[u8])>
     Some((left, &[]))
 }
 
-// The place of the first blank.
+// Returns where the first blank is.
 fn first_blank(line: &[u8]) -> Option<usize>
     ensures { result ≡ position is_blank line.now }
 {

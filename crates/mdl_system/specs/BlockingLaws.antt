@@ -1,6 +1,6 @@
--- Laws of who is in the way of whom, and so of who may be forgotten: after `MDL_lock::reschedule_waiters` of MySQL 5.7,
--- sql/mdl.cc. `C` are the changes of definitions, `D` the definitions, and `apply` is what a change makes of what stands under a
--- key, none where it is refused.
+-- Laws of who blocks whom, and so of which waiters may be forgotten: after `MDL_lock::reschedule_waiters` of MySQL 5.7,
+-- sql/mdl.cc. `C` are the changes of definitions, `D` the definitions, and `apply` returns the definition of a key after a
+-- change, or `None` if the change is refused.
 use Rattle.std.specs.Prelude.{◌≡◌, ◌⊎◌, ◌↔◌, ℕ, List, Option, All, Contains}
 use Rattle.mdl_key.specs.declared.mode.Mode.{Mode}
 use Rattle.mdl_key.specs.Words.{IsAtLeast, KeyName}
@@ -22,13 +22,13 @@ BlocksAsMuch a b key =
     ((held : Holding) → Contains a.granted held → held.key ≡ key → IsCovered b key held.session held.mode)
     × ((waiter : Waiter) → Contains (a.waiting key) waiter → IsWaiting b key waiter ⊎ IsCovered b key waiter.ticket.session waiter.ticket.mode)
 
--- then what is grantable in b is grantable in a
+-- if b blocks at a key at least as much as a, then what is grantable in b is grantable in a
 abbrev pub MoreBlocksMore : Type 0 → Type 0
 MoreBlocksMore D =
     (a b : System D) (key : KeyName) → BlocksAsMuch a b key →
     (session : ℕ) (mode : Mode) → IsGrantable b session key mode → IsGrantable a session key mode
 
--- an event by which no ticket goes and none weakens
+-- an event that removes no ticket and weakens none; a merge is one, too, as the ticket that it leaves is as strong as both were
 abbrev pub FreesNothing : {C : Type 0} → Event C → Type 0
 FreesNothing (EndLostWait key waiter) = ⊥
 FreesNothing (Release ticket) = ⊥
@@ -36,27 +36,27 @@ FreesNothing (Upgrade ticket mode) = IsAtLeast (lock_kind ticket.key) mode ticke
 FreesNothing (Downgrade ticket mode) = ⊥
 FreesNothing _ = Unit {0}
 
--- after such an event nothing is grantable that wasn't before, so a wish has to be looked at again only after another one. Of
--- these is also the grant of a waiter: it can't make way for one that arrived earlier
+-- after such an event nothing is grantable that wasn't before, so waiters have to be checked again only after other events.
+-- Granting a waiter is such an event: it can't unblock one that arrived earlier
 abbrev pub OnlyGoingFrees : Type 0 → Type 0 → Type 0
 OnlyGoingFrees C D =
     (apply : KeyName → C → Option D → Option (Option D)) (event : Event C) (a b : System D) →
     Happens apply event a b → FreesNothing event →
     (session : ℕ) (key : KeyName) (mode : Mode) → IsGrantable b session key mode → IsGrantable a session key mode
 
--- what begins to wait isn't grantable
+-- if a wait begins by the event, its request isn't grantable
 abbrev pub WaitsForCause : {C D : Type 0} → Event C → System D → Type 0
 WaitsForCause (BeginWait key waiter) a = IsGrantable a waiter.ticket.session key waiter.ticket.mode → ⊥
 WaitsForCause _ a = Unit {0}
 
--- nobody is forgotten by such an event, where none begins to wait that needn't
+-- an event that frees nothing makes no waiter forgotten, unless a wait begins for a grantable request
 abbrev pub NobodyForgottenUnlessFreed : Type 0 → Type 0 → Type 0
 NobodyForgottenUnlessFreed C D =
     (apply : KeyName → C → Option D → Option (Option D)) (event : Event C) (a b : System D) →
     Happens apply event a b → FreesNothing event → WaitsForCause event a →
     (key : KeyName) → NoneForgottenAt a key → NoneForgottenAt b key
 
--- the key of the ticket that an event is about; to end a granted wait concerns none
+-- an event is about the key of its ticket; the end of a granted wait is about none
 abbrev pub IsAbout : {C : Type 0} → Event C → KeyName → Type 0
 IsAbout (Grant ticket) key = ticket.key ≡ key
 IsAbout (Clone first second) key = second.key ≡ key
@@ -71,7 +71,7 @@ IsAbout (Merge old new) key = old.key ≡ key
 IsAbout (Downgrade ticket mode) key = ticket.key ≡ key
 IsAbout (ChangeDefinition ticket change) key = ticket.key ≡ key
 
--- at every other key all the same wait, and just the same is grantable
+-- at every other key the same tickets wait, and the same requests are grantable
 abbrev pub EventsConcernOneKey : Type 0 → Type 0 → Type 0
 EventsConcernOneKey C D =
     (apply : KeyName → C → Option D → Option (Option D)) (event : Event C) (a b : System D) →
@@ -80,7 +80,7 @@ EventsConcernOneKey C D =
     (b.waiting key ≡ a.waiting key)
     × ((session : ℕ) (mode : Mode) → IsGrantable b session key mode ↔ IsGrantable a session key mode)
 
--- a waiter of a key is granted
+-- the event grants a waiter of this key
 abbrev pub IsGrantAt : {C : Type 0} → KeyName → Event C → Type 0
 IsGrantAt key (GrantWaiter at waiter) = at ≡ key
 IsGrantAt key _ = ⊥
@@ -91,7 +91,8 @@ GrantingComesToAnEnd C D =
     (apply : KeyName → C → Option D → Option (Option D)) (a : System D) (key : KeyName) →
     (events : List (Event C)) × (b : System D) × All (IsGrantAt key) events × Run apply events a b × NoneForgottenAt b key
 
--- and where nobody was forgotten before an event that concerns that key alone, nobody is then forgotten at any
+-- if no waiter was forgotten before an event that is about one key at most, and waiters of that key are then granted until none
+-- is forgotten there, no waiter is forgotten at any key
 abbrev pub GrantingThereIsEnough : Type 0 → Type 0 → Type 0
 GrantingThereIsEnough C D =
     (apply : KeyName → C → Option D → Option (Option D)) (event : Event C) (events : List (Event C)) (a b c : System D) (key : KeyName) →

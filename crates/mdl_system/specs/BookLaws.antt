@@ -7,7 +7,7 @@ use Rattle.mdl_book.specs.Granting as book
 use Rattle.mdl_system.specs.Systems.{Holding, Waiter, System, lock_kind, IsLawful, IsGrantable}
 use Rattle.mdl_system.specs.Events.{Gains, Loses, Replaces, SameElsewhere}
 
--- a granted ticket as it stands in the book of its lock
+-- a granted ticket as it is in the book of its lock
 abbrev pub in_book : Holding → Ticket
 in_book held = record { session = held.session; number = held.number; mode = held.mode }
 
@@ -19,13 +19,13 @@ of_lock key ticket = record { session = ticket.session; number = ticket.number; 
 abbrev pub IsGrantedByLists : {D : Type 0} → System D → (KeyName → List Ticket) → Type 0
 IsGrantedByLists system lists = (held : Holding) → Contains system.granted held ↔ Contains (lists held.key) (in_book held)
 
--- then the system is lawful exactly where each lock's list is
+-- the system is then lawful exactly if each lock's list is
 abbrev pub LawfulByLists : Type 0 → Type 0
 LawfulByLists D =
     (system : System D) (lists : KeyName → List Ticket) → IsGrantedByLists system lists →
     IsLawful system ↔ ((key : KeyName) → book.IsLawful (lock_kind key) (lists key))
 
--- and a wish is grantable exactly where it is by the two lists of its lock
+-- a request is then grantable exactly if it is by the two lists of its lock
 abbrev pub GrantableByLists : Type 0 → Type 0
 GrantableByLists D =
     (system : System D) (lists : KeyName → List Ticket) → IsGrantedByLists system lists →
@@ -33,7 +33,7 @@ GrantableByLists D =
     IsGrantable system session key mode
     ↔ book.IsGrantable (lock_kind key) (lists key) (map (λ (waiter : Waiter). waiter.ticket) (system.waiting key)) session mode
 
--- a ticket that comes to, goes from or is replaced in the list of one lock comes to, goes from or is replaced in the system
+-- a ticket that is added to, removed from or replaced in the list of one lock is added to, removed from or replaced in the system
 abbrev pub ChangesByLists : Type 0 → Type 0
 ChangesByLists D =
     (a b : System D) (old new : KeyName → List Ticket) (key : KeyName) →

@@ -1,5 +1,5 @@
--- Laws of deadlocks: how they come to be, and how searches for them end. `C` are the changes of definitions, `D` the
--- definitions, and `apply` is what a change makes of what stands under a key, none where it is refused.
+-- Laws of deadlocks: how they arise, and how searches for them end. `C` are the changes of definitions, `D` the definitions,
+-- and `apply` returns the definition of a key after a change, or `None` if the change is refused.
 use Rattle.std.specs.Prelude.{ℕ, Bool, false, not, ◌&&◌, ◌||◌, ◌==◌, List, Option}
 use Rattle.std.specs.List.{list_any}
 use Rattle.mdl_key.specs.Keys.{KeyName}
@@ -13,12 +13,12 @@ abbrev pub begins_wait : {C : Type 0} → Event C → ℕ → Bool
 begins_wait (BeginWait key waiter) session = session == waiter.ticket.session
 begins_wait _ session = false
 
--- whether it does by one of these events
+-- whether a session begins to wait by one of these events
 abbrev pub begins_to_wait : {C : Type 0} → List (Event C) → ℕ → Bool
 begins_to_wait events session = list_any (λ event. begins_wait event session) events
 
--- whatever happens, a deadlock comes to be only by a wait that begins: where all deadlocks went through some sessions, they now
--- go through these or through the one that began to wait, if one did
+-- a deadlock arises only by a wait that begins: if all deadlocks went through some sessions before an event, they go through
+-- these or through the one that began to wait, if one did
 abbrev pub EventsMakeDeadlocksByWaiting : Type 0 → Type 0 → Type 0
 EventsMakeDeadlocksByWaiting C D =
     (apply : KeyName → C → Option D → Option (Option D)) (event : Event C) (a b : System D) (sessions : ℕ → Bool) →
@@ -26,7 +26,7 @@ EventsMakeDeadlocksByWaiting C D =
     DeadlocksGoThrough sessions a →
     DeadlocksGoThrough (λ session. sessions session || begins_wait event session) b
 
--- and however much happens, they go through these or through those that began to wait meanwhile
+-- after a run of events, all deadlocks go through these or through the sessions that began to wait in it
 abbrev pub RunsMakeDeadlocksByWaiting : Type 0 → Type 0 → Type 0
 RunsMakeDeadlocksByWaiting C D =
     (apply : KeyName → C → Option D → Option (Option D)) (events : List (Event C)) (a b : System D) (sessions : ℕ → Bool) →
@@ -34,8 +34,8 @@ RunsMakeDeadlocksByWaiting C D =
     DeadlocksGoThrough sessions a →
     DeadlocksGoThrough (λ session. sessions session || begins_to_wait events session) b
 
--- so whoever begins to wait owes a search. The debt ends once the session is part of no deadlock: where all deadlocks go through
--- some sessions, they go through these but for that one
+-- so a session that begins to wait has to search, until it is part of no deadlock: if all deadlocks go through some sessions,
+-- they then go through these except that one
 abbrev pub SearchesEndDebts : Type 0 → Type 0
 SearchesEndDebts D =
     (who : ℕ) (sessions : ℕ → Bool) (system : System D) →

@@ -1,5 +1,5 @@
 -- The steps of the system of locks, by cases, after MySQL 5.7: what `MDL_context` and `MDL_lock` of sql/mdl.cc do to it. Each
--- case says what comes to stand, and that all else stays.
+-- case says when it can happen, what changes, and that everything else stays the same.
 use Rattle.std.specs.Prelude.{◌≡◌, ◌≢◌, ◌⊎◌, ◌↔◌, ℕ, ◌+◌, List, [], ◌∷◌, ◌++◌, Option, Some, Contains}
 use Rattle.mdl_key.specs.declared.mode.Mode.{Mode}
 use Rattle.mdl_key.specs.declared.mode.Mode.TheVariants.{X}
@@ -9,48 +9,48 @@ use Rattle.mdl_system.specs.Systems.{WaitState, Unsettled, Holding, Waiter, Gran
 
 -- ---- what may change in a list
 
--- the same members
+-- the two lists have the same members
 abbrev pub SameMembers : {T : Type 0} → List T → List T → Type 0
 SameMembers {T} old new = (x : T) → Contains new x ↔ Contains old x
 
--- one member more
+-- the new list has the old members and this one
 abbrev pub Gains : {T : Type 0} → T → List T → List T → Type 0
 Gains {T} gained old new = (x : T) → Contains new x ↔ (Contains old x ⊎ (x ≡ gained))
 
--- one member less
+-- the new list has the old members except this one
 abbrev pub Loses : {T : Type 0} → T → List T → List T → Type 0
 Loses {T} lost old new = (x : T) → Contains new x ↔ (Contains old x × (x ≢ lost))
 
--- another member in the place of one
+-- the new list has the old members except one, and another instead
 abbrev pub Replaces : {T : Type 0} → T → T → List T → List T → Type 0
 Replaces {T} lost gained old new = (x : T) → Contains new x ↔ ((Contains old x × (x ≢ lost)) ⊎ (x ≡ gained))
 
--- one that stood among others in order is gone
+-- the new list is the old one without this element, in the same order
 abbrev pub LeavesOrder : {T : Type 0} → T → List T → List T → Type 0
 LeavesOrder {T} gone old new =
     (before : List T) × (after : List T) × (old ≡ before ++ gone ∷ after) × (new ≡ before ++ after)
 
--- another stands where one stood among others in order
+-- the new list is the old one with another element at the position of this one
 abbrev pub TakesTurn : {T : Type 0} → T → T → List T → List T → Type 0
 TakesTurn {T} gone come old new =
     (before : List T) × (after : List T) × (old ≡ before ++ gone ∷ after) × (new ≡ before ++ come ∷ after)
 
 -- ---- what stays
 
--- nothing has changed under another key
+-- nothing has changed for any other key
 abbrev pub SameElsewhere : {T : Type 0} → KeyName → (KeyName → T) → (KeyName → T) → Type 0
 SameElsewhere key old new = (other : KeyName) → other ≢ key → new other ≡ old other
 
--- nor under any
+-- nothing has changed for any key
 abbrev pub SameAt : {T : Type 0} → (KeyName → T) → (KeyName → T) → Type 0
 SameAt old new = (key : KeyName) → new key ≡ old key
 
--- who waits, and which granted waits aren't ended
+-- the same tickets wait, and the same granted waits aren't ended
 pub record SameWaits {D : Type 0} (a b : System D) : Type 0 where
   pub waiting : SameAt a.waiting b.waiting
   pub unended : SameMembers a.unended b.unended
 
--- one system, said twice
+-- two systems are the same
 pub record SameSystem {D : Type 0} (a b : System D) : Type 0 where
   pub granted : SameMembers a.granted b.granted
   pub waits : SameWaits a b
@@ -72,7 +72,7 @@ IsNewNumber system session number =
 abbrev pub in_mode : Mode → Holding → Holding
 in_mode mode ticket = record ticket { mode = mode }
 
--- what a waiting ticket of a key is once it is granted
+-- the holding that a waiting ticket of a key becomes once it is granted
 abbrev pub granted_ticket : KeyName → Waiter → Holding
 granted_ticket key waiter = record {
   session = waiter.ticket.session;
@@ -81,13 +81,13 @@ granted_ticket key waiter = record {
   mode = waiter.ticket.mode;
 }
 
--- and what its wait is
+-- the granted wait that its wait becomes
 abbrev pub granted_wait : Waiter → GrantedWait
 granted_wait waiter = record { session = waiter.ticket.session; wait = waiter.wait; ticket = waiter.ticket.number }
 
 -- ---- the cases
 
--- a session without a wait is granted a new ticket, where its wish is grantable
+-- a session without a wait is granted a new ticket, if its request is grantable
 pub record GrantsNew {D : Type 0} (ticket : Holding) (a b : System D) : Type 0 where
   pub free : HasNoWait a ticket.session
   pub new_number : IsNewNumber a ticket.session ticket.number
@@ -95,8 +95,8 @@ pub record GrantsNew {D : Type 0} (ticket : Holding) (a b : System D) : Type 0 w
   pub granted : Gains ticket a.granted b.granted
   pub rest : ElseSame a b
 
--- a session without a wait is granted a second ticket beside one that it holds, of the same key and of a mode that the first
--- is at least as strong as; it overtakes those that wait
+-- a session without a wait is granted a second ticket besides one that it holds, of the same key and of a mode that the first
+-- is at least as strong as; waiting tickets don't block it
 pub record ClonesTicket {D : Type 0} (first second : Holding) (a b : System D) : Type 0 where
   pub free : HasNoWait a second.session
   pub new_number : IsNewNumber a second.session second.number
@@ -106,7 +106,7 @@ pub record ClonesTicket {D : Type 0} (first second : Holding) (a b : System D) :
   pub granted : Gains second a.granted b.granted
   pub rest : ElseSame a b
 
--- a session without a wait begins one: its new ticket joins the end of those that wait
+-- a session without a wait begins one: its new ticket is added at the end of the waiting ones
 pub record BeginsWait {D : Type 0} (key : KeyName) (waiter : Waiter) (a b : System D) : Type 0 where
   pub free : HasNoWait a waiter.ticket.session
   pub new_number : IsNewNumber a waiter.ticket.session waiter.ticket.number
@@ -117,7 +117,7 @@ pub record BeginsWait {D : Type 0} (key : KeyName) (waiter : Waiter) (a b : Syst
   pub unended : SameMembers a.unended b.unended
   pub definitions : SameAt a.definitions b.definitions
 
--- an unsettled waiting ticket becomes granted, where its wish is grantable; its wait is then granted and not ended
+-- an unsettled waiting ticket becomes granted, if its request is grantable; its wait is then granted and not ended
 pub record GrantsWaiter {D : Type 0} (key : KeyName) (waiter : Waiter) (a b : System D) : Type 0 where
   pub unsettled : waiter.state ≡ Unsettled
   pub grantable : IsGrantable a waiter.ticket.session key waiter.ticket.mode
@@ -127,7 +127,7 @@ pub record GrantsWaiter {D : Type 0} (key : KeyName) (waiter : Waiter) (a b : Sy
   pub unended : Gains (granted_wait waiter) a.unended b.unended
   pub definitions : SameAt a.definitions b.definitions
 
--- an unsettled wait is lost: its session is the victim, its time is over, or it is killed. Its ticket still stands there
+-- an unsettled wait is lost: its session is the victim, its time is over, or it is killed. Its ticket keeps its position
 pub record SettlesLost {D : Type 0} (key : KeyName) (waiter : Waiter) (how : WaitState) (a b : System D) : Type 0 where
   pub unsettled : waiter.state ≡ Unsettled
   pub lost : how ≢ Unsettled
@@ -145,7 +145,7 @@ pub record EndsGrantedWait {D : Type 0} (wait : GrantedWait) (a b : System D) : 
   pub waiting : SameAt a.waiting b.waiting
   pub definitions : SameAt a.definitions b.definitions
 
--- a session ends a lost wait: the ticket goes
+-- a session ends a lost wait: the ticket is removed
 pub record EndsLostWait {D : Type 0} (key : KeyName) (waiter : Waiter) (a b : System D) : Type 0 where
   pub settled : waiter.state ≢ Unsettled
   pub leaves : LeavesOrder waiter (a.waiting key) (b.waiting key)
@@ -154,13 +154,13 @@ pub record EndsLostWait {D : Type 0} (key : KeyName) (waiter : Waiter) (a b : Sy
   pub unended : SameMembers a.unended b.unended
   pub definitions : SameAt a.definitions b.definitions
 
--- a session gives a ticket up
+-- a session releases a ticket
 pub record Releases {D : Type 0} (ticket : Holding) (a b : System D) : Type 0 where
   pub held : Held a ticket.session ticket
   pub granted : Loses ticket a.granted b.granted
   pub rest : ElseSame a b
 
--- a session without a wait brings a ticket to a new mode, where its wish for that is grantable
+-- a session without a wait changes a ticket to a new mode, if its request for that mode is grantable
 pub record Upgrades {D : Type 0} (ticket : Holding) (mode : Mode) (a b : System D) : Type 0 where
   pub free : HasNoWait a ticket.session
   pub held : Held a ticket.session ticket
@@ -168,8 +168,8 @@ pub record Upgrades {D : Type 0} (ticket : Holding) (mode : Mode) (a b : System 
   pub granted : Replaces ticket (in_mode mode ticket) a.granted b.granted
   pub rest : ElseSame a b
 
--- a session without a wait makes one ticket of two of a key: the old one takes the mode of the new one, which is at least as
--- strong and goes
+-- a session without a wait makes one ticket of two of a key: the old one gets the mode of the new one, which is at least as
+-- strong and is removed
 pub record Merges {D : Type 0} (old new : Holding) (a b : System D) : Type 0 where
   pub free : HasNoWait a old.session
   pub old_held : Held a old.session old
@@ -182,15 +182,15 @@ pub record Merges {D : Type 0} (old new : Holding) (a b : System D) : Type 0 whe
       ↔ ((Contains a.granted ticket × (ticket ≢ old) × (ticket ≢ new)) ⊎ (ticket ≡ in_mode new.mode old))
   pub rest : ElseSame a b
 
--- a session brings a ticket down to a weaker mode
+-- a session changes a ticket to a weaker mode
 pub record Downgrades {D : Type 0} (ticket : Holding) (mode : Mode) (a b : System D) : Type 0 where
   pub held : Held a ticket.session ticket
   pub weaker : Contains (downgrades ticket.mode) mode
   pub granted : Replaces ticket (in_mode mode ticket) a.granted b.granted
   pub rest : ElseSame a b
 
--- a session that holds a key exclusively changes what is defined there, and the version grows by one. What comes to stand is
--- what `apply` makes of what stood; it gives none where the change is refused
+-- a session that holds a key exclusively changes its definition, and the version grows by one. `apply` returns the new
+-- definition for the old one; it returns `None` if the change is refused
 pub record ChangesDefinition {C D : Type 0} (apply : KeyName → C → Option D → Option (Option D)) (ticket : Holding) (change : C) (a b : System D) : Type 0 where
   pub held : Held a ticket.session ticket
   pub exclusive : ticket.mode ≡ X
@@ -202,7 +202,7 @@ pub record ChangesDefinition {C D : Type 0} (apply : KeyName → C → Option D 
 
 -- ---- steps
 
--- what can happen, each with the tickets and waits that it is about; `C` are the changes of definitions
+-- the events that can happen, each with the tickets and waits that it is about; `C` are the changes of definitions
 pub data Event (C : Type 0) : Type 0 where
   Grant : Holding → Event C
   Clone : Holding → Holding → Event C
@@ -217,7 +217,7 @@ pub data Event (C : Type 0) : Type 0 where
   Downgrade : Holding → Mode → Event C
   ChangeDefinition : Holding → C → Event C
 
--- it leads from one system to another
+-- an event leads from one system to another
 abbrev pub Happens : {C D : Type 0} → (KeyName → C → Option D → Option (Option D)) → Event C → System D → System D → Type 0
 Happens apply (Grant ticket) a b = GrantsNew ticket a b
 Happens apply (Clone first second) a b = ClonesTicket first second a b
@@ -232,11 +232,11 @@ Happens apply (Merge old new) a b = Merges old new a b
 Happens apply (Downgrade ticket mode) a b = Downgrades ticket mode a b
 Happens apply (ChangeDefinition ticket change) a b = ChangesDefinition apply ticket change a b
 
--- a step of the system: something happens
+-- a step of the system: an event happens
 abbrev pub Step : {C D : Type 0} → (KeyName → C → Option D → Option (Option D)) → System D → System D → Type 0
 Step {C} apply a b = (event : Event C) × Happens apply event a b
 
--- these happen one after the other
+-- a run: these events happen one after the other
 abbrev pub Run : {C D : Type 0} → (KeyName → C → Option D → Option (Option D)) → List (Event C) → System D → System D → Type 0
 Run apply [] a b = SameSystem a b
 Run {C} {D} apply (event ∷ events) a b = (between : System D) × Happens apply event a between × Run apply events between b

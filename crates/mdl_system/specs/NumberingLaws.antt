@@ -6,21 +6,21 @@ use Rattle.mdl_system.specs.Systems.{Holding, Waiter, GrantedWait, System, empty
 use Rattle.mdl_system.specs.Events.{Event, Grant, Clone, BeginWait, GrantWaiter, SettleLost, EndGrantedWait, EndLostWait, Release, Upgrade, Merge, Downgrade, ChangeDefinition, Happens, Run, IsNewNumber, in_mode, session_of}
 
 pub record IsWellNumbered {D : Type 0} (system : System D) : Type 0 where
-  -- two granted tickets of one session and number are one ticket
+  -- two granted tickets of one session and number are the same
   pub granted : (one other : Holding) → Contains system.granted one → Contains system.granted other → one.session ≡ other.session → one.number ≡ other.number → one ≡ other
   -- a waiting ticket has another number than each granted one of its session
   pub waiting : (key : KeyName) (waiter : Waiter) → Contains (system.waiting key) waiter → IsNewNumber system waiter.ticket.session waiter.ticket.number
-  -- a session waits once at most at a key, and at no two keys
+  -- a session waits at most once at a key, and at no two keys
   pub once : (key : KeyName) → AllPairs (λ earlier later. earlier.ticket.session ≢ later.ticket.session) (system.waiting key)
   pub one_key : (key other : KeyName) (waiter another : Waiter) → Contains (system.waiting key) waiter → Contains (system.waiting other) another
       → waiter.ticket.session ≡ another.ticket.session → key ≡ other
-  -- one whose granted wait isn't ended doesn't wait, and has no other such wait
+  -- a session whose granted wait isn't ended doesn't wait, and has no other such wait
   pub ended : (key : KeyName) (waiter : Waiter) (wait : GrantedWait) → Contains (system.waiting key) waiter → Contains system.unended wait → waiter.ticket.session ≢ wait.session
   pub one_wait : (one other : GrantedWait) → Contains system.unended one → Contains system.unended other → one.session ≡ other.session → one ≡ other
   -- the ticket of a granted wait that isn't ended is granted
   pub stands : (wait : GrantedWait) → Contains system.unended wait → (held : Holding) × Contains system.granted held × (held.session ≡ wait.session) × (held.number ≡ wait.ticket)
 
--- whatever happens, and however much, a well-numbered system stays so; one in which nobody holds or waits is
+-- a well-numbered system stays so after an event and after a run of events; one in which no session holds or waits is so
 abbrev pub StepsKeepWellNumbered : Type 0 → Type 0 → Type 0
 StepsKeepWellNumbered C D =
     (apply : KeyName → C → Option D → Option (Option D)) →
@@ -41,7 +41,7 @@ IsHeldAfter (Merge old new) a ticket =
 IsHeldAfter (Downgrade changed mode) a ticket = (Held a changed.session ticket × (ticket ≢ changed)) ⊎ (ticket ≡ in_mode mode changed)
 IsHeldAfter event a ticket = Held a (session_of event) ticket
 
--- just what it holds then
+-- after an event, its session holds exactly these tickets
 abbrev pub EventsChangeHeld : Type 0 → Type 0 → Type 0
 EventsChangeHeld C D =
     (apply : KeyName → C → Option D → Option (Option D)) (event : Event C) (a b : System D) →
@@ -57,7 +57,7 @@ LeavesHeld (EndLostWait key waiter) = Unit {0}
 LeavesHeld (ChangeDefinition ticket change) = Unit {0}
 LeavesHeld _ = ⊥
 
--- so what others do to a session's wait, that they grant it or settle it, changes nothing that anybody holds
+-- such an event changes nothing that any session holds, so neither do others who grant a session's waiter or settle its wait
 abbrev pub WaitsLeaveHeld : Type 0 → Type 0 → Type 0
 WaitsLeaveHeld C D =
     (apply : KeyName → C → Option D → Option (Option D)) (event : Event C) (a b : System D) →

@@ -1,4 +1,4 @@
--- Where each event can happen: what it asks of the system before.
+-- When each event can happen: its conditions on the system before it.
 use Rattle.std.specs.Prelude.{◌≡◌, ◌≢◌, ◌↔◌, Option, None, IsSome, Contains}
 use Rattle.mdl_key.specs.declared.mode.Mode.TheVariants.{X}
 use Rattle.mdl_key.specs.Words.{IsAtLeast, KeyName}
@@ -6,7 +6,7 @@ use Rattle.mdl_system.specs.Systems.{Unsettled, System, lock_kind, Held, HasNoWa
 use Rattle.mdl_system.specs.Events.{Event, Grant, Clone, BeginWait, GrantWaiter, SettleLost, EndGrantedWait, EndLostWait, Release, Upgrade, Merge, Downgrade, ChangeDefinition, Happens, IsNewNumber}
 use Rattle.mdl_system.specs.Strength.{downgrades}
 
--- an event may happen
+-- the conditions of an event are met
 abbrev pub IsPermitted : {C D : Type 0} → (KeyName → C → Option D → Option (Option D)) → Event C → System D → Type 0
 IsPermitted apply (Grant ticket) a =
     HasNoWait a ticket.session × IsNewNumber a ticket.session ticket.number × IsGrantable a ticket.session ticket.key ticket.mode
@@ -30,13 +30,13 @@ IsPermitted apply (Downgrade ticket mode) a = Held a ticket.session ticket × Co
 IsPermitted apply (ChangeDefinition ticket change) a =
     Held a ticket.session ticket × (ticket.mode ≡ X) × IsSome (apply ticket.key change (a.definitions ticket.key).definition)
 
--- it can happen exactly there
+-- an event can happen exactly if its conditions are met
 abbrev pub EventsHappenWherePermitted : Type 0 → Type 0 → Type 0
 EventsHappenWherePermitted C D =
     (apply : KeyName → C → Option D → Option (Option D)) (event : Event C) (a : System D) →
     IsPermitted apply event a ↔ ((b : System D) × Happens apply event a b)
 
--- what an event asks of its own tickets and waits
+-- the conditions of an event on its own tickets and waits
 abbrev pub IsPlausible : {C D : Type 0} → (KeyName → C → Option D → Option (Option D)) → Event C → Type 0
 IsPlausible apply (Clone first second) =
     (first.session ≡ second.session) × (first.number ≢ second.number)
@@ -51,7 +51,7 @@ IsPlausible apply (Downgrade ticket mode) = Contains (downgrades ticket.mode) mo
 IsPlausible apply (ChangeDefinition ticket change) = (ticket.mode ≡ X) × IsSome (apply ticket.key change None)
 IsPlausible apply event = Unit {0}
 
--- in some lawful system any such event happens
+-- for each such event there is a lawful system in which it happens
 abbrev pub PlausibleEventsHappen : Type 0 → Type 0 → Type 0
 PlausibleEventsHappen C D =
     (apply : KeyName → C → Option D → Option (Option D)) (event : Event C) → IsPlausible apply event →

@@ -9,11 +9,12 @@ use Rattle.mdl_key.specs.declared.mode.Mode.{Mode}
 use Rattle.mdl_key.specs.declared.mode.Mode.TheVariants.{SU, SNW, SNRW, X}
 use Rattle.mdl_key.specs.Words.{same_mode, is_mode_of, is_at_least}
 
--- a kind that has both modes, where there is one. S and X are modes of both kinds, in which they clash alike with each other.
+-- a kind that has both modes, if there is one. S and X are modes of both kinds, in which they clash alike with each other.
 abbrev pub common_kind : Mode → Mode → Kind
 common_kind a b = if is_mode_of Object a && is_mode_of Object b then Object else Scoped
 
--- of two modes of one kind, the first is at least as strong as the second: whatever clashes with the second clashes with it
+-- whether, of two modes of one kind, the first is at least as strong as the second: whatever clashes with the second clashes
+-- with the first
 abbrev pub covers : Mode → Mode → Bool
 covers a b = is_at_least (common_kind a b) a b
 
@@ -30,7 +31,7 @@ downgrades X = SU ∷ SNW ∷ SNRW ∷ []
 downgrades SNW = SU ∷ []
 downgrades _ = []
 
--- whether a held mode may become another by an upgrade; one that it covers it has already
+-- whether a held mode may become another by an upgrade; a mode that it covers needs none
 abbrev pub may_upgrade : Mode → Mode → Bool
 may_upgrade held mode = list_any (same_mode mode) (upgrades held)
 
@@ -38,7 +39,7 @@ may_upgrade held mode = list_any (same_mode mode) (upgrades held)
 abbrev pub may_downgrade : Mode → Mode → Bool
 may_downgrade held mode = list_any (same_mode mode) (downgrades held)
 
--- at any lock, between modes that it uses, this is the strength of its kind
+-- for two modes that a lock uses, `covers` is the strength of the lock's kind
 abbrev pub CoversByKind : Type 0
 CoversByKind =
     (kind : Kind) (held mode : Mode) → is_mode_of kind held ≡ true → is_mode_of kind mode ≡ true → covers held mode ≡ is_at_least kind held mode

@@ -1,13 +1,12 @@
--- Laws of the system of locks and of its steps. `C` are the changes of definitions, `D` the definitions, and `apply` is what a
--- change makes of what stands under a key, none where it is refused.
+-- Laws of the system of locks and of its steps. `C` are the changes of definitions, `D` the definitions, and `apply` returns
+-- the definition of a key after a change, or `None` if the change is refused.
 use Rattle.std.specs.Prelude.{◌≡◌, ◌≢◌, ◌⊎◌, ◌↔◌, ℕ, ◌+◌, List, Option, IsTrue, Contains}
 use Rattle.mdl_key.specs.declared.mode.Mode.TheVariants.{X}
 use Rattle.mdl_key.specs.Words.{KeyName, is_mode_of}
 use Rattle.mdl_system.specs.Systems.{Holding, System, empty_system, lock_kind, Held, IsLawful}
 use Rattle.mdl_system.specs.Events.{Event, Happens, Run, session_of}
 
--- whatever happens, a lawful system stays lawful; so it does however much happens, and one in which nobody holds or waits is
--- lawful
+-- a lawful system stays lawful after an event and after a run of events, and one in which no session holds or waits is lawful
 abbrev pub StepsKeepLawful : Type 0 → Type 0 → Type 0
 StepsKeepLawful C D =
     (apply : KeyName → C → Option D → Option (Option D)) →
@@ -15,7 +14,7 @@ StepsKeepLawful C D =
     × ((events : List (Event C)) (a b : System D) → Run apply events a b → IsLawful a → IsLawful b)
     × IsLawful (empty_system {D = D})
 
--- no session but that of an event loses or gains by it what it holds
+-- an event changes nothing that sessions other than its own hold
 abbrev pub OthersHoldTheSame : Type 0 → Type 0 → Type 0
 OthersHoldTheSame C D =
     (apply : KeyName → C → Option D → Option (Option D)) (event : Event C) (a b : System D) →
@@ -33,8 +32,8 @@ DefinitionsChangeExclusively C D =
     ⊎ ((ticket : Holding) × Held a (session_of event) ticket × (ticket.key ≡ key) × (ticket.mode ≡ X)
     × ((b.definitions key).version ≡ (a.definitions key).version + 1))
 
--- so where a session has a granted ticket of a key, of any mode that its lock uses, no event of another session changes what is
--- defined there
+-- so if a session has a granted ticket of a key, of any mode that its lock uses, no event of another session changes the key's
+-- definition
 abbrev pub DefinitionsStandStill : Type 0 → Type 0 → Type 0
 DefinitionsStandStill C D =
     (apply : KeyName → C → Option D → Option (Option D)) (event : Event C) (a b : System D) →

@@ -7,38 +7,38 @@ ghost use Rattle.mdl_system.specs.PermittedEvents.{EventsHappenWherePermitted, P
 ghost use Rattle.mdl_system.specs.Strength.{CoversByKind};
 ghost use Rattle.mdl_system.specs.SystemLaws.{StepsKeepLawful, OthersHoldTheSame, DefinitionsChangeExclusively, DefinitionsStandStill};
 
-/// Each event can happen exactly where what it asks of the system is so.
+/// An event can happen exactly if its conditions on the system are met.
 pub fn events_happen_where_permitted<C, D>()
     ensures { EventsHappenWherePermitted C D }
 {}
 
-/// There is a lawful system in which an event of any kind happens.
+/// For each event whose own tickets and waits are plausible there is a lawful system in which it happens.
 pub fn plausible_events_happen<C, D>()
     ensures { PlausibleEventsHappen C D }
 {}
 
-/// Whatever happens, and however much, a lawful system stays lawful: no two sessions hold clashing tickets of one key. The
-/// system in which nobody holds or waits is lawful.
+/// A lawful system stays lawful after any events: no two sessions hold clashing tickets of one key. The system in which no
+/// session holds or waits is lawful.
 pub fn steps_keep_lawful<C, D>()
     ensures { StepsKeepLawful C D }
 {}
 
-/// Whatever happens, tickets and waits can be told apart, and no session waits twice.
+/// After any events, tickets and waits can be told apart by their numbers, and no session waits twice.
 pub fn steps_keep_well_numbered<C, D>()
     ensures { StepsKeepWellNumbered C D }
 {}
 
-/// What the session of an event holds after it.
+/// After an event, its session holds what `specs/NumberingLaws` says for each kind of event.
 pub fn events_change_held<C, D>()
     ensures { EventsChangeHeld C D }
 {}
 
-/// To grant a waiter, or to settle its wait as lost, changes nothing that anybody holds.
+/// Granting a waiter, or settling its wait as lost, changes nothing that any session holds.
 pub fn waits_leave_held<C, D>()
     ensures { WaitsLeaveHeld C D }
 {}
 
-/// An event changes what its own session holds, and what no other does.
+/// An event changes nothing that sessions other than its own hold.
 pub fn others_hold_the_same<C, D>()
     ensures { OthersHoldTheSame C D }
 {}
@@ -48,72 +48,73 @@ pub fn definitions_change_exclusively<C, D>()
     ensures { DefinitionsChangeExclusively C D }
 {}
 
-/// While a session has a ticket of a key, no other session changes what is defined there.
+/// While a session has a ticket of a key, no other session changes the key's definition.
 pub fn definitions_stand_still<C, D>()
     ensures { DefinitionsStandStill C D }
 {}
 
-/// More granted and waiting tickets never make a wish grantable.
+/// More granted and waiting tickets never make a request grantable.
 pub fn more_blocks_more<D>()
     ensures { MoreBlocksMore D }
 {}
 
-/// Only where a ticket goes or falls to a weaker mode does a wish become grantable.
+/// A request becomes grantable only if a ticket is removed, or gets a mode that isn't at least as strong as before.
 pub fn only_going_frees<C, D>()
     ensures { OnlyGoingFrees C D }
 {}
 
-/// By any other event no waiter is forgotten.
+/// No other event makes a waiter forgotten, unless a wait begins for a grantable request.
 pub fn nobody_forgotten_unless_freed<C, D>()
     ensures { NobodyForgottenUnlessFreed C D }
 {}
 
-/// An event concerns the waiters of one key alone.
+/// An event concerns the waiters of at most one key.
 pub fn events_concern_one_key<C, D>()
     ensures { EventsConcernOneKey C D }
 {}
 
-/// From any system, waiters of a key can be granted until none of them is forgotten.
+/// In any system, waiters of a key can be granted until none of them is forgotten.
 pub fn granting_comes_to_an_end<C, D>()
     ensures { GrantingComesToAnEnd C D }
 {}
 
-/// After an event it is enough to grant waiters of its key until none is left to be: then nobody is forgotten.
+/// If no waiter was forgotten before an event, it is enough to grant waiters of its key until none of them is forgotten. Then no
+/// waiter of any key is.
 pub fn granting_there_is_enough<C, D>()
     ensures { GrantingThereIsEnough C D }
 {}
 
-/// Whatever happens, a deadlock comes to be only through the session that begins to wait by it, if one does.
+/// An event makes deadlocks only through the session that begins to wait by it, if one does.
 pub fn events_make_deadlocks_by_waiting<C, D>()
     ensures { EventsMakeDeadlocksByWaiting C D }
 {}
 
-/// However much happens, deadlocks come to be only through sessions that begin to wait meanwhile.
+/// A run of events makes deadlocks only through sessions that begin to wait in it.
 pub fn runs_make_deadlocks_by_waiting<C, D>()
     ensures { RunsMakeDeadlocksByWaiting C D }
 {}
 
-/// Once a session is part of no deadlock, it owes no search: all deadlocks go through the others that do.
+/// Once a session is part of no deadlock, it needs no search: all deadlocks go through the other sessions that need one.
 pub fn searches_end_debts<D>()
     ensures { SearchesEndDebts D }
 {}
 
-/// A system is lawful exactly where the granted list in each lock's book is.
+/// A system is lawful exactly if the granted list in each lock's book is.
 pub fn lawful_by_lists<D>()
     ensures { LawfulByLists D }
 {}
 
-/// A wish is grantable exactly where it is by the lists in its lock's book.
+/// A request is grantable exactly if it is by the lists in its lock's book.
 pub fn grantable_by_lists<D>()
     ensures { GrantableByLists D }
 {}
 
-/// What comes to the list in one lock's book, or goes from it, comes to the system or goes from it.
+/// A ticket that is added to, removed from or replaced in the granted list of one lock's book is so in the system, too.
 pub fn changes_by_lists<D>()
     ensures { ChangesByLists D }
 {}
 
-/// How strong one mode is beside another is, at each lock, what the matrix of its kind says.
+/// For two modes that a lock uses, `covers` is what the matrix of the lock's kind says.
 pub fn covers_by_kind()
     ensures { CoversByKind }
 {}

@@ -1,7 +1,8 @@
-//! The system of locks, as a reader believes it: who holds what, who waits for what and what is defined (`specs/Systems`), what
-//! can happen in it (`specs/Events`), deadlocks over it (`specs/Deadlocks`), and the laws of these.
+//! The system of locks, the model that a reader has to agree with: who holds what, who waits for what and what is defined
+//! (`specs/Systems`), what can happen in it (`specs/Events`), its deadlocks (`specs/Deadlocks`), and the laws of these.
 //!
-//! It has no places, no limits, and nothing of how locks are kept. Whoever keeps them shows that what he does is an event here.
+//! It has no places, no limits, and nothing of how locks are stored. A crate that stores them proves that each of its changes
+//! is an event here.
 //!
 //! # Example
 //!

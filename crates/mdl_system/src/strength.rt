@@ -4,7 +4,7 @@ ghost use Rattle.mdl_system.specs.Strength.{common_kind, covers, may_upgrade, ma
 
 use mdl_key::{Kind, Mode, at_least};
 
-/// Of two modes of one kind, whether the first is at least as strong as the second.
+/// Whether, of two modes of one kind, the first is at least as strong as the second.
 pub fn covers(a: Mode, b: Mode) -> bool
     ensures { result ≡ covers a b }
 {

@@ -3,12 +3,12 @@
    `rt lib` in crates/mdl_text builds out/libmdl_text.a. Link with it and with three functions for memory, as mdl.h says. The two libraries may be
    in one program, and each works without the other.
 
-   What the library takes for granted, and nothing checks:
-   - No pointer is null, a length is below 2^63, and what the pointers lead to is initialised and doesn't overlap.
-   - The script stays as it is during the call.
+   What the caller must make sure of, since nothing checks it:
+   - No pointer is null, a length is below 2^63, and what the pointers point to is initialised and doesn't overlap.
+   - The script doesn't change during the call.
    - No call comes from a signal handler, or from the forked child of a process with threads.
    - malloc, realloc and free are of one allocator, and align to 16.
-   Calls keep nothing: any number of threads may be inside at a time, each with room of its own. */
+   Calls keep no state: any number of threads may make calls at a time, each with its own buffers. */
 #ifndef MDL_TEXT_H
 #define MDL_TEXT_H
 
@@ -21,16 +21,16 @@ extern "C" {
 
 enum mdl_text_kind {
     MDL_TEXT_OBJECT = 0, /* the lock of a table */
-    MDL_TEXT_SCOPED = 1  /* that of a schema, the global one, or that of commits */
+    MDL_TEXT_SCOPED = 1  /* the lock of a schema, the global lock, or the lock of commits */
 };
 
 enum mdl_text_code {
-    MDL_TEXT_DONE = 0,        /* the answers are written, and their length is set */
-    MDL_TEXT_NO_ROOM = 1,     /* they don't fit: their length is set, and nothing is written */
-    /* the script is refused: the number of its first refused line is set, and nothing is written */
-    MDL_TEXT_BAD_SESSION = 16, /* its first word is no session from 1 to 64 */
+    MDL_TEXT_DONE = 0,        /* the answers are written, and *length is set */
+    MDL_TEXT_NO_ROOM = 1,     /* the answers don't fit: *length is set, and nothing is written */
+    /* the script is refused: *line is set, and nothing is written */
+    MDL_TEXT_BAD_SESSION = 16, /* its first word isn't a session number from 1 to 64 */
     MDL_TEXT_BAD_WORD = 17,    /* a word is missing, misspelled, or one too many */
-    MDL_TEXT_BAD_NAME = 18,    /* a word is no name, or names a table for the second time */
+    MDL_TEXT_BAD_NAME = 18,    /* a word isn't a name, or names a table for the second time */
     MDL_TEXT_LONG_LINE = 19,   /* it has more than 4096 bytes */
     MDL_TEXT_NOT_ASCII = 20,   /* it has a byte of 0x80 or more */
     /* nothing has changed */
@@ -38,8 +38,8 @@ enum mdl_text_code {
     MDL_TEXT_NO_MEMORY = 45   /* memory ran out: the call may be made again */
 };
 
-/* Plays a script of statements, and writes what `mdlsim replay` prints. *length is the number of bytes of the answers, *line that of the refused
-   line, counted from 1; each stays as it is where it isn't set. */
+/* Plays a script of statements, and writes what `mdlsim replay` prints. *length gets the number of bytes of the answers, *line the number of the
+   refused line, counted from 1. The code says which of them is set. One that is not set is unchanged. */
 uint32_t mdl_text_replay(const uint8_t *script, size_t script_length, uint8_t *out, size_t room, size_t *length, uint64_t *line);
 
 /* Drives one lock of a kind by a script, and writes what `mdlsim lock` prints, or with MDL_TEXT_SCOPED `mdlsim lock --scoped`. */

@@ -1,4 +1,4 @@
-//! The codes that C is told, and the numbers by which it names a kind of lock.
+//! The codes that C gets, and the numbers by which it names a kind of lock.
 ghost use Rattle.std.specs.Prelude.{◌≡◌};
 ghost use Rattle.mdl_text.specs.Codes.{kind_at, line_code};
 
@@ -13,7 +13,7 @@ pub const NO_KIND: u32 = 21;
 
 pub const NO_MEMORY: u32 = 45;
 
-/// The kind of a number.
+/// Returns the kind with this number.
 pub fn kind_of(number: u8) -> Option<Kind>
     ensures { result ≡ kind_at number }
 {
@@ -24,7 +24,7 @@ pub fn kind_of(number: u8) -> Option<Kind>
     }
 }
 
-/// Why a line is refused.
+/// Returns the code that says why a line is refused.
 pub fn line_code(why: LineError) -> u32
     ensures { result ≡ line_code why }
 {

@@ -1,7 +1,7 @@
-//! Scripts for C: bytes in, bytes out. The declarations for C, and what it owes, stand in `include/mdl_text.h`.
+//! Scripts for C: bytes in, bytes out. `include/mdl_text.h` has the declarations for C, and what C must provide.
 //!
-//! Each function plays a script as the program `mdlsim` does, and writes the answers where they fit. Its contract says by
-//! [`Plays`](../specs/Playing) which answers these are, and what C is told otherwise.
+//! Each function plays a script as the program `mdlsim` does, and writes the answers if they fit. Its contract says by
+//! [`Plays`](../specs/Playing) which answers these are, and what C gets otherwise.
 #![tactic(auto)]
 
 mod codes;

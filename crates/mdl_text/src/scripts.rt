@@ -1,4 +1,4 @@
-//! Scripts of C's are played.
+//! Plays scripts that C passes.
 ghost use Rattle.std.specs.Prelude.{◌≡◌, Some, None};
 ghost use Rattle.mdl_lock.specs.Output.{lock_output_of};
 ghost use Rattle.mdl_lock.specs.Scripts as commands;
@@ -33,7 +33,7 @@ pub extern "C" fn mdl_text_replay(
     tell(end, answers.as_slice(), room, length, line)
 }
 
-/// Drives one lock by a script, as `mdlsim lock` does: kind 0 is that of a table, kind 1 a scoped one.
+/// Executes a script of commands over one lock, as `mdlsim lock` does: kind 0 is that of a table, kind 1 a scoped one.
 #[tactic(auto, using(crate::proofs::PlayingLemmas::plays))]
 #[unsafe(no_mangle)]
 pub extern "C" fn mdl_text_lock(

@@ -1,11 +1,11 @@
-//! What C is told of a run that has ended.
+//! What C gets of a run that has ended.
 ghost use Rattle.std.specs.Prelude.{◌≡◌};
 ghost use Rattle.mdl_text.specs.Playing.{PrintsAnswers, Tells};
 
 use crate::codes::{DONE, NO_MEMORY, NO_ROOM, line_code};
 use mdl_lines::Fault;
 
-// Copies the answers to the beginning of the room, if they fit. Their length is told in any case.
+// Copies the answers to the beginning of the room, if they fit. Sets their length in any case.
 fn print(answers: &[u8], room: &mut [u8], length: &mut usize, line: u64) -> u32
     ensures { PrintsAnswers answers.now result
         (record { room = room.old; size = length.old; line = line })
@@ -19,7 +19,7 @@ fn print(answers: &[u8], room: &mut [u8], length: &mut usize, line: u64) -> u32
     DONE
 }
 
-/// Tells how a run ended whose answers are these.
+/// Reports to C how a run ended that has these answers.
 pub fn tell(
     end: Result<(), Fault>,
     answers: &[u8],

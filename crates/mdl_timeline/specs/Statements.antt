@@ -8,11 +8,11 @@ use Rattle.mdl_lines.specs.Words.{lines_of, words_of}
 abbrev pub line_at : List ℕ → ℕ → List ℕ
 line_at text number = unwrap_or (slice_get (lines_of text) (number - 1)) []
 
--- words, parted by single blanks
+-- words, separated by single blanks
 abbrev pub joined : List (List ℕ) → List ℕ
 joined words = join_by (λ word. word) (codes " ") words
 
--- the words of a line behind that of its session
+-- the statement of a line: its words after that of its session
 abbrev pub statement_of : List ℕ → List ℕ
 statement_of line = joined (drop 1 (words_of line))
 
@@ -22,6 +22,6 @@ statement_at text number = statement_of (line_at text number)
 
 -- ---- representations
 
--- the line of this number, by what stands between line feeds
+-- the line of this number among the pieces between line feeds
 abbrev pub piece_at : List (List ℕ) → ℕ → List ℕ
 piece_at pieces number = strip_carriage_return (unwrap_or (slice_get pieces (number - 1)) [])

@@ -1,4 +1,4 @@
--- What is so of the timelines of all scripts.
+-- A law of the timelines of all scripts.
 use Rattle.std.specs.Prelude.{◌≡◌, ℕ, List, flat_map, map}
 use Rattle.mdl_picture.specs.Moments.{EventView, MomentView}
 use Rattle.mdl_script.specs.declared.told.Told.{Told}
@@ -16,7 +16,7 @@ pub record Answer : Type 0 where
 abbrev pub shown_by : EventView → Answer
 shown_by event = record { line = event.line; session = event.session; answer = event.answer }
 
--- the answer that a script is given
+-- an answer that playing a script gives
 abbrev pub given : Told → Answer
 given told = record { line = told.line; session = told.who; answer = answer_of told.news }
 

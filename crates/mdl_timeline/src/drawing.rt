@@ -12,8 +12,8 @@ use mdl_picture::picture;
 use mdl_script::{Line, lines_until, parse};
 use std::alloc::{AllocError, Global};
 
-/// Plays the lines of a script up to the one of this number, as `replay` of `mdl_script` does, and draws what happens at them, as SVG. All
-/// lines are looked at first: a refused one refuses the script.
+/// Plays the lines of a script up to the one of this number, as `replay` of `mdl_script` does, and returns a picture of what happens at them, as
+/// SVG. All lines are parsed first. A refused line, also a later one, refuses the script.
 pub fn draw(alloc: Global, text: &[u8], last: u64) -> Result<Vec<u8>, Fault>
     // The picture of what happens at those lines.
     ensures picture { IfOk result (λ out. IfOk (parsed text.now) (λ lines. out.items ≡ picture_text (moments_of text.now (lines_until last lines)))) }

@@ -1,4 +1,4 @@
-//! What becomes of statements.
+//! The events of statements.
 ghost use Rattle.std.specs.Prelude.{◌≡◌, ◌++◌, IfOk, OnOk, map};
 ghost use Rattle.mdl_timeline.specs.Moments.{answer_of, error_note, event_of, fate_of, note_of};
 
@@ -9,7 +9,7 @@ use mdl_rows::{ErrorNumber, Reply};
 use mdl_script::{News, Told, push_news};
 use std::alloc::{AllocError, Global};
 
-/// Adds what becomes of some lines at these books, with these words of their statements.
+/// Adds an event for each of these answers, at these books and with these words of the statement.
 pub(crate) fn push_events(
     events: &mut Vec<Event>,
     alloc: Global,
@@ -25,7 +25,7 @@ pub(crate) fn push_events(
     Ok(())
 }
 
-// What becomes of a line at these books, with these words of its statement.
+// The event of an answer, at these books and with these words of the statement.
 fn event_of(
     alloc: Global,
     statement: &[u8],
@@ -44,7 +44,7 @@ fn event_of(
     })
 }
 
-// What is printed of it.
+// The text that is printed of an answer.
 fn answer_of(alloc: Global, news: &News) -> Result<Vec<u8>, AllocError>
     ensures { IfOk result (λ answer. answer.items ≡ answer_of news.now) }
 {
@@ -54,7 +54,7 @@ fn answer_of(alloc: Global, news: &News) -> Result<Vec<u8>, AllocError>
     Ok(out.into_bytes())
 }
 
-// What stands behind an error.
+// The text after an answer that is an error.
 fn note_of(news: &News) -> &'static str
     ensures { result.now ≡ note_of news.now }
 {
@@ -64,7 +64,7 @@ fn note_of(news: &News) -> &'static str
     }
 }
 
-// The same of an error.
+// The text after an error.
 fn error_note(error: ErrorNumber) -> &'static str
     ensures { result.now ≡ error_note error }
 {
@@ -76,7 +76,7 @@ fn error_note(error: ErrorNumber) -> &'static str
     }
 }
 
-// How a statement goes on.
+// How a statement continues after an answer.
 fn fate_of(news: &News) -> Fate
     ensures { result ≡ fate_of news.now }
 {

@@ -1,4 +1,4 @@
-//! Who is in the way of a session that begins to wait.
+//! The sessions that block one that begins to wait.
 ghost use Rattle.std.specs.Prelude.{◌≡◌, IfOk, filter};
 ghost use Rattle.mdl_view.specs.ViewLaws.{is_told};
 ghost use Rattle.mdl_script.specs.Worlds.{sessions};
@@ -10,7 +10,7 @@ use mdl_script::{News, Told};
 use mdl_view::{Blocking, blockings, locks_of};
 use std::alloc::{AllocError, Global};
 
-/// The sessions in the way of one that is answered so at these books, if it begins to wait, in rising order.
+/// Returns the sessions that block the one with this answer at these books, if it begins to wait, in order of their numbers.
 pub(crate) fn in_the_way_of(
     alloc: Global,
     books: &[Book],
@@ -24,14 +24,14 @@ pub(crate) fn in_the_way_of(
     Ok(Vec::new(alloc))
 }
 
-// Whether that is a beginning wait.
+// Whether an answer is the beginning of a wait.
 fn is_wait(news: &News) -> bool
     ensures { result ≡ is_wait news.now }
 {
     matches!(news, News::Waits(_, _))
 }
 
-// The sessions that a session waits for, in rising order.
+// The sessions that a session waits for, in order of their numbers.
 fn waited_for(alloc: Global, who: u16, books: &[Book]) -> Result<Vec<u16>, AllocError>
     ensures { IfOk result (λ sessions. sessions.items ≡ waited_for who books.now) }
 {
@@ -40,7 +40,7 @@ fn waited_for(alloc: Global, who: u16, books: &[Book]) -> Result<Vec<u16>, Alloc
     sessions_before(alloc, who, &found)
 }
 
-// The sessions that are in the way of a session by one of these.
+// The sessions that block a session according to these blockings.
 fn sessions_before(alloc: Global, who: u16, found: &[Blocking]) -> Result<Vec<u16>, AllocError>
     ensures { IfOk result (λ those. those.items ≡ filter (is_told found.now who) sessions) }
 {
@@ -49,7 +49,7 @@ fn sessions_before(alloc: Global, who: u16, found: &[Blocking]) -> Result<Vec<u1
         .collect(alloc)
 }
 
-// Whether a session is in the way of another one.
+// Whether a session blocks another one according to these blockings.
 fn is_in_the_way(found: &[Blocking], who: u16, session: u16) -> bool
     ensures { result ≡ is_told found.now who session }
 {

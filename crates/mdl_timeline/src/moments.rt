@@ -11,7 +11,7 @@ use mdl_picture::{Event, Moment};
 use mdl_script::{Line, Play};
 use std::alloc::{AllocError, Global};
 
-/// Plays these lines of a text, and returns what happens at them.
+/// Plays these lines of a text, and returns the moment of each.
 pub(crate) fn moments_of(
     alloc: Global,
     text: &[u8],
@@ -30,7 +30,7 @@ pub(crate) fn moments_of(
     Ok(moments)
 }
 
-// Plays a line with this statement, and returns what happens at it.
+// Plays a line with this statement, and returns its moment.
 fn play_line<'s>(
     alloc: Global,
     play: &mut Play<'s>,
@@ -53,7 +53,7 @@ fn play_line<'s>(
     })
 }
 
-// Asks the session of a line for its statement, and adds what becomes of it.
+// Runs the statement of a line in its session, and adds the events.
 fn ask<'s>(
     alloc: Global,
     play: &mut Play<'s>,
@@ -72,7 +72,7 @@ fn ask<'s>(
     push_events(events, alloc, statement, play.books(), &told)
 }
 
-// Lets all go on whose waits are settled, and adds what becomes of their statements.
+// Continues the sessions whose waits are settled, and adds the events of their statements.
 fn settle(alloc: Global, play: &mut Play<'_>, events: &mut Vec<Event>) -> Result<(), AllocError>
     requires manned { IsManned play.old }
     ensures events { OnOk result (events.new.items ≡ events.old.items ++ events_of [] (settling most_turns (world_of play.old))) }

@@ -8,14 +8,14 @@ ghost use Rattle.mdl_timeline.specs.Statements.{joined, piece_at, statement_of};
 use mdl_lines::{is_blank, strip_carriage_return};
 use std::alloc::{AllocError, Global};
 
-/// The text of a script, cut at its line feeds.
+/// Returns the text of a script, cut at its line feeds.
 pub(crate) fn pieces_of(alloc: Global, text: &[u8]) -> Result<Vec<&[u8]>, AllocError>
     ensures { IfOk result (λ pieces. map (λ piece. piece.now) pieces.items ≡ slice_split (λ byte. byte == 10) text.now) }
 {
     text.split(|byte| *byte == b'\n').collect(alloc)
 }
 
-/// The statement of the line of this number.
+/// Returns the statement of the line of this number.
 pub(crate) fn statement_at(
     alloc: Global,
     pieces: &[&[u8]],
@@ -34,7 +34,7 @@ fn piece_at<'t>(pieces: &[&'t [u8]], number: u64) -> &'t [u8]
     strip_carriage_return(pieces.get(place).copied().unwrap_or(&[]))
 }
 
-// The statement of a line: its words behind that of its session, parted by single blanks.
+// The statement of a line: its words after that of its session, separated by single blanks.
 fn statement_of(alloc: Global, line: &[u8]) -> Result<Vec<u8>, AllocError>
     ensures { IfOk result (λ statement. statement.items ≡ statement_of line.now) }
 {
@@ -55,7 +55,7 @@ fn words_of(alloc: Global, line: &[u8]) -> Result<Vec<&[u8]>, AllocError>
         .collect(alloc)
 }
 
-// Puts words last, parted by single blanks.
+// Appends words, separated by single blanks.
 fn push_words(out: &mut Vec<u8>, words: &[&[u8]]) -> Result<(), AllocError>
     ensures { OnOk result (out.new.items ≡ out.old.items ++ joined (map (λ word. word.now) words.now)) }
 {
@@ -66,7 +66,7 @@ fn push_words(out: &mut Vec<u8>, words: &[&[u8]]) -> Result<(), AllocError>
     push_behind_blanks(out, rest)
 }
 
-// Puts words last, each behind a blank.
+// Appends words, each after a blank.
 fn push_behind_blanks(out: &mut Vec<u8>, words: &[&[u8]]) -> Result<(), AllocError>
     ensures { OnOk result (out.new.items ≡ out.old.items ++ flat_map (λ word. codes " " ++ word) (map (λ word. word.now) words.now)) }
 {

@@ -12,37 +12,37 @@ use Rattle.mdl_book.specs.Books.{admitting, next_grantable_beside}
 abbrev pub is_of_other : ℕ → Ticket → Bool
 is_of_other session ticket = not (ticket.session == session)
 
--- without the tickets of a session, granted and waiting
+-- a lock without the granted and waiting tickets of a session
 abbrev pub leaving : ℕ → BookView → BookView
 leaving session book = record book {
   granted = filter (is_of_other session) book.granted;
   waiting = filter (is_of_other session) book.waiting;
 }
 
--- the next waiter that is granted: none of a lock's tickets is a fast one
+-- the next waiter that is granted. A lock here has no fast tickets
 abbrev pub next_waiter : set.FinSet nat_cmp → BookView → Option Ticket
 next_waiter unsettled book = next_grantable_beside [] unsettled book
 
--- who is granted, in order, and the book that is left
+-- the tickets that are granted, in order, and the lock afterwards
 pub record Grants : Type 0 where
   pub tickets : List Ticket
   pub book : BookView
 
--- a waiter is granted where there is one to grant, and then comes the rest
+-- the next waiter is granted, if there is one, and then the rest
 abbrev pub granted_then : Option Ticket → (BookView → Grants) → BookView → Grants
 granted_then None rest book = record { tickets = []; book = book }
 granted_then (Some ticket) rest book =
     let after = rest (admitting ticket.session ticket.number book) in record { tickets = ticket ∷ after.tickets; book = after.book }
 
--- at most so many are granted
+-- the grants at a lock, at most this number
 abbrev pub grants_at_most : set.FinSet nat_cmp → ℕ → BookView → Grants
 grants_at_most unsettled zero = λ book. record { tickets = []; book = book }
 grants_at_most unsettled (suc n) = λ book. granted_then (next_waiter unsettled book) (grants_at_most unsettled n) book
 
--- until none can be: as many turns as there are waiters are enough
+-- the grants at a lock until no waiter can be granted. There are at most as many as waiters
 abbrev pub grants_until_none : set.FinSet nat_cmp → BookView → Grants
 grants_until_none unsettled book = grants_at_most unsettled (length book.waiting) book
 
--- what follows at a lock if a session ends
+-- the grants at a lock if a session ends
 abbrev pub grants_after : set.FinSet nat_cmp → ℕ → BookView → Grants
 grants_after unsettled session book = grants_until_none unsettled (leaving session book)

@@ -1,4 +1,4 @@
--- What is told of who is in whose way, and what follows if a session ends, against the definitions of waits.
+-- Laws: the blockings, and what follows if a session ends, compared with the definitions of waits.
 use Rattle.std.specs.Prelude.{◌≡◌, ◌↔◌, ℕ, Bool, ◌&&◌, ◌==◌, List, ◌++◌, map, None, IsTrue, All, IsPermutation}
 use Rattle.std.specs.FinSet as set
 use Rattle.std.specs.List.{list_any}
@@ -16,30 +16,30 @@ use Rattle.mdl_view.specs.Deadlocks.{deadlocks_in, is_member_of}
 use Rattle.mdl_view.specs.Endings.{leaving, next_waiter, grants_after}
 use Rattle.mdl_view.specs.Roots.{is_root}
 
--- whether it is told that one session is in the way of another one
+-- whether the blockings say that the first session is blocked by the second
 abbrev pub is_told : List Blocking → ℕ → ℕ → Bool
 is_told blockings waiter other = list_any (λ blocking. blocking.waiter.session == waiter && blocking.other.session == other) blockings
 
--- a pair is told exactly where the one session waits for the other
+-- the blockings have a pair of sessions exactly if the one waits for the other
 abbrev pub BlockingsAreWaits : Type 0
 BlockingsAreWaits =
     (settled : SessionTest) (books : List BookView) (waiter other : ℕ) →
     is_told (blockings_in settled 0 books) waiter other ≡ waits_for settled books waiter other
 
--- the roots are those for whom somebody waits, and who wait for nobody
+-- the roots are the sessions that another session waits for, and that wait for no session
 abbrev pub RootsWaitForNobody : Type 0
 RootsWaitForNobody =
     (settled : SessionTest) (books : List BookView) (session : ℕ) →
     IsTrue (is_root (blockings_in settled 0 books) session)
     ↔ (((waiter : ℕ) × WaitsFor settled books waiter session) × ((other : ℕ) → WaitsFor settled books session other → ⊥))
 
--- after the waiters that follow none can be granted
+-- after the grants that follow the end of a session, no waiter can be granted
 abbrev pub EndingsForgetNobody : Type 0
 EndingsForgetNobody =
     (unsettled : set.FinSet nat_cmp) (session : ℕ) (book : BookView) →
     next_waiter unsettled (grants_after unsettled session book).book ≡ None
 
--- those of the others who wait at a lock are granted, or wait there still, each ticket once
+-- each waiting ticket of the other sessions is granted or still waits, and each is there once
 abbrev pub WaitersAreGrantedOrWait : Type 0
 WaitersAreGrantedOrWait =
     (unsettled : set.FinSet nat_cmp) (session : ℕ) (book : BookView) →
@@ -52,6 +52,6 @@ pub record AreAllDeadlocks (settled : SessionTest) (books : List BookView) (foun
   pub all : (session : ℕ) (cycle : List ℕ) → IsTrue (is_session session) → IsCycleThrough (waits_for settled books) session cycle
       → IsTrue (is_member_of found session)
 
--- so it is with the deadlocks
+-- the deadlocks found are all deadlocks
 abbrev pub DeadlocksAreAll : Type 0
 DeadlocksAreAll = (settled : SessionTest) (books : List BookView) → AreAllDeadlocks settled books (deadlocks_in settled books)

@@ -1,4 +1,4 @@
-//! Who is in whose way.
+//! Which tickets block which. A wish is the request of a waiting ticket.
 ghost use Rattle.std.specs.Prelude.{◌≡◌, ◌++◌, ◌∷◌, [], ◌==◌, ◌&&◌, not, length, map, filter, flat_map, OnOk, IfOk};
 ghost use Rattle.std.specs.FinSet as set;
 ghost use Rattle.std.specs.List.{list_any};
@@ -9,30 +9,30 @@ use mdl_book::{Sessions, Ticket};
 use mdl_key::{conflicts_granted, conflicts_waiting};
 use std::alloc::{AllocError, Global};
 
-/// Why a ticket is in the way of a wish.
+/// Why a ticket blocks a waiting one.
 #[derive(Clone, Copy, Debug, PartialEq, Eq)]
 pub enum Reason {
-    /// It is granted, and the wish clashes with it.
+    /// The ticket is granted, and the waiting one clashes with it.
     Holds,
-    /// It waits, and the wish waits behind it.
+    /// The ticket waits, and the other one waits behind it.
     WaitsBefore,
 }
 
-/// That a ticket of one session is in the way of a waiting ticket of another one.
+/// A waiting ticket, and a ticket of another session that blocks it.
 #[derive(Clone, Copy, Debug, PartialEq, Eq)]
 pub struct Blocking {
-    /// The place of the lock among those that were looked at, counted from 0.
+    /// The index of the lock among those examined, counted from 0.
     pub lock: usize,
     /// The ticket that waits.
     pub waiter: Ticket,
-    /// The ticket that is in its way.
+    /// The ticket that blocks it.
     pub other: Ticket,
-    /// Why it is.
+    /// Why it blocks it.
     pub reason: Reason,
 }
 
-/// Each waiting ticket of an unsettled session with each ticket in its way: lock by lock, and there waiter by waiter in order of
-/// arrival, those that hold before those that wait.
+/// Returns each waiting ticket of an unsettled session with each ticket that blocks it: lock by lock, for each lock waiter by waiter in order
+/// of arrival, and for each waiter granted tickets before waiting ones.
 pub fn blockings(
     alloc: Global,
     settled: &Sessions,
@@ -47,21 +47,21 @@ pub fn blockings(
     Ok(found)
 }
 
-/// Whether somebody is in somebody's way. It lists nothing, and takes no memory.
+/// Whether any ticket blocks another. It lists nothing, and takes no memory.
 pub fn has_blockings(settled: &Sessions, locks: &[Lock]) -> bool
     ensures { result ≡ not (length (blockings_in (set.contains settled.now) 0 locks.now) == 0) }
 {
     has_lock_blocked(settled, locks)
 }
 
-// Whether somebody is in the way of a waiter at some lock.
+// Whether a waiter is blocked at some lock.
 fn has_lock_blocked(settled: &Sessions, locks: &[Lock]) -> bool
     ensures { result ≡ list_any (has_waiter_blocked (set.contains settled.now)) locks.now }
 {
     locks.iter().any(|lock| has_waiter_blocked(settled, lock))
 }
 
-// Whether somebody is in the way of a waiter at a lock.
+// Whether a waiter is blocked at a lock.
 fn has_waiter_blocked(settled: &Sessions, lock: &Lock) -> bool
     ensures { result ≡ has_waiter_blocked (set.contains settled.now) lock.now }
 {
@@ -69,14 +69,14 @@ fn has_waiter_blocked(settled: &Sessions, lock: &Lock) -> bool
         && is_wish_blocked(settled, lock, *wish))
 }
 
-// Whether somebody is in the way of a wish.
+// Whether a wish is blocked.
 fn is_wish_blocked(settled: &Sessions, lock: &Lock, wish: Ticket) -> bool
     ensures { result ≡ is_wish_blocked (set.contains settled.now) lock.now wish }
 {
     is_held_against(lock, wish) || is_waited_before(settled, lock, wish)
 }
 
-// Whether a granted ticket is in the way of a wish.
+// Whether a granted ticket blocks a wish.
 fn is_held_against(lock: &Lock, wish: Ticket) -> bool
     ensures { result ≡ list_any (holds_against lock.now wish) lock.now.granted }
 {
@@ -86,7 +86,7 @@ fn is_held_against(lock: &Lock, wish: Ticket) -> bool
     })
 }
 
-// Whether a waiting ticket is.
+// Whether a waiting ticket of an unsettled session blocks a wish.
 fn is_waited_before(settled: &Sessions, lock: &Lock, wish: Ticket) -> bool
     ensures { result ≡ list_any (waits_before (set.contains settled.now) lock.now wish) lock.now.waiting }
 {
@@ -98,7 +98,7 @@ fn is_waited_before(settled: &Sessions, lock: &Lock, wish: Ticket) -> bool
     })
 }
 
-// Adds those of one lock.
+// Adds the blockings of one lock.
 fn add_lock(
     found: &mut Vec<Blocking>,
     settled: &Sessions,
@@ -113,7 +113,7 @@ fn add_lock(
     Ok(())
 }
 
-/// Adds those of one waiting ticket, if its session is unsettled.
+/// Adds the blockings of one waiting ticket, if its session is unsettled.
 pub(crate) fn add_unsettled(
     found: &mut Vec<Blocking>,
     settled: &Sessions,
@@ -130,7 +130,7 @@ pub(crate) fn add_unsettled(
     add_wish(found, settled, place, lock, wish)
 }
 
-/// Adds those of one waiting ticket.
+/// Adds the blockings of one waiting ticket.
 pub(crate) fn add_wish(
     found: &mut Vec<Blocking>,
     settled: &Sessions,
@@ -144,7 +144,7 @@ pub(crate) fn add_wish(
     add_waiters(found, settled, place, lock, wish)
 }
 
-// Adds the granted tickets that are in the way of a wish.
+// Adds the granted tickets that block a wish.
 fn add_holders(
     found: &mut Vec<Blocking>,
     place: usize,
@@ -162,7 +162,7 @@ fn add_holders(
     Ok(())
 }
 
-// Adds the waiting tickets that are.
+// Adds the waiting tickets that block a wish.
 fn add_waiters(
     found: &mut Vec<Blocking>,
     settled: &Sessions,
@@ -185,7 +185,7 @@ fn add_waiters(
     Ok(())
 }
 
-// Adds one.
+// Adds one blocking.
 fn add(
     found: &mut Vec<Blocking>,
     lock: usize,

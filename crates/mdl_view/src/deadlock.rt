@@ -13,9 +13,9 @@ use mdl_book::{Sessions, Ticket};
 use mdl_graph::{Cycle, WaitGraph};
 use std::alloc::{AllocError, Global};
 
-/// The deadlocks: each a [`Cycle`] of unsettled sessions each of which waits for the next one, and the last one for the first.
-/// [`mdl_graph::victim`] says which of them gives up its wish. For each session in rising number that is in no cycle found before, it is
-/// the shortest cycle through that session, so that each session in a deadlock is a member of one that is returned.
+/// Returns the deadlocks. Each is a [`Cycle`] of unsettled sessions: each waits for the next one, and the last one for the first.
+/// [`mdl_graph::victim`] says which of them gives up its wish. Sessions are taken in order of their numbers. For each one that is in no cycle
+/// found before, the shortest cycle through it is added, so that each session in a deadlock is a member of one that is returned.
 pub fn deadlocks(alloc: Global, scene: Scene<'_>) -> Result<Vec<Cycle>, AllocError>
     ensures { IfOk result (λ found. found.items ≡ deadlocks_in (set.contains scene.entry.settled.now) scene.entry.locks.now) }
 {
@@ -40,7 +40,7 @@ fn add_deadlock(found: &mut Vec<Cycle>, graph: &WaitGraph, session: u16) -> Resu
     Ok(())
 }
 
-// Whether a session is a member of one of these.
+// Whether a session is a member of one of these cycles.
 fn is_member_of(found: &[Cycle], session: u16) -> bool
     ensures { result ≡ is_member_of found.now session }
 {
@@ -57,7 +57,7 @@ fn has_member(cycle: &Cycle, session: u16) -> bool
         .any(|member| member.session == session)
 }
 
-// Who waits for whom at these locks.
+// Returns the graph of who waits for whom at these locks.
 fn graph_of(alloc: Global, settled: &Sessions, locks: &[Lock]) -> Result<WaitGraph, AllocError>
     ensures { IfOk result (HasWaitsOf (set.contains settled.now) locks.now) }
 {
@@ -68,7 +68,7 @@ fn graph_of(alloc: Global, settled: &Sessions, locks: &[Lock]) -> Result<WaitGra
     Ok(graph)
 }
 
-// Adds who waits at a lock. Those whose wait is settled are left out, so that nobody of the graph is settled.
+// Adds the waits at a lock. Sessions whose waits are settled are left out, so that no session of the graph is settled.
 fn add_waits(
     alloc: Global,
     graph: &mut WaitGraph,

@@ -1,4 +1,4 @@
-//! What would follow if a session ended.
+//! What would follow at a lock if a session ended.
 ghost use Rattle.std.specs.Prelude.{◌≡◌, OnOk, IfOk};
 ghost use Rattle.mdl_view.specs.Endings.{grants_after, grants_until_none};
 
@@ -6,17 +6,17 @@ use crate::lock::Lock;
 use mdl_book::{Sessions, Ticket};
 use std::alloc::{AllocError, Global};
 
-/// What follows at a lock.
+/// What follows at a lock if a session ends.
 #[derive(Drop)]
 pub struct Course {
     /// The waiters that are granted, in order.
     pub granted: Vec<Ticket>,
-    /// The lock as it is left.
+    /// The lock as it is afterwards.
     pub left: Lock,
 }
 
-/// What would follow at a lock if a session ended: its tickets go, and waiters of the sessions that aren't settled are granted, each
-/// time the first in order of arrival that can be, until none can.
+/// Returns what would follow at a lock if a session ended: its tickets are removed, and waiters of the unsettled sessions are granted, each
+/// time the first in order of arrival that can be granted, until none can.
 pub fn course_after(
     alloc: Global,
     lock: &Lock,

@@ -1,12 +1,12 @@
-//! Laws of what is told. Each is proved as the contract of a function that does nothing.
+//! Laws of what this crate returns. Each is proved as the contract of a function that does nothing.
 ghost use Rattle.mdl_view.specs.ViewLaws.{BlockingsAreWaits, RootsWaitForNobody, EndingsForgetNobody, WaitersAreGrantedOrWait, DeadlocksAreAll};
 
-/// It is told that one session is in the way of another one exactly where the other waits for it.
+/// [`blockings`](crate::blockings) returns that one session blocks another exactly if the other waits for it.
 pub fn blockings_are_waits()
     ensures { BlockingsAreWaits }
 {}
 
-/// The roots are those for whom somebody waits, and who wait for nobody.
+/// The roots are the sessions that another session waits for, and that wait for no session.
 pub fn roots_wait_for_nobody()
     ensures { RootsWaitForNobody }
 {}
@@ -16,7 +16,7 @@ pub fn endings_forget_nobody()
     ensures { EndingsForgetNobody }
 {}
 
-/// If a session ends, each waiting ticket of the others is granted or waits still.
+/// If a session ends, each waiting ticket of the others is granted or still waits.
 pub fn waiters_are_granted_or_wait()
     ensures { WaitersAreGrantedOrWait }
 {}

@@ -1,7 +1,7 @@
 //! Who blocks whom at a table of locks, and what would follow if a session ended.
 //!
-//! [`blockings`] lists each waiting ticket with the tickets in its way, [`roots`] finds the sessions that are in somebody's way and
-//! have nobody in theirs, and [`course_after`] foretells who would be granted at a lock if a session ended.
+//! [`blockings`] lists each waiting ticket with the tickets that block it, [`roots`] finds the sessions that block others and aren't blocked
+//! themselves, and [`course_after`] predicts who would be granted at a lock if a session ended.
 //!
 //! # Example
 //!

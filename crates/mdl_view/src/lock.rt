@@ -13,8 +13,8 @@ use mdl_key::{Kind, Namespace, conflicts_granted, conflicts_waiting};
 use std::alloc::{AllocError, Global};
 use std::marker::Model;
 
-/// A lock's namespace, its granted tickets and its waiting ones in order of arrival, as a server tells them. Nothing is asked of
-/// them: tickets that clash may be granted together, since a server's table is no picture of one moment.
+/// A lock's namespace, its granted tickets and its waiting ones in order of arrival, as a server shows them. They need not be lawful: tickets
+/// that clash may be granted together, since a server's table isn't a snapshot of one moment.
 #[derive(Drop)]
 pub struct Lock {
     namespace: Namespace,
@@ -32,7 +32,7 @@ impl Model for Lock {
 }
 
 impl Lock {
-    /// A lock that nobody holds and nobody waits for.
+    /// Returns a lock without tickets.
     pub fn new(alloc: Global, namespace: Namespace) -> Lock
         ensures { result ≡ lock_of namespace [] [] }
     {
@@ -43,7 +43,7 @@ impl Lock {
         }
     }
 
-    /// The lock that a book tells of. The names of its key and its definition are left out.
+    /// Returns the lock of a book. The names of its key and its definition are left out.
     pub fn of_book(alloc: Global, book: &Book) -> Result<Lock, AllocError>
         ensures { IfOk result (λ lock. lock ≡ lock_of_book book.now) }
     {
@@ -75,7 +75,7 @@ impl Lock {
         self.waiting.as_slice()
     }
 
-    /// Puts a ticket behind those that are granted.
+    /// Appends a ticket to the granted ones.
     pub fn add_granted(&mut self, ticket: Ticket) -> Result<(), AllocError>
         ensures added { OnOk result (self.new ≡ record self.old { granted = self.old.granted ++ ticket ∷ [] }) }
         ensures unchanged { OnErr result (self.new ≡ self.old) }
@@ -86,7 +86,7 @@ impl Lock {
         }
     }
 
-    /// Puts a ticket behind those that wait.
+    /// Appends a ticket to the waiting ones.
     pub fn add_waiting(&mut self, ticket: Ticket) -> Result<(), AllocError>
         ensures added { OnOk result (self.new ≡ record self.old { waiting = self.old.waiting ++ ticket ∷ [] }) }
         ensures unchanged { OnErr result (self.new ≡ self.old) }
@@ -97,8 +97,8 @@ impl Lock {
         }
     }
 
-    /// Grants the first waiter, in order of arrival, whose session is among `unsettled` and whose wish can be granted. Where none is,
-    /// or memory runs out, nothing changes.
+    /// Grants the first waiter, in order of arrival, whose session is among `unsettled` and that can be granted. If there is none, or memory
+    /// runs out, nothing changes.
     pub(crate) fn grant_next(&mut self, unsettled: &Sessions) -> Result<Option<Ticket>, AllocError>
         ensures ticket { IfOk result (λ found. found ≡ next_waiter unsettled.now self.old) }
         ensures granted { IfOk result (λ found. IfSome found (λ ticket. self.new ≡ admitting ticket.session ticket.number self.old)) }
@@ -132,7 +132,7 @@ impl Lock {
         is_compatible(kind, &self.granted, wish) && goes_first(kind, &self.waiting, wish)
     }
 
-    // Grants the first waiting ticket of the same session and number, which goes to the end of the granted list.
+    // Grants the first waiting ticket of the same session and number: moves it to the end of the granted list.
     fn admit(&mut self, ticket: Ticket) -> Result<(), AllocError>
         requires { is_some (ticket_of ticket.session ticket.number self.old.waiting) ≡ true }
         ensures granted { OnOk result (self.new ≡ admitting ticket.session ticket.number self.old) }
@@ -149,7 +149,7 @@ impl Lock {
         }
     }
 
-    /// A copy of the lock without the tickets of a session that ends.
+    /// Returns a copy of the lock without the tickets of a session that ends.
     pub(crate) fn without(&self, alloc: Global, session: u16) -> Result<Lock, AllocError>
         ensures { IfOk result (λ lock. lock ≡ leaving session self.now) }
     {
@@ -161,7 +161,7 @@ impl Lock {
     }
 }
 
-/// The locks that books tell of, in their order.
+/// Returns the locks of books, in their order.
 pub fn locks_of(alloc: Global, books: &[Book]) -> Result<Vec<Lock>, AllocError>
     ensures { IfOk result (λ locks. locks.items ≡ map lock_of_book books.now) }
 {
@@ -192,7 +192,7 @@ fn others(alloc: Global, tickets: &[Ticket], session: u16) -> Result<Vec<Ticket>
         .collect(alloc)
 }
 
-// Whether a wish may stand beside all granted tickets.
+// Whether a wish clashes with no granted ticket of another session.
 fn is_compatible(kind: Kind, granted: &[Ticket], wish: Ticket) -> bool
     ensures { result ≡ is_compatible kind granted.now wish.session wish.mode }
 {
@@ -201,7 +201,7 @@ fn is_compatible(kind: Kind, granted: &[Ticket], wish: Ticket) -> bool
     })
 }
 
-// Whether a wish may overtake all waiting tickets.
+// Whether a wish is behind no waiting ticket of another session.
 fn goes_first(kind: Kind, waiting: &[Ticket], wish: Ticket) -> bool
     ensures { result ≡ goes_first kind waiting.now wish.session wish.mode }
 {
@@ -210,7 +210,7 @@ fn goes_first(kind: Kind, waiting: &[Ticket], wish: Ticket) -> bool
     })
 }
 
-// The place of the first ticket of the same session and number.
+// The index of the first ticket of the same session and number.
 fn place_of(tickets: &[Ticket], ticket: Ticket) -> usize
     requires { is_some (ticket_of ticket.session ticket.number tickets.now) ≡ true }
     ensures { Some result ≡ position (is_ticket ticket.session ticket.number) tickets.now }
@@ -221,7 +221,7 @@ fn place_of(tickets: &[Ticket], ticket: Ticket) -> usize
     }
 }
 
-// The same, where there may be none.
+// The index of the first ticket of the same session and number, if there is one.
 fn position_of(tickets: &[Ticket], ticket: Ticket) -> Option<usize>
     ensures { result ≡ position (is_ticket ticket.session ticket.number) tickets.now }
 {

@@ -1,4 +1,4 @@
-//! Who is at the root of the waits.
+//! The roots of the waits: the sessions that block others and aren't blocked themselves.
 ghost use Rattle.std.specs.Prelude.{◌≡◌, ℕ, ◌&&◌, ◌||◌, ◌==◌, ◌++◌, ◌∷◌, [], filter, OnOk, IfOk};
 ghost use Rattle.std.specs.FinSet as set;
 ghost use Rattle.mdl_book.specs.SessionSets.{is_session};
@@ -11,14 +11,15 @@ use crate::lock::Lock;
 use mdl_book::{Sessions, Ticket};
 use std::alloc::{AllocError, Global};
 
-/// The sessions that are in somebody's way and have nobody in theirs, in rising number.
+/// Returns the sessions that block another one and aren't blocked themselves, in order of their numbers.
 pub fn roots(alloc: Global, blockings: &[Blocking]) -> Result<Vec<u16>, AllocError>
     ensures { IfOk result (λ found. found.items ≡ roots blockings.now) }
 {
     roots_between(alloc, &waiters_of(blockings), &others_of(blockings))
 }
 
-/// The roots of these locks, as [`roots`] finds them among all [`blockings`](crate::blockings). These are never listed all at once.
+/// Returns the roots of these locks, as [`roots`] finds them among all [`blockings`](crate::blockings). The blockings are never all listed at
+/// once.
 pub(crate) fn roots_at(
     alloc: Global,
     settled: &Sessions,
@@ -49,7 +50,7 @@ fn roots_between(
     Ok(found)
 }
 
-// Notes who waits at a lock, and who is in the way there.
+// Notes which sessions are blocked at a lock, and which block them.
 fn note_lock(
     alloc: Global,
     waiters: &mut Sessions,
@@ -67,7 +68,7 @@ fn note_lock(
     Ok(())
 }
 
-// Notes a waiting ticket and who is in its way, if its session is unsettled.
+// Notes the session of a waiting ticket and those that block it, if it is unsettled and blocked.
 fn note_wish(
     alloc: Global,
     waiters: &mut Sessions,
@@ -104,7 +105,7 @@ fn add_root(
     Ok(())
 }
 
-// The sessions in whose way somebody is.
+// The sessions that are blocked.
 fn waiters_of(blockings: &[Blocking]) -> Sessions
     ensures { (session : ℕ) → set.contains result session ≡ (is_session session && is_blocked blockings.now session) }
 {
@@ -113,7 +114,7 @@ fn waiters_of(blockings: &[Blocking]) -> Sessions
     waiters
 }
 
-// The sessions that are in somebody's way.
+// The sessions that block another one.
 fn others_of(blockings: &[Blocking]) -> Sessions
     ensures { (session : ℕ) → set.contains result session ≡ (is_session session && is_in_a_way blockings.now session) }
 {
@@ -122,7 +123,7 @@ fn others_of(blockings: &[Blocking]) -> Sessions
     others
 }
 
-// Notes the sessions in whose way somebody is.
+// Notes the sessions that are blocked.
 fn note_waiters(waiters: &mut Sessions, blockings: &[Blocking])
     ensures { Gains waiter_of blockings.now waiters.old waiters.new }
 {
@@ -131,7 +132,7 @@ fn note_waiters(waiters: &mut Sessions, blockings: &[Blocking])
     }
 }
 
-// Notes the sessions that are in somebody's way.
+// Notes the sessions that block another one.
 fn note_others(others: &mut Sessions, blockings: &[Blocking])
     ensures { Gains other_of blockings.now others.old others.new }
 {
@@ -140,7 +141,7 @@ fn note_others(others: &mut Sessions, blockings: &[Blocking])
     }
 }
 
-// Notes a session, where the set has room for its number.
+// Notes a session, if its number is from 1 to 1,024.
 fn note(sessions: &mut Sessions, session: u16)
     ensures { (other : ℕ) → set.contains sessions.new other ≡ (set.contains sessions.old other || (is_session other && session == other)) }
 {

@@ -1,4 +1,4 @@
-//! The roots of the waits, by how much their end lets be granted.
+//! The roots of the waits, ordered by how many waits would be granted if each ended.
 ghost use Rattle.std.specs.Prelude.{◌≡◌, map, OnOk, IfOk};
 ghost use Rattle.std.specs.FinSet as set;
 ghost use Rattle.mdl_view.specs.Following.{AreMostFirst, AreRootEndings, endings_of, rank_of, root_ranks};
@@ -7,7 +7,7 @@ use crate::root::roots_at;
 use crate::what_follows::{Ending, Scene, ending_of, gets_of};
 use std::alloc::{AllocError, Global};
 
-/// A session that is in somebody's way and has nobody in its own.
+/// A root: a session that blocks another one and isn't blocked itself.
 #[derive(Clone, Copy, Debug, PartialEq, Eq)]
 pub struct RootRank {
     /// The session.
@@ -16,9 +16,8 @@ pub struct RootRank {
     pub gets: usize,
 }
 
-/// Those that are in somebody's way and have nobody in theirs. Those come first whose end would let most waits be granted, and of the
-/// others those of a lower number. It lists neither all that is in somebody's way nor what follows, so that it takes memory by the
-/// number of tickets.
+/// Returns the roots, those first whose end would let most waits be granted, and among equals those of a lower number. It lists neither all
+/// blockings nor what follows, so that the memory it takes grows with the number of tickets.
 pub fn ranked_roots(alloc: Global, scene: Scene<'_>) -> Result<Vec<RootRank>, AllocError>
     ensures { IfOk result (λ found. AreMostFirst (root_ranks (set.contains scene.entry.settled.now) scene.entry.unsettled.now scene.entry.locks.now) found.items) }
 {
@@ -28,8 +27,8 @@ pub fn ranked_roots(alloc: Global, scene: Scene<'_>) -> Result<Vec<RootRank>, Al
     Ok(ranks)
 }
 
-/// What would follow if each of these ended, in the order of [`ranked_roots`]. All endings together take memory by the number of roots
-/// times that of waiting tickets: for many of both, [`ending_of`] gives one after the other.
+/// Returns what would follow if each root ended, in the order of [`ranked_roots`]. The memory that all endings take together grows with the
+/// number of roots times that of waiting tickets. If there are many of both, call [`ending_of`] for one root after the other.
 pub fn root_endings(alloc: Global, scene: Scene<'_>) -> Result<Vec<Ending>, AllocError>
     ensures { IfOk result (λ found. AreRootEndings (set.contains scene.entry.settled.now) scene.entry.unsettled.now scene.entry.locks.now found.items) }
 {
@@ -37,7 +36,7 @@ pub fn root_endings(alloc: Global, scene: Scene<'_>) -> Result<Vec<Ending>, Allo
     endings_of(alloc, scene, &ranks)
 }
 
-// How many waits would be granted if each of these ended.
+// How many waits would be granted if each of these sessions ended.
 fn ranks_of(alloc: Global, scene: Scene<'_>, sessions: &[u16]) -> Result<Vec<RootRank>, AllocError>
     ensures { IfOk result (λ found. found.items ≡ map (rank_of scene.entry.unsettled.now scene.entry.locks.now) sessions.now) }
 {
@@ -52,14 +51,14 @@ fn ranks_of(alloc: Global, scene: Scene<'_>, sessions: &[u16]) -> Result<Vec<Roo
     Ok(ranks)
 }
 
-// Puts those first that let most waits be granted.
+// Sorts roots by how many waits their ends let be granted, the greatest number first. The sort is stable.
 fn sort_most_first(ranks: &mut Vec<RootRank>) -> Result<(), AllocError>
     ensures { OnOk result (AreMostFirst ranks.old.items ranks.new.items) }
 {
     ranks.sort_by(|one, other| other.gets.cmp(&one.gets))
 }
 
-// What would follow if each of these ended.
+// What would follow if each of these roots ended.
 fn endings_of(
     alloc: Global,
     scene: Scene<'_>,

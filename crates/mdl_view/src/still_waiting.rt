@@ -1,4 +1,4 @@
-//! Who goes on waiting at a lock.
+//! The tickets that go on waiting at a lock.
 ghost use Rattle.std.specs.Prelude.{◌≡◌, ◌++◌, ◌∷◌, [], map, filter, OnOk, IfOk};
 ghost use Rattle.std.specs.FinSet as set;
 ghost use Rattle.mdl_view.specs.Blockings.{has_open_wait};
@@ -9,16 +9,16 @@ use crate::lock::Lock;
 use mdl_book::{Sessions, Ticket};
 use std::alloc::{AllocError, Global};
 
-/// A ticket that goes on waiting, and what is in its way.
+/// A ticket that goes on waiting, and what blocks it.
 #[derive(Clone, Copy, Debug, PartialEq, Eq)]
 pub struct StillWaiting {
-    /// The place of its lock among those that were looked at, counted from 0.
+    /// The index of its lock among those examined, counted from 0.
     pub lock: usize,
     /// The ticket.
     pub waiter: Ticket,
-    /// The first in its way, as [`blockings`](crate::blockings) lists them: none where it only waits behind a wait that is settled.
+    /// The first ticket that blocks it, as [`blockings`](crate::blockings) lists them. None if it only waits behind a settled wait.
     pub first: Option<Blocking>,
-    /// How many are in its way.
+    /// How many tickets block it.
     pub count: usize,
 }
 
@@ -56,7 +56,7 @@ fn add_open_wait(
     Ok(())
 }
 
-// A waiting ticket, and what is in its way.
+// A waiting ticket, and what blocks it.
 fn still_waiting(
     alloc: Global,
     settled: &Sessions,

@@ -11,27 +11,27 @@ use mdl_book::{Sessions, Ticket};
 use std::alloc::{AllocError, Global};
 use std::marker::Model;
 
-/// A ticket, and the place of its lock among those that are looked at, counted from 0.
+/// A ticket, and the index of its lock among those examined, counted from 0.
 #[derive(Clone, Copy, Debug, PartialEq, Eq)]
 pub struct AtLock {
-    /// The place of the lock.
+    /// The index of the lock.
     pub lock: usize,
     /// The ticket.
     pub ticket: Ticket,
 }
 
-/// The locks that are looked at, and which of the sessions from 1 to 1,024 have a settled wait there.
+/// The locks to examine, and which of the sessions from 1 to 1,024 have a settled wait there.
 #[derive(Clone, Copy)]
 pub struct Scene<'a> {
     /// The locks.
     pub locks: &'a [Lock],
     /// The sessions whose waits are settled.
     pub settled: &'a Sessions,
-    /// The sessions whose waits aren't: all others.
+    /// All other sessions.
     pub unsettled: &'a Sessions,
 }
 
-/// What would follow if a session ended: what it gives up, who gets a lock then, and who goes on waiting.
+/// What would follow if a session ended: which tickets it releases, which waits are granted then, and which go on.
 #[derive(Drop)]
 pub struct Ending {
     session: u16,
@@ -54,28 +54,28 @@ impl Model for Ending {
 }
 
 impl Ending {
-    /// The session that would end.
+    /// Returns the session that would end.
     pub fn session(&self) -> u16
         ensures { result ≡ self.now.session }
     {
         self.session
     }
 
-    /// The granted tickets that it would give up, lock by lock.
+    /// Returns the granted tickets that it would release, lock by lock.
     pub fn holds(&self) -> &[AtLock]
         ensures { result.now ≡ self.now.holds }
     {
         self.holds.as_slice()
     }
 
-    /// The waiting tickets that would be granted, lock by lock, and there in order.
+    /// Returns the waiting tickets that would be granted, lock by lock, and for each lock in the order of the grants.
     pub fn gets(&self) -> &[AtLock]
         ensures { result.now ≡ self.now.gets }
     {
         self.gets.as_slice()
     }
 
-    /// The waiting tickets that would go on waiting, lock by lock, and there in order of arrival, with what would be in their way.
+    /// Returns the tickets that would go on waiting, lock by lock, and for each lock in order of arrival, with what would block them.
     pub fn waits(&self) -> &[StillWaiting]
         ensures { result.now ≡ self.now.waits }
     {
@@ -83,7 +83,7 @@ impl Ending {
     }
 }
 
-/// What would follow if this session ended.
+/// Returns what would follow if this session ended.
 pub fn ending_of(alloc: Global, scene: Scene<'_>, session: u16) -> Result<Ending, AllocError>
     ensures { IfOk result (λ ending. ending ≡ ending_of (set.contains scene.entry.settled.now) scene.entry.unsettled.now scene.entry.locks.now session) }
 {
@@ -103,7 +103,7 @@ pub fn ending_of(alloc: Global, scene: Scene<'_>, session: u16) -> Result<Ending
     })
 }
 
-/// The waiting tickets that would be granted if this session ended, lock by lock.
+/// Returns the waiting tickets that would be granted if this session ended, lock by lock.
 pub(crate) fn gets_of(
     alloc: Global,
     scene: Scene<'_>,
@@ -130,7 +130,7 @@ fn holds_of(alloc: Global, locks: &[Lock], session: u16) -> Result<Vec<AtLock>, 
     Ok(found)
 }
 
-// Adds those at one lock.
+// Adds the granted tickets of a session at one lock.
 fn add_held(
     found: &mut Vec<AtLock>,
     place: usize,

@@ -1,4 +1,4 @@
--- What is answered to a question about a table of locks.
+-- The answers to questions about a table of locks.
 use Rattle.std.specs.Prelude.{◌≡◌, ℕ, Bool, not, List, [], ◌++◌, ◌==◌, length, map}
 use Rattle.std.specs.FinSet as set
 use Rattle.std.specs.Ordering.{nat_cmp}
@@ -24,7 +24,7 @@ use Rattle.mdl_view_program.specs.declared.question.Form.TheVariants.{Text, Json
 use Rattle.mdl_view_program.specs.declared.question.Question.{Question}
 use Rattle.mdl_view_program.specs.declared.question.Question.TheVariants.{Why, Locks, Waits, Graph}
 
--- whether somebody is in somebody's way
+-- whether any session blocks another
 abbrev pub is_jammed : SessionTest → List BookView → Bool
 is_jammed settled locks = not (length (blockings_in settled 0 locks) == 0)
 
@@ -43,7 +43,7 @@ abbrev pub why_answer : Form → NamesView → Bool → List (List Member) → L
 why_answer Text names jammed deadlocks endings left_out = why_text names jammed deadlocks endings ++ left_out_line left_out
 why_answer Json names jammed deadlocks endings left_out = why_json names deadlocks endings left_out
 
--- the text answers the question: roots come in their order, those first whose end lets most waits be granted
+-- the text answers the question. Roots are in order, those first whose end lets most waits be granted
 abbrev pub IsAnswer : Question → NamesView → SessionTest → set.FinSet nat_cmp → List BookView → List LeftOut → List ℕ → Type 0
 IsAnswer (Why form) names settled unsettled locks left_out text =
     (roots : List RootRank) × AreMostFirst (root_ranks settled unsettled locks) roots
@@ -52,7 +52,7 @@ IsAnswer (Locks form) names settled unsettled locks left_out text = text ≡ loc
 IsAnswer (Waits form) names settled unsettled locks left_out text = text ≡ waits_answer form names (blockings_in settled 0 locks) left_out
 IsAnswer Graph names settled unsettled locks left_out text = text ≡ graph_text names (blockings_in settled 0 locks) ++ left_out_comment left_out
 
--- it answers the question about the locks of these books, where no wait is settled
+-- the text answers the question about the locks of these books. No wait there is settled
 abbrev pub AnswersBooks : Question → List BookView → List ℕ → Type 0
 AnswersBooks question books text =
     (everyone : set.FinSet nat_cmp) × IsEverySession everyone

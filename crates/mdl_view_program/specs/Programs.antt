@@ -13,17 +13,17 @@ use Rattle.mdl_timeline.specs.Moments.{moments_of}
 use Rattle.mdl_view_program.specs.declared.question.Question.{Question}
 use Rattle.mdl_view_program.specs.Answers.{AnswersBooks}
 
--- a text answers the question about the locks as the lines up to the one of this number leave them. To a refused script there is no answer
+-- a text answers the question about the locks as the lines up to the one of this number leave them. A refused script has no answer
 abbrev pub AnswersScript : Question → ℕ → Result (List Line) (ℕ × LineError) → List ℕ → Type 0
 AnswersScript question last (Ok lines) text = AnswersBooks question (script_played (lines_until last lines)).world.core.books text
 AnswersScript question last (Err refusal) text = ⊥
 
--- a text is the picture of what happens at the lines of a script up to the one of this number. Of a refused script there is none
+-- a text is the picture of what happens at the lines of a script up to the one of this number. A refused script has no picture
 abbrev pub DrawsScript : ℕ → List ℕ → Result (List Line) (ℕ × LineError) → List ℕ → Type 0
 DrawsScript last bytes (Ok lines) text = text ≡ picture_text (moments_of bytes (lines_until last lines))
 DrawsScript last bytes (Err refusal) text = ⊥
 
--- what is left written by a run that ends so: an answer, where writing failed a beginning of one that is not all of it, and else nothing
+-- what a run with this result has written: an answer, or if writing failed a part of one from its beginning, but not all, and otherwise nothing
 abbrev pub LeavesAnswer : (List ℕ → Type 0) → Result (Unit {0}) Fault → Option (List ℕ) → Option (List ℕ) → Type 0
 LeavesAnswer Answers (Ok done) old new = (text : List ℕ) × Answers text × Appends old new text
 LeavesAnswer Answers (Err Write) old new = (text : List ℕ) × Answers text × AppendsPart old new text

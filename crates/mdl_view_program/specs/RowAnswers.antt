@@ -1,4 +1,4 @@
--- What is answered to a question about the locks of a server's rows.
+-- The answers to questions about the locks of a server's rows.
 use Rattle.std.specs.Prelude.{◌≡◌, ℕ, not, ◌&&◌, List, Option, Result, Ok, Err, map}
 use Rattle.std.specs.FinSet as set
 use Rattle.std.specs.Io.KnownBytes.{Appends, Keeps}
@@ -21,7 +21,7 @@ use Rattle.mdl_view_program.specs.declared.rows.RowsFault.{RowsFault}
 use Rattle.mdl_view_program.specs.declared.rows.RowsFault.TheVariants.{Rows, Fails}
 use Rattle.mdl_view_program.specs.Answers.{IsAnswer}
 
--- a lock is called by its key, and a session by its thread
+-- the names of locks and sessions: a lock has that of its key, and a session that of its thread
 abbrev pub key_name : KeyName → List ℕ
 key_name key = key_text key.namespace key.schema key.table
 
@@ -33,37 +33,37 @@ abbrev pub AreSettled : List ℕ → List Row → set.FinSet nat_cmp → Type 0
 AreSettled threads rows settled =
     (session : ℕ) → set.contains settled session ≡ (is_session session && list_any (is_settled_wait threads session) rows)
 
--- and these are all others
+-- these are all other sessions
 abbrev pub AreOthers : set.FinSet nat_cmp → set.FinSet nat_cmp → Type 0
 AreOthers settled others = (session : ℕ) → set.contains others session ≡ (is_session session && not (set.contains settled session))
 
--- the text answers the question about the locks of these rows, where others were left out
+-- the text answers the question about the locks of these rows, with the rows that were left out
 abbrev pub AnswersRows : Question → List Row → List LeftOut → List ℕ → Type 0
 AnswersRows question rows left_out text =
     (settled : set.FinSet nat_cmp) × (others : set.FinSet nat_cmp) × AreSettled (threads_of rows) rows settled × AreOthers settled others
     × IsAnswer question (names_of_rows (threads_of rows) (keys_of rows)) (set.contains settled) others (locks_of (threads_of rows) rows (keys_of rows)) left_out text
 
--- to refused rows there is no answer
+-- the text answers the question about the rows that were read. Refused rows have no answer
 abbrev pub AnswersRead : Question → Result (List Row) (ℕ × RowError) → Result (List LeftOut) (ℕ × RowError) → List ℕ → Type 0
 AnswersRead question (Ok rows) (Ok left_out) text = AnswersRows question rows left_out text
 AnswersRead question (Ok rows) (Err refusal) text = ⊥
 AnswersRead question (Err refusal) left_out text = ⊥
 
--- the text answers the question about the locks of the rows that these bytes are
+-- the text answers the question about the locks of the rows in these bytes
 abbrev pub AnswersBytes : Question → List ℕ → List ℕ → Type 0
 AnswersBytes question bytes text = AnswersRead question (rows_read bytes) (left_out_read bytes) text
 
--- a line is not refused by want of memory, or by a device
+-- the fault is not a refused line, but out of memory or a failed device
 abbrev pub RefusesNoLine : Fault → Type 0
 RefusesNoLine (Refused number error) = ⊥
 RefusesNoLine fault = Unit {0}
 
--- why rows may be refused
+-- the faults with which these bytes may be refused
 abbrev pub IsRowsFault : List ℕ → RowsFault → Type 0
 IsRowsFault bytes (Rows refusal) = IsRefusalOf (lines_read bytes) refusal
 IsRowsFault bytes (Fails fault) = RefusesNoLine fault
 
--- what is left written by a run that ends so: an answer, where writing failed a beginning of one that is not all of it, and else nothing
+-- what a run with this result has written: an answer, or if writing failed a part of one from its beginning, but not all, and otherwise nothing
 abbrev pub LeavesRowsAnswer : (List ℕ → Type 0) → Result (Unit {0}) RowsFault → Option (List ℕ) → Option (List ℕ) → Type 0
 LeavesRowsAnswer Answers (Ok done) old new = (text : List ℕ) × Answers text × Appends old new text
 LeavesRowsAnswer Answers (Err (Fails Write)) old new = (text : List ℕ) × Answers text × AppendsPart old new text

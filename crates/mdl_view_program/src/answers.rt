@@ -17,7 +17,7 @@ use mdl_view_text::{
 };
 use std::alloc::{AllocError, Global};
 
-/// The answer to a question about locks, as text, with the rows of a server that were left out.
+/// Returns the answer to a question about locks, as text, with the rows of a server that were left out.
 pub fn answer(
     alloc: Global,
     question: Question,
@@ -35,7 +35,7 @@ pub fn answer(
     }
 }
 
-// Which deadlocks there are, who is at the root, and what would follow.
+// Answers which deadlocks there are, which sessions are the roots, and what would follow if they ended.
 fn answer_why(
     alloc: Global,
     form: Form,
@@ -50,7 +50,7 @@ fn answer_why(
     why_in_form(alloc, form, names, scene, &found, &roots, left_out)
 }
 
-// The same in its form.
+// Returns that answer in this form.
 fn why_in_form(
     alloc: Global,
     form: Form,
@@ -72,7 +72,7 @@ fn why_in_form(
     Ok(text)
 }
 
-// Which tickets there are.
+// Answers which tickets there are.
 fn answer_locks(
     alloc: Global,
     form: Form,
@@ -90,7 +90,7 @@ fn answer_locks(
     Ok(text)
 }
 
-// Who is in whose way.
+// Answers who blocks whom.
 fn answer_waits(
     alloc: Global,
     form: Form,
@@ -110,7 +110,7 @@ fn answer_waits(
     Ok(text)
 }
 
-// The same as a graph.
+// Answers who blocks whom, as a graph.
 fn answer_graph(
     alloc: Global,
     names: &Names,
@@ -125,7 +125,7 @@ fn answer_graph(
     Ok(text)
 }
 
-/// The answer to a question about the locks of books, where no wait is settled.
+/// Returns the answer to a question about the locks of books. No wait there is taken as settled.
 #[tactic(auto, using(crate::proofs::AnswerLemmas::books_answered))]
 pub fn answer_of_books(
     alloc: Global,

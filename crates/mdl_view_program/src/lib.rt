@@ -1,7 +1,7 @@
-//! What `mdlview` does once the words of its command line are read: it looks at a table of locks, and writes the answer to a question.
+//! What `mdlview` does once the words of its command line are read: it examines a table of locks, and writes the answer to a question.
 //!
-//! [`view_script`] plays a script, and looks at the locks that it leaves; [`view_rows`] looks at those of a server's rows. [`answer`] answers a question about any locks.
-//! [`draw_script`] draws what happens at the lines of a script.
+//! [`view_script`] plays a script and examines the locks that it leaves. [`view_rows`] examines those of a server's rows. [`answer`] answers a
+//! question about any locks. [`draw_script`] draws what happens at the lines of a script.
 //!
 //! # Example
 //!

@@ -12,8 +12,8 @@ use mdl_timeline::draw;
 use std::alloc::{AllocError, Global};
 use std::io::{Read, Write};
 
-/// Plays a script of statements in one thread to the end of the line of this number, with all that follows from it, and writes the
-/// answer to a question about the locks then. It reads all, looks at all lines, and only then writes.
+/// Plays a script of statements in one thread to the end of the line of this number, with all that follows from it, and writes the answer to a
+/// question about the locks then. It reads all input and parses all lines before it writes.
 #[tactic(auto, using(crate::proofs::AnswerLemmas::leaves_answer, crate::proofs::AnswerLemmas::leaves_part))]
 pub fn view_script<R: Read, W: Write>(
     alloc: Global,
@@ -31,8 +31,8 @@ pub fn view_script<R: Read, W: Write>(
     write_all(output, &answer)
 }
 
-/// Plays a script of statements in one thread to the end of the line of this number, and writes a picture of what happens at its lines, as
-/// SVG. It reads all, looks at all lines, and only then writes.
+/// Plays a script of statements in one thread to the end of the line of this number, and writes a picture of what happens at its lines, as SVG.
+/// It reads all input and parses all lines before it writes.
 #[tactic(auto, using(crate::proofs::AnswerLemmas::leaves_answer, crate::proofs::AnswerLemmas::leaves_part))]
 pub fn draw_script<R: Read, W: Write>(
     alloc: Global,

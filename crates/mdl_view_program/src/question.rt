@@ -1,4 +1,4 @@
-//! What can be asked of a table of locks.
+//! Questions about a table of locks.
 
 /// The form of an answer.
 #[derive(Clone, Copy, Debug, PartialEq, Eq)]
@@ -12,12 +12,12 @@ pub enum Form {
 /// A question about a table of locks.
 #[derive(Clone, Copy, Debug, PartialEq, Eq)]
 pub enum Question {
-    /// Which deadlocks there are, who is at the root of the waits, and what would follow if that session ended.
+    /// Which deadlocks there are, which sessions are the roots of the waits, and what would follow if each of them ended.
     Why(Form),
     /// Which tickets there are.
     Locks(Form),
-    /// Who is in whose way.
+    /// Who blocks whom.
     Waits(Form),
-    /// The same as a graph.
+    /// Who blocks whom, as a graph.
     Graph,
 }

@@ -1,4 +1,4 @@
-//! The locks of a server, by its rows.
+//! Questions about the locks of a server, read from its rows.
 ghost use Rattle.std.specs.Prelude.{◌≡◌, [], IfErr, IfOk, IfSome, OnOk};
 ghost use Rattle.std.specs.Io.KnownBytes.{Appends};
 ghost use Rattle.mdl_lines.specs.Words.{AppendsPart};
@@ -18,10 +18,10 @@ use std::alloc::{AllocError, Global};
 use std::io::{Read, Write};
 use thiserror::Error;
 
-/// Why the rows of a server can't be looked at, or the answer not be written.
+/// Why the rows of a server can't be read, or the answer can't be written.
 #[derive(Debug, Drop, Error)]
 pub enum RowsFault {
-    /// They can't be read as rows.
+    /// The input can't be read as rows.
     #[error("{0}")]
     Rows(LockRowsError),
     /// Memory ran out, or a device failed.
@@ -29,8 +29,8 @@ pub enum RowsFault {
     Fails(Fault),
 }
 
-/// Reads the rows of a server's metadata locks, as `mysql -B` prints them, and writes the answer to a question about the locks. It reads
-/// all, and only then writes.
+/// Reads the rows of a server's metadata locks, as `mysql -B` prints them, and writes the answer to a question about the locks. It reads all
+/// input before it writes.
 #[tactic(auto, using(crate::proofs::RowLemmas::read_refuses_none))]
 pub fn view_rows<R: Read, W: Write>(
     alloc: Global,
@@ -79,7 +79,7 @@ fn answer_of_rows(alloc: Global, question: Question, text: &[u8]) -> Result<Vec<
     Ok(answer(alloc, question, &names, scene, &found.left_out)?)
 }
 
-// What the locks of these keys are called, and the sessions of these threads.
+// The names of the locks of these keys, and of the sessions of these threads.
 fn names_of_rows(
     alloc: Global,
     threads: &IndexSet<u64>,
@@ -94,7 +94,7 @@ fn names_of_rows(
     Ok(names)
 }
 
-// What the locks of these keys are called.
+// The names of the locks of these keys.
 fn names_of_keys(alloc: Global, keys: &[LockKey]) -> Result<Names, AllocError>
     ensures { IfOk result (λ names. names ≡ names_of_rows [] keys.now) }
 {
@@ -105,7 +105,7 @@ fn names_of_keys(alloc: Global, keys: &[LockKey]) -> Result<Names, AllocError>
     Ok(names)
 }
 
-// What the lock of a key is called.
+// The name of the lock of a key.
 fn name_of_key(alloc: Global, key: &LockKey) -> Result<Vec<u8>, AllocError>
     ensures { IfOk result (λ name. name.items ≡ key_name key.now) }
 {

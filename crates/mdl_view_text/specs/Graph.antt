@@ -17,7 +17,7 @@ label names blocking =
     codes " [label=" ++ 34 ∷ quoted (lock_name names blocking.lock) ++ codes ": " ++ reason_text blocking.reason blocking.other.mode
     ++ 34 ∷ codes "];" ++ 10 ∷ []
 
--- an arrow from a waiter to a session in its way
+-- an arrow from a waiter to a session that blocks it
 abbrev pub arrow : NamesView → Blocking → List ℕ
 arrow names blocking =
     codes "  " ++ session_text names blocking.waiter.session ++ codes " -> " ++ session_text names blocking.other.session ++ label names blocking

@@ -19,8 +19,8 @@ use Rattle.mdl_view_text.specs.Names.{NamesView, hex_digit, is_control, lock_nam
 use Rattle.mdl_view_text.specs.Layouts.{listed}
 use Rattle.mdl_view_text.specs.Rows.{session_text, wait_status}
 
--- a byte within quotes: a quote and a backslash have a backslash before them, and a control byte is \u00 and its two digits. So is a byte of 128
--- or more, where the bytes are no UTF-8
+-- a byte within quotes: a quote and a backslash have a backslash before them, and a control byte is \u00 and its two digits. So is a byte of
+-- 128 or more, if the bytes aren't UTF-8
 abbrev pub escape : ℕ → List ℕ
 escape byte = codes "\\u00" ++ hex_digit (byte / 16) ∷ hex_digit (byte % 16) ∷ []
 
@@ -36,7 +36,7 @@ json_string bytes = 34 ∷ flat_map (json_byte (is_utf8 bytes)) bytes ++ 34 ∷ 
 abbrev pub elements : {X : Type 0} → (ℕ → X → List ℕ) → List X → List ℕ
 elements text xs = listed (codes ",") text 0 xs
 
--- a member, behind what stands before its value
+-- a member: what precedes its value, and the value
 abbrev pub text_member : List ℕ → List ℕ → List ℕ
 text_member head bytes = head ++ json_string bytes
 
@@ -76,12 +76,12 @@ left_out_members left_out = codes "],\"left_out\":[" ++ elements left_out_object
 abbrev pub locks_json : NamesView → SessionTest → List BookView → List LeftOut → List ℕ
 locks_json names settled books left_out = codes "{\"locks\":[" ++ elements (lock_object names settled) books ++ left_out_members left_out
 
--- why a ticket is in the way
+-- why a ticket blocks another
 abbrev pub reason_word : Reason → List ℕ
 reason_word Holds = codes "holds"
 reason_word WaitsBefore = codes "waits_before"
 
--- a session in the way of another one
+-- the session that blocks another, and why
 abbrev pub blocker_members : NamesView → Blocking → List ℕ
 blocker_members names blocking =
     number_member (codes ",\"blocking\":") (owner_of names blocking.other.session) ++ text_member (codes ",\"reason\":") (reason_word blocking.reason)
@@ -90,7 +90,7 @@ blocker_members names blocking =
 abbrev pub lock_member : NamesView → ℕ → List ℕ
 lock_member names place = text_member (codes ",\"lock\":") (lock_name names place)
 
--- a waiter, and a session in its way
+-- a waiter, and a session that blocks it
 abbrev pub wait_object : NamesView → ℕ → Blocking → List ℕ
 wait_object names place blocking =
     ticket_members names blocking.waiter ++ lock_member names blocking.lock ++ blocker_members names blocking ++ codes "}"
@@ -103,7 +103,7 @@ waits_json names blockings left_out = codes "{\"waits\":[" ++ elements (wait_obj
 abbrev pub at_lock_object : NamesView → ℕ → AtLock → List ℕ
 at_lock_object names place at = ticket_members names at.ticket ++ lock_member names at.lock ++ codes "}"
 
--- a session that would go on waiting, the first ticket in its way, and how many there are
+-- a ticket that would go on waiting, the first ticket that blocks it, and how many do
 abbrev pub first_members : NamesView → Option Blocking → List ℕ
 first_members names None = []
 first_members names (Some blocking) = blocker_members names blocking
@@ -128,7 +128,7 @@ abbrev pub deadlock_object : NamesView → ℕ → List Member → List ℕ
 deadlock_object names place cycle =
     codes "{\"sessions\":[" ++ elements (member_text names) cycle ++ number_member (codes "],\"victim\":") (owner_of names (victim_of cycle)) ++ codes "}"
 
--- who is at the root of the waits
+-- the deadlocks, and what would follow if each root ended
 abbrev pub why_json : NamesView → List (List Member) → List EndingView → List LeftOut → List ℕ
 why_json names deadlocks endings left_out =
     codes "{\"deadlocks\":[" ++ elements (deadlock_object names) deadlocks ++ codes "],\"roots\":[" ++ elements (ending_object names) endings

@@ -12,20 +12,20 @@ use Rattle.mdl_view.specs.declared.blocking.Reason.{Reason}
 use Rattle.mdl_view.specs.declared.blocking.Reason.TheVariants.{Holds, WaitsBefore}
 use Rattle.mdl_view_text.specs.Names.{NamesView, lock_name, owner_of}
 
--- a text in a column that isn't the last one of its row: a tab follows it
+-- the text of a column that isn't the last one of its row: a tab follows it
 abbrev pub column : List ℕ → List ℕ
 column text = text ++ 9 ∷ []
 
--- a session by the number that its server knows
+-- a session, by its server's number
 abbrev pub session_text : NamesView → ℕ → List ℕ
 session_text names session = decimal (owner_of names session)
 
--- a ticket's row: its lock, its session, its mode, and what has become of it
+-- a ticket's row: its lock, its session, its mode, and its status
 abbrev pub ticket_row : NamesView → ℕ → List ℕ → Ticket → List ℕ
 ticket_row names place status ticket =
     column (lock_name names place) ++ column (session_text names ticket.session) ++ column (mode_name ticket.mode) ++ status ++ 10 ∷ []
 
--- a wait that is settled can't be granted any more
+-- the status of a waiting ticket: a settled wait can't be granted any more
 abbrev pub wait_status : Bool → List ℕ
 wait_status is_settled = if is_settled then codes "SETTLED" else codes "PENDING"
 
@@ -35,12 +35,12 @@ granted_row names place ticket = ticket_row names place (codes "GRANTED") ticket
 abbrev pub waiting_row : NamesView → SessionTest → ℕ → Ticket → List ℕ
 waiting_row names settled place ticket = ticket_row names place (wait_status (settled ticket.session)) ticket
 
--- a lock's rows: those that hold it before those that wait for it
+-- a lock's rows: the tickets that hold it before those that wait for it
 abbrev pub rows_of_lock : NamesView → SessionTest → ℕ → BookView → List ℕ
 rows_of_lock names settled place book =
     flat_map (granted_row names place) book.granted ++ flat_map (waiting_row names settled place) book.waiting
 
--- the rows of locks, the first of which has this place
+-- the rows of locks, the first of which has this index
 abbrev pub rows_from : NamesView → SessionTest → ℕ → List BookView → List ℕ
 rows_from names settled place [] = []
 rows_from names settled place (book ∷ books) = rows_of_lock names settled place book ++ rows_from names settled (suc place) books
@@ -52,12 +52,12 @@ locks_head = column (codes "LOCK") ++ column (codes "SESSION") ++ column (codes 
 abbrev pub locks_text : NamesView → SessionTest → List BookView → List ℕ
 locks_text names settled books = locks_head ++ rows_from names settled 0 books
 
--- why a ticket is in the way
+-- why a ticket blocks another
 abbrev pub reason_text : Reason → Mode → List ℕ
 reason_text Holds mode = codes "holds " ++ mode_name mode
 reason_text WaitsBefore mode = codes "waits before it for " ++ mode_name mode
 
--- the row of a waiter and of a session in its way
+-- the row of a waiter and of a session that blocks it
 abbrev pub wait_row : NamesView → Blocking → List ℕ
 wait_row names blocking =
     column (lock_name names blocking.lock) ++ column (session_text names blocking.waiter.session) ++ column (mode_name blocking.waiter.mode)

@@ -1,4 +1,4 @@
-//! Deadlocks.
+//! Deadlocks as text.
 ghost use Rattle.std.specs.Prelude.{◌≡◌, ◌++◌, codes, flat_map, OnOk};
 ghost use Rattle.mdl_view_text.specs.Layouts.{listed};
 ghost use Rattle.mdl_view_text.specs.Why.{cycle_text, deadlock_line, link_text, next_member, victim_text};
@@ -9,7 +9,7 @@ use crate::text::{push, push_session};
 use mdl_graph::{Cycle, Member, victim};
 use std::alloc::{AllocError, Global};
 
-/// Puts deadlocks last, a line for each: who waits for whom, and who has to give up its wish.
+/// Appends a line for each deadlock: who waits for whom, and which session is the victim.
 pub(crate) fn push_deadlocks(
     out: &mut Vec<u8>,
     alloc: Global,
@@ -24,7 +24,7 @@ pub(crate) fn push_deadlocks(
     Ok(())
 }
 
-// A deadlock.
+// Appends the line of a deadlock.
 fn push_deadlock(
     out: &mut Vec<u8>,
     alloc: Global,
@@ -40,7 +40,7 @@ fn push_deadlock(
     push_line_with(out, alloc, b"deadlock: ", &cycle, &rest)
 }
 
-// Who waits for whom on it.
+// Appends who waits for whom on a cycle.
 fn push_cycle(out: &mut Vec<u8>, names: &Names, members: &[Member]) -> Result<(), AllocError>
     ensures { OnOk result (out.new.items ≡ out.old.items ++ cycle_text names.now members.now) }
 {
@@ -51,7 +51,7 @@ fn push_cycle(out: &mut Vec<u8>, names: &Names, members: &[Member]) -> Result<()
     Ok(())
 }
 
-// For whom the member of this place waits.
+// Appends whom the member at this index waits for.
 #[tactic(auto, unfolding(crate::specs::Why::link_text))]
 fn push_link(
     out: &mut Vec<u8>,
@@ -67,7 +67,7 @@ fn push_link(
     push_session(out, names, next_member(members, place))
 }
 
-// The session behind that of this place, and behind the last one the first.
+// The session after that at this index. After the last one it is the first.
 fn next_member(members: &[Member], place: usize) -> u16
     ensures { result ≡ next_member members.now place }
 {
@@ -80,7 +80,7 @@ fn next_member(members: &[Member], place: usize) -> u16
     }
 }
 
-// Who has to give up its wish.
+// Appends the victim.
 fn push_victim(out: &mut Vec<u8>, names: &Names, deadlock: &Cycle) -> Result<(), AllocError>
     ensures { OnOk result (out.new.items ≡ out.old.items ++ victim_text names.now deadlock.now) }
 {

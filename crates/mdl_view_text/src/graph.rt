@@ -7,8 +7,8 @@ use crate::text::{push, push_reason, push_session};
 use mdl_view::Blocking;
 use std::alloc::{AllocError, Global};
 
-/// A graph of who waits for whom, in Graphviz's DOT language: an arrow from each waiting ticket's session to each session in its way,
-/// with the lock and the reason beside it. A quote or a backslash in a name has a backslash before it.
+/// Returns a graph of who waits for whom, in Graphviz's DOT language: an arrow from each waiting ticket's session to each session that blocks
+/// it, labelled with the lock and the reason. A quote or a backslash in a name has a backslash before it.
 pub fn graph_text(
     alloc: Global,
     names: &Names,
@@ -23,7 +23,7 @@ pub fn graph_text(
     Ok(out)
 }
 
-// The arrows.
+// Appends the arrows.
 fn push_arrows(out: &mut Vec<u8>, names: &Names, blockings: &[Blocking]) -> Result<(), AllocError>
     ensures { OnOk result (out.new.items ≡ out.old.items ++ flat_map (arrow names.now) blockings.now) }
 {
@@ -33,7 +33,7 @@ fn push_arrows(out: &mut Vec<u8>, names: &Names, blockings: &[Blocking]) -> Resu
     Ok(())
 }
 
-// An arrow.
+// Appends an arrow.
 fn push_arrow(out: &mut Vec<u8>, names: &Names, blocking: Blocking) -> Result<(), AllocError>
     ensures { OnOk result (out.new.items ≡ out.old.items ++ arrow names.now blocking) }
 {
@@ -44,7 +44,7 @@ fn push_arrow(out: &mut Vec<u8>, names: &Names, blocking: Blocking) -> Result<()
     push_label(out, names, blocking)
 }
 
-// What stands beside it.
+// Appends the label of an arrow.
 fn push_label(out: &mut Vec<u8>, names: &Names, blocking: Blocking) -> Result<(), AllocError>
     ensures { OnOk result (out.new.items ≡ out.old.items ++ label names.now blocking) }
 {
@@ -55,7 +55,7 @@ fn push_label(out: &mut Vec<u8>, names: &Names, blocking: Blocking) -> Result<()
     push(out, b"\"];\n")
 }
 
-// A text within quotes.
+// Appends a text within quotes.
 fn push_quoted(out: &mut Vec<u8>, text: &[u8]) -> Result<(), AllocError>
     ensures { OnOk result (out.new.items ≡ out.old.items ++ quoted text.now) }
 {
@@ -65,7 +65,7 @@ fn push_quoted(out: &mut Vec<u8>, text: &[u8]) -> Result<(), AllocError>
     Ok(())
 }
 
-// A byte within quotes.
+// Appends a byte within quotes.
 fn push_quoted_byte(out: &mut Vec<u8>, byte: u8) -> Result<(), AllocError>
     ensures { OnOk result (out.new.items ≡ out.old.items ++ quoted_byte byte) }
 {

@@ -17,8 +17,8 @@ use mdl_lock_rows::LeftOut;
 use mdl_view::{Blocking, Lock, Reason, Scene};
 use std::alloc::{AllocError, Global};
 
-/// All tickets as an object of JSON: of each lock its name, and the tickets that hold it and wait for it. A text has the bytes of a
-/// name where they are UTF-8, and else each byte from 128 on as the character of that number.
+/// Returns all tickets as an object of JSON: for each lock its name, and the tickets that hold it and wait for it. The text of a name
+/// has the name's bytes if they are UTF-8, and otherwise each byte from 128 on as the character of that number.
 pub fn locks_json(
     alloc: Global,
     names: &Names,
@@ -34,7 +34,7 @@ pub fn locks_json(
     Ok(out)
 }
 
-// Each lock.
+// Appends all locks.
 fn push_locks(
     out: &mut Vec<u8>,
     names: &Names,
@@ -50,7 +50,7 @@ fn push_locks(
     Ok(())
 }
 
-// A lock.
+// Appends a lock.
 fn push_lock(
     out: &mut Vec<u8>,
     names: &Names,
@@ -68,7 +68,7 @@ fn push_lock(
     push(out, b"]}")
 }
 
-// Those that hold it.
+// Appends the tickets that hold a lock.
 fn push_granted(out: &mut Vec<u8>, names: &Names, tickets: &[Ticket]) -> Result<(), AllocError>
     ensures { OnOk result (out.new.items ≡ out.old.items ++ listed (codes ",") (granted_object names.now) 0 tickets.now) }
 {
@@ -80,7 +80,7 @@ fn push_granted(out: &mut Vec<u8>, names: &Names, tickets: &[Ticket]) -> Result<
     Ok(())
 }
 
-// Those that wait for it.
+// Appends the tickets that wait for a lock.
 fn push_waiting(
     out: &mut Vec<u8>,
     names: &Names,
@@ -96,7 +96,7 @@ fn push_waiting(
     Ok(())
 }
 
-// One that waits for it.
+// Appends a ticket that waits for a lock.
 fn push_waiter(
     out: &mut Vec<u8>,
     names: &Names,
@@ -111,7 +111,7 @@ fn push_waiter(
     push(out, b"}")
 }
 
-/// Who is in whose way, as an object of JSON: each waiting ticket with each ticket in its way.
+/// Returns who blocks whom, as an object of JSON: each waiting ticket with each ticket that blocks it.
 pub fn waits_json(
     alloc: Global,
     names: &Names,
@@ -127,7 +127,7 @@ pub fn waits_json(
     Ok(out)
 }
 
-// Each pair.
+// Appends each pair of a waiting ticket and one that blocks it.
 fn push_waits(out: &mut Vec<u8>, names: &Names, blockings: &[Blocking]) -> Result<(), AllocError>
     ensures { OnOk result (out.new.items ≡ out.old.items ++ listed (codes ",") (wait_object names.now) 0 blockings.now) }
 {
@@ -138,7 +138,7 @@ fn push_waits(out: &mut Vec<u8>, names: &Names, blockings: &[Blocking]) -> Resul
     Ok(())
 }
 
-// A pair.
+// Appends a pair.
 fn push_wait(out: &mut Vec<u8>, names: &Names, blocking: Blocking) -> Result<(), AllocError>
     ensures { OnOk result (out.new.items ≡ out.old.items ++ wait_object names.now 0 blocking) }
 {
@@ -148,7 +148,7 @@ fn push_wait(out: &mut Vec<u8>, names: &Names, blocking: Blocking) -> Result<(),
     push(out, b"}")
 }
 
-/// Puts last who is in the way, and why, as members.
+/// Appends which ticket blocks, and why, as members.
 pub(crate) fn push_blocker_members(
     out: &mut Vec<u8>,
     names: &Names,
@@ -161,7 +161,7 @@ pub(crate) fn push_blocker_members(
     push_mode_member(out, b",\"blocking_mode\":", blocking.other.mode)
 }
 
-// Why a ticket is in the way.
+// Why a ticket blocks another.
 fn reason_word(reason: Reason) -> &'static [u8]
     ensures { result.now ≡ reason_word reason }
 {

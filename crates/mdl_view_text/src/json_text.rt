@@ -1,4 +1,4 @@
-//! Texts of JSON.
+//! Pieces of JSON.
 ghost use Rattle.std.specs.Prelude.{◌≡◌, ◌++◌, codes, flat_map, OnOk};
 ghost use Rattle.std.specs.Str.{is_utf8};
 ghost use Rattle.mdl_key.specs.Modes.{mode_name};
@@ -15,7 +15,7 @@ use mdl_lock_rows::LeftOut;
 use std::alloc::AllocError;
 use std::str;
 
-/// Puts bytes last as a text of JSON.
+/// Appends bytes as a string of JSON.
 pub(crate) fn push_string(out: &mut Vec<u8>, bytes: &[u8]) -> Result<(), AllocError>
     ensures { OnOk result (out.new.items ≡ out.old.items ++ json_string bytes.now) }
 {
@@ -35,7 +35,7 @@ fn is_text(bytes: &[u8]) -> bool
     }
 }
 
-// What stands within the quotes.
+// Appends what is within the quotes.
 fn push_bytes(out: &mut Vec<u8>, is_text: bool, bytes: &[u8]) -> Result<(), AllocError>
     ensures { OnOk result (out.new.items ≡ out.old.items ++ flat_map (json_byte is_text) bytes.now) }
 {
@@ -45,7 +45,7 @@ fn push_bytes(out: &mut Vec<u8>, is_text: bool, bytes: &[u8]) -> Result<(), Allo
     Ok(())
 }
 
-// A byte within quotes.
+// Appends a byte within quotes.
 fn push_byte(out: &mut Vec<u8>, is_text: bool, byte: u8) -> Result<(), AllocError>
     ensures { OnOk result (out.new.items ≡ out.old.items ++ json_byte is_text byte) }
 {
@@ -68,7 +68,7 @@ fn push_escaped(out: &mut Vec<u8>, byte: u8) -> Result<(), AllocError>
     Ok(())
 }
 
-/// Puts a text last, behind what stands before it.
+/// Appends a member whose value is a text. `head` is what precedes the value.
 pub(crate) fn push_text_member(
     out: &mut Vec<u8>,
     head: &[u8],
@@ -80,7 +80,7 @@ pub(crate) fn push_text_member(
     push_string(out, bytes)
 }
 
-/// Puts a number last, behind what stands before it.
+/// Appends a member whose value is a number. `head` is what precedes the value.
 pub(crate) fn push_number_member(
     out: &mut Vec<u8>,
     head: &[u8],
@@ -92,7 +92,7 @@ pub(crate) fn push_number_member(
     push_number(out, number)
 }
 
-/// Puts a session last, behind what stands before it.
+/// Appends a member whose value is a session. `head` is what precedes the value.
 pub(crate) fn push_session_member(
     out: &mut Vec<u8>,
     head: &[u8],
@@ -104,14 +104,14 @@ pub(crate) fn push_session_member(
     push_number_member(out, head, names.session(session))
 }
 
-/// Puts a mode last, behind what stands before it.
+/// Appends a member whose value is a mode. `head` is what precedes the value.
 pub(crate) fn push_mode_member(out: &mut Vec<u8>, head: &[u8], mode: Mode) -> Result<(), AllocError>
     ensures { OnOk result (out.new.items ≡ out.old.items ++ text_member head.now (mode_name mode)) }
 {
     push_text_member(out, head, mode.as_str().as_bytes())
 }
 
-/// Puts the beginning of an object last: a ticket's session, and its mode.
+/// Appends the beginning of an object: a ticket's session, and its mode.
 pub(crate) fn push_ticket_members(
     out: &mut Vec<u8>,
     names: &Names,
@@ -123,7 +123,7 @@ pub(crate) fn push_ticket_members(
     push_mode_member(out, b",\"mode\":", ticket.mode)
 }
 
-/// Puts the name of a lock last, as a member.
+/// Appends the name of a lock as a member.
 pub(crate) fn push_lock_member(
     out: &mut Vec<u8>,
     names: &Names,
@@ -134,7 +134,7 @@ pub(crate) fn push_lock_member(
     push_text_member(out, b",\"lock\":", names.lock(place))
 }
 
-/// Puts the end of an answer last: the rows that are left out.
+/// Appends the end of an answer: the rows that are left out.
 pub(crate) fn push_left_out(out: &mut Vec<u8>, classes: &[LeftOut]) -> Result<(), AllocError>
     ensures { OnOk result (out.new.items ≡ out.old.items ++ left_out_members classes.now) }
 {
@@ -143,7 +143,7 @@ pub(crate) fn push_left_out(out: &mut Vec<u8>, classes: &[LeftOut]) -> Result<()
     push(out, b"]}\n")
 }
 
-// Each class of them.
+// Appends each class of rows left out.
 fn push_classes(out: &mut Vec<u8>, classes: &[LeftOut]) -> Result<(), AllocError>
     ensures { OnOk result (out.new.items ≡ out.old.items ++ listed (codes ",") left_out_object 0 classes.now) }
 {
@@ -154,7 +154,7 @@ fn push_classes(out: &mut Vec<u8>, classes: &[LeftOut]) -> Result<(), AllocError
     Ok(())
 }
 
-// A class of them.
+// Appends a class of rows left out.
 fn push_class(out: &mut Vec<u8>, left: &LeftOut) -> Result<(), AllocError>
     ensures { OnOk result (out.new.items ≡ out.old.items ++ left_out_object 0 left.now) }
 {

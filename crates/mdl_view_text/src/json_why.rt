@@ -17,7 +17,7 @@ use mdl_lock_rows::LeftOut;
 use mdl_view::{AtLock, Blocking, Ending, RootRank, Scene, StillWaiting, ending_of};
 use std::alloc::{AllocError, Global};
 
-/// The deadlocks, and what would follow if one of these sessions ended, in the order given, as an object of JSON. Nothing is cut.
+/// Returns the deadlocks, and what would follow if each of these sessions ended, in the order given, as an object of JSON. Nothing is cut.
 pub fn why_json(
     alloc: Global,
     names: &Names,
@@ -38,7 +38,7 @@ pub fn why_json(
     Ok(out)
 }
 
-// Each deadlock.
+// Appends all deadlocks.
 fn push_deadlocks(out: &mut Vec<u8>, names: &Names, deadlocks: &[Cycle]) -> Result<(), AllocError>
     ensures { OnOk result (out.new.items ≡ out.old.items ++ listed (codes ",") (deadlock_object names.now) 0 deadlocks.now) }
 {
@@ -49,7 +49,7 @@ fn push_deadlocks(out: &mut Vec<u8>, names: &Names, deadlocks: &[Cycle]) -> Resu
     Ok(())
 }
 
-// A deadlock.
+// Appends a deadlock.
 fn push_deadlock(out: &mut Vec<u8>, names: &Names, deadlock: &Cycle) -> Result<(), AllocError>
     ensures { OnOk result (out.new.items ≡ out.old.items ++ deadlock_object names.now 0 deadlock.now) }
 {
@@ -59,7 +59,7 @@ fn push_deadlock(out: &mut Vec<u8>, names: &Names, deadlock: &Cycle) -> Result<(
     push(out, b"}")
 }
 
-// Its members.
+// Appends the members of a deadlock.
 fn push_members(out: &mut Vec<u8>, names: &Names, members: &[Member]) -> Result<(), AllocError>
     ensures { OnOk result (out.new.items ≡ out.old.items ++ listed (codes ",") (member_text names.now) 0 members.now) }
 {
@@ -70,7 +70,7 @@ fn push_members(out: &mut Vec<u8>, names: &Names, members: &[Member]) -> Result<
     Ok(())
 }
 
-// What would follow if one of them ended.
+// Appends what would follow if each of the roots ended.
 fn push_endings(
     out: &mut Vec<u8>,
     alloc: Global,
@@ -88,7 +88,7 @@ fn push_endings(
     Ok(())
 }
 
-// What would follow if a root ended.
+// Appends what would follow if a root ended.
 fn push_root(
     out: &mut Vec<u8>,
     alloc: Global,
@@ -103,7 +103,7 @@ fn push_root(
     push_ending(out, names, &ending)
 }
 
-// What would follow if this one ended.
+// Appends an ending.
 fn push_ending(out: &mut Vec<u8>, names: &Names, ending: &Ending) -> Result<(), AllocError>
     ensures { OnOk result (out.new.items ≡ out.old.items ++ ending_object names.now 0 ending.now) }
 {
@@ -117,7 +117,7 @@ fn push_ending(out: &mut Vec<u8>, names: &Names, ending: &Ending) -> Result<(), 
     push(out, b"]}")
 }
 
-// Tickets that are held, or would be granted.
+// Appends tickets that are held, or would be granted.
 fn push_tickets(out: &mut Vec<u8>, names: &Names, tickets: &[AtLock]) -> Result<(), AllocError>
     ensures { OnOk result (out.new.items ≡ out.old.items ++ listed (codes ",") (at_lock_object names.now) 0 tickets.now) }
 {
@@ -128,7 +128,7 @@ fn push_tickets(out: &mut Vec<u8>, names: &Names, tickets: &[AtLock]) -> Result<
     Ok(())
 }
 
-// One of them.
+// Appends one of these tickets.
 fn push_ticket(out: &mut Vec<u8>, names: &Names, at: AtLock) -> Result<(), AllocError>
     ensures { OnOk result (out.new.items ≡ out.old.items ++ at_lock_object names.now 0 at) }
 {
@@ -137,7 +137,7 @@ fn push_ticket(out: &mut Vec<u8>, names: &Names, at: AtLock) -> Result<(), Alloc
     push(out, b"}")
 }
 
-// Who would go on waiting.
+// Appends the tickets that would go on waiting.
 fn push_waits(out: &mut Vec<u8>, names: &Names, waits: &[StillWaiting]) -> Result<(), AllocError>
     ensures { OnOk result (out.new.items ≡ out.old.items ++ listed (codes ",") (still_waiting_object names.now) 0 waits.now) }
 {
@@ -148,7 +148,7 @@ fn push_waits(out: &mut Vec<u8>, names: &Names, waits: &[StillWaiting]) -> Resul
     Ok(())
 }
 
-// One who would.
+// Appends a ticket that would go on waiting.
 fn push_wait(out: &mut Vec<u8>, names: &Names, wait: StillWaiting) -> Result<(), AllocError>
     ensures { OnOk result (out.new.items ≡ out.old.items ++ still_waiting_object names.now 0 wait) }
 {
@@ -159,7 +159,7 @@ fn push_wait(out: &mut Vec<u8>, names: &Names, wait: StillWaiting) -> Result<(),
     push(out, b"}")
 }
 
-// What is in its way first.
+// Appends the first ticket that blocks it, if there is one.
 fn push_first(out: &mut Vec<u8>, names: &Names, first: Option<Blocking>) -> Result<(), AllocError>
     ensures { OnOk result (out.new.items ≡ out.old.items ++ first_members names.now first) }
 {

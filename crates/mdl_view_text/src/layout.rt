@@ -1,14 +1,14 @@
-//! Marks between elements, and lines that end within a hundred columns.
+//! Separators between elements, and lines of at most 100 bytes.
 ghost use Rattle.std.specs.Prelude.{◌≡◌, ◌≤◌, ◌-◌, ◌++◌, length, get_or, OnOk};
 ghost use Rattle.mdl_view_text.specs.Layouts.{LinesFit, begin_of_character, cut, goes_on, line_of, line_with, mark_before, most_columns};
 
 use crate::text::push;
 use std::alloc::{AllocError, Global};
 
-// How many bytes a line has at most.
+// The greatest number of bytes of a line.
 const MOST_COLUMNS: usize = 100;
 
-/// Puts a mark last, unless the element of this place is the first one.
+/// Appends a separator, unless the index of the next element is 0.
 pub(crate) fn push_mark(out: &mut Vec<u8>, mark: &[u8], place: usize) -> Result<(), AllocError>
     ensures { OnOk result (out.new.items ≡ out.old.items ++ mark_before mark.now place) }
 {
@@ -18,7 +18,7 @@ pub(crate) fn push_mark(out: &mut Vec<u8>, mark: &[u8], place: usize) -> Result<
     push(out, mark)
 }
 
-/// Puts a line last, of which so much is printed as there is room for.
+/// Appends a line, as much of it as there is room for.
 pub(crate) fn push_line(out: &mut Vec<u8>, text: &[u8]) -> Result<(), AllocError>
     ensures { OnOk result (out.new.items ≡ out.old.items ++ line_of text.now) }
 {
@@ -26,7 +26,7 @@ pub(crate) fn push_line(out: &mut Vec<u8>, text: &[u8]) -> Result<(), AllocError
     push(out, b"\n")
 }
 
-/// Puts a line last that has a name in it. Where there isn't room for all, the name is cut.
+/// Appends a line with a name in it. If there isn't room for all, the name is cut first.
 pub(crate) fn push_line_with(
     out: &mut Vec<u8>,
     alloc: Global,
@@ -46,7 +46,7 @@ pub(crate) fn push_line_with(
     push_line(out, &line)
 }
 
-// Puts a text last, as much of it as there is room for.
+// Appends a text, as much of it as there is room for.
 fn push_cut(out: &mut Vec<u8>, text: &[u8], room: usize) -> Result<(), AllocError>
     ensures { OnOk result (out.new.items ≡ out.old.items ++ cut room text.now) }
 {
@@ -58,7 +58,7 @@ fn push_cut(out: &mut Vec<u8>, text: &[u8], room: usize) -> Result<(), AllocErro
     push(out, b"..")
 }
 
-// The last place up to this one where a character begins.
+// The last index up to this one where a character begins.
 fn begin_of_character(text: &[u8], most: usize) -> usize
     ensures place { result ≡ begin_of_character text.now most }
     ensures within { result ≤ most }
@@ -72,7 +72,7 @@ fn begin_of_character(text: &[u8], most: usize) -> usize
     0
 }
 
-// Whether the byte of this place goes on with a character that began before it.
+// Whether the byte at this index continues a character of UTF-8 that began before it.
 fn goes_on(text: &[u8], place: usize) -> bool
     ensures { result ≡ goes_on (get_or text.now place 0) }
 {
@@ -82,7 +82,7 @@ fn goes_on(text: &[u8], place: usize) -> bool
     }
 }
 
-/// No line is longer than a hundred columns.
+/// No line is longer than 100 bytes: a law, proved as the contract of a function that does nothing.
 pub fn lines_fit()
     ensures { LinesFit }
 {}

@@ -1,4 +1,4 @@
-//! The rows of a server that are left out, as they are named under an answer.
+//! The line under an answer that says which rows of a server are left out.
 ghost use Rattle.std.specs.Prelude.{◌≡◌, ◌+◌, ◌-◌, ◌++◌, codes, take, OnOk, IfOk};
 ghost use Rattle.mdl_view_text.specs.LeftOuts.{class_text, left_out_comment, left_out_line, left_out_words, more_classes, most_classes, rows_among, rows_left_out};
 ghost use Rattle.mdl_view_text.specs.Layouts.{listed};
@@ -9,10 +9,10 @@ use crate::text::{push, push_number};
 use mdl_lock_rows::LeftOut;
 use std::alloc::{AllocError, Global};
 
-// How many classes of rows are named at most.
+// The greatest number of classes of rows that are named.
 const MOST_CLASSES: usize = 8;
 
-/// Adds a line that says how many rows are left out, of which object types and lock types: nothing, where none is.
+/// Appends a line that says how many rows are left out, and of which object types and lock types. Appends nothing if none is left out.
 pub fn add_left_out(out: &mut Vec<u8>, alloc: Global, classes: &[LeftOut]) -> Result<(), AllocError>
     ensures { OnOk result (out.new.items ≡ out.old.items ++ left_out_line classes.now) }
 {
@@ -23,7 +23,7 @@ pub fn add_left_out(out: &mut Vec<u8>, alloc: Global, classes: &[LeftOut]) -> Re
     push_line(out, &words)
 }
 
-/// Adds the same as a comment of Graphviz's DOT language.
+/// Appends the line of [`add_left_out`] as a comment of Graphviz's DOT language.
 pub fn add_left_out_comment(
     out: &mut Vec<u8>,
     alloc: Global,
@@ -38,7 +38,7 @@ pub fn add_left_out_comment(
     add_left_out(out, alloc, classes)
 }
 
-// What the line says.
+// The words of the line.
 fn left_out_words(alloc: Global, classes: &[LeftOut]) -> Result<Vec<u8>, AllocError>
     ensures { IfOk result (λ words. words.items ≡ left_out_words classes.now) }
 {
@@ -50,7 +50,7 @@ fn left_out_words(alloc: Global, classes: &[LeftOut]) -> Result<Vec<u8>, AllocEr
     Ok(words)
 }
 
-// How many rows they are together: more than can be counted can't be in memory.
+// The number of rows of all classes. It can't overflow, since all rows are in memory. If it did, that would count as out of memory.
 fn rows_among(classes: &[LeftOut]) -> Result<u64, AllocError>
     ensures { IfOk result (λ count. count ≡ rows_among classes.now) }
 {
@@ -64,7 +64,7 @@ fn rows_among(classes: &[LeftOut]) -> Result<u64, AllocError>
     Ok(count)
 }
 
-// How many rows there are.
+// Appends how many rows are left out.
 fn push_count(out: &mut Vec<u8>, count: u64) -> Result<(), AllocError>
     ensures { OnOk result (out.new.items ≡ out.old.items ++ rows_left_out count) }
 {
@@ -76,7 +76,7 @@ fn push_count(out: &mut Vec<u8>, count: u64) -> Result<(), AllocError>
     }
 }
 
-// Which they are.
+// Appends the classes.
 fn push_classes(out: &mut Vec<u8>, classes: &[LeftOut]) -> Result<(), AllocError>
     ensures { OnOk result (out.new.items ≡ out.old.items ++ listed (codes ", ") class_text 0 classes.now) }
 {
@@ -87,7 +87,7 @@ fn push_classes(out: &mut Vec<u8>, classes: &[LeftOut]) -> Result<(), AllocError
     Ok(())
 }
 
-// An object type, a lock type, and how many rows are of them.
+// Appends an object type, a lock type, and how many rows are of them.
 fn push_class(out: &mut Vec<u8>, left: &LeftOut) -> Result<(), AllocError>
     ensures { OnOk result (out.new.items ≡ out.old.items ++ class_text 0 left.now) }
 {
@@ -98,7 +98,7 @@ fn push_class(out: &mut Vec<u8>, left: &LeftOut) -> Result<(), AllocError>
     push_number(out, left.count as u64)
 }
 
-// The first of them, as many as are named.
+// The first classes, which are named.
 fn first_classes(classes: &[LeftOut]) -> &[LeftOut]
     ensures { result.now ≡ take most_classes classes.now }
 {
@@ -108,7 +108,7 @@ fn first_classes(classes: &[LeftOut]) -> &[LeftOut]
     &classes[..MOST_CLASSES]
 }
 
-// How many of so many classes aren't named.
+// Appends how many of this number of classes aren't named.
 fn push_more(out: &mut Vec<u8>, classes: usize) -> Result<(), AllocError>
     ensures { OnOk result (out.new.items ≡ out.old.items ++ more_classes (classes - most_classes)) }
 {

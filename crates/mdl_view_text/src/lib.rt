@@ -1,9 +1,9 @@
 //! The answers of [`mdl_view`] as text: tables of locks and waits, the graph of waits, and what would follow if a session ended.
 //!
-//! [`Names`] says what locks and sessions are called. [`locks_text`] and [`waits_text`] print tables, a line for each row, with tabs
-//! between the columns; [`graph_text`] prints a graph in Graphviz's DOT language; and [`why_text`] prints the deadlocks, and what would
-//! follow if one of the sessions ended that are in the way of others and wait for nobody. [`locks_json`], [`waits_json`] and
-//! [`why_json`] print the same facts as JSON, and [`add_left_out`] names the rows of a server that were left out.
+//! [`Names`] has the names of locks and sessions. [`locks_text`] and [`waits_text`] print tables, a line for each row, with tabs between the
+//! columns. [`graph_text`] prints a graph in Graphviz's DOT language. [`why_text`] prints the deadlocks, and for each session that blocks
+//! others and waits for none, what would follow if it ended. [`locks_json`], [`waits_json`] and [`why_json`] print the same facts as JSON,
+//! and [`add_left_out`] names the rows of a server that were left out.
 //!
 //! # Example
 //!

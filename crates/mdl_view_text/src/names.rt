@@ -1,4 +1,4 @@
-//! What locks and sessions are called.
+//! The names of locks and sessions.
 ghost use Rattle.std.specs.Prelude.{◌≡◌, ◌<◌, ◌/◌, ◌%◌, ◌++◌, ◌∷◌, [], map, OnErr, OnOk, IfOk};
 ghost use Rattle.mdl_view_text.specs.Names.{book_text, hex_digit, key_text, knows_session, lock_name, owner_of, printed, printed_byte};
 
@@ -8,7 +8,7 @@ use mdl_key::{Key, Namespace};
 use std::alloc::{AllocError, Global};
 use std::marker::Model;
 
-/// What the locks of a table are called, by their places from 0 on, and by which numbers a server knows the sessions 1, 2, and so on.
+/// The names of locks, by their indices from 0 on, and the numbers by which a server knows the sessions 1, 2, and so on.
 #[derive(Drop)]
 pub struct Names {
     locks: Vec<Vec<u8>>,
@@ -25,7 +25,7 @@ impl Model for Names {
 }
 
 impl Names {
-    /// No names: locks are printed as nothing, and sessions by their own numbers.
+    /// Returns no names: locks are printed as nothing, and sessions by their own numbers.
     pub fn new(alloc: Global) -> Names
         ensures { result ≡ record { locks = []; owners = [] } }
     {
@@ -35,7 +35,7 @@ impl Names {
         }
     }
 
-    /// Says what the lock of the next place is called.
+    /// Adds the name of the lock with the next index.
     pub fn add_lock(&mut self, name: Vec<u8>) -> Result<(), AllocError>
         ensures added { OnOk result (self.new ≡ record self.old { locks = self.old.locks ++ name.items ∷ [] }) }
         ensures unchanged { OnErr result (self.new ≡ self.old) }
@@ -46,7 +46,7 @@ impl Names {
         }
     }
 
-    /// Says by which number the server knows the next session.
+    /// Adds the number by which the server knows the next session.
     pub fn add_session(&mut self, owner: u64) -> Result<(), AllocError>
         ensures added { OnOk result (self.new ≡ record self.old { owners = self.old.owners ++ owner ∷ [] }) }
         ensures unchanged { OnErr result (self.new ≡ self.old) }
@@ -57,7 +57,7 @@ impl Names {
         }
     }
 
-    /// What the lock of a place is called: nothing, where that isn't known.
+    /// Returns the name of the lock with this index, or an empty one if it isn't known.
     pub fn lock(&self, place: usize) -> &[u8]
         ensures { result.now ≡ lock_name self.now place }
     {
@@ -67,7 +67,7 @@ impl Names {
         }
     }
 
-    /// By which number the server knows a session: by its own, where that isn't known. No session has the number 0.
+    /// Returns the number by which the server knows a session, or the session's own if that isn't known. No session has the number 0.
     pub fn session(&self, session: u16) -> u64
         ensures { result ≡ owner_of self.now session }
     {
@@ -88,9 +88,9 @@ impl Names {
     }
 }
 
-/// What a lock is called whose schema and table have these names: `TABLE shop.orders`, or `USER n` for a user-level lock, whose name
-/// stands in place of a schema's. A backslash or a dot in a name has a backslash before it, and a control byte is printed as `\x` and
-/// two digits. Names that the namespace doesn't have are left out.
+/// Returns the name of a lock whose schema and table have these names: `TABLE shop.orders`, or `USER n` for a user-level lock, whose name is
+/// passed as `schema`. A backslash or a dot in a name has a backslash before it, and a control byte is printed as `\x` and two digits. Names
+/// that the namespace doesn't have are left out.
 pub fn key_text(
     alloc: Global,
     namespace: Namespace,
@@ -110,7 +110,7 @@ pub fn key_text(
     Ok(out)
 }
 
-/// What the locks of these books are called. Sessions are printed by their own numbers.
+/// Returns the names of the locks of these books. Sessions are printed by their own numbers.
 pub fn names_of(alloc: Global, books: &[Book]) -> Result<Names, AllocError>
     ensures { IfOk result (λ names. names ≡ record { locks = map book_text books.now; owners = [] }) }
 {
@@ -121,7 +121,7 @@ pub fn names_of(alloc: Global, books: &[Book]) -> Result<Names, AllocError>
     Ok(names)
 }
 
-// What the lock of a key is called.
+// The name of the lock of a key.
 fn text_of_key(alloc: Global, key: &Key) -> Result<Vec<u8>, AllocError>
     ensures { IfOk result (λ text. text.items ≡ key_text key.now.namespace key.now.schema key.now.table) }
 {
@@ -133,7 +133,7 @@ fn text_of_key(alloc: Global, key: &Key) -> Result<Vec<u8>, AllocError>
     )
 }
 
-// What the lock of a schema is called.
+// Appends the name of the lock of a schema.
 fn push_schema(out: &mut Vec<u8>, schema: &[u8]) -> Result<(), AllocError>
     ensures { OnOk result (out.new.items ≡ out.old.items ++ key_text Namespace.Schema schema.now []) }
 {
@@ -141,7 +141,7 @@ fn push_schema(out: &mut Vec<u8>, schema: &[u8]) -> Result<(), AllocError>
     push_name(out, schema)
 }
 
-// What a user-level lock is called.
+// Appends the name of a user-level lock.
 fn push_user_lock(out: &mut Vec<u8>, name: &[u8]) -> Result<(), AllocError>
     ensures { OnOk result (out.new.items ≡ out.old.items ++ key_text Namespace.UserLevelLock name.now []) }
 {
@@ -149,7 +149,7 @@ fn push_user_lock(out: &mut Vec<u8>, name: &[u8]) -> Result<(), AllocError>
     push_name(out, name)
 }
 
-// What the lock of a table is called.
+// Appends the name of the lock of a table.
 fn push_table(out: &mut Vec<u8>, schema: &[u8], table: &[u8]) -> Result<(), AllocError>
     ensures { OnOk result (out.new.items ≡ out.old.items ++ key_text Namespace.Table schema.now table.now) }
 {
@@ -159,7 +159,7 @@ fn push_table(out: &mut Vec<u8>, schema: &[u8], table: &[u8]) -> Result<(), Allo
     push_name(out, table)
 }
 
-/// Puts a name last, as it is printed.
+/// Appends a name, as it is printed.
 pub(crate) fn push_name(out: &mut Vec<u8>, name: &[u8]) -> Result<(), AllocError>
     ensures { OnOk result (out.new.items ≡ out.old.items ++ printed name.now) }
 {
@@ -169,7 +169,7 @@ pub(crate) fn push_name(out: &mut Vec<u8>, name: &[u8]) -> Result<(), AllocError
     Ok(())
 }
 
-// A byte of a name as it is printed.
+// Appends a byte of a name, as it is printed.
 fn push_byte(out: &mut Vec<u8>, byte: u8) -> Result<(), AllocError>
     ensures { OnOk result (out.new.items ≡ out.old.items ++ printed_byte byte) }
 {
@@ -185,7 +185,7 @@ fn push_byte(out: &mut Vec<u8>, byte: u8) -> Result<(), AllocError>
     }
 }
 
-// A control byte as it is printed.
+// Appends a control byte, as it is printed.
 fn push_escaped(out: &mut Vec<u8>, byte: u8) -> Result<(), AllocError>
     ensures { OnOk result (out.new.items ≡ out.old.items ++ (92 ∷ 120 ∷ hex_digit (byte / 16) ∷ hex_digit (byte % 16) ∷ [])) }
 {
@@ -195,7 +195,7 @@ fn push_escaped(out: &mut Vec<u8>, byte: u8) -> Result<(), AllocError>
     Ok(())
 }
 
-/// Half a byte as a digit.
+/// Returns half a byte as a hexadecimal digit.
 pub(crate) fn hex_digit(half: u8) -> u8
     requires { half < 16 }
     ensures { result ≡ hex_digit half }

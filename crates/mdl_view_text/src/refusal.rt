@@ -8,7 +8,8 @@ use crate::layout::{push_line, push_line_with};
 use crate::text::{push, push_number};
 use std::alloc::{AllocError, Global};
 
-/// Says that a word of a line is refused, and why: `line 3, word 3: "Orders" is no name`. Lines and words are counted from 1.
+/// Returns a line that says that a word of a script is refused, and why: `line 3, word 3: "Orders" is no name`. Lines and words are counted
+/// from 1.
 pub(crate) fn refused_word(
     alloc: Global,
     line: u64,
@@ -27,7 +28,7 @@ pub(crate) fn refused_word(
     Ok(text)
 }
 
-// Where the word is.
+// Appends where the word is.
 fn push_place(out: &mut Vec<u8>, line: u64, number: u64) -> Result<(), AllocError>
     ensures { OnOk result (out.new.items ≡ out.old.items
         ++ (codes "line " ++ decimal line ++ codes ", word " ++ decimal number ++ codes ": ")) }
@@ -39,7 +40,7 @@ fn push_place(out: &mut Vec<u8>, line: u64, number: u64) -> Result<(), AllocErro
     push(out, b": ")
 }
 
-/// Says that a whole line is refused, and why.
+/// Returns a line that says that a whole line of a script is refused, and why.
 pub(crate) fn refused_line(alloc: Global, line: u64, reason: &[u8]) -> Result<Vec<u8>, AllocError>
     ensures { IfOk result (λ text. text.items ≡ refused_line line reason.now) }
 {

@@ -13,11 +13,11 @@ use std::alloc::{AllocError, Global};
 pub(crate) struct WordPlace {
     /// Its number, counted from 1.
     pub(crate) number: u64,
-    /// Where it ends.
+    /// The index of its end.
     pub(crate) end: usize,
 }
 
-// What may stand behind the beginning of a statement: of each form, what is left of it behind each of its words.
+// The ways in which a beginning of a statement may continue: for each form of statement, what remains of it after each of its words.
 const ENDINGS: &[&[u8]] = &[
     b"BEGIN",
     b"TRANSACTION",
@@ -47,8 +47,8 @@ const ENDINGS: &[&[u8]] = &[
     b"QUERY 1",
 ];
 
-/// Why the line of this number, counted from 1, is refused so: `line 3, word 3: "Orders" is no name: names have a-z, 0-9 and _`. The word
-/// is the first one up to which the line can neither end nor go on, or the last one, where one is missing behind it.
+/// Returns why the line of this number, counted from 1, is refused: `line 3, word 3: "Orders" is no name: names have a-z, 0-9 and _`. The
+/// word is the first one after which the line can neither end nor continue, or the last one, if one is missing after it.
 pub fn explanation(
     alloc: Global,
     text: &[u8],
@@ -67,14 +67,14 @@ fn line_at(text: &[u8], number: u64) -> &[u8]
     strip_carriage_return(piece_at(text, number.saturating_sub(1) as usize))
 }
 
-// What is before the line feed of this place, counted from 0, and behind the one before it.
+// The piece of a text at this index, counted from 0, when the text is cut at its line feeds.
 fn piece_at(text: &[u8], place: usize) -> &[u8]
     ensures { result.now ≡ unwrap_or (slice_get (slice_split (λ byte. byte == 10) text.now) place) [] }
 {
     text.split(|byte| *byte == b'\n').nth(place).unwrap_or(&[])
 }
 
-// Why this line is.
+// Why this line is refused.
 fn line_explained(
     alloc: Global,
     number: u64,
@@ -92,7 +92,7 @@ fn line_explained(
     }
 }
 
-// Why it is, by its words.
+// Why this line is refused because of its words.
 fn words_explained(
     alloc: Global,
     number: u64,
@@ -123,7 +123,7 @@ fn bad_word_explained(
     refused_word(alloc, number, place.number, word, reason)
 }
 
-// That a word is missing behind the last one.
+// Says that a word is missing after the last one.
 fn missing_word_explained(
     alloc: Global,
     number: u64,
@@ -137,7 +137,7 @@ fn missing_word_explained(
     refused_word(alloc, number, count, word, b": a word is missing behind it")
 }
 
-// The first word up to which the line may not go on.
+// The first word after which the line can neither end nor continue.
 fn first_bad_word(
     alloc: Global,
     line: &[u8],
@@ -156,7 +156,7 @@ fn first_bad_word(
     Ok(None)
 }
 
-// Whether a beginning of a line may end here, or go on.
+// Whether a beginning of a line may end here, or continue.
 fn may_go_on(alloc: Global, line: &[u8]) -> Result<bool, AllocError>
     ensures { IfOk result (λ may. may ≡ may_go_on line.now) }
 {
@@ -167,7 +167,7 @@ fn may_go_on(alloc: Global, line: &[u8]) -> Result<bool, AllocError>
     goes_on(alloc, line, ENDINGS)
 }
 
-// Whether it may go on in one of these ways.
+// Whether a beginning of a line may continue in one of these ways.
 fn goes_on(alloc: Global, line: &[u8], endings: &[&[u8]]) -> Result<bool, AllocError>
     ensures { IfOk result (λ may. may ≡ list_any (λ ending. goes_on_with line.now ending.now) endings.now) }
 {
@@ -179,7 +179,7 @@ fn goes_on(alloc: Global, line: &[u8], endings: &[&[u8]]) -> Result<bool, AllocE
     Ok(false)
 }
 
-// Whether it may go on so.
+// Whether a beginning of a line may continue in this way.
 fn goes_on_with(alloc: Global, line: &[u8], ending: &[u8]) -> Result<bool, AllocError>
     ensures { IfOk result (λ may. may ≡ goes_on_with line.now ending.now) }
 {
@@ -212,7 +212,7 @@ fn word_ends(alloc: Global, line: &[u8]) -> Result<Vec<usize>, AllocError>
     Ok(ends)
 }
 
-// Adds a place, if a word ends there.
+// Adds an index, if a word ends there.
 fn add_end(ends: &mut Vec<usize>, line: &[u8], end: usize) -> Result<(), AllocError>
     ensures { OnOk result (ends.new.items ≡ ends.old.items ++ filter (ends_word line.now) (end ∷ [])) }
 {
@@ -222,14 +222,14 @@ fn add_end(ends: &mut Vec<usize>, line: &[u8], end: usize) -> Result<(), AllocEr
     Ok(())
 }
 
-// Whether a word of a line ends at this place.
+// Whether a word of a line ends at this index.
 fn ends_word(line: &[u8], end: usize) -> bool
     ensures { result ≡ ends_word line.now end }
 {
     !is_blank(byte_at(line, end.saturating_sub(1))) && is_blank(byte_at(line, end))
 }
 
-// The byte of this place, or a blank behind the line.
+// The byte at this index, or a blank after the end of the line.
 fn byte_at(line: &[u8], place: usize) -> u8
     ensures { result ≡ get_or line.now place 32 }
 {
@@ -239,7 +239,7 @@ fn byte_at(line: &[u8], place: usize) -> u8
     }
 }
 
-// The last of these places, or 0.
+// The last of these indices, or 0.
 fn last_end(ends: &[usize]) -> usize
     ensures { result ≡ last_end ends.now }
 {
@@ -249,7 +249,7 @@ fn last_end(ends: &[usize]) -> usize
     }
 }
 
-// The beginning of a line.
+// The beginning of a line, up to this index.
 fn until(line: &[u8], end: usize) -> &[u8]
     ensures { result.now ≡ take end line.now }
 {
@@ -259,7 +259,7 @@ fn until(line: &[u8], end: usize) -> &[u8]
     &line[..end]
 }
 
-// The word that ends at this place.
+// The word that ends at this index.
 fn word_before(line: &[u8], end: usize) -> &[u8]
     ensures { result.now ≡ word_before line.now end }
 {
@@ -271,7 +271,7 @@ fn word_before(line: &[u8], end: usize) -> &[u8]
     &text[start..]
 }
 
-// Where it begins.
+// The index where the word that ends at `end` begins.
 fn word_start(line: &[u8], end: usize) -> usize
     ensures { result ≡ word_start line.now end }
 {
@@ -298,7 +298,7 @@ fn reason_of(error: LineError, word: &[u8]) -> &'static [u8]
     }
 }
 
-// Whether all bytes of a word may stand in the names of a table.
+// Whether all bytes of a word may occur in the names of a table.
 fn has_name_bytes(word: &[u8]) -> bool
     ensures { result ≡ list_all is_of_names word.now }
 {
@@ -310,7 +310,7 @@ fn has_name_bytes(word: &[u8]) -> bool
     true
 }
 
-// Whether a byte may stand in the names of a table.
+// Whether a byte may occur in the names of a table.
 fn is_of_names(byte: u8) -> bool
     ensures { result ≡ is_of_names byte }
 {

@@ -9,8 +9,8 @@ use mdl_book::{Sessions, Ticket};
 use mdl_view::{Blocking, Lock, Scene};
 use std::alloc::{AllocError, Global};
 
-/// A table of all tickets: a line with the names of its columns, and then a row for each: its lock, its session, its mode, and whether
-/// it is `GRANTED`, `PENDING`, or waits although its wait is `SETTLED`. A tab is between two columns.
+/// Returns a table of all tickets: a line with the names of its columns, and a row for each ticket: its lock, its session, its mode, and
+/// whether it is `GRANTED`, `PENDING`, or waits although its wait is `SETTLED`. Columns are separated by tabs.
 pub fn locks_text(alloc: Global, names: &Names, scene: Scene<'_>) -> Result<Vec<u8>, AllocError>
     ensures { IfOk result (λ text. text.items ≡ locks_text names.now (set.contains scene.entry.settled.now) scene.entry.locks.now) }
 {
@@ -22,7 +22,7 @@ pub fn locks_text(alloc: Global, names: &Names, scene: Scene<'_>) -> Result<Vec<
     Ok(out)
 }
 
-// The rows of a lock.
+// Appends the rows of a lock.
 fn push_lock(
     out: &mut Vec<u8>,
     names: &Names,
@@ -36,7 +36,7 @@ fn push_lock(
     push_waiting(out, names, settled, place, lock.waiting())
 }
 
-// The rows of granted tickets.
+// Appends the rows of granted tickets.
 fn push_granted(
     out: &mut Vec<u8>,
     names: &Names,
@@ -51,7 +51,7 @@ fn push_granted(
     Ok(())
 }
 
-// The rows of waiting tickets.
+// Appends the rows of waiting tickets.
 fn push_waiting(
     out: &mut Vec<u8>,
     names: &Names,
@@ -68,14 +68,14 @@ fn push_waiting(
     Ok(())
 }
 
-/// What becomes of a wait.
+/// Returns the status of a waiting ticket.
 pub(crate) fn wait_status(is_settled: bool) -> &'static [u8]
     ensures { result.now ≡ wait_status is_settled }
 {
     if is_settled { b"SETTLED" } else { b"PENDING" }
 }
 
-// The row of a ticket.
+// Appends the row of a ticket.
 fn push_ticket(
     out: &mut Vec<u8>,
     names: &Names,
@@ -92,8 +92,8 @@ fn push_ticket(
     push(out, b"\n")
 }
 
-/// A table of who is in whose way: a line with the names of its columns, and then a row for each waiting ticket and each ticket in its
-/// way: the lock, the session that waits, the mode that it waits for, the session in its way, and why it is in the way.
+/// Returns a table of who blocks whom: a line with the names of its columns, and a row for each waiting ticket and each ticket that blocks
+/// it: the lock, the session that waits, the mode that it waits for, the session that blocks it, and why.
 pub fn waits_text(
     alloc: Global,
     names: &Names,
@@ -109,7 +109,7 @@ pub fn waits_text(
     Ok(out)
 }
 
-// The row of a waiter and of a session in its way.
+// Appends the row of a waiter and of a session that blocks it.
 fn push_wait(out: &mut Vec<u8>, names: &Names, blocking: Blocking) -> Result<(), AllocError>
     ensures { OnOk result (out.new.items ≡ out.old.items ++ wait_row names.now blocking) }
 {

@@ -1,4 +1,4 @@
-//! Pieces of text, each put last in what there is.
+//! Pieces of text, each appended to a buffer.
 ghost use Rattle.std.specs.Prelude.{◌≡◌, ◌++◌, OnOk};
 ghost use Rattle.std.specs.Fmt.{decimal};
 ghost use Rattle.mdl_key.specs.Modes.{mode_name};
@@ -10,14 +10,14 @@ use mdl_key::Mode;
 use mdl_view::Reason;
 use std::alloc::AllocError;
 
-/// Puts bytes last.
+/// Appends bytes.
 pub(crate) fn push(out: &mut Vec<u8>, bytes: &[u8]) -> Result<(), AllocError>
     ensures { OnOk result (out.new.items ≡ out.old.items ++ bytes.now) }
 {
     out.extend_from_slice(bytes)
 }
 
-/// Puts a number last, in decimal digits.
+/// Appends a number in decimal digits.
 pub(crate) fn push_number(out: &mut Vec<u8>, number: u64) -> Result<(), AllocError>
     ensures { OnOk result (out.new.items ≡ out.old.items ++ decimal number) }
 {
@@ -25,21 +25,21 @@ pub(crate) fn push_number(out: &mut Vec<u8>, number: u64) -> Result<(), AllocErr
     push(out, digits.format(number).as_bytes())
 }
 
-/// Puts a mode last.
+/// Appends a mode.
 pub(crate) fn push_mode(out: &mut Vec<u8>, mode: Mode) -> Result<(), AllocError>
     ensures { OnOk result (out.new.items ≡ out.old.items ++ mode_name mode) }
 {
     push(out, mode.as_str().as_bytes())
 }
 
-/// Puts a session last, by the number that its server knows.
+/// Appends a session, by its server's number.
 pub(crate) fn push_session(out: &mut Vec<u8>, names: &Names, session: u16) -> Result<(), AllocError>
     ensures { OnOk result (out.new.items ≡ out.old.items ++ session_text names.now session) }
 {
     push_number(out, names.session(session))
 }
 
-/// Puts last why a ticket of this mode is in the way.
+/// Appends why a ticket of this mode blocks another.
 pub(crate) fn push_reason(out: &mut Vec<u8>, reason: Reason, mode: Mode) -> Result<(), AllocError>
     ensures { OnOk result (out.new.items ≡ out.old.items ++ reason_text reason mode) }
 {
@@ -50,7 +50,7 @@ pub(crate) fn push_reason(out: &mut Vec<u8>, reason: Reason, mode: Mode) -> Resu
     push_mode(out, mode)
 }
 
-/// Puts a text of a column last, which isn't the last one of its row.
+/// Appends the text of a column that isn't the last one of its row.
 pub(crate) fn push_column(out: &mut Vec<u8>, text: &[u8]) -> Result<(), AllocError>
     ensures { OnOk result (out.new.items ≡ out.old.items ++ column text.now) }
 {
@@ -58,7 +58,7 @@ pub(crate) fn push_column(out: &mut Vec<u8>, text: &[u8]) -> Result<(), AllocErr
     push(out, b"\t")
 }
 
-/// Puts the column of a session last.
+/// Appends the column of a session.
 pub(crate) fn push_session_column(
     out: &mut Vec<u8>,
     names: &Names,
@@ -70,7 +70,7 @@ pub(crate) fn push_session_column(
     push(out, b"\t")
 }
 
-/// Puts the column of a mode last.
+/// Appends the column of a mode.
 pub(crate) fn push_mode_column(out: &mut Vec<u8>, mode: Mode) -> Result<(), AllocError>
     ensures { OnOk result (out.new.items ≡ out.old.items ++ column (mode_name mode)) }
 {

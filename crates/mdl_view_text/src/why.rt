@@ -1,4 +1,4 @@
-//! What would follow if sessions ended that are in the way of others.
+//! The deadlocks, and what would follow if the roots of the waits ended.
 ghost use Rattle.std.specs.Prelude.{◌≡◌, ◌++◌, ◌-◌, drop, flat_map, take, OnOk, IfOk};
 ghost use Rattle.std.specs.FinSet as set;
 ghost use Rattle.mdl_view.specs.Following.{ending_of, endings_of};
@@ -14,13 +14,13 @@ use mdl_key::Mode;
 use mdl_view::{AtLock, Blocking, Ending, RootRank, Scene, StillWaiting, ending_of};
 use std::alloc::{AllocError, Global};
 
-// How many lines of a kind are printed at most.
+// The greatest number of lines of a kind that are printed.
 const MOST_LINES: usize = 8;
 
-/// The deadlocks, and what would follow if one of these sessions ended, in the order given: how many waits would be granted, how a
-/// server's session is ended, what it holds, who gets what, and who goes on waiting and why. Of each of the three there are at most
-/// eight lines, and then one that says how many more there would be. Where there is no such session, one line says whether that is so
-/// although some are in the way of others. Names are cut where a line would have more than 100 bytes.
+/// Returns the deadlocks, and what would follow if each of these sessions ended, in the order given: how many waits would be granted, how a
+/// server's session is ended, what it holds, who gets what, and who goes on waiting and why. Each of the last three has at most eight lines,
+/// and then one that says how many more there are. If there is no such session, one line says whether any session blocks another
+/// nevertheless. Names are cut if a line would have more than 100 bytes.
 pub fn why_text(
     alloc: Global,
     names: &Names,
@@ -38,7 +38,7 @@ pub fn why_text(
     Ok(out)
 }
 
-// The roots, or that there is none.
+// Appends what would follow if the roots ended, or that there is no root.
 fn push_roots(
     out: &mut Vec<u8>,
     alloc: Global,
@@ -56,7 +56,7 @@ fn push_roots(
     push_endings(out, alloc, names, scene, roots)
 }
 
-// What is said where no session is a root.
+// The text if no session is a root.
 fn no_root_text(is_jammed: bool) -> &'static [u8]
     ensures { result.now ≡ no_root_text is_jammed }
 {
@@ -67,7 +67,7 @@ fn no_root_text(is_jammed: bool) -> &'static [u8]
     }
 }
 
-// What would follow if one of them ended.
+// Appends what would follow if each of the roots ended.
 fn push_endings(
     out: &mut Vec<u8>,
     alloc: Global,
@@ -84,7 +84,7 @@ fn push_endings(
     Ok(())
 }
 
-// What would follow if a root ended.
+// Appends what would follow if a root ended.
 fn push_root(
     out: &mut Vec<u8>,
     alloc: Global,
@@ -99,7 +99,7 @@ fn push_root(
     push_ending(out, alloc, names, &ending)
 }
 
-// What would follow if this one ended.
+// Appends an ending.
 fn push_ending(
     out: &mut Vec<u8>,
     alloc: Global,
@@ -115,7 +115,7 @@ fn push_ending(
     push_waits(out, alloc, names, ending.waits())
 }
 
-// How many waits would be granted.
+// Appends how many waits would be granted.
 fn push_head(out: &mut Vec<u8>, names: &Names, ending: &Ending) -> Result<(), AllocError>
     ensures { OnOk result (out.new.items ≡ out.old.items ++ head_line names.now ending.now) }
 {
@@ -124,7 +124,7 @@ fn push_head(out: &mut Vec<u8>, names: &Names, ending: &Ending) -> Result<(), Al
     push_granted(out, ending.gets().len())
 }
 
-// The rest of that line.
+// Appends the rest of that line.
 fn push_granted(out: &mut Vec<u8>, count: usize) -> Result<(), AllocError>
     ensures { OnOk result (out.new.items ≡ out.old.items ++ granted_text count) }
 {
@@ -133,7 +133,7 @@ fn push_granted(out: &mut Vec<u8>, count: usize) -> Result<(), AllocError>
     push(out, b"\n")
 }
 
-// How a server's session is ended.
+// Appends how a server's session is ended.
 fn push_kill(out: &mut Vec<u8>, names: &Names, session: u16) -> Result<(), AllocError>
     ensures { OnOk result (out.new.items ≡ out.old.items ++ kill_line names.now session) }
 {
@@ -148,7 +148,7 @@ fn push_kill(out: &mut Vec<u8>, names: &Names, session: u16) -> Result<(), Alloc
     push(out, b"\n")
 }
 
-// What the session holds.
+// Appends what the session holds.
 fn push_holds(
     out: &mut Vec<u8>,
     alloc: Global,
@@ -163,7 +163,7 @@ fn push_holds(
     push_more(out, holds.len(), b" more")
 }
 
-// A ticket that it holds.
+// Appends a ticket that the session holds.
 fn push_hold(
     out: &mut Vec<u8>,
     alloc: Global,
@@ -178,7 +178,7 @@ fn push_hold(
     push_line_with(out, alloc, &start, names.lock(held.lock), b"")
 }
 
-// Who gets what.
+// Appends who gets what.
 fn push_gets(
     out: &mut Vec<u8>,
     alloc: Global,
@@ -193,7 +193,7 @@ fn push_gets(
     push_more(out, gets.len(), more_gets(last_lines(gets)))
 }
 
-// A wait that is granted.
+// Appends a wait that is granted.
 fn push_got(out: &mut Vec<u8>, alloc: Global, names: &Names, got: AtLock) -> Result<(), AllocError>
     ensures { OnOk result (out.new.items ≡ out.old.items ++ gets_line names.now got) }
 {
@@ -202,7 +202,7 @@ fn push_got(out: &mut Vec<u8>, alloc: Global, names: &Names, got: AtLock) -> Res
     push_line_with(out, alloc, &start, names.lock(got.lock), b"")
 }
 
-// What stands before the lock's name there.
+// Appends the beginning of that line, before the lock's name.
 fn push_gets_start(out: &mut Vec<u8>, names: &Names, ticket: Ticket) -> Result<(), AllocError>
     ensures { OnOk result (out.new.items ≡ out.old.items ++ gets_start names.now ticket) }
 {
@@ -212,7 +212,7 @@ fn push_gets_start(out: &mut Vec<u8>, names: &Names, ticket: Ticket) -> Result<(
     push_mode_of(out, ticket.mode)
 }
 
-// What those are who get a lock, and whose lines aren't printed.
+// What is said of the grants whose lines aren't printed.
 fn more_gets(gets: &[AtLock]) -> &'static [u8]
     ensures { result.now ≡ more_gets gets.now }
 {
@@ -224,14 +224,14 @@ fn more_gets(gets: &[AtLock]) -> &'static [u8]
     b" more readers"
 }
 
-// Whether a mode lets its session read, and no more.
+// Whether a mode allows its session only to read.
 fn is_reading(mode: Mode) -> bool
     ensures { result ≡ is_reading mode }
 {
     matches!(mode, Mode::SH | Mode::SR | Mode::SRO)
 }
 
-// Who goes on waiting.
+// Appends who goes on waiting.
 fn push_waits(
     out: &mut Vec<u8>,
     alloc: Global,
@@ -246,7 +246,7 @@ fn push_waits(
     push_more(out, waits.len(), b" more")
 }
 
-// A wait that goes on, and what is in its way.
+// Appends a wait that goes on, and what blocks it.
 fn push_wait(
     out: &mut Vec<u8>,
     alloc: Global,
@@ -263,7 +263,7 @@ fn push_wait(
     push_line_with(out, alloc, &start, names.lock(wait.lock), &rest)
 }
 
-// What stands before the lock's name there.
+// Appends the beginning of that line, before the lock's name.
 fn push_waits_start(out: &mut Vec<u8>, names: &Names, ticket: Ticket) -> Result<(), AllocError>
     ensures { OnOk result (out.new.items ≡ out.old.items ++ waits_start names.now ticket) }
 {
@@ -273,7 +273,7 @@ fn push_waits_start(out: &mut Vec<u8>, names: &Names, ticket: Ticket) -> Result<
     push_mode_of(out, ticket.mode)
 }
 
-// What is in its way first.
+// Appends the first ticket that blocks a wait.
 fn push_blocker(out: &mut Vec<u8>, names: &Names, first: Option<Blocking>) -> Result<(), AllocError>
     ensures { OnOk result (out.new.items ≡ out.old.items ++ blocker_text names.now first) }
 {
@@ -286,7 +286,7 @@ fn push_blocker(out: &mut Vec<u8>, names: &Names, first: Option<Blocking>) -> Re
     push_reason(out, blocking.reason, blocking.other.mode)
 }
 
-// How many more of so many tickets are in its way.
+// Appends how many tickets block a wait besides the first, if there are `count` in all.
 fn push_more_in_its_way(out: &mut Vec<u8>, count: usize) -> Result<(), AllocError>
     ensures { OnOk result (out.new.items ≡ out.old.items ++ more_in_its_way count) }
 {
@@ -298,7 +298,7 @@ fn push_more_in_its_way(out: &mut Vec<u8>, count: usize) -> Result<(), AllocErro
     push(out, b" more")
 }
 
-// A mode before the name of its lock.
+// Appends a mode before the name of its lock.
 fn push_mode_of(out: &mut Vec<u8>, mode: Mode) -> Result<(), AllocError>
     ensures { OnOk result (out.new.items ≡ out.old.items ++ mode_of mode) }
 {
@@ -306,7 +306,7 @@ fn push_mode_of(out: &mut Vec<u8>, mode: Mode) -> Result<(), AllocError>
     push(out, b" of ")
 }
 
-// The first of some facts, as many as are printed.
+// The first of some facts, which are printed.
 fn first_lines<T>(facts: &[T]) -> &[T]
     ensures { result.now ≡ take most_lines facts.now }
 {
@@ -316,7 +316,7 @@ fn first_lines<T>(facts: &[T]) -> &[T]
     &facts[..MOST_LINES]
 }
 
-// Those that aren't printed.
+// The other facts, which aren't printed.
 fn last_lines<T>(facts: &[T]) -> &[T]
     ensures { result.now ≡ drop most_lines facts.now }
 {
@@ -326,7 +326,7 @@ fn last_lines<T>(facts: &[T]) -> &[T]
     &facts[MOST_LINES..]
 }
 
-// How many lines of so many aren't printed, and of what.
+// Appends how many of this number of lines aren't printed, and of what.
 fn push_more(out: &mut Vec<u8>, lines: usize, what: &[u8]) -> Result<(), AllocError>
     ensures { OnOk result (out.new.items ≡ out.old.items ++ and_more what.now (lines - most_lines)) }
 {

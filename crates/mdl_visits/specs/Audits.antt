@@ -14,25 +14,26 @@ use Rattle.mdl_steps.specs.Seats.{IsRising}
 use Rattle.mdl_visits.specs.declared.audited.Audited.{Audited}
 use Rattle.mdl_visits.specs.Visits.{IsStepOf}
 
--- among these latches is that of the place, and this is the place's book by its record
+-- the place's latch is among these, and its record has this book of the place
 abbrev pub IsRecorded : ℕ → List LatchRecord → Audited → Type 0
 IsRecorded place latches a = (a.place ≡ place) × ((h : LatchRecord) × (held_at place latches ≡ Some h) × (a.book ≡ h.book))
 
--- these are the books of as many places, from a place on, in order
+-- these are the books of the places from one on, in order, by the records of these latches
 abbrev pub AreRecorded : ℕ → List LatchRecord → List Audited → Type 0
 AreRecorded place latches [] = Unit {0}
 AreRecorded place latches (a ∷ more) = IsRecorded place latches a × AreRecorded (place + 1) latches more
 
--- the session had just these latches when it began, or at a step that it made between the two, at which it had of the directory what it had before
+-- the session had just these latches when it began, or at a step that it made between the two, at which it had the record of the directory's latch that it
+-- had before, or none
 abbrev pub HadLatches : List LatchRecord → Mine → Mine → Type 0
 HadLatches latches m m′ = (latches ≡ m.0.latches) ⊎ ((e : Met) × IsStepOf m m′ e × (e.held ≡ latches) × (e.directory ≡ m.0.directory))
 
--- the books of the places from one on are those of the keys that the directory has for them
+-- the books of the places from one on have the keys that the directory has at these places
 abbrev pub AreKeyed : List KeyName → ℕ → List Audited → Type 0
 AreKeyed keys place [] = Unit {0}
 AreKeyed keys place (a ∷ more) = ((key : KeyName) → key_at keys place ≡ Some key → a.book.key ≡ key) × AreKeyed keys (place + 1) more
 
--- the definition of each book may stand under the book's key
+-- the definition of each book is a valid definition for the book's key
 abbrev pub MayAllStand : List Audited → Type 0
 MayAllStand books = Each (λ (a : Audited). MayStand a.book.key.namespace a.book.standing) books
 
@@ -45,8 +46,8 @@ pub record MayTakeAll (place last : ℕ) (s : SeatState) : Type 0 where
   pub narrow : last < 65536
   pub rising : IsRising place s.me
 
--- the session had the latches of the places from one to another, beside those that it had of lower ones, and added the books of these places to a
--- list, in order, as they were then
+-- at one moment the session had the latches of the places from one to another, beside those that it had of lower ones. It added the books of these places
+-- to a list, in order, as they were then
 pub record Gathers (place last : ℕ) (before after : List Audited) (m m′ : Mine) : Type 0 where
   pub latches : List LatchRecord
   pub had : HadLatches latches m m′
@@ -58,8 +59,8 @@ pub record Gathers (place last : ℕ) (before after : List Audited) (m m′ : Mi
   pub keyed : (k : Keys) → m.0.directory ≡ Some k → AreKeyed k.keys place books
   pub stand : MayAllStand books
 
--- these are the books of the directory's keys, in order, from place 1 on: at one step between the two the session had this record of the directory and the
--- latches of all these places, and so the books were then. What is defined in each may stand under its key
+-- these are the books of the directory's keys, in order, from place 1 on, as they were at one step between the two. The session had this record of the
+-- directory's latch and the latches of all these places then. What is defined in each book is a valid definition for its key
 pub record Audits (k : Keys) (audited : List Audited) (m m′ : Mine) : Type 0 where
   pub all : length audited ≡ length k.keys
   pub keys : map (λ (a : Audited). a.book.key) audited ≡ k.keys

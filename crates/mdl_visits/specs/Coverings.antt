@@ -14,16 +14,16 @@ use Rattle.mdl_visits.specs.Numbers.{numbered}
 abbrev pub FitsAt : View → ℕ → Mode → Type 0
 FitsAt v place mode = (i : ℕ) × (k : Known) × (get_elem? v.known i ≡ some k) × (k.place ≡ place) × (is_mode_of (kind_of k.key.namespace) mode ≡ true)
 
--- a second ticket, of this number and in this mode, can be made of one: that is a slow one of the session, the number is the next one, the mode fits
--- the place, and the ticket's own mode covers it
+-- a second ticket, with this number and in this mode, can be made of one: that is a slow one of the session, the number is the next one, the mode fits the
+-- place, and the ticket's own mode covers it
 pub record MayClone (ticket : Own) (number : ℕ) (mode : Mode) (v : View) : Type 0 where
   pub held : numbered ticket.number v.slow ≡ Some ticket
   pub next : number ≡ v.next
   pub fits : FitsAt v ticket.place mode
   pub covered : covers ticket.mode mode ≡ true
 
--- a ticket can be kept in the mode of another one as that one goes: both are slow ones of the session, they are two, of one place, and the mode of
--- the one that goes covers that of the other
+-- a ticket can get the mode of another one, which is released: both are slow tickets of the session, they are two, at one place, and the mode of the one
+-- released covers that of the other
 pub record MayMerge (kept gone : Own) (v : View) : Type 0 where
   pub held : (numbered kept.number v.slow ≡ Some kept) × (numbered gone.number v.slow ≡ Some gone)
   pub two : kept.number ≢ gone.number

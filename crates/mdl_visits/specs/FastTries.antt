@@ -1,4 +1,4 @@
--- What comes of a try for a fast ticket, and of its release. After MySQL 5.7, sql/mdl.cc: the fast paths of `MDL_context::try_acquire_lock_impl`
+-- The results of a try for a fast ticket, and of its release. After MySQL 5.7, sql/mdl.cc: the fast paths of `MDL_context::try_acquire_lock_impl`
 -- and `MDL_context::release_lock`.
 use Rattle.std.specs.Prelude.{◌≡◌, ◌≢◌, ◌<◌, ℕ, ◌+◌, Bool, true, false, List, [], ◌∷◌, ◌++◌, length, Option}
 use Rattle.mdl_key.specs.declared.mode.Mode.{Mode}
@@ -16,11 +16,11 @@ use Rattle.mdl_visits.specs.Visits.{and_made, deeds_of}
 
 -- ---- a fast ticket is granted
 
--- a view with one fast ticket more, of its next number
+-- a view with one more fast ticket, which has its next number
 abbrev pub with_fast : ℕ → Mode → Option ℕ → View → View
 with_fast place mode noted v = record v { fast = v.fast ++ fast_own v.next place mode noted ∷ []; next = v.next + 1 }
 
--- the session was granted a fast ticket at a place, its steps tell this one deed, and nothing else changed
+-- the session was granted a fast ticket at a place, its steps did just this deed, and nothing else changed
 pub record GrantsFast (place : ℕ) (mode : Mode) (noted : Option ℕ) (m m′ : Mine) : Type 0 where
   pub made : List Met
   pub now : m′ ≡ and_made made (with_fast place mode noted m.0, m.1)
@@ -33,9 +33,9 @@ pub record MeetsClear (place : ℕ) (deed : Deed) (e : Met) : Type 0 where
   pub word : e.word ≡ lock_word place
   pub clear : obtrusive_flag e.found ≡ false
 
--- ---- it isn't
+-- ---- no fast ticket is granted
 
--- a fast grant that missed: the word that the step before it found had the flag OBTRUSIVE down, and it found another word of the place
+-- a fast grant that missed: the step before it found this word with the flag OBTRUSIVE down, and it found another word of the place
 pub record MissesAfter (place before : ℕ) (e : Met) : Type 0 where
   pub kind : e.kind ≡ MissFast
   pub word : e.word ≡ lock_word place
@@ -47,13 +47,12 @@ abbrev pub AllMiss : ℕ → ℕ → List Met → Type 0
 AllMiss place before [] = Unit {0}
 AllMiss place before (e ∷ later) = MissesAfter place before e × AllMiss place e.found later
 
--- what the last of some steps found. The step before them found this word
+-- the word that the last of some steps found. The step before them found this word
 abbrev pub last_found : ℕ → List Met → ℕ
 last_found before [] = before
 last_found before (e ∷ later) = last_found e.found later
 
--- the session read the word of a place, and then so many fast grants missed, one after the other. The last step found this word, and nothing else
--- changed
+-- the session read the word of a place, and then `count` fast grants missed, one after the other. The last step found this word, and nothing else changed
 pub record Misses (place count word : ℕ) (m m′ : Mine) : Type 0 where
   pub read : Met
   pub tries : List Met
@@ -64,7 +63,7 @@ pub record Misses (place count word : ℕ) (m m′ : Mine) : Type 0 where
   pub often : length tries ≡ count
   pub last : last_found read.found tries ≡ word
 
--- fewer than eight did, and the last step found this word
+-- the session read the word of a place, and then fewer than eight fast grants missed. The last step found this word
 abbrev pub MissesFew : ℕ → ℕ → Mine → Mine → Type 0
 MissesFew place word m m′ = (n : ℕ) × (n < 8) × Misses place n word m m′
 
@@ -72,20 +71,20 @@ MissesFew place word m m′ = (n : ℕ) × (n < 8) × Misses place n word m m′
 abbrev pub FindsObtrusive : ℕ → ℕ → Mine → Mine → Type 0
 FindsObtrusive place word m m′ = MissesFew place word m m′ × (obtrusive_flag word ≡ true)
 
--- fewer than eight missed, and then one did this deed, as the word that was found last was there still
+-- fewer than eight fast grants missed, and then one did this deed as the last step: the word that was found last was still there
 abbrev pub GrantsAtLast : ℕ → Deed → Mine → Mine → Type 0
 GrantsAtLast place deed m m′ =
     (word : ℕ) × (mid : Mine) × MissesFew place word m mid
     × ((e : Met) × (m′.0.log ≡ mid.0.log ++ e ∷ []) × MeetsClear place deed e × (e.found ≡ word))
 
--- the session was granted a fast ticket so
+-- the session was granted a fast ticket with its next number in this way
 abbrev pub WasGrantedFast : ℕ → Mode → Option ℕ → SeatState → SeatState → Type 0
 WasGrantedFast place mode noted s s′ = AtItsTable s s′ (GrantsFast place mode noted) × GrantsAtLast place (Gain s.me.0.next mode) s.me s′.me
 
 -- ---- it is released
 
--- the session released its fast ticket of a number at a place by one step, and nothing else changed. Waits there may have become grantable, if the
--- word that the step found had the flag SLOW up
+-- the session released its fast ticket with this number at a place by one step, and nothing else changed. Waits there may have become grantable (`owes`)
+-- if the word that the step found had the flag SLOW up
 pub record ReleasesFast (place number : ℕ) (owes : Bool) (m m′ : Mine) : Type 0 where
   pub step : Met
   pub now : m′ ≡ and_made (step ∷ []) (record m.0 { fast = but_own place number m.0.fast }, m.1)

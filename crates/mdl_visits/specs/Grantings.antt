@@ -1,4 +1,4 @@
--- How a session reschedules at a place whose latch it holds: it grants the waits there that can be granted, the first in order of arrival first.
+-- How a session reschedules at a place whose latch it holds: it grants the waits there that can be granted, in order of arrival.
 use Rattle.std.specs.Prelude.{◌≡◌, ◌≢◌, ℕ, ◌==◌, not, Bool, true, false, List, [], ◌∷◌, ◌++◌, Contains, filter, is_some, Option, Some, None, ◌⊎◌}
 use Rattle.std.specs.List.{before_first}
 use Rattle.atomic_table.specs.Seated.{TableId}
@@ -34,8 +34,8 @@ use Rattle.mdl_visits.specs.Visits.{IsStepAfter, IsStepOf, LeavesBy, StaysThere,
 abbrev pub OnlyMeets : StepKind → Type 0
 OnlyMeets kind = (kind ≡ ReadWait) ⊎ (kind ≡ MissWait)
 
--- a step that only met the word of a session's wait, while the session's ticket of this number waited by the record of the place's latch. That
--- wait can't end as long as the ticket waits, so all words that are met so are of the same wait
+-- a step that only met the word of a session's wait, while the session's ticket with this number waited by the record of the place's latch. That wait
+-- can't end as long as the ticket waits, so all words that are met so are of the same wait
 pub record MeetsWaiter (slots place session number : ℕ) (e : Met) : Type 0 where
   pub kind : OnlyMeets e.kind
   pub word : e.word ≡ wait_word slots session
@@ -43,7 +43,7 @@ pub record MeetsWaiter (slots place session number : ℕ) (e : Met) : Type 0 whe
   pub held : held_at place e.held ≡ Some latch
   pub waits : is_some (ticket_of session number latch.book.waiting) ≡ true
 
--- two steps that met the word of a session's wait for a ticket, or one: the first tells the number of the wait, and at the second the wait
+-- two steps that met the word of a session's wait for a ticket, perhaps the same one: the first shows the number of the wait, and at the second the wait
 -- isn't unsettled
 pub record WasSettled (slots place session number : ℕ) (m m′ : Mine) : Type 0 where
   pub read : Met
@@ -71,7 +71,7 @@ pub record IsLookedThrough (id : TableId) (place : ℕ) (latch : LatchRecord) (t
   pub noted : latch.obtrusive ≡ true → latch.noted ≡ Some read.found
   pub passed : ArePassedOver id place read.found latch tickets m m′
 
--- nobody is forgotten by the record of a latch: all that wait by it are passed over
+-- no waiter is forgotten by the record of a latch: all that wait by it are passed over
 abbrev pub ForgetsNobody : TableId → ℕ → LatchRecord → Mine → Mine → Type 0
 ForgetsNobody id place latch m m′ = IsLookedThrough id place latch latch.book.waiting m m′
 
@@ -84,9 +84,9 @@ abbrev pub HasJustMet : ℕ → ℕ → ℕ → LatchRecord → Mine → Type 0
 HasJustMet slots place session h m =
     (log : List Met) × (e : Met) × (m.0.log ≡ log ++ e ∷ []) × (e.kind ≡ ReadWait) × (e.word ≡ wait_word slots session) × (held_at place e.held ≡ Some h)
 
--- a step that granted a wait of a session, which was unsettled. By the record of the latch just before it, the session's ticket waited there,
--- might stand beside all that was granted, and waited behind no other; those that arrived before it were passed over, as the steps between the
--- two tell, the last of which read the wait's word; just after it the ticket is granted
+-- a step that granted a wait of a session, which was unsettled. By the record of the latch just before it, the session's ticket waited there, was
+-- compatible with all that was granted, and waited behind no other. The tickets that arrived before it were passed over, as the steps between the two
+-- show, the last of which read the wait's word. Just after the step the ticket is granted
 pub record MeetsGranted (id : TableId) (place : ℕ) (m m′ : Mine) (g : Settlement) (e : Met) : Type 0 where
   pub state : g.state ≡ granted_state
   pub kind : e.kind ≡ GrantWait
@@ -108,11 +108,11 @@ pub record StandsOnce (waiting : List Ticket) : Type 0 where
   pub once : Once waiting
   pub single : (session first second : ℕ) (t u : Ticket) → ticket_of session first waiting ≡ Some t → ticket_of session second waiting ≡ Some u → first ≡ second
 
--- it does so by a record whose flags tell the lists
+-- by the record of a latch each session waits at most once, and just those flags are up that the lists need
 abbrev pub IsOrderly : LatchRecord → Type 0
 IsOrderly h = StandsOnce h.book.waiting × TellsLists h.book h.slow h.obtrusive
 
--- a session's ticket of this number waits there, and can be granted
+-- by the record of a latch a session's ticket with this number waits, and can be granted
 pub record IsGrantableTicket (session number : ℕ) (h : LatchRecord) : Type 0 where
   pub wish : Ticket
   pub waits : ticket_of session number h.book.waiting ≡ Some wish
@@ -123,13 +123,13 @@ pub record IsGrantableTicket (session number : ℕ) (h : LatchRecord) : Type 0 w
 abbrev pub IsTried : TableId → ℕ → ℕ → ℕ → Mine → Mine → Type 0
 IsTried id place session number m m′ = (IsSession id session → ⊥) ⊎ WasSettled id.slots place session number m m′
 
--- what came of a try to grant a ticket: it was tried and all stands as it was, or it is granted
+-- the result of a try to grant a ticket: it was tried and the record of the latch is unchanged, or it is granted
 abbrev pub IsTriedOrGranted : TableId → ℕ → ℕ → ℕ → LatchRecord → Mine → Mine → Type 0
 IsTriedOrGranted id place session number h m m′ =
     (IsTried id place session number m m′ × Holds place h h.book m′)
     ⊎ Holds place (with_admitted session number h) (with_admitted session number h).book m′
 
--- what came of the exchange that grants a wait: it met another word than this and all stands as it was, or the ticket is granted
+-- the result of the exchange that grants a wait: it met another word than this and the record of the latch is unchanged, or the ticket is granted
 abbrev pub IsGrantedFrom : ℕ → ℕ → ℕ → ℕ → ℕ → LatchRecord → Mine → Mine → Type 0
 IsGrantedFrom slots place session number word h m m′ =
     (((e : Met) × IsStepOf m m′ e × MeetsWaiter slots place session number e × (e.found ≢ word)) × Holds place h h.book m′)
@@ -137,18 +137,18 @@ IsGrantedFrom slots place session number word h m m′ =
 
 -- ---- waits are granted
 
--- what was told of one's own wait stays so
+-- if the session knew how its own wait was settled, it still knows that
 abbrev pub StaysTold : Option ℕ → Option ℕ → Type 0
 StaysTold told told′ = (state : ℕ) → told ≡ Some state → told′ ≡ Some state
 
--- each of these waits was granted by a step between the two, as the steps from a start to just before it tell
+-- each of these waits was granted by a step between the two, as the steps from a start to just before it show
 abbrev pub AreGranted : TableId → ℕ → List Settlement → Mine → Mine → Mine → Type 0
 AreGranted id place grants start m m′ =
     Each (λ g. (e : Met) × (a : Mine) × IsStepAfter m a m′ e × MeetsGranted id place start a g e) grants
 
--- waits were granted under the latch of a place, which the session holds: nothing else changed but the record of the latch, the book in hand,
--- what was told of its own wait and its steps, which are without deeds, and at which the session stayed. Those that were passed over were met so
--- from a start on
+-- waits were granted under the latch of a place, which the session holds. Nothing else changed except the record of the latch, the book in hand, what the
+-- session knows of its own wait, and its list of steps. These did no deeds, gave no latch back and raised no flag. The waits that were passed over were
+-- met so from a start on
 pub record Reschedules (id : TableId) (place : ℕ) (start m m′ : Mine) : Type 0 where
   pub latches : List LatchRecord
   pub told : Option ℕ
@@ -171,7 +171,7 @@ ReschedulesInTurn id place session number m m′ =
 
 -- ---- and the latch is given back
 
--- a step without deeds that gave the latch of a place back, by whose record nobody waits there, or nobody is forgotten
+-- a step without deeds that gave the latch of a place back, by whose record no ticket waits there, or no waiter is forgotten
 pub record MeetsRescheduled (id : TableId) (place who : ℕ) (m m′ : Mine) (e : Met) : Type 0 where
   pub kind : e.kind ≡ PutLatch
   pub did : e.deeds ≡ []
@@ -181,9 +181,9 @@ pub record MeetsRescheduled (id : TableId) (place who : ℕ) (m m′ : Mine) (e 
   pub held : held_at place e.held ≡ Some latch
   pub served : (latch.book.waiting ≡ []) ⊎ ForgetsNobody id place latch m m′
 
--- the place was rescheduled between the two: waits were granted by steps between them, nobody was forgotten at the last of them, as the latch was
--- given back, and what was told of the session's own wait stays so. No step before gave a latch back, so all was done under that latch. A session
--- without a wait is told of none
+-- the place was rescheduled between the two: waits were granted by steps between them, and no waiter was forgotten at the last step, which gave the latch
+-- back. No step before it gave a latch back, so all was done under that latch. If the session knew how its own wait was settled, it still knows that. A
+-- session without a wait learns of none
 pub record HasRescheduled (id : TableId) (place : ℕ) (m m′ : Mine) : Type 0 where
   pub grants : List Settlement
   pub settles : m′.0.settles ≡ m.0.settles ++ grants
@@ -192,8 +192,8 @@ pub record HasRescheduled (id : TableId) (place : ℕ) (m m′ : Mine) : Type 0 
   pub stays : StaysTold m.0.told m′.0.told
   pub unasked : m.0.asks ≡ None → m′.0.told ≡ m.0.told
 
--- the latch of a place, which the session held, and the slot that it took last were given back after these deeds and after waits were granted there,
--- and nothing else changed. The steps tell just these deeds
+-- the session gave back the latch of a place, and the slot that it took last, after these deeds and after waits were granted there. Nothing else changed,
+-- and its steps did just these deeds
 pub record ReschedulesAndLeaves (id : TableId) (place : ℕ) (ds : List Deed) (m m′ : Mine) : Type 0 where
   pub told : Option ℕ
   pub settles : List Settlement
@@ -202,8 +202,8 @@ pub record ReschedulesAndLeaves (id : TableId) (place : ℕ) (ds : List Deed) (m
   pub did : deeds_of made ≡ ds
   pub way : HasRescheduled id place m m′
 
--- the session came to a place, did these deeds there, granted waits and went: it has the latches and the slots that it had, and nothing else changed.
--- Its steps tell just these deeds
+-- the session visited a place, did these deeds there, and granted waits. It has the latches and the slots that it had, and nothing else changed. Its steps
+-- did just these deeds
 pub record VisitsAndReschedules (id : TableId) (place : ℕ) (ds : List Deed) (m m′ : Mine) : Type 0 where
   pub told : Option ℕ
   pub settles : List Settlement
@@ -218,8 +218,8 @@ IsLowered place ds m m′ = (found : ℕ) × (book : BookView) × (slow : Bool) 
 
 -- ---- the laws of both
 
--- a wait that was granted could be granted: whichever fast tickets there were by the rule of the table, no granted ticket of another session
--- clashed with it, and it waited behind no waiting one
+-- the law that a granted wait could be granted: whichever fast tickets there were by the rule of the table, no granted ticket of another session clashed
+-- with it, and it waited behind no waiting one
 abbrev pub GrantedWaitsWereGrantable : Type 0
 GrantedWaitsWereGrantable =
     (id : TableId) (place : ℕ) (m m′ : Mine) (g : Settlement) (e : Met) → MeetsGranted id place m m′ g e →
@@ -228,8 +228,8 @@ GrantedWaitsWereGrantable =
     × ((fast : List Ticket) → Lawful (lock_kind before.book) fast before.book.granted → NotedCounts (lock_kind before.book) fast before.obtrusive before.noted
     → is_grantable (lock_kind before.book) (fast ++ before.book.granted) before.book.waiting g.session wish.mode ≡ true)
 
--- a wait that was passed over, before another was granted or as the latch was given back, was met settled or couldn't: whichever fast tickets of
--- other sessions the word counted, it clashed with a granted ticket or had to wait behind a waiting one
+-- the law that a wait that was passed over, before another was granted or as the latch was given back, was met settled or couldn't be granted: whichever
+-- fast tickets of other sessions the word counted, it clashed with a granted ticket or had to wait behind a waiting one
 abbrev pub WaitsLeftWerentGrantable : Type 0
 WaitsLeftWerentGrantable =
     (id : TableId) (place word : ℕ) (h : LatchRecord) (tickets : List Ticket) (m m′ : Mine) → ArePassedOver id place word h tickets m m′ →

@@ -2,10 +2,10 @@
 use Rattle.std.specs.Prelude.{◌≡◌, false, length, is_some}
 use Rattle.mdl_steps.specs.Plays.{Mine}
 
--- it holds no latch, nor the directory's, and has no slot in hand
+-- the session holds no latch, not the directory's either, and has no slot in hand
 abbrev pub IsIdle : Mine → Type 0
 IsIdle m = (length m.0.latches ≡ 0) × (is_some m.0.directory ≡ false) × (length m.1 ≡ 0)
 
--- each ticket that it has stands in a book
+-- each ticket that the session has is in a book: none is fast
 abbrev pub HasSlowAlone : Mine → Type 0
 HasSlowAlone m = length m.0.fast ≡ 0

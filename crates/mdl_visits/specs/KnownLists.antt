@@ -28,11 +28,11 @@ kind_known place known = option_map (λ (k : Known). kind_of k.key.namespace) (f
 abbrev pub is_known_place : List Known → ℕ → Bool
 is_known_place known place = list_any (λ k. k.place == place) known
 
--- whether two keys differ, and their places
+-- whether two keys differ, and their places, too
 abbrev pub are_two : Known → Known → Bool
 are_two one other = not (key_eq one.key other.key) && not (one.place == other.place)
 
--- whether no key is looked up twice, and no place
+-- whether no key and no place is in the list twice
 abbrev pub are_apart : List Known → Bool
 are_apart [] = true
 are_apart (k ∷ later) = list_all (are_two k) later && are_apart later

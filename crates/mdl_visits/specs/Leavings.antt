@@ -1,4 +1,4 @@
--- How a session goes from a place whose latch it holds: it gives the latch back, with what it did there.
+-- How a session leaves a place whose latch it holds: it gives the latch back, with what it did there.
 use Rattle.std.specs.Prelude.{◌≡◌, ℕ, ◌∷◌, ◌++◌, List, [], Some, is_some, true}
 use lib.ListN.{get_elem?}
 use mathlib.Core.Option.{some}
@@ -21,17 +21,17 @@ use Rattle.mdl_steps.specs.Seats.{HasDone, IsPlace, elsewhere, rest}
 use Rattle.mdl_visits.specs.Grantings.{StandsOnce}
 use Rattle.mdl_visits.specs.Visits.{and_made, deeds_of, IsStepOf, LeavesBy}
 
--- the latch of a place, which the session held, and the slot that it took last were given back after these deeds, steps were made that tell just
--- these, and nothing else changed
+-- the session gave back the latch of a place, and the slot that it took last, after these deeds. Steps were made that did just these, and nothing else
+-- changed
 abbrev pub Leaves : ℕ → List Deed → Mine → Mine → Type 0
 Leaves place ds m m′ = (made : List Met) × (m′ ≡ and_made made (record (all_done place ds m.0) { latches = elsewhere place m }, rest m.1)) × (deeds_of made ≡ ds)
 
--- the last step that was made gave back the latch of a place, and before it the session stayed
+-- the last step that was made gave back the latch of a place, and the steps before it gave no latch back and raised no flag
 abbrev pub PutsBack : ℕ → Mine → Mine → Type 0
 PutsBack place m m′ = (e : Met) × LeavesBy m m′ e × (e.kind ≡ PutLatch) × (e.word ≡ latch_word place)
 
--- the session holds the latch of a place, and has done these deeds in its book. The flags that are up tell of each ticket in it, and each session
--- waits there at most once
+-- the session holds the latch of a place, and has done these deeds in its book. The flags that the tickets in it need are up, and each session waits there
+-- at most once
 pub record HasWorked (place : ℕ) (ds : List Deed) (s : SeatState) : Type 0 where
   pub is_place : IsPlace s.table place
   pub latch : LatchRecord
@@ -43,7 +43,7 @@ pub record HasWorked (place : ℕ) (ds : List Deed) (s : SeatState) : Type 0 whe
 abbrev pub DidUnder : ℕ → List Deed → SeatState → Met → Type 0
 DidUnder place ds s e = (e.word ≡ lock_word place) × (e.held ≡ s.me.0.latches) × (e.deeds ≡ ds)
 
--- what a session knows once it has read what stands at a place: this, under each ticket that it has there
+-- the view once the session has read this version and definition at a place: it has noted the version under each ticket that it has there
 abbrev pub knowing : ℕ → Standing → View → View
 knowing place standing v = record v {
   fast = noting_version place standing.version v.fast;
@@ -51,33 +51,33 @@ knowing place standing v = record v {
   reads = v.reads ++ record { place = place; standing = standing } ∷ [];
 }
 
--- a step on the word of a place, made while the session's ticket of this number stood in the granted list, by the record of the latch
+-- a step on the word of a place, made while the session's ticket with this number was in the granted list, by the record of the latch
 pub record MeetsOwn (place session number : ℕ) (e : Met) : Type 0 where
   pub word : e.word ≡ lock_word place
   pub latch : LatchRecord
   pub held : held_at place e.held ≡ Some latch
   pub there : is_some (ticket_of session number latch.book.granted) ≡ true
 
--- a step that was made between the two met the session's own granted ticket so, and did these deeds
+-- a step that was made between the two did these deeds while the session's ticket with this number was in the granted list
 abbrev pub DoesToOwn : ℕ → ℕ → List Deed → SeatState → SeatState → Type 0
 DoesToOwn place number ds s s′ = (e : Met) × IsStepOf s.me s′.me e × MeetsOwn place s.me.0.number number e × (e.deeds ≡ ds)
 
--- likewise two of its tickets of a place, and gave the one the other's mode as that one went
+-- a step that was made between the two gave one ticket of the session the mode of another and released that one, while both were in the granted list
 abbrev pub MergesOwn : Own → Own → SeatState → SeatState → Type 0
 MergesOwn kept gone s s′ =
     (e : Met) × IsStepOf s.me s′.me e × MeetsOwn kept.place s.me.0.number kept.number e × MeetsOwn kept.place s.me.0.number gone.number e
     × (e.deeds ≡ Alter kept.number gone.mode ∷ Lose gone.number ∷ [])
 
--- one of the tickets is of this number, at this place
+-- one of the tickets has this number and is at this place
 abbrev pub HasTicket : ℕ → ℕ → List Own → Type 0
 HasTicket place number tickets = (k : ℕ) × (t : Own) × (get_elem? tickets k ≡ some t) × (t.place ≡ place) × (t.number ≡ number)
 
--- the session came to a place, read what stands there and went: it knows that, and nothing else changed but its list of steps, which are without
+-- the session visited a place and read this version and definition there. It knows that, and nothing else changed except its list of steps, which did no
 -- deeds
 abbrev pub Learns : ℕ → Standing → Mine → Mine → Type 0
 Learns place standing m m′ = (made : List Met) × (m′ ≡ and_made made (knowing place standing m.0, m.1)) × (deeds_of made ≡ [])
 
--- a step that gave the latch of a place back, whose record tells that this stood there
+-- a step that gave the latch of a place back, whose record shows that this was the version and definition there
 pub record MeetsStanding (place session : ℕ) (standing : Standing) (e : Met) : Type 0 where
   pub kind : e.kind ≡ PutLatch
   pub word : e.word ≡ latch_word place

@@ -16,11 +16,11 @@ use Rattle.mdl_visits.specs.declared.resolve_error.ResolveError.{ResolveError}
 use Rattle.mdl_visits.specs.declared.resolve_error.ResolveError.TheVariants.{NoPlace, OutOfMemory}
 use Rattle.mdl_visits.specs.Visits.{AllQuiet, IsQuiet, MakesSteps, and_made, deeds_of}
 
--- the seat whose session knows one key more
+-- what a session has, with one more key that it knows
 abbrev pub knowing : Known → Mine → Mine
 knowing known m = (record m.0 { known = m.0.known ++ known ∷ [] }, m.1)
 
--- the session knows that a key has this place of the table, and nothing else changed but that steps without deeds were made
+-- the session knows that a key has this place of the table, and nothing else changed, except that steps without deeds were made
 abbrev pub LearnsPlace : KeyName → ℕ → SeatState → SeatState → Type 0
 LearnsPlace key place s s′ =
     (0 < place) × (place < s.table.slots) × MakesSteps (knowing (record { key = key; place = place }) s.me) s′.me
@@ -33,8 +33,8 @@ given_back k m = record { kind = PutLatch; deeds = []; word = latch_word 0; foun
 abbrev pub HadEither : Keys → Keys → Met → Type 0
 HadEither k left e = IsQuiet (Some k) e ⊎ IsQuiet (Some left) e
 
--- of the steps between the two one took the directory's latch, and this is the record that was made of it; a later one gave it back, with the record
--- that is left then. Between these the session had one of the two records at each step, and at none of the others it had any. No step raised a flag
+-- one of the steps between the two took the directory's latch, and this is the record that was made of it. A later one gave it back, with the record that
+-- is left then. Between these the session had one of the two records at each step, and at all other steps it had none. No step raised a flag
 pub record TookDirectory (slots : ℕ) (k left : Keys) (old new : Mine) : Type 0 where
   pub before : List Met
   pub within : List Met
@@ -45,12 +45,12 @@ pub record TookDirectory (slots : ℕ) (k left : Keys) (old new : Mine) : Type 0
   pub either_within : Each (HadEither k left) within
   pub none_after : AllQuiet None after
 
--- the directory's latch was taken and given back, whose record stayed, and by that record this is so
+-- the directory's latch was taken and given back, its record is unchanged, and this holds of the record
 abbrev pub AsksDirectory : SeatState → SeatState → (Keys → Type 0) → Type 0
 AsksDirectory s s′ IsSo = (k : Keys) × TookDirectory s.table.slots k k s.me s′.me × IsSo k
 
--- what is answered by the directory's record, and the record that is left: a key that has a place keeps it, and that takes no memory; a new one gets
--- the place after all others, if there is one, and nothing else changes
+-- the answer by the directory's record, and the record that is left. A key that has a place keeps it, and that takes no memory. A new one gets the place
+-- after all others, if there is one, and nothing else changes
 abbrev pub IsAnswer : ℕ → KeyName → Keys → Keys → Result ℕ ResolveError → Type 0
 IsAnswer slots key k left (Ok place) =
     ((place_among key k.keys ≡ Some place) × (left ≡ k)) ⊎ ((place_among key k.keys ≡ None) × (place ≡ length k.keys + 1) × (left ≡ listing key k))
@@ -59,7 +59,7 @@ IsAnswer slots key k left (Err OutOfMemory) = (place_among key k.keys ≡ None) 
 
 -- ---- while the session holds the directory's latch
 
--- it holds no other latch, and this is its directory, which has fewer keys than the table has places
+-- the session holds the directory's latch and no other, and this is its directory, which has no more keys than the table has places
 pub record HoldsKeys (k : Keys) (s : SeatState) : Type 0 where
   pub has : HasDirectory k s.me
   pub alone : s.me.0.latches ≡ []
@@ -76,8 +76,8 @@ pub record IsNext (place : ℕ) (key : KeyName) (k : Keys) (s : SeatState) : Typ
 abbrev pub relisted : List Met → Keys → Mine → Mine
 relisted made k m = (record m.0 { log = m.0.log ++ made; directory = Some k }, (0, slot.Directory k) ∷ rest m.1)
 
--- the key's place was asked for by a record that the seat had: it has this one then, by which the key stands at the place that was answered, and nothing
--- else became of what it had but steps without deeds
+-- a key's place was looked up by a record that the seat had. The seat has the record that is left then, by which the key is at the place of the answer.
+-- Nothing else changed, except that steps without deeds were made
 pub record HasLooked (slots : ℕ) (key : KeyName) (k : Keys) (result : Result ℕ ResolveError) (old new : Mine) : Type 0 where
   pub made : List Met
   pub left : Keys
@@ -87,7 +87,7 @@ pub record HasLooked (slots : ℕ) (key : KeyName) (k : Keys) (result : Result �
   pub answer : IsAnswer slots key k left result
   pub stands : IfOk result (λ place. (0 < place) × (place < slots) × (key_at left.keys place ≡ Some key))
 
--- the new key was given its place: the seat has the record with it from then on, and at each step before it had one of the two
+-- the new key was given its place: the seat has the record with it from then on, and at each step before it had one of the two records
 abbrev pub HasNamed : KeyName → Keys → Mine → Mine → Type 0
 HasNamed key k old new = (made : List Met) × (new ≡ relisted made (listing key k) old) × Each (HadEither k (listing key k)) made × (deeds_of made ≡ [])
 

@@ -1,4 +1,4 @@
--- How a session's fast tickets at a place become slow ones: they are granted in the book of the place, and the lock's word no longer counts them.
+-- How a session's fast tickets at a place become slow: they are granted in the book of the place, and the lock's word no longer counts them.
 -- After MySQL 5.7: `MDL_context::materialize_fast_path_locks` of sql/mdl.cc.
 use Rattle.std.specs.Prelude.{◌≡◌, ◌≢◌, ℕ, ◌+◌, ◌<◌, Bool, true, false, List, [], ◌∷◌, ◌++◌, map, Some, None, ◌⊎◌}
 use Rattle.mdl_book.specs.declared.book_error.BookError.{BookError}
@@ -42,12 +42,12 @@ VisitsOnce place m m′ =
 
 -- ---- what the session has then
 
--- a session whose fast tickets at a place are slow ones, each among the others by its number
+-- the view with the fast tickets at a place made slow, each among the others by its number
 abbrev pub all_slow : ℕ → View → View
 all_slow place v = record v { fast = but_at place v.fast; slow = interleaved v.slow (own_at place v.fast) }
 
--- the session's fast tickets at a place became slow ones, and nothing else changed but its list of steps, which are without deeds. It visited the place
--- once, and made no step if it had none there
+-- the session's fast tickets at a place became slow, and nothing else changed except its list of steps, which did no deeds. It visited the place once, and
+-- made no step if it had none there
 pub record Materialises (place : ℕ) (m m′ : Mine) : Type 0 where
   pub made : List Met
   pub now : m′ ≡ and_made made (all_slow place m.0, m.1)
@@ -55,7 +55,7 @@ pub record Materialises (place : ℕ) (m m′ : Mine) : Type 0 where
   pub once : own_at place m.0.fast ≢ [] → VisitsOnce place m m′
   pub none : own_at place m.0.fast ≡ [] → made ≡ []
 
--- the step by which the lock's word no longer counts these tickets: by the record of the latch they are granted in the book, behind all others
+-- the step by which the lock's word no longer counts these tickets: by the record of the latch they are granted in the book, after all others
 pub record MeetsMaterialised (place : ℕ) (tickets : List Ticket) (e : Met) : Type 0 where
   pub kind : e.kind ≡ Materialise
   pub word : e.word ≡ lock_word place
@@ -64,24 +64,24 @@ pub record MeetsMaterialised (place : ℕ) (tickets : List Ticket) (e : Met) : T
   pub before : List Ticket
   pub granted : latch.book.granted ≡ before ++ tickets
 
--- the session's fast tickets at a place became slow ones, and where there are any, a step shows it
+-- the session's fast tickets at a place became slow, and if there were any, a step shows it
 abbrev pub WasMaterialised : ℕ → SeatState → SeatState → Type 0
 WasMaterialised place s s′ =
     AtItsTable s s′ (Materialises place)
     × (own_at place s.me.0.fast ≢ [] → HasStep s s′ (MeetsMaterialised place (moved place s.me.0)))
 
--- a step on the lock's word under the latch, whose record shows that the book has no room for so many tickets more
+-- a step on the lock's word under the latch, whose record shows that the book has no room for n more tickets
 pub record MeetsFullFor (n place : ℕ) (e : Met) : Type 0 where
   pub word : e.word ≡ lock_word place
   pub latch : LatchRecord
   pub held : held_at place e.held ≡ Some latch
   pub full : 65535 < ticket_count latch.book + n
 
--- why there was no room for so many: memory ran out, or a step shows that the book was too full for all of them
+-- why there was no room for n tickets: memory ran out, or a step shows that the book was too full for all of them
 abbrev pub LacksRoomFor : ℕ → ℕ → BookError → SeatState → SeatState → Type 0
 LacksRoomFor n place cause s s′ = (cause ≡ fault.OutOfMemory) ⊎ ((cause ≡ fault.Full) × HasStep s s′ (MeetsFullFor n place))
 
--- the session visited a place once and went with nothing done, for want of room for so many, which are some
+-- the session visited a place once and did nothing there, for lack of room for n tickets, at least one
 abbrev pub WasRefusedFor : ℕ → ℕ → BookError → SeatState → SeatState → Type 0
 WasRefusedFor n place cause s s′ = AtItsTable s s′ (Visits place []) × LacksRoomFor n place cause s s′ × VisitsOnce place s.me s′.me × (0 < n)
 
@@ -99,17 +99,17 @@ granting_own session tickets book = granting_all (map (ticket_by session) ticket
 abbrev pub AreUngranted : ℕ → List Own → BookView → Type 0
 AreUngranted session tickets book = Each (λ (t : Own). ticket_of session t.number book.granted ≡ None) tickets
 
--- the session has a book of a place in hand in which none of these tickets of its is granted, and each may stand beside all that are
+-- the session has a book of a place in hand in which none of these tickets of its own is granted, and each is compatible with all that are
 pub record CanStand (place : ℕ) (tickets : List Own) (book : BookView) (s : SeatState) : Type 0 where
   pub in_hand : HasInHand place book s
   pub ungranted : AreUngranted s.me.0.number tickets book
   pub beside : Each (λ (t : Own). is_compatible (lock_kind book) book.granted s.me.0.number t.mode ≡ true) tickets
 
--- the session has a book of a place in hand in which these tickets of its are granted last, and only there
+-- the session has a book of a place in hand in which these tickets of its own are granted last, and only there
 pub record Stand (place : ℕ) (tickets : List Own) (book : BookView) (s : SeatState) : Type 0 where
   pub in_hand : HasInHand place (granting_own s.me.0.number tickets book) s
   pub ungranted : AreUngranted s.me.0.number tickets book
 
--- why a book doesn't take so many tickets more: memory ran out, or the book has no room for all of them
+-- why a book can't take n more tickets: memory ran out, or the book has no room for all of them
 abbrev pub LacksRoomIn : BookView → ℕ → BookError → Type 0
 LacksRoomIn book n cause = (cause ≡ fault.OutOfMemory) ⊎ ((cause ≡ fault.Full) × (65535 < ticket_count book + n))

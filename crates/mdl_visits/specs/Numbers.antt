@@ -5,7 +5,7 @@ use Rattle.std.specs.Option.{option_map_or}
 use Rattle.mdl_steps.specs.declared.view.Ask.{Ask}
 use Rattle.mdl_steps.specs.declared.view.Own.{Own}
 
--- the ticket of a number
+-- the ticket with a number
 abbrev pub numbered : ℕ → List Own → Option Own
 numbered number tickets = find (λ t. t.number == number) tickets
 

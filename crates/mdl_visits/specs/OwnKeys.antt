@@ -10,19 +10,19 @@ use Rattle.mdl_visits.specs.KnownLists.{kind_known}
 abbrev pub known_of : KeyName × ℕ → Known
 known_of entry = record { key = entry.0; place = entry.1 }
 
--- the index of each key stands under its place
+-- the list of indexes has the index of each key at the key's place
 abbrev pub AreIndexed : List (KeyName × ℕ) → List ℕ → Type 0
 AreIndexed entries indexes =
     (at : ℕ) (entry : KeyName × ℕ) → slice_get entries at ≡ Some entry → slice_get indexes entry.1 ≡ Some at
 
--- there is one for no more places than 16 bits can tell
+-- there are no more indexes than numbers of 16 bits
 abbrev pub IsNarrow : List ℕ → Type 0
 IsNarrow indexes = length indexes ≤ 65536
 
--- the kind that stands under a place
+-- the kind that the list has at a place, if any
 abbrev pub kind_in : ℕ → List (Option Kind) → Option Kind
 kind_in place kinds = option_and_then (λ (kind : Option Kind). kind) (slice_get kinds place)
 
--- the kind of each key's lock stands under its place, and none under another
+-- the list has the kind of each key's lock at the key's place, and none at other places
 abbrev pub AreKinds : List (KeyName × ℕ) → List (Option Kind) → Type 0
 AreKinds entries kinds = (place : ℕ) → kind_in place kinds ≡ kind_known place (map known_of entries)

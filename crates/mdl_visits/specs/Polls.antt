@@ -8,33 +8,33 @@ use Rattle.mdl_steps.specs.Layout.{wait_word}
 use Rattle.mdl_steps.specs.Plays.{Mine}
 use Rattle.mdl_steps.specs.WaitStates.{granted_state, idle_state, lost_state, wait_in, wait_number, wait_state}
 
--- the state of a wait that is settled so
+-- the state of a wait that is settled in this way
 abbrev pub state_of : Settled → ℕ
 state_of Granted = granted_state
 state_of Victim = lost_state loss.Victim
 state_of Timeout = lost_state loss.Timeout
 state_of Killed = lost_state loss.Killed
 
--- a step that met the word of a session's wait: it was the session's last wait, of this number, in this state
+-- a step that met the word of a session's wait: the session's last wait had this number, and was in this state
 pub record MeetsWait (slots session number state : ℕ) (e : Met) : Type 0 where
   pub word : e.word ≡ wait_word slots session
   pub found : e.found ≡ wait_in number state
 
--- the number of a session's wait, where it has one, by its word
+-- the number of a session's wait, if it has one, by the wait's word
 abbrev pub number_in : ℕ → Option ℕ
 number_in word = if wait_state word == idle_state then None else Some (wait_number word)
 
--- a step that met this in the word of a session's wait
+-- a step that met this word of a session's wait
 pub record MeetsWord (slots session word : ℕ) (e : Met) : Type 0 where
   pub word_is : e.word ≡ wait_word slots session
   pub found : e.found ≡ word
 
--- a step that met the word of a session's wait, by which it had one of this number, or none
+-- a step that met the word of a session's wait, by which the session had a wait with this number, or none
 pub record MeetsNumber (slots session : ℕ) (number : Option ℕ) (e : Met) : Type 0 where
   pub word : e.word ≡ wait_word slots session
   pub told : number ≡ number_in e.found
 
--- no wait was settled between the two
+-- the session settled no wait between the two
 abbrev pub SettlesNothing : Mine → Mine → Type 0
 SettlesNothing m m′ = m′.0.settles ≡ m.0.settles
 
@@ -43,6 +43,6 @@ pub record MeetsOther (slots session word : ℕ) (e : Met) : Type 0 where
   pub word_is : e.word ≡ wait_word slots session
   pub differs : e.found ≢ word
 
--- just one wait was settled between the two, which is so told
+-- the session settled just one wait between the two, this one, to this state
 abbrev pub Settles : ℕ → ℕ → ℕ → Mine → Mine → Type 0
 Settles session wait state m m′ = m′.0.settles ≡ m.0.settles ++ record { session = session; wait = wait; state = state } ∷ []

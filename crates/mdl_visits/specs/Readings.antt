@@ -1,5 +1,5 @@
--- What a session read, between two of its views, of what stands under keys. Who writes a version has read what stands then, so that a session
--- that read nothing changed nothing of it either.
+-- What a session read, between two of its views, of versions and definitions. A session that writes a version has read the definition of that version, so
+-- a session that read nothing changed nothing either.
 use Rattle.std.specs.Prelude.{◌≡◌, ℕ, true, [], ◌∷◌, ◌++◌, is_some, Some}
 use Rattle.mdl_defs.specs.declared.standing.Standing.{Standing}
 use Rattle.mdl_book.specs.Tickets.{ticket_of}
@@ -12,29 +12,31 @@ use Rattle.mdl_steps.specs.SeatStates.{SeatState}
 use Rattle.mdl_visits.specs.Leavings.{HasTicket, Learns, MeetsStanding}
 use Rattle.mdl_visits.specs.Visits.{IsStepOf}
 
--- it read nothing
+-- the session read nothing
 abbrev pub ReadsNothing : Mine → Mine → Type 0
 ReadsNothing m m′ = m′.0.reads ≡ m.0.reads
 
--- it read that this stands at a place, and nothing else
+-- the session read this version and definition at a place, and nothing else
 abbrev pub ReadsThere : ℕ → Standing → Mine → Mine → Type 0
 ReadsThere place standing m m′ = m′.0.reads ≡ m.0.reads ++ record { place = place; standing = standing } ∷ []
 
--- by the record of the latch of a place at a step, a session's ticket of this number was granted there
+-- by the record of the latch of a place at a step, a session's ticket with this number was granted there
 abbrev pub WasHeld : ℕ → ℕ → ℕ → Met → Type 0
 WasHeld place session number e =
     (latch : LatchRecord) × (held_at place e.held ≡ Some latch) × (is_some (ticket_of session number latch.book.granted) ≡ true)
 
--- each slow ticket that the session has at a place was, but for one that it waits for. A fast ticket is in no book
+-- each slow ticket that the session has at a place was granted there at a step, except one that it waits for. A fast ticket is in no book
 abbrev pub WereHeld : ℕ → ℕ → Mine → Met → Type 0
 WereHeld place session m e = (number : ℕ) → HasTicket place number m.0.slow → NotWaited m.0 number → WasHeld place session number e
 
--- the session learnt what stands at a place by a step that gave the latch back, at which each ticket that it has there was granted but one that it waits for
+-- the session learnt the version and definition at a place by a step that gave the latch back, at which each slow ticket that it has there was granted,
+-- except one that it waits for
 abbrev pub ReadsStanding : ℕ → Standing → SeatState → SeatState → Type 0
 ReadsStanding place standing s s′ =
     Learns place standing s.me s′.me
     × ((e : Met) × IsStepOf s.me s′.me e × MeetsStanding place s.me.0.number standing e × WereHeld place s.me.0.number s.me e)
 
--- a step that gave the latch of a place back, by whose record this was defined there and the session's ticket of this number was granted
+-- a step that gave the latch of a place back, by whose record this was the version and definition there, and the session's ticket with this number was
+-- granted
 abbrev pub MeetsRead : ℕ → ℕ → ℕ → Standing → Met → Type 0
 MeetsRead place session number standing e = MeetsStanding place session standing e × WasHeld place session number e

@@ -1,5 +1,5 @@
--- A change of what stands under a key, as the session that makes it meets it: by its exclusive ticket it changes what stands in the book, under the
--- latch of the place, and writes the word of the version.
+-- A change of a key's definition, as the session that makes it meets it: by its exclusive ticket it changes the definition in the book, under the latch of
+-- the place, and writes the word of the version.
 use Rattle.std.specs.Prelude.{◌≡◌, ◌⊎◌, ℕ, ◌+◌, List, ◌∷◌, [], ◌++◌, Option, Some, None, if◌then◌else◌}
 use lib.ListN.{get_elem?}
 use mathlib.Core.Option.{some}
@@ -26,7 +26,7 @@ use Rattle.mdl_steps.specs.VersionPlays.{Follows}
 use Rattle.mdl_visits.specs.Numbers.{numbered}
 use Rattle.mdl_visits.specs.Visits.{AreStepsOf, IsStepOf}
 
--- why nothing is changed under a ticket: there is none, or it isn't exclusive
+-- why a change under a ticket is refused: there is no such ticket, or it isn't exclusive
 abbrev pub exclusive_fault : Option Own → Option SpaceError
 exclusive_fault None = Some NotHeld
 exclusive_fault (Some t) = if same_mode t.mode X then None else Some NotExclusive
@@ -35,12 +35,12 @@ exclusive_fault (Some t) = if same_mode t.mode X then None else Some NotExclusiv
 abbrev pub HasExclusiveAt : ℕ → List Own → Type 0
 HasExclusiveAt place tickets = (number : ℕ) × (t : Own) × (numbered number tickets ≡ Some t) × (t.place ≡ place) × (t.mode ≡ X)
 
--- the version was written of what stands at a place from now on, and the latch was given back
+-- the session has written the version of this new definition at a place, and has given the latch back
 abbrev pub redefined_and_put : ℕ → Standing → Mine → Mine
 redefined_and_put place standing m = unlatched place [] (redefined place standing m)
 
--- what a change to this version met: a step that took the latch, by whose record what stood at the place could be changed so, and one that wrote the
--- version. There it found the version before, and by its record the change stands; the rest of the record is the same
+-- what a change to this version met. One step took the latch, by whose record the definition there could be changed so. Another wrote the version: it
+-- found the version before, and by its record the definition is changed, and the rest of the record is the same
 pub record MeetsChange (place : ℕ) (change : Change) (version : ℕ) (take write : Met) : Type 0 where
   pub takes : take.kind ≡ TakeLatch
   pub writes : write.kind ≡ WriteVersion
@@ -54,12 +54,12 @@ pub record MeetsChange (place : ℕ) (change : Change) (version : ℕ) (take wri
   pub older : write.found ≡ latch.book.standing.version
   pub stands : held_at place write.held ≡ Some (restood (standing_after change latch.book.standing) latch)
 
--- this is each key that the session knows to be at a place
+-- this is the key at a place, if the session knows the key there
 abbrev pub IsNamed : ℕ → KeyName → Mine → Type 0
 IsNamed place key m = (i : ℕ) (k : Known) → get_elem? m.0.known i ≡ some k → k.place ≡ place → key ≡ k.key
 
--- between the two the session changed what stands at a place to this version, which goes on from what it read and noted there, under the key that it
--- knows to be there, and it knows what stands there then
+-- between the two the session changed the definition at a place, which has this version then. The definition before agrees with what the session read and
+-- noted there, its key is the one that the session knows to be there, and the session has read the new definition
 pub record Redefines (place : ℕ) (change : Change) (version : ℕ) (m m′ : Mine) : Type 0 where
   pub take : Met
   pub write : Met
@@ -69,7 +69,7 @@ pub record Redefines (place : ℕ) (change : Change) (version : ℕ) (m m′ : M
   pub named : IsNamed place meets.latch.book.key m
   pub learnt : m′.0.reads ≡ m.0.reads ++ record { place = place; standing = standing_after change meets.latch.book.standing } ∷ []
 
--- a step that gave the latch of a place back, whose record tells why what stood there couldn't be changed so
+-- a step that gave the latch of a place back, whose record shows why the definition there couldn't be changed so
 pub record MeetsFault (place session : ℕ) (change : Change) (why : ChangeError) (e : Met) : Type 0 where
   pub kind : e.kind ≡ PutLatch
   pub word : e.word ≡ latch_word place
@@ -78,13 +78,13 @@ pub record MeetsFault (place session : ℕ) (change : Change) (why : ChangeError
   pub held : held_at place e.held ≡ Some latch
   pub fault : standing_fault latch.book.key.namespace change latch.book.standing ≡ Some why
 
--- why a change was refused that a session tried at a place: a step met the fault, in what goes on from what the session read and noted there, or
--- memory ran out, which `Drop` doesn't need
+-- why a session's change at a place was refused: a step met the fault, in a definition that agrees with what the session read and noted there, or memory
+-- ran out, which `Drop` doesn't need
 abbrev pub IsRefusedFor : ℕ → ℕ → Change → ChangeError → Mine → Mine → Type 0
 IsRefusedFor place session change why m m′ =
     ((e : Met) × IsStepOf m m′ e × (met : MeetsFault place session change why e) × Follows place met.latch.book.standing m
     × IsNamed place met.latch.book.key m) ⊎ ((why ≡ OutOfMemory) × (change ≡ Drop → ⊥))
 
--- the same in the words of a space
+-- the same as an error of a lock space
 abbrev pub IsRefusedAs : ℕ → ℕ → Change → SpaceError → Mine → Mine → Type 0
 IsRefusedAs place session change cause m m′ = (why : ChangeError) × (cause ≡ cause_of why) × IsRefusedFor place session change why m m′

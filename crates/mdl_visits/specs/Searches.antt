@@ -33,7 +33,7 @@ use Rattle.mdl_visits.specs.Visits.{AllQuiet, IsStepOf, deeds_of}
 abbrev pub settled_by : List WaitRead → SessionTest
 settled_by words session = list_any (λ (r : WaitRead). r.session == session && not (wait_state r.word.0 == unsettled_state)) words
 
--- the sessions from 1 to so many
+-- the sessions from 1 to a number
 unfoldable pub sessions_to : ℕ → List ℕ
 sessions_to zero = []
 sessions_to (suc n) = sessions_to n ++ suc n ∷ []
@@ -49,7 +49,7 @@ pub record AreOfAll (id : TableId) (words : List WaitRead) : Type 0 where
 abbrev pub WasRead : ℕ → List LatchRecord → Mine → Mine → WaitRead → Type 0
 WasRead slots latches m m′ r = (e : Met) × IsStepOf m m′ e × (e.word ≡ wait_word slots r.session) × (e.found ≡ r.word.0) × (e.held ≡ latches)
 
--- such a word of a session's wait was put behind others
+-- a word of a session's wait that was met so was added to the end of a list
 abbrev pub AddsRead : ℕ → List WaitRead → List WaitRead → SeatState → SeatState → Type 0
 AddsRead session words words′ s s′ =
     (r : WaitRead) × (r.session ≡ session) × (words′ ≡ words ++ r ∷ []) × WasRead s.table.slots s.me.0.latches s.me s′.me r
@@ -72,7 +72,7 @@ books_of audited = map (λ (a : Audited). a.book) audited
 abbrev pub AreQueuesOf : List Audited → List Queues → Type 0
 AreQueuesOf audited lists = map (λ (a : Audited). queues_of a.book) audited ≡ lists
 
--- the lists of more books stand behind those of any before
+-- the lists of more books are added to the end of those of any before
 abbrev pub AddsQueues : List Audited → List Queues → List Queues → Type 0
 AddsQueues more lists lists′ = (copied : List Audited) → AreQueuesOf copied lists → AreQueuesOf (copied ++ more) lists′
 
@@ -87,8 +87,8 @@ pub record SettlesVictim (slots victim : ℕ) (latches : List LatchRecord) (m m�
   pub met : MeetsWait slots victim wait unsettled_state moment
   pub held : moment.held ≡ latches
 
--- by these words and books the session waits in no cycle, and nothing was settled; or this is the victim of the cycle that is chosen, and its wait was
--- settled
+-- the outcome by these words and books: the session waits in no cycle, and nothing was settled, or this is the victim of the cycle that is chosen, and its
+-- wait was settled
 abbrev pub IsOutcome : ℕ → ℕ → List LatchRecord → List Audited → List WaitRead → Mine → Mine → Search → Type 0
 IsOutcome slots who latches audited words m m′ NoCycle =
     (deadlock_in (settled_by words) (books_of audited) who ≡ None) × SettlesNothing m m′
@@ -100,14 +100,15 @@ abbrev pub KnowsVictim : ℕ → Search → Mine → Type 0
 KnowsVictim who NoCycle m = Unit {0}
 KnowsVictim who (Victim victim) m = victim ≡ who → m.0.told ≡ Some (lost_state loss.Victim)
 
--- that came of the words of all sessions, as steps between the two met them, while the session had just these latches, and of these books
+-- this is the outcome by the words of all sessions' waits, as steps between the two met them while the session had just these latches, and by these books
 pub record Judges (id : TableId) (who : ℕ) (latches : List LatchRecord) (audited : List Audited) (found : Search) (m m′ : Mine) : Type 0 where
   pub words : List WaitRead
   pub all : AreOfAll id words
   pub read : All (WasRead id.slots latches m m′) words
   pub outcome : IsOutcome id.slots who latches audited words m m′ found
 
--- of the words of all sessions, as steps between the two met them, and of these books a victim came, whose word was another one by then
+-- by the words of all sessions' waits, as steps between the two met them, and by these books this was the victim, but the word of its wait was another one
+-- by then
 pub record Misses (id : TableId) (who : ℕ) (latches : List LatchRecord) (audited : List Audited) (m m′ : Mine) : Type 0 where
   pub words : List WaitRead
   pub all : AreOfAll id words
@@ -116,19 +117,19 @@ pub record Misses (id : TableId) (who : ℕ) (latches : List LatchRecord) (audit
   pub found : victim_in (settled_by words) (books_of audited) who ≡ Some victim
   pub other : IfSome (read_of victim words) (WasOther id.slots m m′)
 
--- a place's book, if somebody waits there
+-- a list of a place's book if a ticket waits there, otherwise an empty list
 abbrev pub if_waited : Audited → List Audited
 if_waited a = if nat_lt 0 (length a.book.waiting) then a ∷ [] else []
 
--- the session had the latches of the places from one to another, beside those of lower ones, and judged by their books as they were then, and by those
--- that were copied before
+-- at one moment the session had the latches of the places from one to another, beside those of lower ones. This is the outcome by their books as they were
+-- then, and by those that were copied before
 pub record Searches (id : TableId) (who place last : ℕ) (copied : List Audited) (found : Search) (m m′ : Mine) : Type 0 where
   pub books : List Audited
   pub gathers : Gathers place last [] books m m′
   pub judges : Judges id who gathers.latches (copied ++ books) found m m′
 
--- the session had at one step between the two this record of the directory and the latches of the places of all its keys, and judged by their books as they
--- were then
+-- at one step between the two the session had this record of the directory's latch and the latches of the places of all its keys. This is the outcome by
+-- their books as they were then
 pub record Searched (id : TableId) (who : ℕ) (k : Keys) (found : Search) (m m′ : Mine) : Type 0 where
   pub audited : List Audited
   pub all : length audited ≡ length k.keys
@@ -141,11 +142,11 @@ pub record Searched (id : TableId) (who : ℕ) (k : Keys) (found : Search) (m m�
 
 -- ---- what becomes of the session
 
--- steps were made that met the words of waits, or settled them
+-- a session that made steps which met the words of waits, or settled them
 abbrev pub with_waits_read : List Met → Option ℕ → List Settlement → Mine → Mine
 with_waits_read made told settles m = (record m.0 { log = m.0.log ++ made; told = told; settles = settles }, m.1)
 
--- likewise, without deeds, and nothing else changed. What was told of its own wait stays so
+-- the session made such steps, without deeds, and nothing else changed. If it knew how its own wait was settled, it still knows that
 pub record ReadsWaits (m m′ : Mine) : Type 0 where
   pub made : List Met
   pub told : Option ℕ
@@ -154,12 +155,12 @@ pub record ReadsWaits (m m′ : Mine) : Type 0 where
   pub did : deeds_of made ≡ []
   pub stays : StaysTold m.0.told told
 
--- likewise, and at each step the session had of the directory what it had before, and raised no flag
+-- likewise, and at each step the session had the record of the directory's latch that it had before, or none, and raised no flag
 pub record ReadsWaitsQuietly (m m′ : Mine) : Type 0 where
   pub reads : ReadsWaits m m′
   pub had : AllQuiet m.0.directory reads.made
 
--- likewise of a seat, and no wait was settled
+-- likewise for a seat, and the session settled no wait
 abbrev pub OnlyReadsWaits : SeatState → SeatState → Type 0
 OnlyReadsWaits s s′ = AtItsTable s s′ ReadsWaitsQuietly × SettlesNothing s.me s′.me
 
@@ -169,33 +170,33 @@ AreRead words s s′ = AreOfAll s.table words × All (WasRead s.table.slots s.me
 
 -- ---- what the parts of a search come to
 
--- the wait of a session was to be settled as the victim's, if by the word that was read of it, if any, it was open. It was settled, which the session knows
--- of its own wait; or no wait was settled, since the word was another one by then
+-- a try to settle a session's wait as the victim's, if it was open by the word that was read of it, if any. Either it was settled, and the session that
+-- searches knows that if the wait is its own, or no wait was settled, since the word was another one by then
 pub record TriesToSettle (victim : ℕ) (read : Option WaitRead) (done : Bool) (s s′ : SeatState) : Type 0 where
   pub reads : AtItsTable s s′ ReadsWaitsQuietly
   pub settled : done ≡ true → SettlesVictim s.table.slots victim s.me.0.latches s.me s′.me × KnowsVictim s.me.0.number (Victim victim) s′.me
   pub missed : done ≡ false → SettlesNothing s.me s′.me × IfSome read (WasOther s.table.slots s.me s′.me)
 
--- words of waits were read or settled, and this came of it; or memory ran out, and no wait was settled
+-- words of waits were read or settled with this result, or memory ran out, and no wait was settled
 pub record EndsSearch {T E : Type 0} (result : Result T E) (Comes : T → Type 0) (s s′ : SeatState) : Type 0 where
   pub reads : AtItsTable s s′ ReadsWaitsQuietly
   pub found : IfOk result Comes
   pub nothing : OnErr result (SettlesNothing s.me s′.me)
 
--- this was judged by these lists, of whichever books they are
+-- this is the outcome by these lists, of whichever books they are
 abbrev pub Finds : List Queues → SeatState → SeatState → Search → Type 0
 Finds lists s s′ found =
     ((audited : List Audited) → AreQueuesOf audited lists → Judges s.table s.me.0.number s.me.0.latches audited found s.me s′.me)
     × KnowsVictim s.me.0.number found s′.me
 
--- likewise, or nothing was found, since the victim's wait had another word by then
+-- likewise, or there is no outcome, since the word of the victim's wait was another one by then
 abbrev pub FindsAtOnce : List Queues → SeatState → SeatState → Option Search → Type 0
 FindsAtOnce lists s s′ tried =
     MatchOption tried
     (SettlesNothing s.me s′.me × ((audited : List Audited) → AreQueuesOf audited lists → Misses s.table s.me.0.number s.me.0.latches audited s.me s′.me))
     (Finds lists s s′)
 
--- this was judged by these lists, of whichever books they are, and by the books of the places from one to another
+-- this is the outcome by these lists, of whichever books they are, and by the books of the places from one to another
 abbrev pub FindsFrom : ℕ → ℕ → List Queues → SeatState → SeatState → Search → Type 0
 FindsFrom place last lists s s′ found =
     ((copied : List Audited) → AreQueuesOf copied lists → Searches s.table s.me.0.number place last copied found s.me s′.me)

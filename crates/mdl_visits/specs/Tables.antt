@@ -1,4 +1,4 @@
--- How a session finds the tables of a schema that have a definition: the directory tells the tables, and the session asks at the place of each.
+-- How a session finds the tables of a schema that have a definition: the directory has the tables, and the session looks at the place of each.
 use Rattle.std.specs.Prelude.{◌≡◌, ℕ, ◌+◌, ◌<◌, ◌≤◌, Bool, if◌then◌else◌, true, List, [], ◌∷◌, ◌++◌, length, map, filter, All, AllPairs, Contains, is_some, Some, Vec}
 use Rattle.std.specs.List.Sorted.{IsPermutation, IsSortedBy}
 use Rattle.std.specs.Ordering.{is_lt}
@@ -20,7 +20,7 @@ use Rattle.mdl_visits.specs.Visits.{IsStepOf}
 
 -- ---- which tables there are
 
--- a table of the schema stands at its place by the directory's record
+-- this is a table of the schema, at its place by the directory's record
 abbrev pub IsTable : List ℕ → Keys → Known → Type 0
 IsTable schema k t = (0 < t.place) × (key_at k.keys t.place ≡ Some t.key) × (is_table_of schema t.key ≡ true)
 
@@ -39,7 +39,7 @@ pub record AreListed (schema : List ℕ) (k : Keys) (tables : List Known) : Type
   pub all : IsPermutation (tables_from schema 1 k.keys) tables
   pub sorted : AreSorted tables
 
--- the seat whose session knows these keys, too
+-- what a session has, with these keys known, too
 abbrev pub knowing_all : List Known → Mine → Mine
 knowing_all tables m = (record m.0 { known = m.0.known ++ unknown m.0.known tables }, m.1)
 
@@ -54,7 +54,7 @@ HaveRoom known slots tables places =
 
 -- ---- which of them have a definition
 
--- a step that gave the latch of a place back, whose record tells whether a definition stood there
+-- a step that gave the latch of a place back, whose record shows whether there was a definition there
 pub record MeetsDefinition (place session : ℕ) (defined : Bool) (e : Met) : Type 0 where
   pub kind : e.kind ≡ PutLatch
   pub word : e.word ≡ latch_word place
@@ -63,25 +63,25 @@ pub record MeetsDefinition (place session : ℕ) (defined : Bool) (e : Met) : Ty
   pub held : held_at place e.held ≡ Some latch
   pub stands : is_some latch.book.standing.definition ≡ defined
 
--- a table, and whether it had a definition as it was asked for that
+-- a table, and whether it had a definition when its place was looked at
 pub record Asked : Type 0 where
   pub table : Known
   pub defined : Bool
 
--- one of the steps between the two found it so
+-- one of the steps between the two shows that
 abbrev pub WasAsked : ℕ → Mine → Mine → Asked → Type 0
 WasAsked session m m′ a = (e : Met) × IsStepOf m m′ e × MeetsDefinition a.table.place session a.defined e
 
--- the places of those that had one
+-- the places of the tables that had a definition
 abbrev pub told : List Asked → List ℕ
 told asked = map (λ (a : Asked). a.table.place) (filter (λ (a : Asked). a.defined) asked)
 
--- one table was asked, and its place put behind others if it had a definition
+-- one table's place was looked at, and added to the end of a list if the table had a definition
 abbrev pub AddsIfDefined : ℕ → Known → List ℕ → List ℕ → Mine → Mine → Type 0
 AddsIfDefined session table places places′ m m′ =
     (defined : Bool) × WasAsked session m m′ (record { table = table; defined = defined }) × (places′ ≡ places ++ (if defined then table.place ∷ [] else []))
 
--- each of these tables was asked in turn, and these are the places of those that had a definition
+-- the place of each of these tables was looked at in turn, and these are the places of those that had a definition
 pub record HasAsked (session : ℕ) (tables : List Known) (places : List ℕ) (m m′ : Mine) : Type 0 where
   pub asked : List Asked
   pub each : All (WasAsked session m m′) asked

@@ -1,5 +1,4 @@
--- A visit of a session to a place: it takes the latch there, does what it came for, and gives the latch back. What it met
--- there stands in its list of steps.
+-- A visit of a session to a place: the session takes the latch there, does its work, and gives the latch back. What it met there is in its list of steps.
 use Rattle.std.specs.Prelude.{◌≡◌, ℕ, ◌≤◌, ◌==◌, not, Bool, true, false, List, [], ◌∷◌, ◌++◌, filter, Option, Some, None, ◌⊎◌, Result, MatchResult}
 use lib.ListN.{get_elem?}
 use mathlib.Core.Option.{some}
@@ -39,7 +38,7 @@ KnowsKind v place kind = (i : ℕ) × (k : Known) × (get_elem? v.known i ≡ so
 
 -- ---- steps
 
--- with these steps more
+-- what a session has, with these steps added to its list
 abbrev pub and_made : List Met → Mine → Mine
 and_made made m = (record m.0 { log = m.0.log ++ made }, m.1)
 
@@ -56,24 +55,26 @@ Does ds m m′ = (made : List Met) × (m′.0.log ≡ m.0.log ++ made) × (deeds
 abbrev pub MakesSteps : Mine → Mine → Type 0
 MakesSteps m m′ = (made : List Met) × (m′ ≡ and_made made m) × (deeds_of made ≡ [])
 
--- whether a step of this kind gave a latch back, or raised flags
+-- whether a step of this kind gave a latch back
 abbrev pub gives_back : StepKind → Bool
 gives_back PutLatch = true
 gives_back _ = false
 
+-- whether a step of this kind raised flags
 abbrev pub raises_flags : StepKind → Bool
 raises_flags (RaiseFlags slow obtrusive) = true
 raises_flags _ = false
 
--- a step that raised no flag, at which the session had this of the directory: the record of its latch, or nothing
+-- a step that raised no flag, at which the session had this record of the directory's latch, or none
 abbrev pub IsQuiet : Option Keys → Met → Type 0
 IsQuiet directory e = (e.directory ≡ directory) × (raises_flags e.kind ≡ false)
 
--- so were all of these
+-- each of these steps raised no flag, and at each the session had this record of the directory's latch, or none
 abbrev pub AllQuiet : Option Keys → List Met → Type 0
 AllQuiet directory made = Each (IsQuiet directory) made
 
--- steps without deeds were made between the two at which the session had of the directory what it had before and raised no flag, and nothing else changed
+-- steps without deeds were made between the two, and nothing else changed. At each the session had the record of the directory's latch that it had before,
+-- or none, and raised no flag
 abbrev pub MakesQuietSteps : Mine → Mine → Type 0
 MakesQuietSteps m m′ = (made : List Met) × (m′ ≡ and_made made m) × (deeds_of made ≡ []) × AllQuiet m.0.directory made
 
@@ -81,7 +82,7 @@ MakesQuietSteps m m′ = (made : List Met) × (m′ ≡ and_made made m) × (dee
 abbrev pub StaysThere : Met → Type 0
 StaysThere e = (gives_back e.kind ≡ false) × (raises_flags e.kind ≡ false)
 
--- at each step that was made between the two the session had of the directory what it had before, and it raised no flag
+-- at each step that was made between the two the session had the record of the directory's latch that it had before, or none, and it raised no flag
 abbrev pub StaysQuiet : Mine → Mine → Type 0
 StaysQuiet m m′ = (made : List Met) × (m′.0.log ≡ m.0.log ++ made) × AllQuiet m.0.directory made
 
@@ -89,7 +90,7 @@ StaysQuiet m m′ = (made : List Met) × (m′.0.log ≡ m.0.log ++ made) × All
 abbrev pub MakesMoreSteps : Mine → Mine → Type 0
 MakesMoreSteps m m′ = (made : List Met) × (m′.0.log ≡ m.0.log ++ made)
 
--- it grew by steps at which the session stayed
+-- the list of steps grew by steps that gave no latch back and raised no flag
 abbrev pub StaysOn : Mine → Mine → Type 0
 StaysOn m m′ = (made : List Met) × (m′.0.log ≡ m.0.log ++ made) × Each StaysThere made
 
@@ -97,15 +98,15 @@ StaysOn m m′ = (made : List Met) × (m′.0.log ≡ m.0.log ++ made) × Each S
 abbrev pub IsStepOf : Mine → Mine → Met → Type 0
 IsStepOf m m′ e = (before : List Met) × (after : List Met) × (m′.0.log ≡ (m.0.log ++ before) ++ e ∷ after)
 
--- likewise, with the list of steps that there was just before it
+-- a step that was made between the two, with a state (`a`) whose list of steps is the one just before it
 abbrev pub IsStepAfter : Mine → Mine → Mine → Met → Type 0
 IsStepAfter m a m′ e = MakesMoreSteps m a × (after : List Met) × (m′.0.log ≡ a.0.log ++ e ∷ after)
 
--- the last of those that were made, before which the session stayed
+-- the last step that was made between the two. The steps before it gave no latch back and raised no flag
 abbrev pub LeavesBy : Mine → Mine → Met → Type 0
 LeavesBy m m′ e = (before : List Met) × (m′.0.log ≡ (m.0.log ++ before) ++ e ∷ []) × Each StaysThere before
 
--- a step that was made between the two shows this
+-- this holds of a step that was made between the two
 abbrev pub HasStep : SeatState → SeatState → (Met → Type 0) → Type 0
 HasStep s s′ Shows = (e : Met) × IsStepOf s.me s′.me e × Shows e
 
@@ -115,7 +116,7 @@ AreStepsOf m m′ first second = (before : List Met) × (after : List Met) × (m
 
 -- ---- a visit
 
--- the session came to a place: it took the latch there and made steps without deeds, a book of the place is in its hand, and nothing else changed
+-- the session came to a place: it took the latch there and made steps without deeds, has a book of the place in hand, and nothing else changed
 pub record IsInside (place : ℕ) (m m′ : Mine) : Type 0 where
   pub latches : List LatchRecord
   pub made : List Met
@@ -124,28 +125,28 @@ pub record IsInside (place : ℕ) (m m′ : Mine) : Type 0 where
   pub others : filter (λ h. not (h.place == place)) latches ≡ m.0.latches
   pub did : deeds_of made ≡ []
 
--- a session that met only what keeps it waiting took the latch of a place then, whose record is fresh
+-- the session took the latch of a place, perhaps after it waited for it by steps without deeds, and has a fresh record of it
 abbrev pub TakesLatch : ℕ → Mine → Mine → Type 0
 TakesLatch place m m′ =
     (h : LatchRecord) × IsFresh place h m × Holds place h h.book m′
     × ((made : List Met) × (m′ ≡ latched place h (and_made made m)) × AllQuiet m.0.directory made × (deeds_of made ≡ []))
 
--- likewise the directory's latch, of which this record was made
+-- likewise the session took the directory's latch, of which this record was made
 abbrev pub TakesDirectory : SeatState → SeatState → Type 0
 TakesDirectory s s′ =
     (made : List Met) × (k : Keys) × IsDirectory s.table.slots k (and_made made s.me)
     × (s′ ≡ record s { me = consulted k (and_made made s.me) }) × AllQuiet s.me.0.directory made × (deeds_of made ≡ [])
 
--- the session may go to a place: the table has it, and each latch that the session holds is of a lower place
+-- the session may visit a place: the table has it, and each latch that the session holds is of a lower place
 pub record MayVisit (place : ℕ) (s : SeatState) : Type 0 where
   pub is_place : IsPlace s.table place
   pub rising : IsRising place s.me
 
--- the session came to a place, whose latch it has then. It gave no latch back, raised no flag and did no deed
+-- the session came to a place, whose latch it holds then. It gave no latch back, raised no flag and did no deed
 abbrev pub CameTo : ℕ → SeatState → SeatState → Type 0
 CameTo place s s′ = (s′.table ≡ s.table) × IsInside place s.me s′.me × StaysOn s.me s′.me
 
--- the session came to a place, of whose latch, that of the place q, it has a fresh record then
+-- the session came to a place, and has a fresh record of its latch then. `q` is the latch's place
 pub record Arrives (place : ℕ) (s : SeatState) (q : ℕ) (c : SeatState) : Type 0 where
   pub at : q ≡ place
   pub is_place : IsPlace c.table q
@@ -154,34 +155,34 @@ pub record Arrives (place : ℕ) (s : SeatState) (q : ℕ) (c : SeatState) : Typ
   pub holds : Holds q latch latch.book c.me
   pub came : CameTo q s c
 
--- the session holds the latch of a place, and has the book that the latch's record tells in hand. The record is so
+-- the session holds the latch of a place, has the book of the latch's record in hand, and this holds of the record
 pub record HasLatched (place : ℕ) (s : SeatState) (IsSo : LatchRecord → Type 0) : Type 0 where
   pub is_place : IsPlace s.table place
   pub latch : LatchRecord
   pub holds : Holds place latch latch.book s.me
   pub is_so : IsSo latch
 
--- this book of a place is in the session's hand
+-- the session has this book of a place in hand
 abbrev pub HasInHand : ℕ → BookView → SeatState → Type 0
 HasInHand place book s = s.me.1 ≡ (place, slot.Place book) ∷ rest s.me.1
 
--- this is so of the book of a place that the session has in hand
+-- this holds of the book of a place that the session has in hand
 abbrev pub OfBook : ℕ → SeatState → (BookView → Type 0) → Type 0
 OfBook place s IsSo = (book : BookView) → HasInHand place book s → IsSo book
 
--- this is so of the record of a place's latch that the session holds
+-- this holds of the record of a place's latch that the session holds
 abbrev pub OfLatch : ℕ → SeatState → (LatchRecord → Type 0) → Type 0
 OfLatch place s IsSo = (h : LatchRecord) → Holds place h h.book s.me → IsSo h
 
--- the session came to a place, did these deeds there and went: it has the latches and the slots that it had, and nothing else changed. Its
--- steps tell just these deeds
+-- the session visited a place and did these deeds there. It has the latches and the slots that it had, and nothing else changed. Its steps did just these
+-- deeds
 pub record Visits (place : ℕ) (ds : List Deed) (m m′ : Mine) : Type 0 where
   pub made : List Met
   pub now : m′ ≡ and_made made (all_done place ds m.0, m.1)
   pub did : deeds_of made ≡ ds
 
--- it came in, raised the flag SLOW, and OBTRUSIVE where its wish is obtrusive, and then read this word of the lock, by which a wish for a mode can
--- be granted or can't
+-- the session came to a place, raised the flag SLOW, and OBTRUSIVE if its request is obtrusive, and then read this word of the lock. `can` says whether a
+-- request for the mode can be granted by it
 pub record Enters (place : ℕ) (obtrusive : Bool) (word : ℕ) (mode : Mode) (can : Bool) (m m′ : Mine) : Type 0 where
   pub found : LatchRecord
   pub fresh : IsFresh place found m
@@ -190,14 +191,14 @@ pub record Enters (place : ℕ) (obtrusive : Bool) (word : ℕ) (mode : Mode) (c
   pub read : (before : List Met) × (m′.0.log ≡ (m.0.log ++ before) ++ record { kind = ReadWord; deeds = []; word = lock_word place; found = word; held = m′.0.latches; directory = m′.0.directory } ∷ [])
   pub told : can_be_granted (lock_kind found.book) found.book.granted found.book.waiting word m.0.number mode ≡ can
 
--- a session that waits for nothing has a wish for a mode at a place, whose key it knows as one of this kind, which has the mode
+-- a session without a wait requests a mode at a place (its wish): it knows the place's key as one of this kind, which has the mode
 pub record HasWish (place : ℕ) (kind : Kind) (mode : Mode) (v : View) : Type 0 where
   pub idle : v.asks ≡ None
   pub knows : KnowsKind v place kind
   pub is_mode : is_mode_of kind mode ≡ true
 
--- with such a wish it entered a place, whose latch is that of the place q, and read this word of the lock there, by which the wish can be granted
--- or can't
+-- the session entered a place with such a request and read this word of the lock there. `q` is the place of the latch, and `can` says whether the request
+-- can be granted
 pub record HasEntered (place q word : ℕ) (mode : Mode) (can : Bool) (s s′ : SeatState) : Type 0 where
   pub at : q ≡ place
   pub is_place : IsPlace s′.table q
@@ -209,7 +210,7 @@ pub record HasEntered (place q word : ℕ) (mode : Mode) (can : Bool) (s s′ : 
 
 -- ---- what a step met
 
--- a step that read the lock's word under the latch, whose record shows that the session's wish for a mode can't be granted
+-- a step that read the lock's word under the latch, whose record shows that the session's request for a mode can't be granted
 pub record MeetsBlocked (place who : ℕ) (mode : Mode) (e : Met) : Type 0 where
   pub kind : e.kind ≡ ReadWord
   pub word : e.word ≡ lock_word place
@@ -217,8 +218,8 @@ pub record MeetsBlocked (place who : ℕ) (mode : Mode) (e : Met) : Type 0 where
   pub held : held_at place e.held ≡ Some latch
   pub blocked : can_be_granted (lock_kind latch.book) latch.book.granted latch.book.waiting e.found who mode ≡ false
 
--- a step that did this deed as it gave the latch back, whose record shows that the session's wish for a mode could be granted: it may stand
--- beside all that was granted, and it waited behind no waiting ticket
+-- a step that did this deed as it gave the latch back, whose record shows that the session's request for a mode could be granted: it is compatible with
+-- all that was granted, and it waited behind no waiting ticket
 pub record MeetsGrantable (place who : ℕ) (mode : Mode) (deed : Deed) (e : Met) : Type 0 where
   pub kind : e.kind ≡ PutLatch
   pub did : e.deeds ≡ deed ∷ []
@@ -229,54 +230,55 @@ pub record MeetsGrantable (place who : ℕ) (mode : Mode) (deed : Deed) (e : Met
   pub beside : MayJoin who latch.book latch.noted mode
   pub first : goes_first (lock_kind latch.book) latch.book.waiting who mode ≡ true
 
--- a step on the lock's word under the latch, whose record shows that the book has no room for one ticket more
+-- a step on the lock's word under the latch, whose record shows that the book has no room for one more ticket
 pub record MeetsFull (place : ℕ) (e : Met) : Type 0 where
   pub word : e.word ≡ lock_word place
   pub latch : LatchRecord
   pub held : held_at place e.held ≡ Some latch
   pub full : 65535 ≤ ticket_count latch.book
 
--- the session came to a place and went with this deed, and a step shows that its wish could be granted
+-- the session visited a place and did this deed there, and a step shows that its request could be granted
 abbrev pub WasGranted : ℕ → Mode → Deed → SeatState → SeatState → Type 0
 WasGranted place mode deed s s′ = AtItsTable s s′ (Visits place (deed ∷ [])) × HasStep s s′ (MeetsGrantable place s.me.0.number mode deed)
 
--- it came and went with nothing done, and a step shows that its wish couldn't be granted
+-- the session visited a place and did nothing there, and a step shows that its request couldn't be granted
 abbrev pub WasBlocked : ℕ → Mode → SeatState → SeatState → Type 0
 WasBlocked place mode s s′ = AtItsTable s s′ (Visits place []) × HasStep s s′ (MeetsBlocked place s.me.0.number mode)
 
--- why there was no room for its ticket: memory ran out, or a step shows that the book was full
+-- why there was no room for a ticket: memory ran out, or a step shows that the book was full
 abbrev pub LacksRoom : ℕ → BookError → SeatState → SeatState → Type 0
 LacksRoom place cause s s′ = (cause ≡ fault.OutOfMemory) ⊎ ((cause ≡ fault.Full) × HasStep s s′ (MeetsFull place))
 
--- it came and went with nothing done, for want of room
+-- the session visited a place and did nothing there, for lack of room
 abbrev pub WasRefused : ℕ → BookError → SeatState → SeatState → Type 0
 WasRefused place cause s s′ = AtItsTable s s′ (Visits place []) × LacksRoom place cause s s′
 
--- what came of a wish with which a session entered a place, as its seat was before: this, or all stays as it was for want of room
+-- the result of a request with which a session entered a place: this holds (`Comes`), by its seat before that, or nothing changed for lack of room
 abbrev pub EndsWish : {T : Type 0} → ℕ → ℕ → Mode → Bool → Result T BookError → (ℕ → SeatState → Type 0) → SeatState → SeatState → Type 0
 EndsWish q word mode can result Comes s s′ =
     (place : ℕ) (before : SeatState) → HasEntered place q word mode can before s
     → MatchResult result (λ _. Comes place before) (λ cause. WasRefused place cause before s′)
 
--- at the step the session's wish wasn't grantable: whichever fast tickets of other sessions the word counted, by the book it clashed with a
--- granted ticket or had to wait behind a waiting one
+-- at the step the session's request wasn't grantable: whichever fast tickets of other sessions the word counted, by the book it clashed with a granted
+-- ticket or had to wait behind a waiting one
 abbrev pub WasNotGrantable : ℕ → ℕ → Mode → Met → Type 0
 WasNotGrantable place who mode e =
     (latch : LatchRecord) × (e.word ≡ lock_word place) × (held_at place e.held ≡ Some latch)
     × ((fast : List Ticket) → CountsFastTickets (lock_kind latch.book) e.found fast → AreOfOthers who fast
     → is_grantable (lock_kind latch.book) (fast ++ latch.book.granted) latch.book.waiting who mode ≡ false)
 
--- at the step, which did this deed as the latch was given back, the session's wish was grantable: whichever fast tickets there were by the rule
--- of the table, no granted ticket of another session clashed with it, and it waited behind no waiting one
+-- at the step, which did this deed as the latch was given back, the session's request was grantable: whichever fast tickets there were by the rule of the
+-- table, no granted ticket of another session clashed with it, and it waited behind no waiting one
 abbrev pub WasGrantable : ℕ → ℕ → Mode → Deed → Met → Type 0
 WasGrantable place who mode deed e =
     (latch : LatchRecord) × (e.deeds ≡ deed ∷ []) × (e.word ≡ latch_word place) × (e.found ≡ who) × (held_at place e.held ≡ Some latch)
     × ((fast : List Ticket) → Lawful (lock_kind latch.book) fast latch.book.granted → NotedCounts (lock_kind latch.book) fast latch.obtrusive latch.noted
     → is_grantable (lock_kind latch.book) (fast ++ latch.book.granted) latch.book.waiting who mode ≡ true)
 
--- the laws of both
+-- the law that a blocked request wasn't grantable at the step that shows it
 abbrev pub BlockedWishesWerentGrantable : Type 0
 BlockedWishesWerentGrantable = (place who : ℕ) (mode : Mode) (e : Met) → MeetsBlocked place who mode e → WasNotGrantable place who mode e
 
+-- the law that a granted request was grantable at the step that granted it
 abbrev pub GrantedWishesWereGrantable : Type 0
 GrantedWishesWereGrantable = (place who : ℕ) (mode : Mode) (deed : Deed) (e : Met) → MeetsGrantable place who mode deed e → WasGrantable place who mode deed e

@@ -5,10 +5,11 @@ use Rattle.mdl_steps.specs.declared.view.View.{View}
 use Rattle.mdl_steps.specs.Plays.{Mine}
 use Rattle.mdl_visits.specs.Grantings.{VisitsAndReschedules}
 
--- a session that waits for nothing
+-- the view without a wait
 abbrev pub idle : View → View
 idle v = record v { asks = None; told = None }
 
+-- what a session has, without its wait
 abbrev pub without_wait : Mine → Mine
 without_wait m = (idle m.0, m.1)
 

@@ -14,24 +14,24 @@ use Rattle.mdl_steps.specs.WaitPlays.{asking}
 use Rattle.mdl_steps.specs.WaitStates.{idle_state, wait_in}
 use Rattle.mdl_visits.specs.Visits.{AreStepsOf, MeetsBlocked, and_made, deeds_of}
 
--- a session that waits from then on for a mode at a place, and has yet to search for a deadlock
+-- the view of a session that has begun to wait for a mode at a place, and has yet to search for a deadlock
 abbrev pub awaiting : ℕ → Mode → View → View
 awaiting place mode v = record v { asks = Some (asking place mode v); next = v.next + 1; waits = v.waits + 1; told = None; searches = true }
 
--- a session without fast tickets may begin a wait of this number for a ticket of this number: they are its next
+-- a session without fast tickets may begin a wait with this number for a ticket with this number: both are its next numbers
 pub record IsNewWait (number wait : ℕ) (v : View) : Type 0 where
   pub unfast : v.fast ≡ []
   pub is_next : number ≡ v.next
   pub counts : (wait ≡ v.waits + 1) × (wait < 2 ^ 60)
 
--- the session came to a place, began to wait for a mode there and went: nothing else changed. Its steps are without deeds
+-- the session visited a place and began to wait for a mode there. Nothing else changed, and its steps did no deeds
 pub record Opens (place : ℕ) (mode : Mode) (m m′ : Mine) : Type 0 where
   pub made : List Met
   pub now : m′ ≡ and_made made (awaiting place mode m.0, m.1)
   pub did : deeds_of made ≡ []
 
--- the step that opened a wait after so many others of its session: the wait's word was idle, and by the record of the latch the ticket of this number
--- is the last that waits
+-- the step that opened a session's wait, after `waits` others: the wait's word was idle, and by the record of the latch the ticket with this number is the
+-- last waiting one
 pub record MeetsOpening (slots place session waits number : ℕ) (mode : Mode) (e : Met) : Type 0 where
   pub kind : e.kind ≡ OpenWait
   pub word : e.word ≡ wait_word slots session
@@ -41,7 +41,7 @@ pub record MeetsOpening (slots place session waits number : ℕ) (mode : Mode) (
   pub before : List Ticket
   pub last : latch.book.waiting ≡ before ++ record { session = session; number = number; mode = mode } ∷ []
 
--- the session began to wait for a mode at a place, with a ticket of this number: a step shows that its wish couldn't be granted, and the next
+-- the session began to wait for a mode at a place, with a ticket with this number: a step shows that its request couldn't be granted, and the next step
 -- opened the wait
 abbrev pub BeginsWait : ℕ → Mode → ℕ → SeatState → SeatState → Type 0
 BeginsWait place mode number s s′ =

@@ -7,6 +7,6 @@ use mdl_steps::BookCopy;
 pub struct Audited {
     /// The place.
     pub place: Place,
-    /// Its book then: the key, the granted and the waiting tickets, and the definition.
+    /// Its book then: the key, the granted and the waiting tickets, and the key's version and definition.
     pub book: BookCopy,
 }

@@ -1,5 +1,5 @@
-//! A session takes the latch of a place for a wish, and gives it back. Before it does, it lowers the flags of the lock's word that the lists
-//! don't need.
+//! Takes the latch of a place for a request (a wish), and gives it back. Before that, the flags of the lock's word that the lists don't
+//! need are lowered.
 ghost use Rattle.std.specs.Prelude.{◌≡◌, ℕ, true};
 ghost use Rattle.mdl_key.specs.declared.namespace.Kind.{Kind};
 ghost use Rattle.mdl_key.specs.Words.{is_obtrusive};
@@ -16,8 +16,8 @@ use mdl_steps::{Deed, Latched, TableSeat};
 use mdl_word::Word;
 use std::sync::Wait;
 
-/// Takes the latch of a place for a wish, raises the flags that close the fast path, reads the lock's word, and tells whether the wish can
-/// be granted by it.
+/// Takes the latch of a place for a request, raises the flag SLOW of the lock's word, and OBTRUSIVE if the mode is obtrusive, and then
+/// reads the word. Returns the latch, the word, and whether the request can be granted by it.
 pub(crate) fn enter<R: Wait>(
     rt: &R,
     seat: &mut TableSeat,
@@ -36,8 +36,8 @@ pub(crate) fn enter<R: Wait>(
     (latch, word, can)
 }
 
-/// Gives the session a ticket at the place that it entered with a wish that can be granted, and gives the latch back. If there is no room,
-/// all stays as it was.
+/// Gives the session a ticket at the place that it entered with a request that can be granted, and gives the latch back. If there is no
+/// room, nothing changes.
 pub(crate) fn gain(
     seat: &mut TableSeat,
     latch: Latched,
@@ -68,7 +68,7 @@ pub(crate) fn lower_flags_and_put(seat: &mut TableSeat, latch: Latched, deeds: &
     seat.put_latch(latch, &[]);
 }
 
-/// Leaves just those flags up that the book in hand needs, after some deeds.
+/// Lowers the flags that the book in hand doesn't need, after some deeds.
 pub(crate) fn lower_flags(seat: &mut TableSeat, latch: &Latched, deeds: &[Deed])
     requires worked { HasWorked latch.now.place deeds.now seat.old }
     ensures lowered { AtItsTable seat.old seat.new (IsLowered latch.now.place deeds.now) }

@@ -1,4 +1,4 @@
-//! The waits at a place are granted, under its latch.
+//! Grants the waits at a place, under its latch.
 ghost use Rattle.std.specs.Prelude.{◌≡◌};
 ghost use Rattle.mdl_steps.specs.SeatStates.{AtItsTable};
 ghost use Rattle.mdl_steps.specs.WaitSeats.{IsSession};
@@ -9,8 +9,8 @@ ghost use Rattle.mdl_visits.specs.Visits.{HasLatched, OfLatch};
 use mdl_book::Sessions;
 use mdl_steps::{Latched, TableSeat, WaitWord};
 
-/// Reads the lock's word, and grants the waits of tickets at the latched place, the first in order of arrival first, as long as there is one
-/// that can be granted. A wait that was settled before isn't granted. It takes no memory. After `MDL_lock::reschedule_waiters`.
+/// Reads the lock's word, and grants the waits of tickets at the latched place, in order of arrival, as long as there is one that can be
+/// granted. A wait that is settled already isn't granted. It takes no memory. After `MDL_lock::reschedule_waiters`.
 pub(crate) fn grant_waiters(seat: &mut TableSeat, latch: &Latched)
     requires here { HasLatched latch.now.place seat.old IsOrderly }
     ensures none { HasLatched latch.now.place seat.new (λ h. IsOrderly h × ForgetsNobody seat.old.table latch.now.place h seat.old.me seat.new.me) }
@@ -39,7 +39,7 @@ fn grant_waiter(seat: &mut TableSeat, latch: &Latched, session: u16, number: u64
     }
 }
 
-// Grants a wait that was met unsettled just before, if it is so still.
+// Grants a wait that was unsettled when it was read just before, if it still is.
 fn grant_unsettled(seat: &mut TableSeat, latch: &Latched, session: u16, number: u64, wait: WaitWord)
     requires session { IsSession seat.old.table session }
     requires here { HasLatched latch.now.place seat.old (λ h. IsGrantableTicket session number h × HasJustMet seat.old.table.slots latch.now.place session h seat.old.me) }

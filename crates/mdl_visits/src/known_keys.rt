@@ -14,14 +14,14 @@ use std::marker::Model;
 
 /// The keys that a session looked up, with their places, in order of the look-ups.
 ///
-/// The place of a key is found by a hash of the key, and the key of a place and its kind by arrays, so none walks the keys. The key that was
-/// learnt last is compared first, without a hash.
+/// The place of a key is found by a hash of the key, and the key of a place and its kind by arrays, so no lookup walks the keys. The key
+/// that was added last is compared first, without a hash.
 #[derive(Drop)]
 pub struct KnownKeys {
     places: IndexMap<Key, usize>,
-    // By places: the kind of the lock, if its key is known. There are as many as there are indexes, or more.
+    // By place: the kind of the lock, if its key is known. The list is at least as long as `indexes`.
     kinds: Vec<Option<Kind>>,
-    // By places: where the key of a place stands among the keys. A place that isn't known has any number. Places are numbers of 16 bits.
+    // By place: the index of the place's key in `places`. A place that isn't known has any number. Places are numbers of 16 bits.
     indexes: Vec<u16>,
 }
 
@@ -44,7 +44,7 @@ impl Model for KnownKeys {
 }
 
 impl KnownKeys {
-    /// None. It takes no memory.
+    /// An empty list. It takes no memory.
     pub fn new(alloc: Global) -> KnownKeys
         ensures { result.known ≡ [] }
     {
@@ -55,7 +55,7 @@ impl KnownKeys {
         }
     }
 
-    /// The place of a key.
+    /// Returns the place of a key, if the key is known.
     #[tactic(auto, using(crate::proofs::KeyLists::place_found, crate::proofs::KeyLists::found_like))]
     pub fn place_of(&self, key: &Key) -> Option<usize>
         ensures { result ≡ place_known key.now self.now.known }
@@ -69,7 +69,7 @@ impl KnownKeys {
         self.places.get(key).copied()
     }
 
-    /// The key of a place.
+    /// Returns the key of a place, if it is known.
     #[tactic(auto, using(crate::proofs::KeyLists::none_under, crate::proofs::KeyLists::none_at, crate::proofs::KeyLists::other_at, crate::proofs::KeyLists::found_at))]
     pub fn key_at(&self, place: usize) -> Option<&Key>
         ensures { option_copied result ≡ key_known place self.now.known }
@@ -79,14 +79,14 @@ impl KnownKeys {
         if *other == place { Some(key) } else { None }
     }
 
-    /// The kind of the lock at a place.
+    /// Returns the kind of the lock at a place, if its key is known.
     pub fn kind_at(&self, place: usize) -> Option<Kind>
         ensures { result ≡ kind_known place self.now.known }
     {
         kind_in(&self.kinds, place)
     }
 
-    /// Makes room for so many more keys at places below this one.
+    /// Makes room for `n` more keys, at places below `slots`.
     pub fn reserve(&mut self, n: usize, slots: usize) -> Result<(), AllocError>
         requires narrow { slots ≤ 65536 }
         ensures same { self.new.known ≡ self.old.known }
@@ -97,7 +97,7 @@ impl KnownKeys {
         reach(&mut self.indexes, slots)
     }
 
-    /// Puts a new key last, with its place. It takes no memory.
+    /// Adds a new key at the end, with its place. It takes no memory.
     #[tactic(auto, using(crate::proofs::KeyLists::inserted, std::proofs::lemmas::List::map_push))]
     pub fn push_reserved(&mut self, key: Key, place: usize)
         requires room { (1 ≤ self.old.room) × (place < self.old.reach) }
@@ -131,7 +131,7 @@ impl KnownKeys {
     }
 }
 
-// Strikes the keys that are known.
+// Removes the keys that are known from a list.
 fn keep_unknown(known: &KnownKeys, tables: &mut Vec<Known>)
     ensures kept { tables.new.items ≡ unknown known.now.known tables.old.items }
     ensures fewer { length tables.new.items ≤ length tables.old.items }
@@ -146,14 +146,14 @@ fn kind_in(kinds: &[Option<Kind>], place: usize) -> Option<Kind>
     *kinds.get(place)?
 }
 
-// The index under a place, if there is the place.
+// The index that is kept of a place, if the list has the place.
 fn index_under(indexes: &[u16], place: usize) -> Option<u16>
     ensures { result ≡ slice_get indexes.now place }
 {
     indexes.get(place).copied()
 }
 
-// Adds places without a kind until there are so many, all at once.
+// Adds places without a kind until there are at least `slots`, all at once.
 fn reach_kinds(kinds: &mut Vec<Option<Kind>>, slots: usize) -> Result<(), AllocError>
     ensures length { length kinds.old.items ≤ length kinds.new.items }
     ensures reach { OnOk result (slots ≤ length kinds.new.items) }
@@ -165,7 +165,7 @@ fn reach_kinds(kinds: &mut Vec<Option<Kind>>, slots: usize) -> Result<(), AllocE
     Ok(())
 }
 
-// Adds places until there are so many, all at once. What stands under the others stays.
+// Adds places until there are at least `slots`, all at once. The indexes of the others are unchanged.
 fn reach(indexes: &mut Vec<u16>, slots: usize) -> Result<(), AllocError>
     requires narrow { (slots ≤ 65536) × IsNarrow indexes.old.items }
     ensures narrow { IsNarrow indexes.new.items }

@@ -1,18 +1,18 @@
-//! Visits of a session to the places of the lock table that threads share: the session takes the latch of a place, does its work there,
-//! grants the waits there that can be granted, and goes.
+//! Visits of a session to the places of the lock table that threads share. In a visit the session takes the latch of a place, does its
+//! work there, and gives the latch back. Some visits grant the waits there that can be granted before that.
 //!
-//! Each call here is made on a session's seat, a [`TableSeat`], and says what the seat's view is afterwards and which steps were made
-//! ([`mdl_steps`]). A wish for a lock is granted at once or not at all ([`try_now`]), or is waited for ([`begin_wait`]). A ticket gets
-//! another mode ([`upgrade_now`], [`downgrade`]), gets a second one beside it ([`clone_ticket`]), or goes ([`release`], [`merge`]). Fast
-//! tickets become slow ones ([`materialise`]). A lost wait ends ([`end_lost_wait`]). A definition is read ([`read_definition`]) and changed
-//! ([`change_definition`]). The directory is asked for the place of a key ([`resolve`]) and for the tables of a schema ([`find_tables`]),
-//! and the places of tables for their definitions ([`tables_defined`]). Under the latches of all places the books are copied ([`audit`]),
-//! or a deadlock is looked for ([`search_deadlock`]).
+//! Each call here is made on a session's seat, a [`TableSeat`]. Its contract says what the seat's view is afterwards and which steps were
+//! made ([`mdl_steps`]). A request for a lock, a wish, is granted at once or not at all ([`try_now`]), or is waited for ([`begin_wait`]).
+//! A ticket gets another mode ([`upgrade_now`], [`downgrade`]), gets a second one beside it ([`clone_ticket`]), or is released
+//! ([`release`], [`merge`]). Fast tickets become slow ([`materialise`]). A lost wait ends ([`end_lost_wait`]). A definition is read
+//! ([`read_definition`]) and changed ([`change_definition`]). The directory is searched for the place of a key ([`resolve`]) and for the
+//! tables of a schema ([`find_tables`]), and the places of tables for their definitions ([`tables_defined`]). Under the latches of all
+//! places the books are copied ([`audit`]), or searched for a deadlock ([`search_deadlock`]).
 //!
-//! Two calls take no latch: while a lock has no ticket in an obtrusive mode, a fast ticket is granted ([`try_fast`]), and it is given up by one
-//! step ([`release_fast`]). It is in no list: the lock's word counts it.
+//! Two calls take no latch: [`try_fast`] grants a fast ticket while the flag OBTRUSIVE of the lock's word is down, and [`release_fast`]
+//! releases one by one step. A fast ticket is in no list: the lock's word counts it.
 //!
-//! Of what a session keeps in lists of its own only the keys that it looked up are here ([`KnownKeys`]): `mdl_shared` has the others.
+//! Of a session's own lists only that of the keys that it looked up is here ([`KnownKeys`]): `mdl_shared` has the others.
 //!
 //! After MySQL 5.7, `MDL_lock` and `MDL_context` of `sql/mdl.cc`; that all else is done under latches is this project's own.
 //!

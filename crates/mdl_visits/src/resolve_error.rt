@@ -1,7 +1,7 @@
 //! Why a key has no place.
 use thiserror::Error;
 
-/// Why a key has no place. A refused call names no key.
+/// Why a key has no place. A refused call gives no key a place.
 #[derive(Clone, Copy, Debug, PartialEq, Eq, Error)]
 pub enum ResolveError {
     /// Each place has a key, and this key has none.

@@ -1,4 +1,4 @@
-//! A session that has all latches looks for a deadlock that it waits in, and settles the victim's wait.
+//! A session that holds all latches searches for a deadlock that it waits in, and settles the victim's wait.
 ghost use Rattle.std.specs.Prelude.{◌≡◌, Some, true, All};
 ghost use Rattle.mdl_book.specs.SessionSets.{is_session};
 ghost use Rattle.mdl_steps.specs.WaitSeats.{IsSession};
@@ -12,8 +12,8 @@ use mdl_steps::{ListCopies, Loss, TableSeat, WaitWord};
 use std::alloc::{AllocError, Global};
 use std::sync::Wait;
 
-/// Looks for a deadlock that the session waits in, by the lists of these locks, while it has the latches of all places, and settles the wait of
-/// the victim. Where another session settles that first, it looks again. After `MDL_context::find_deadlock`.
+/// Searches for a deadlock that the session waits in, by the lists of these locks, while it holds the latches of all places, and settles
+/// the wait of the victim. If another session settles that wait first, the search is repeated. After `MDL_context::find_deadlock`.
 pub(crate) fn settle_victim<R: Wait>(
     rt: &R,
     seat: &mut TableSeat,
@@ -30,7 +30,7 @@ pub(crate) fn settle_victim<R: Wait>(
     unreachable!()
 }
 
-// The same, once. Nothing is found where the victim's wait no longer had the word that was read, since another session settled it first.
+// The same, once. Returns `None` if the victim's wait no longer had the word that was read, since another session settled it first.
 fn settle_victim_once(
     seat: &mut TableSeat,
     alloc: Global,
@@ -47,7 +47,8 @@ fn settle_victim_once(
     }
 }
 
-// Settles the wait of a session as the victim's, if it was open by the word that was read, and is so still. Whether this call settled it.
+// Settles the wait of a session as the victim's, if it was open by the word that was read, and still is. Returns whether this call
+// settled it.
 fn settle_wait_of(seat: &mut TableSeat, victim: u16, words: &[WaitRead]) -> bool
     requires sessions { All (λ (r : WaitRead). IsSession seat.old.table r.session × (is_session r.session ≡ true)) words.now }
     ensures { TriesToSettle victim (read_of victim words.now) result seat.old seat.new }
@@ -60,7 +61,7 @@ fn settle_wait_of(seat: &mut TableSeat, victim: u16, words: &[WaitRead]) -> bool
     false
 }
 
-// The same by the word that was read. After `MDL_wait::set_status`.
+// The same, given the word that was read. After `MDL_wait::set_status`.
 fn settle_by_word(seat: &mut TableSeat, read: WaitRead) -> bool
     requires session { IsSession seat.old.table read.session }
     ensures { TriesToSettle read.session (Some read) result seat.old seat.new }

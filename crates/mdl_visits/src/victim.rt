@@ -27,7 +27,7 @@ fn settled_of(words: &[WaitRead]) -> Sessions
     settled
 }
 
-/// The victim of the cycle in which a session waits, by these lists and words, if it waits in one.
+/// Returns the victim of the cycle in which a session waits, by these lists and words, if it waits in one.
 pub(crate) fn find_victim(
     alloc: Global,
     lists: &ListCopies,

@@ -1,5 +1,5 @@
 -- Laws of the packed word, after MySQL 5.7, sql/mdl.cc: the fast path adds a ticket's increment to the word, and subtracts
--- it as the ticket is given up. The layout, and so the laws of its numbers, are this project's own.
+-- it when the ticket is released. The layout, and so the laws of its numbers, are this project's own.
 use Rattle.std.specs.Prelude.{◌≡◌, ◌≢◌, ℕ, ◌+◌, ◌-◌, ◌^◌, ◌<◌, ◌≤◌, Bool, true, false, ◌&&◌, ◌||◌, List, [], ◌∷◌, length, sum, All, Some, bit_and, bit_or, slice_index, IsTrue, ◌↔◌}
 use Rattle.std.specs.Int.{bit_at}
 use Rattle.mdl_key.specs.declared.namespace.Kind.{Kind}
@@ -7,7 +7,7 @@ use Rattle.mdl_key.specs.declared.mode.Mode.{Mode}
 use Rattle.mdl_key.specs.Words.{clashes, Clashes, class_of}
 use Rattle.mdl_word.specs.Words.{encode, flags_alone, all_but_flags, Encodes, counts_of, slow_flag, obtrusive_flag, increment_of, one_in, count_with, blocks_by, CountAtMost}
 
--- a lawful word is below 2^62, and any such number is the lawful word of what is read off it
+-- a lawful word is below 2^62, and any such number is the lawful word of the counts and flags that are read from it
 abbrev pub LawfulWords : Type 0
 LawfulWords =
     ((word a b c : ℕ) (slow obtrusive : Bool) → Encodes word a b c slow obtrusive → word < 2 ^ 62)
@@ -23,8 +23,8 @@ WordsAreReadOneWay =
     Encodes word a′ b′ c′ slow′ obtrusive′ →
     (a ≡ a′) × (b ≡ b′) × (c ≡ c′) × (slow ≡ slow′) × (obtrusive ≡ obtrusive′)
 
--- the increment of a mode, added, counts one ticket more in its class and changes nothing else, while that class has fewer
--- than 1,048,575
+-- the increment of a mode, added, counts one ticket more in its class and changes nothing else, if that class has fewer than
+-- 1,048,575
 abbrev pub AddingCountsOneMore : Type 0
 AddingCountsOneMore =
     (kind : Kind) (mode : Mode) (n word a b c : ℕ) (slow obtrusive : Bool) →
@@ -60,7 +60,7 @@ FlagsAreRaisedAndLowered =
     × Encodes (bit_and word (2 ^ 64 - 1 - 2 ^ 60)) a b c false obtrusive
     × Encodes (bit_and word (2 ^ 64 - 1 - 2 ^ 61)) a b c slow false
 
--- a number is that of another, but for its flags: it counts the same, and every bit but the two flags' is the other's
+-- a number has these two flags, and otherwise equals another one: it has the same counts, and the same 64 bits except the flags
 pub record HasFlags (word new : ℕ) (slow obtrusive : Bool) : Type 0 where
   pub same_counts : counts_of new ≡ counts_of word
   pub same_bits : (place : ℕ) → place < 64 → place ≢ 60 → place ≢ 61 → bit_at new place ≡ bit_at word place
@@ -106,7 +106,7 @@ LargerCountsBlockMore =
     (few many : List ℕ) (kind : Kind) (ask : Mode) →
     CountAtMost few many → IsTrue (blocks_by few kind ask) → IsTrue (blocks_by many kind ask)
 
--- a word's counts block a request exactly where there is a mode that clashes with it, in whose class there are tickets
+-- a word's counts block a request exactly if there is a mode that clashes with it, in whose class there are tickets
 abbrev pub BlocksWhereCountedTicketsClash : Type 0
 BlocksWhereCountedTicketsClash =
     (counts : List ℕ) (kind : Kind) (ask : Mode) →

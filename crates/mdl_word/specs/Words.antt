@@ -18,11 +18,11 @@ abbrev pub encode : ℕ → ℕ → ℕ → Bool → Bool → ℕ
 encode a b c slow obtrusive =
     a + b * 1048576 + c * 1099511627776 + bit slow * 1152921504606846976 + bit obtrusive * 2305843009213693952
 
--- the number that has just these flags and counts nobody
+-- the word that has just these flags and counts no tickets
 abbrev pub flags_alone : Bool → Bool → ℕ
 flags_alone slow obtrusive = bit slow * 2 ^ 60 + bit obtrusive * 2 ^ 61
 
--- the number of 64 bits that has all bits but the flags that don't stay
+-- the number of 64 bits that has all bits except the flags to be lowered
 abbrev pub all_but_flags : Bool → Bool → ℕ
 all_but_flags slow obtrusive = 2 ^ 64 - 1 - flags_alone (not slow) (not obtrusive)
 
@@ -33,15 +33,15 @@ pub record Encodes (word a b c : ℕ) (slow obtrusive : Bool) : Type 0 where
   pub third_fits : c < 1048576
   pub is_encoded : word ≡ encode a b c slow obtrusive
 
--- the counts of the classes 0, 1 and 2
+-- a word's counts of the classes 0, 1 and 2
 abbrev pub counts_of : ℕ → List ℕ
 counts_of word = word % 1048576 ∷ word / 1048576 % 1048576 ∷ word / 1099511627776 % 1048576 ∷ []
 
--- whether a ticket stands in one of the lock's lists
+-- whether the word says that a ticket is in one of the lock's lists
 abbrev pub slow_flag : ℕ → Bool
 slow_flag word = bit_at word 60 == 1
 
--- whether one of these tickets is in an obtrusive mode
+-- whether the word says that one of these tickets is in an obtrusive mode
 abbrev pub obtrusive_flag : ℕ → Bool
 obtrusive_flag word = bit_at word 61 == 1
 
@@ -57,7 +57,7 @@ one_in class kind mode = option_map_or (λ own. bit (own == class)) (class_of ki
 abbrev pub count_with : List ℕ → Kind → Mode → ℕ
 count_with counts kind mode = option_map_or (λ class. slice_index counts class) (class_of kind mode) 0
 
--- whether a class that has tickets stands in the way of a request: a mode of that class clashes with it
+-- whether a class that has tickets blocks a request: a mode of that class clashes with it
 abbrev pub blocks_by : List ℕ → Kind → Mode → Bool
 blocks_by counts kind ask = list_any (λ held. nat_lt 0 (count_with counts kind held) && clashes kind ask held) all_modes
 

@@ -20,7 +20,7 @@ pub fn words_are_read_one_way()
     ensures { WordsAreReadOneWay }
 {}
 
-/// Adding an increment counts one ticket more in its class and changes nothing else, while that class has fewer than
+/// Adding an increment counts one ticket more in its class and changes nothing else, if that class has fewer than
 /// 1,048,575.
 pub fn adding_counts_one_more()
     ensures { AddingCountsOneMore }
@@ -51,17 +51,17 @@ pub fn flags_are_lowered_at_once()
     ensures { FlagsAreLoweredAtOnce }
 {}
 
-/// The tickets of up to 1,024 sessions, up to 1,023 of each, never fill a count, so that none runs into the next.
+/// The tickets of up to 1,024 sessions, up to 1,023 of each, never overflow a count into the next one.
 pub fn counts_fit()
     ensures { CountsFit }
 {}
 
-/// The modes of one class clash with the same requests, so that any one of them can stand for the class.
+/// The modes of one class clash with the same requests, so that any one of them can represent the class.
 pub fn classes_clash_as_one()
     ensures { ClassesClashAsOne }
 {}
 
-/// Tickets that are counted stand beside one another, whosever they are.
+/// Counted tickets of one lock don't clash with one another, whichever sessions they are of.
 pub fn counted_modes_dont_clash()
     ensures { CountedModesDontClash }
 {}
@@ -71,8 +71,7 @@ pub fn larger_counts_block_more()
     ensures { LargerCountsBlockMore }
 {}
 
-/// [`Word::blocks`] is true exactly where a mode clashes with the request and tickets are counted in
-/// its class.
+/// [`Word::blocks`] is true exactly if a mode clashes with the request and tickets are counted in its class.
 pub fn blocks_where_counted_tickets_clash()
     ensures { BlocksWhereCountedTicketsClash }
 {}

@@ -1,8 +1,8 @@
 //! The packed word of one lock: how many fast tickets it has, by class, and two flags.
 //!
-//! A fast ticket leaves no entry in a lock's lists. It is only counted, together with those in modes that clash with the
-//! same requests, so that gaining it or giving it up is a single addition to the lock's [`Word`]: see
-//! [`Word::increment`]. Whoever asks for a mode that may clash reads the counts back: [`Word::blocks`].
+//! A fast ticket has no entry in a lock's lists. It is only counted, together with those in modes that clash with the same
+//! requests, so that gaining or releasing it is a single addition to the lock's [`Word`], or a subtraction: see
+//! [`Word::increment`]. A request for a mode that may clash with fast tickets reads the counts: see [`Word::blocks`].
 //!
 //! # Example
 //!

@@ -1,4 +1,4 @@
-//! The word, and what is read off it.
+//! The word, and what is read from it.
 ghost use Rattle.std.specs.Prelude.{◌≡◌, ℕ, Bool, ◌&&◌, nat_lt, List, [], ◌∷◌};
 ghost use Rattle.mdl_key.specs.Matrices.{clashes};
 ghost use Rattle.mdl_word.specs.Words.{Encodes, flags_alone, all_but_flags, counts_of, slow_flag, obtrusive_flag, increment_of, blocks_by};
@@ -27,7 +27,7 @@ const THIRD: u64 = 1 << (2 * COUNT_BITS);
 /// | 39 to 20  | how many fast tickets class 1 has                            | SR          | always 0    |
 /// | 19 to 0   | how many fast tickets class 0 has                            | S and SH    | IX          |
 ///
-/// A ticket is listed that is in one of the lock's lists, granted or waiting. A fast ticket is only counted.
+/// A ticket is listed if it is in one of the lock's lists, granted or waiting. A fast ticket is only counted.
 ///
 /// After MySQL 5.7, `MDL_lock::m_fast_path_state` of `sql/mdl.cc`, which calls the flags `HAS_OBTRUSIVE` and
 /// `HAS_SLOW_PATH`. The layout is this project's own.
@@ -41,8 +41,8 @@ impl Word {
     /// The bit that says that one of these tickets is in an obtrusive mode.
     pub const OBTRUSIVE: u64 = 1 << 61;
 
-    /// The number that one fast ticket adds to the word. Tickets in obtrusive modes are not counted, nor in modes that are
-    /// none of the kind.
+    /// Returns the number that one fast ticket adds to the word. It is `None` for an obtrusive mode, and for one that the
+    /// kind doesn't use: their tickets are not counted.
     pub fn increment(kind: Kind, mode: Mode) -> Option<u64>
         ensures { result ≡ increment_of kind mode }
     {
@@ -55,7 +55,7 @@ impl Word {
         }
     }
 
-    /// The number to `|` a word with where these flags are to be raised, and the others left as they are: one atomic step.
+    /// Returns a mask: `|` with it raises these flags of a word and leaves the others unchanged, in one atomic step.
     pub fn raising(slow: bool, obtrusive: bool) -> u64
         ensures { result ≡ flags_alone slow obtrusive }
     {
@@ -67,7 +67,7 @@ impl Word {
         }
     }
 
-    /// The number to `&` a word with where these flags may stay, and the others are to be lowered: one atomic step. It
+    /// Returns a mask: `&` with it leaves these flags of a word unchanged and lowers the others, in one atomic step. It
     /// raises no flag.
     pub fn keeping(slow: bool, obtrusive: bool) -> u64
         ensures { result ≡ all_but_flags slow obtrusive }
@@ -93,7 +93,7 @@ impl Word {
         self.0 & Word::SLOW != 0
     }
 
-    /// How many fast tickets are counted in each class: S and SH, or IX; SR; SW and SWLP.
+    /// Returns how many fast tickets are counted in each class: S and SH, or IX; SR; SW and SWLP.
     pub fn counts(self) -> [u32; 3]
         ensures any_number { result ≡ counts_of self.0 }
         ensures lawful_word { (a b c : ℕ) (slow obtrusive : Bool) →
@@ -106,7 +106,7 @@ impl Word {
         ]
     }
 
-    /// Whether a fast ticket stands in the way of a request for `ask`: a class has one, and its modes clash with `ask`.
+    /// Whether a fast ticket blocks a request for `ask`: a class has one, and its modes clash with `ask`.
     pub fn blocks(self, kind: Kind, ask: Mode) -> bool
         ensures any_number { result ≡ blocks_by (counts_of self.0) kind ask }
         ensures lawful_word { (a b c : ℕ) (slow obtrusive : Bool) →

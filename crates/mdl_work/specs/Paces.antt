@@ -1,21 +1,21 @@
--- What the code tells of a statement that is brought to its end, and of lines that are worked off.
+-- How the code's results represent the end of a statement, and of lines.
 use Rattle.std.specs.Prelude.{◌≡◌, ℕ, Some, None, IsSome, Result, Ok, Err, Vec}
 use Rattle.mdl_rows.specs.declared.reply.Reply.{Reply}
 use Rattle.mdl_rows.specs.Endings.{Pause, Ends, Begins_to_wait, Waits_on, Faults}
 use Rattle.mdl_rows.specs.Sessions.{Session}
 use Rattle.mdl_work.specs.Works.{Worked, starved}
 
--- a statement came to its end, unless memory was wanting
+-- a statement ended with a reply, or memory ran out
 abbrev pub came_to : {E : Type 0} → Result Reply E → Session → Pause
 came_to (Ok reply) session = Ends reply session
 came_to (Err _) session = Faults session
 
--- lines were worked off, unless memory was wanting
+-- lines were executed, or memory ran out
 abbrev pub worked_as : {E Z : Type 0} → Result (Vec (ℕ × Reply) Z) E → Session → Worked
 worked_as (Ok answers) session = record { answers = Some answers.items; session = session }
 worked_as (Err _) session = starved session
 
--- something is left of a statement just where it waits
+-- something is left of a statement exactly if it waits
 abbrev pub LeftWhileWaiting : Pause → Type 0
 LeftWhileWaiting (Ends reply session) = session.left ≡ None
 LeftWhileWaiting (Begins_to_wait key mode session) = IsSome session.left

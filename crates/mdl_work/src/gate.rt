@@ -1,11 +1,11 @@
-//! Who is told of a session's statements.
+//! Calls before and after each statement of a session.
 
-/// Told before and after each statement of a session.
+/// Is called before and after each statement of a session.
 pub trait Gate {
-    /// The statement of this line is about to start.
+    /// Is called when the statement of this line is about to start.
     fn before(&self, session: u16, line: u64);
 
-    /// The statement of this line is over: it was answered, or found no memory.
+    /// Is called when the statement of this line is over: it was answered, or memory ran out.
     fn after(&self, session: u16, line: u64);
 }
 

@@ -1,4 +1,4 @@
-//! Sessions that work off their lines of a script, each over any lock space.
+//! Sessions that execute their lines of a script, each over any lock space.
 //!
 //! # Example
 //!

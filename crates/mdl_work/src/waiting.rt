@@ -1,11 +1,11 @@
-//! Waits, looked at until they are settled.
+//! Waits, polled until they are settled.
 ghost use Rattle.mdl_calls.specs.Words.{Runs};
 ghost use Rattle.mdl_work.specs.Works.{waiting_out};
 
 use mdl_space::{LockSpace, Poll};
 use std::thread;
 
-/// Looks at the session's wait so many times, until it is settled; then patience is at an end, and it is settled as a timeout. It takes
+/// Looks at the session's wait until it is settled, at most `patience` times. If it still isn't settled, makes it time out. Takes
 /// no memory.
 pub(crate) fn wait_out<S: LockSpace>(space: &mut S, who: u16, patience: u32)
     requires { S.speaks_for space.old who }

@@ -1,4 +1,4 @@
-//! A session at work on its lines.
+//! A session that executes its lines.
 ghost use Rattle.std.specs.Prelude.{◌≡◌, [], map, None, IsSome, IfOk, OnOk};
 ghost use Rattle.mdl_calls.specs.Words.{Runs};
 ghost use Rattle.mdl_context.specs.Contexts.{Attends, LeavesOthers};
@@ -17,10 +17,10 @@ use mdl_stmt::{OutOfMemory, Progress, Reply, Runner};
 use mdl_syntax::{Line, Statement};
 use std::alloc::{AllocError, Global};
 
-/// At least as often as a statement can begin to wait: 261 times, once for each place and five times more.
+/// A bound on how often a statement can begin to wait: 261 times, once for each place and five times more.
 pub const MOST_WAITS: u16 = 1 + 4 + MOST_PLACES;
 
-/// A session, its number, and its patience with a wait.
+/// A session, its number, and how often it looks at a wait before the wait times out.
 #[derive(Drop)]
 pub(crate) struct Worker<'s, S: LockSpace> {
     runner: Runner<'s, S>,
@@ -29,7 +29,7 @@ pub(crate) struct Worker<'s, S: LockSpace> {
 }
 
 impl<'s, S: LockSpace> Worker<'s, S> {
-    /// A session that was asked for nothing yet. Memory is taken for its cache, which keeps nothing.
+    /// Returns a session that has not been asked for anything. Takes memory for its cache, which is empty.
     pub(crate) fn new(
         alloc: Global,
         who: u16,
@@ -51,7 +51,7 @@ impl<'s, S: LockSpace> Worker<'s, S> {
         })
     }
 
-    /// Makes the session's statements among these lines, in order, and keeps what they answer.
+    /// Executes the session's statements among these lines, in order, and returns the answers, each with the number of its line.
     pub(crate) fn answer_lines<G: Gate>(
         &mut self,
         alloc: Global,
@@ -80,7 +80,7 @@ impl<'s, S: LockSpace> Worker<'s, S> {
         Ok(answers)
     }
 
-    /// Ends the session: all that it has is given up. It takes no memory.
+    /// Ends the session, and releases all that it has. Takes no memory.
     pub(crate) fn leave(self, space: &mut S)
         requires attends { Attends S.LockSpace space.old self.runner.context }
         ensures run { Runs S.joins space.old (leaving (session_of self.entry.runner)) tt space.new }
@@ -91,7 +91,7 @@ impl<'s, S: LockSpace> Worker<'s, S> {
         self.runner.leave(space);
     }
 
-    /// Makes a statement, and waits whatever it waits for.
+    /// Executes a statement to its end, waits included.
     fn answer(&mut self, space: &mut S, statement: &'s Statement) -> Result<Reply, OutOfMemory>
         requires attends { AttendsWith S.LockSpace space.old self.old.runner.context self.old.runner.cache }
         requires who { self.old.runner.context.who ≡ self.old.who }
@@ -109,7 +109,7 @@ impl<'s, S: LockSpace> Worker<'s, S> {
         self.finish(space, progress)
     }
 
-    /// Brings a statement that came so far to its end.
+    /// Continues a statement until its end. One that still waits after [`MOST_WAITS`] waits fails as if memory had run out.
     fn finish(&mut self, space: &mut S, progress: Progress) -> Result<Reply, OutOfMemory>
         requires attends { AttendsWith S.LockSpace space.old self.old.runner.context self.old.runner.cache }
         requires who { self.old.runner.context.who ≡ self.old.who }
@@ -136,7 +136,7 @@ impl<'s, S: LockSpace> Worker<'s, S> {
         }
     }
 
-    /// Waits the wait of a statement out, and goes on with it.
+    /// Waits until the wait of a statement is settled, and continues the statement.
     fn go_further(&mut self, space: &mut S) -> Result<Progress, OutOfMemory>
         requires attends { AttendsWith S.LockSpace space.old self.old.runner.context self.old.runner.cache }
         requires who { self.old.runner.context.who ≡ self.old.who }

@@ -1,4 +1,4 @@
-//! Sessions work off their lines, and then they are gone.
+//! Sessions execute their lines, and then release all that they have.
 ghost use Rattle.std.specs.Prelude.{◌≡◌, [], map, None, Some, IfOk, OnErr};
 ghost use Rattle.mdl_calls.specs.Words.{Runs};
 ghost use Rattle.mdl_context.specs.Contexts.{LeavesOthers};
@@ -12,14 +12,15 @@ use mdl_stmt::Reply;
 use mdl_syntax::{Line, Script};
 use std::alloc::{AllocError, Global};
 
-/// Works off a session's lines of a script, one statement after the other, over any lock space in which the session has nothing yet.
+/// Executes a session's lines of a script, one statement after the other, over any lock space in which the session has no ticket and no
+/// wait.
 ///
-/// Each of its statements is made; it waits whatever it waits for, looking at the wait as often as `patience` says before that times
-/// out. What a statement answers is kept under the number of its line. At the end the session gives up all that it has.
+/// If a statement waits, the session looks at the wait up to `patience` times before the wait times out. Returns the answer to each
+/// statement with the number of its line. At the end the session releases all that it has.
 ///
-/// The session reads by a cache of its own, which keeps at most so many definitions as `cache` says.
+/// The session has a cache of its own, which keeps at most `cache` definitions.
 ///
-/// Where memory is wanting, for that cache, in a statement or to keep its answer, no further statement is made, the session gives up all
+/// If memory runs out, for that cache, in a statement or to keep its answer, no further statement is started, the session releases all
 /// that it has, and its answers are lost.
 pub fn work<S: LockSpace, G: Gate>(
     alloc: Global,
@@ -43,7 +44,7 @@ pub fn work<S: LockSpace, G: Gate>(
     work_lines(alloc, space, who, script.lines(), patience, cache, gate)
 }
 
-/// The same of lines, among which those of other sessions are left to these.
+/// Does the same as [`work`] for the session's own lines among `lines`. Lines of other sessions are skipped.
 pub fn work_lines<S: LockSpace, G: Gate>(
     alloc: Global,
     space: &mut S,

@@ -14,14 +14,14 @@ use Rattle.mdl_key.specs.declared.namespace.Kind.TheVariants.{Scoped, Object}
 use Rattle.mdl_program.specs.declared.program.Run.{Run}
 use Rattle.mdl_program.specs.declared.program.Run.TheVariants.{Lock, Matrix, Replay, Threads}
 
--- an option of `run` with a number: its name, the least number and the most, and the text of the number where none is given
+-- an option of `run` with a number: its name, the least number and the most, and the text of the number if none is given
 pub record NumberOption : Type 0 where
   pub name : List ℕ
   pub least : ℕ
   pub most : ℕ
   pub default : List ℕ
 
--- how often a waiting statement looks again, a number of 32 bits
+-- how often a waiting statement looks again before it times out, a number of 32 bits
 abbrev pub patience_option : NumberOption
 patience_option = record { name = codes "patience"; least = 0; most = 4294967295; default = codes "1000000" }
 
@@ -30,11 +30,12 @@ abbrev pub cache_option : NumberOption
 cache_option = record { name = codes "cache"; least = 1; most = most_kept; default = codes "64" }
 
 module _ (option : NumberOption) where
-  -- the text writes this number within the option's limits, in decimal digits, perhaps behind a sign; behind a `-` there are only zeros
+  -- the text writes this number within the option's limits, in decimal digits, perhaps after a sign. After a `-` there are only
+  -- zeros
   abbrev pub WritesNumber : List ℕ → ℕ → Type 0
   WritesNumber text number = IsSignedIn (pos option.least) (pos option.most) text × (signed_digits_value 10 text ≡ pos number)
 
-  -- the words that give the option this text: in the same word, behind a `=`, or in the next, where no `-` begins it
+  -- the words that give the option this text: in the same word, after a `=`, or in the next word, if it doesn't begin with `-`
   abbrev pub GiveText : List ℕ → List (List ℕ) → Type 0
   GiveText text words = (words ≡ (codes "--" ++ option.name ++ codes "=" ++ text) ∷ [])
       ⊎ ((words ≡ (codes "--" ++ option.name) ∷ text ∷ []) × (starts_with_minus text ≡ false))
@@ -43,12 +44,12 @@ module _ (option : NumberOption) where
   abbrev pub AskForNumber : ℕ → List (List ℕ) → Type 0
   AskForNumber number words = (text : List ℕ) × WritesNumber text number × (GiveText text words ⊎ ((words ≡ []) × (text ≡ option.default)))
 
--- the words behind `run` that ask for this patience and this cache, in either order
+-- the words after `run` that ask for this patience and this cache, in either order
 abbrev pub AskForThreads : ℕ → ℕ → List (List ℕ) → Type 0
 AskForThreads patience cache words = (first next : List (List ℕ)) × AskForNumber patience_option patience first × AskForNumber cache_option cache next
     × ((words ≡ first ++ next) ⊎ (words ≡ next ++ first))
 
--- the words of a run, behind the program's name
+-- the words of a run, after the program's name
 abbrev pub AreWordsOf : Run → List (List ℕ) → Type 0
 AreWordsOf (Lock Object) words = words ≡ codes "lock" ∷ []
 AreWordsOf (Lock Scoped) words = words ≡ codes "lock" ∷ codes "--scoped" ∷ []
@@ -56,16 +57,16 @@ AreWordsOf Matrix words = words ≡ codes "matrix" ∷ []
 AreWordsOf Replay words = words ≡ codes "replay" ∷ []
 AreWordsOf (Threads patience cache) words = (options : List (List ℕ)) × (words ≡ codes "run" ∷ options) × AskForThreads patience cache options
 
--- the words behind the program's name ask for this run; a closing `--` says no more than that the options end
+-- the words after the program's name ask for this run. A closing `--` says only that the options end
 abbrev pub Asks : List (List ℕ) → Run → Type 0
 Asks words run = AreWordsOf run words
     ⊎ ((front : List (List ℕ)) × (words ≡ front ++ codes "--" ∷ []) × AreWordsOf run front)
 
--- the words behind the program's name ask for its version
+-- the words after the program's name ask for its version
 abbrev pub AskForVersion : List (List ℕ) → Type 0
 AskForVersion words = words ≡ codes "--version" ∷ []
 
--- the line that is printed then
+-- the line that is printed for the version
 abbrev pub version_line : List ℕ
 version_line = codes "mdlsim 0.5.0" ++ 10 ∷ []
 
@@ -89,7 +90,7 @@ number_rule option = record (new_rule option.name) {
 abbrev pub run_subcommand : App
 run_subcommand = with_rule (with_rule (new_app (codes "run")) (number_rule patience_option)) (number_rule cache_option)
 
--- the program without its subcommands: it wants one
+-- the program without its subcommands, one of which is required
 abbrev pub without_subcommands : App
 without_subcommands = on_top (λ s. record s { subcommand_required = true }) (new_app (codes "mdlsim"))
 
@@ -101,10 +102,10 @@ with_scripts = with_subcommand (with_subcommand (with_subcommand without_subcomm
 abbrev pub mdlsim : App
 mdlsim = with_subcommand with_scripts run_subcommand.top
 
--- these are the matches of words that ask for this run
+-- the matches of words that ask for this run
 abbrev pub Finds : Run → ArgMatches → Type 0
 Finds run matches = (words : List (List ℕ)) × Asks words run × (subcommand_rows_of matches ≡ subcommand_of mdlsim (codes "mdlsim" ∷ words))
 
--- what was found of an option of `run` is this number; of a text behind a `-`, what follows it is found
+-- the number that was found for an option of `run`. Of a text that begins with `-`, what follows the sign is found
 abbrev pub HasNumber : NumberOption → ArgMatches → ℕ → Type 0
 HasNumber option matches number = (text : List ℕ) × WritesNumber option text number × (one_text (found_of matches) option.name ≡ Some (without_minus text))

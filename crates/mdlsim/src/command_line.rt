@@ -22,7 +22,7 @@ pub fn command<S: AsStr>(alloc: Global, words: &[S]) -> Result<Run, Error>
     Ok(run_found(&matches))
 }
 
-/// Whether the words of a command line ask for the version: `--version` stands behind the program's name, and nothing else.
+/// Whether the words of a command line ask for the version: the program's name, `--version`, and nothing else.
 pub fn asks_for_version<S: AsStr>(words: &[S]) -> bool
     ensures { IsTrue result ↔ AskForVersion (drop 1 (map S.text words.now)) }
 {
@@ -32,7 +32,7 @@ pub fn asks_for_version<S: AsStr>(words: &[S]) -> bool
     }
 }
 
-// The run that was found in words that ask for one.
+// Returns the run that was found in words that ask for one.
 fn run_found(matches: &ArgMatches) -> Run
     requires { (run : Run) × Finds run matches.now }
     ensures { (run : Run) → Finds run matches.now → result ≡ run }
@@ -46,7 +46,7 @@ fn run_found(matches: &ArgMatches) -> Run
     }
 }
 
-// The kind of the lock that the options of `lock` ask for.
+// Returns the kind of lock that the options of `lock` ask for.
 fn kind_found(options: &ArgMatches) -> Kind
     ensures scoped { (one_text (found_of options.now) (codes "scoped") ≡ Some (codes "true")) → (result ≡ Kind.Scoped) }
     ensures object { (one_text (found_of options.now) (codes "scoped") ≡ Some (codes "false")) → (result ≡ Kind.Object) }
@@ -58,7 +58,7 @@ fn kind_found(options: &ArgMatches) -> Kind
     }
 }
 
-// The patience that the options of `run` ask for.
+// Returns the patience that the options of `run` ask for.
 fn patience_found(options: &ArgMatches) -> u32
     requires { (patience : ℕ) × HasNumber spec.patience_option options.now patience }
     ensures { (patience : ℕ) → HasNumber spec.patience_option options.now patience → result ≡ patience }
@@ -69,7 +69,7 @@ fn patience_found(options: &ArgMatches) -> u32
     }
 }
 
-// The capacity of the caches that the options of `run` ask for.
+// Returns the capacity of the caches that the options of `run` ask for.
 fn cache_found(options: &ArgMatches) -> u16
     requires { (cache : ℕ) × HasNumber spec.cache_option options.now cache }
     ensures { (cache : ℕ) → HasNumber spec.cache_option options.now cache → result ≡ cache }
@@ -80,7 +80,7 @@ fn cache_found(options: &ArgMatches) -> u16
     }
 }
 
-// The program's subcommands and their options, with what help shows of them.
+// Returns the program's subcommands and their options, with their help texts.
 fn program<'a>(alloc: Global) -> Result<Command<'a>, AllocError>
     ensures { IfOk result (λ c. app_of c ≡ mdlsim) }
 {
@@ -98,7 +98,7 @@ fn program<'a>(alloc: Global) -> Result<Command<'a>, AllocError>
         .subcommand(run_subcommand(alloc)?)
 }
 
-// The subcommand `lock`, with its flag.
+// Returns the subcommand `lock`, with its flag.
 fn lock_subcommand<'a>(alloc: Global) -> Result<Command<'a>, AllocError>
     ensures { IfOk result (λ c. app_of c ≡ spec.lock_subcommand) }
 {
@@ -111,7 +111,7 @@ fn lock_subcommand<'a>(alloc: Global) -> Result<Command<'a>, AllocError>
         .arg(scoped)
 }
 
-// The subcommand `run`, with its options.
+// Returns the subcommand `run`, with its options.
 fn run_subcommand<'a>(alloc: Global) -> Result<Command<'a>, AllocError>
     ensures { IfOk result (λ c. app_of c ≡ spec.run_subcommand) }
 {
@@ -123,7 +123,7 @@ fn run_subcommand<'a>(alloc: Global) -> Result<Command<'a>, AllocError>
         .arg(cache_option(alloc))
 }
 
-// The option `--patience`.
+// Returns the option `--patience`.
 fn patience_option<'a>(alloc: Global) -> Arg<'a>
     ensures rule { rule_of result ≡ number_rule spec.patience_option }
     ensures local { result.global ≡ false }
@@ -137,7 +137,7 @@ fn patience_option<'a>(alloc: Global) -> Arg<'a>
         .help("How often a statement that waits looks again before it times out")
 }
 
-// The option `--cache`.
+// Returns the option `--cache`.
 fn cache_option<'a>(alloc: Global) -> Arg<'a>
     ensures rule { rule_of result ≡ number_rule spec.cache_option }
     ensures local { result.global ≡ false }

@@ -1,7 +1,7 @@
-//! `mdlsim` drives metadata locks by scripts: `mdlsim lock` reads the script of one lock from standard input, and prints
-//! what the lock answers. `mdlsim replay` reads a script of statements, and prints what becomes of each. `mdlsim run` plays
-//! such a script with each session on a thread of its own. `mdlsim matrix` prints which modes clash, and which wait behind which.
-//! `mdlsim --version` prints its version.
+//! `mdlsim` runs scripts of metadata locks: `mdlsim lock` reads a script of one lock from standard input, and prints the answers
+//! of the lock. `mdlsim replay` reads a script of statements, and prints what becomes of each. `mdlsim run` plays such a script
+//! with each session on a thread of its own. `mdlsim matrix` prints which modes clash, and which wait behind which, and
+//! `mdlsim --version` prints the version.
 #![tactic(auto)]
 
 mod command_line;
@@ -26,7 +26,7 @@ fn main(rt: HostRuntime) -> ExitCode {
     })
 }
 
-// The words of the command line.
+// Returns the words of the command line.
 fn words_given(rt: &HostRuntime) -> io::Result<Vec<String>> {
     let words = std::env::args(rt)?;
     Ok(words.collect(rt.alloc())?)

@@ -17,7 +17,8 @@ use std::thread::Threads;
 // What `--version` prints.
 const VERSION_LINE: &[u8] = b"mdlsim 0.5.0\n";
 
-/// Does what the words of a command line ask for, and returns the status: 2 where they ask neither for a run nor for the version.
+/// Does what the words of a command line ask for, and returns the exit status: 2 if they ask neither for a run nor for the
+/// version.
 pub fn run_words<T: Threads + Wait + Sync, S: AsStr, R: Read, W: Write, E: Write>(
     rt: &T,
     alloc: Global,
@@ -31,7 +32,8 @@ pub fn run_words<T: Threads + Wait + Sync, S: AsStr, R: Read, W: Write, E: Write
         × IsOkUnless end Fault.Write × Writes end (W.contents output.old) (W.contents output.new) version_line
         × (result ≡ end_status end)
         × (IsOk end → Keeps (E.contents errors.old) (E.contents errors.new)) }
-    // Other words. 2: nothing was written. Else they ask for a run, and the status is that of an end which it may have.
+    // Other words. With status 2 nothing was written. Otherwise they ask for a run, and the status is that of an end that it may
+    // have.
     ensures others { (AskForVersion (drop 1 (map S.text words.entry.now)) → ⊥)
         → ((result ≡ 2) × Keeps (W.contents output.old) (W.contents output.new))
         ⊎ ((run : Run) × (end : Result (Unit {0}) Fault) × Asks (drop 1 (map S.text words.entry.now)) run

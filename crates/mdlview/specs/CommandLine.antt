@@ -1,4 +1,4 @@
--- What `mdlview --version` prints.
+-- The line that `mdlview --version` prints.
 use Rattle.std.specs.Prelude.{ℕ, List, [], ◌∷◌, ◌++◌, codes}
 
 abbrev pub version_line : List ℕ

@@ -1,4 +1,4 @@
-//! What the command line asks for.
+//! The requests of a command line.
 use clap::{Arg, ArgAction, ArgMatches, Command, Error, value_parser};
 use mdl_view_program::{Form, Question};
 use std::alloc::{AllocError, Global};
@@ -31,25 +31,25 @@ const TIMELINE_EXAMPLES: &str = "Example:
 
 Lines go from left to right, and each session has a row. A server's rows show one moment only, so there is no timeline of them.";
 
-/// What is asked.
+/// A request of a command line.
 #[derive(Clone, Copy)]
 pub enum Asked {
     /// A question about the locks of a server's rows.
     OfRows(Question),
-    /// Something about a script, up to the line of this number.
+    /// A request about a script, up to the line of this number.
     OfScript(Look, u64),
 }
 
-/// What is asked of a script.
+/// A request about a script.
 #[derive(Clone, Copy)]
 pub enum Look {
     /// A question about the locks that it leaves.
     Locks(Question),
-    /// A picture of it.
+    /// A picture of its timeline.
     Timeline,
 }
 
-/// Reads the words of a command line; the first is the program's name.
+/// Reads the words of a command line. The first is the program's name.
 pub fn words_read<S: AsStr>(alloc: Global, words: &[S]) -> Result<Asked, Error> {
     let matches = program(alloc)?.try_get_matches_from(words)?;
     Ok(match matches.subcommand() {
@@ -62,7 +62,7 @@ pub fn words_read<S: AsStr>(alloc: Global, words: &[S]) -> Result<Asked, Error> 
     })
 }
 
-// A question, with the locks that the options name.
+// The request of a question about the locks that the options name.
 fn asks(question: Question, options: &ArgMatches) -> Asked {
     if options.get_flag("script") {
         Asked::OfScript(Look::Locks(question), last_found(options))
@@ -71,7 +71,7 @@ fn asks(question: Question, options: &ArgMatches) -> Asked {
     }
 }
 
-// The form that was found.
+// The form that the options name.
 fn form_found(options: &ArgMatches) -> Form {
     if options.get_flag("json") {
         Form::Json
@@ -80,7 +80,7 @@ fn form_found(options: &ArgMatches) -> Form {
     }
 }
 
-// The number of the last line that is played: where none was found, the whole script is.
+// The number of the last line that is played. If the options name none, the whole script is.
 fn last_found(options: &ArgMatches) -> u64 {
     match options.get_one::<u64>("at") {
         Some(line) => line,
@@ -88,7 +88,7 @@ fn last_found(options: &ArgMatches) -> u64 {
     }
 }
 
-// The program's words, with what help shows of them.
+// The program's commands and options, with what help shows of them.
 fn program<'a>(alloc: Global) -> Result<Command<'a>, AllocError> {
     let program = Command::new(alloc, "mdlview")
         .about(

@@ -1,4 +1,4 @@
-//! What the program does: over the words of its command line, and the streams that it is given.
+//! What the program does with the words of its command line and its streams.
 ghost use Rattle.std.specs.Prelude.{◌≡◌, Result, IsOkUnless};
 ghost use Rattle.mdl_program.specs.Runs.{Writes, end_status};
 ghost use Rattle.mdlview.specs.CommandLine.{version_line};
@@ -15,13 +15,13 @@ use std::io::{Read, Write};
 // What `--version` prints.
 const VERSION_LINE: &[u8] = b"mdlview 0.5.0\n";
 
-// The status of a program that was given a refused line.
+// The exit status if a line of the input is refused.
 const REFUSED: u8 = 1;
 
-// The status of a program whose command line was refused, or that was asked for help.
+// The exit status if the command line is refused, or asks for help.
 const USAGE: u8 = 2;
 
-/// Does what the words of a command line ask for, and returns the status.
+/// Does what the words of a command line ask for, and returns the exit status.
 pub fn run_words<S: AsStr, R: Read, W: Write, E: Write>(
     alloc: Global,
     words: &[S],
@@ -41,7 +41,7 @@ pub fn run_words<S: AsStr, R: Read, W: Write, E: Write>(
     }
 }
 
-// Whether the words ask for the version: `--version` stands behind the program's name, and nothing else.
+// Whether the words ask for the version: they are the program's name and `--version`.
 fn asks_for_version<S: AsStr>(words: &[S]) -> bool {
     match words {
         [_, word] => word.as_str() == "--version",
@@ -61,7 +61,7 @@ fn print_version<W: Write, E: Write>(output: &mut W, errors: &mut E) -> u8
     }
 }
 
-// Answers what is asked of rows or of a script, and returns the status.
+// Answers a request about rows or a script, and returns the status.
 fn look<R: Read, W: Write, E: Write>(
     alloc: Global,
     asked: Asked,
@@ -89,7 +89,7 @@ fn look_at_rows<R: Read, W: Write, E: Write>(
     }
 }
 
-// Reports why rows can't be looked at, and returns the status.
+// Reports why rows can't be read or their answer can't be written, and returns the status.
 fn report_rows<E: Write>(fault: &RowsFault, errors: &mut E) -> u8 {
     match fault {
         RowsFault::Fails(fault) => report(fault, errors),
@@ -101,7 +101,7 @@ fn report_rows<E: Write>(fault: &RowsFault, errors: &mut E) -> u8 {
     }
 }
 
-// Answers what is asked of a script, and returns the status.
+// Answers a request about a script, and returns the status.
 fn look_at_script<R: Read, W: Write, E: Write>(
     alloc: Global,
     what: Look,
@@ -121,7 +121,7 @@ fn look_at_script<R: Read, W: Write, E: Write>(
     }
 }
 
-// Answers what is asked of the text of a script.
+// Answers a request about the text of a script.
 fn answer_script<W: Write>(
     alloc: Global,
     what: Look,

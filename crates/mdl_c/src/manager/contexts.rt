@@ -1,4 +1,4 @@
-//! The calls of the sessions' contexts, and how these begin and end.
+//! The calls of the sessions' contexts, and those that begin and end contexts.
 ghost use Rattle.std.specs.Prelude.{◌≡◌, ◌⊎◌, Some, None, Ok, [], MatchResult};
 ghost use Rattle.mdl_space.specs.CoreMembers.{core_space};
 ghost use Rattle.mdl_calls.specs.Words.{Runs};
@@ -20,7 +20,7 @@ use mdl_space::{CoreSpace, LockSpace, TicketId};
 use std::alloc::Global;
 
 impl Manager {
-    /// From here on a context keeps a session's tickets.
+    /// Begins a context, which keeps the session's tickets from now on.
     pub fn begin_context(&mut self, alloc: Global, who: u16) -> Result<(), Unserved>
         ensures { MatchResult result
             (λ _. (begin_fault who self.old ≡ None) × (self.new ≡ seating who (Kept (new_context who)) self.old))
@@ -31,7 +31,7 @@ impl Manager {
         Ok(())
     }
 
-    // That there is such a session, which has no context, no ticket and no wait.
+    // Checks that there is such a session, and that it has no context, no ticket and no wait.
     fn check_unused(&mut self, who: u16) -> Result<(), Unserved>
         ensures fault { MatchResult result (λ _. begin_fault who self.old ≡ None) (λ why. (begin_fault who self.old ≡ Some why) ⊎ ((direct_fault (seat_of who self.old) ≡ None) × (why ≡ Unserved.OutOfMemory))) }
         ensures same { self.new ≡ self.old }
@@ -47,7 +47,7 @@ impl Manager {
         }
     }
 
-    /// A session's context gives up its wait and all that it keeps, and ends.
+    /// Ends a session's context, which gives up its wait and releases all its tickets.
     pub fn end_context(&mut self, who: u16) -> Result<(), Unserved>
         ensures { Asks (context_fault (seat_of who self.old)) (λ done. Leaves who done self.old self.new) result self.old self.new }
     {
@@ -62,7 +62,7 @@ impl Manager {
         }
     }
 
-    /// Comes by a lock, or begins to wait for it.
+    /// Acquires a lock for this duration, or begins to wait for it.
     pub fn acquire(
         &mut self,
         who: u16,
@@ -86,7 +86,7 @@ impl Manager {
         ))
     }
 
-    /// Sees how the wait stands, and ends it once it is settled.
+    /// Returns the state of the wait, and ends the wait if it is settled.
     pub fn resume(&mut self, who: u16) -> Result<Result<Resume, ContextError>, Unserved>
         ensures { Asks (context_fault (seat_of who self.old)) (λ r. RunsFor who resuming r self.old self.new) result self.old self.new }
     {
@@ -97,7 +97,7 @@ impl Manager {
         Ok(context.resume(&mut self.space))
     }
 
-    /// Gives the wait up, unless it is settled already, and ends it.
+    /// Gives up the wait, unless it is settled already, and ends it.
     pub fn give_up(&mut self, who: u16) -> Result<Result<Resume, ContextError>, Unserved>
         ensures { Asks (context_fault (seat_of who self.old)) (λ r. RunsFor who giving_up_wait r self.old self.new) result self.old self.new }
     {
@@ -108,7 +108,7 @@ impl Manager {
         Ok(context.give_up(&mut self.space))
     }
 
-    /// Lets a kept ticket have a stronger mode, or begins to wait for that.
+    /// Upgrades a kept ticket to a stronger mode, or begins to wait for that.
     pub fn upgrade(
         &mut self,
         who: u16,
@@ -124,7 +124,7 @@ impl Manager {
         Ok(context.upgrade(&mut self.space, ticket, mode))
     }
 
-    /// Lets a kept ticket have a weaker mode.
+    /// Downgrades a kept ticket to a weaker mode.
     pub fn downgrade_kept(
         &mut self,
         who: u16,
@@ -140,7 +140,7 @@ impl Manager {
         Ok(context.downgrade(&mut self.space, ticket, mode))
     }
 
-    /// Gives a kept ticket up.
+    /// Releases a kept ticket.
     pub fn release_kept(
         &mut self,
         who: u16,
@@ -155,7 +155,7 @@ impl Manager {
         Ok(context.release(&mut self.space, ticket))
     }
 
-    /// Gives all tickets of a key up.
+    /// Releases all tickets of a key that the session's context keeps.
     pub fn release_name(
         &mut self,
         who: u16,
@@ -170,7 +170,7 @@ impl Manager {
         Ok(context.release_name(&mut self.space, key))
     }
 
-    /// Where a session stands.
+    /// Returns the session's current mark.
     pub fn savepoint(&mut self, who: u16) -> Result<Mark, Unserved>
         ensures { Asks (context_fault (seat_of who self.old)) (λ mark. Marks who mark self.old self.new) result self.old self.new }
     {
@@ -181,7 +181,7 @@ impl Manager {
         }
     }
 
-    /// Goes back to a mark.
+    /// Rolls back to a mark.
     pub fn rollback_to(
         &mut self,
         who: u16,
@@ -196,7 +196,7 @@ impl Manager {
         Ok(context.rollback_to(&mut self.space, mark))
     }
 
-    /// Ends a statement.
+    /// Ends a statement: releases its tickets.
     pub fn end_statement(&mut self, who: u16) -> Result<Result<(), ContextError>, Unserved>
         ensures { Asks (context_fault (seat_of who self.old)) (λ r. RunsFor who ending_statement r self.old self.new) result self.old self.new }
     {
@@ -207,7 +207,7 @@ impl Manager {
         Ok(context.end_statement(&mut self.space))
     }
 
-    /// Ends a transaction.
+    /// Ends a transaction: releases the tickets of the statement and of the transaction.
     pub fn end_transaction(&mut self, who: u16) -> Result<Result<(), ContextError>, Unserved>
         ensures { Asks (context_fault (seat_of who self.old)) (λ r. RunsFor who ending_transaction r self.old self.new) result self.old self.new }
     {
@@ -218,7 +218,7 @@ impl Manager {
         Ok(context.end_transaction(&mut self.space))
     }
 
-    /// Keeps all tickets until they are released.
+    /// Makes all tickets explicit: the context keeps them until they are released.
     pub fn make_explicit(&mut self, who: u16) -> Result<Result<(), ContextError>, Unserved>
         ensures { Asks (context_fault (seat_of who self.old)) (λ r. RunsFor who making_explicit r self.old self.new) result self.old self.new }
     {
@@ -229,7 +229,7 @@ impl Manager {
         Ok(context.make_explicit())
     }
 
-    /// Keeps the explicit tickets until the transaction ends.
+    /// Makes the explicit tickets, except those of user-level locks, last until the transaction ends.
     pub fn make_transactional(&mut self, who: u16) -> Result<Result<(), ContextError>, Unserved>
         ensures { Asks (context_fault (seat_of who self.old)) (λ r. RunsFor who making_transactional r self.old self.new) result self.old self.new }
     {
@@ -241,7 +241,7 @@ impl Manager {
     }
 }
 
-// Gives up the wait of a context, where there is one, and then all that it keeps.
+// Gives up the wait of a context, if there is one, and then releases all its tickets.
 fn give_all_up(space: &mut CoreSpace, context: &mut Context<CoreSpace>)
     requires { Attends core_space space.old context.old }
     ensures run { Runs core_space.joins space.old (leaving_from context.old.wait context.old) (Ok tt, context.new) space.new }

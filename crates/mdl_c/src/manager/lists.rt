@@ -1,4 +1,4 @@
-//! What a manager tells of the locks. It changes nothing.
+//! What a manager shows of the locks. It changes nothing.
 ghost use Rattle.std.specs.Prelude.{◌≡◌, MatchOption};
 ghost use Rattle.std.specs.Option.{option_copied};
 ghost use Rattle.mdl_calls.specs.Words.{List_held, listed};
@@ -13,7 +13,7 @@ use mdl_key::MOST_SESSIONS;
 use mdl_space::{CoreSpace, Held, LockSpace, Place, Poll, SpaceError};
 
 impl Manager {
-    /// The sessions whose waits are settled and not ended: the lowest bit is that of session 1.
+    /// Returns the sessions whose waits are settled and not ended, one bit each. The lowest bit is that of session 1.
     pub fn settled(&mut self) -> u64
         ensures told { TellsSettled self.old result }
         ensures unchanged { self.new ≡ self.old }
@@ -37,7 +37,7 @@ impl Manager {
         is_settled(&mut self.space, who)
     }
 
-    /// The tickets that a session holds, in order of gain.
+    /// Returns the tickets that a session holds, in the order in which it got them.
     pub fn held(&self, who: u16) -> Option<Result<Vec<Held>, SpaceError>>
         ensures { MatchOption result (IsOutside who self.now self.now) (λ r. JoinsFor who (List_held who) (listed r) self.now self.now) }
     {
@@ -47,14 +47,14 @@ impl Manager {
         Some(self.space.held(who))
     }
 
-    /// The books of all places that have keys, that of place 1 first.
+    /// Returns the books of all places that have keys, that of place 1 first.
     pub fn books(&self) -> &[Book]
         ensures { result.now ≡ self.now.space.books }
     {
         self.space.books()
     }
 
-    /// The book of a place, if it has a key.
+    /// Returns the book of a place, if the place has a key.
     pub fn book(&self, place: Place) -> Option<&Book>
         ensures { option_copied result ≡ keyed_book place self.now.space }
     {
@@ -65,7 +65,7 @@ impl Manager {
     }
 }
 
-// Whether a session's wait is settled. It changes nothing: but for its type, the call would not need the space for itself.
+// Whether a session's wait is settled. It changes nothing: only the type of `poll_wait` requires `&mut`.
 fn is_settled(space: &mut CoreSpace, who: u16) -> bool
     requires { SpeaksFor space.old who }
     ensures told { result ≡ has_settled space.old who }

@@ -1,4 +1,4 @@
-//! How a session comes by its tickets.
+//! How a session gets its tickets.
 ghost use Rattle.std.specs.Prelude.{◌≡◌, Some, None, OnErr};
 ghost use Rattle.mdl_calls.specs.Words.{Runs};
 ghost use Rattle.mdl_context.specs.Contexts.{Attends, LeavesOthers, place_known};
@@ -10,17 +10,17 @@ use crate::{Acquire, Context, ContextError, Request};
 use mdl_space::{LockSpace, Place, SpaceError};
 
 impl<S: LockSpace> Context<S> {
-    /// Comes by a lock, for as long as the request says.
+    /// Gets a lock for the request's duration, or begins to wait for it.
     ///
-    /// The place of the key is asked for once, and known from then on; to remember it takes memory, as a new ticket does. Of the
-    /// tickets there that are at least as strong, the earliest that is kept just as long is used again, though never an explicit
-    /// one. Where there is none, the earliest of them all is cloned, and the clone is kept as the request says. Where there is
-    /// none of these either, a new ticket is asked for.
+    /// The key's place is looked up once and remembered from then on. To remember it takes memory, as a new ticket does. Of the
+    /// tickets there that are at least as strong as the request's mode, the earliest of the same duration is used again, though never an
+    /// explicit one. If there is none, the earliest of all that are strong enough is cloned, and the clone gets the request's
+    /// duration. If there is none of these either, a new ticket is requested of the space.
     ///
-    /// Where that can't be had now, the session begins to wait. Then deadlocks are searched for, until none is left in which it
-    /// waits, it is a victim itself, or 1,024 searches were made; in the last case [`Context::resume`] searches on. Where a
-    /// search finds no memory, the wait is given up and the session has what it had before; the victims of earlier searches
-    /// stay settled.
+    /// If that can't be granted now, the session begins to wait. Then it searches for deadlocks until none is left in which it
+    /// waits, it is itself a victim, or 1,024 searches were made. In the last case [`Context::resume`] continues the searches.
+    /// If a search runs out of memory, the wait is given up and the session has what it had before. The victims of earlier
+    /// searches stay settled.
     ///
     /// After MySQL 5.7, `MDL_context::acquire_lock` of `sql/mdl.cc`.
     pub fn acquire(&mut self, space: &mut S, request: Request<'_>) -> Result<Acquire, ContextError>
@@ -42,7 +42,7 @@ impl<S: LockSpace> Context<S> {
         }
     }
 
-    // Comes by a lock of a key whose place isn't known yet.
+    // Gets a lock of a key whose place isn't known yet, or begins to wait for it.
     fn look_up(&mut self, space: &mut S, request: Request<'_>) -> Result<Acquire, ContextError>
         requires attends { Attends S.LockSpace space.old self.old }
         requires idle { self.old.wait ≡ None }
@@ -64,7 +64,7 @@ impl<S: LockSpace> Context<S> {
         self.acquire_at(space, place, request)
     }
 
-    // Comes by a lock of a key whose place is known.
+    // Gets a lock of a key whose place is known, or begins to wait for it.
     fn acquire_at(
         &mut self,
         space: &mut S,

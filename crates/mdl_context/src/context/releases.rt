@@ -1,4 +1,4 @@
-//! How a session gives tickets up.
+//! How a session releases tickets.
 ghost use Rattle.std.specs.Prelude.{◌≡◌, [], None, Ok};
 ghost use Rattle.mdl_key.specs.Refusals.{RefusesJust};
 ghost use Rattle.mdl_calls.specs.Words.{Runs};
@@ -12,14 +12,14 @@ use crate::{Context, ContextError, Mark};
 use mdl_key::{Duration, Key};
 use mdl_space::{LockSpace, TicketId};
 
-// Where a session stands that has no tickets of a statement and none of a transaction.
+// The mark of a session that has no tickets of a statement and none of a transaction.
 const START: Mark = Mark {
     statement: 0,
     transaction: 0,
 };
 
 impl<S: LockSpace> Context<S> {
-    /// Releases a ticket. It takes no memory.
+    /// Releases a ticket. Takes no memory.
     ///
     /// After MySQL 5.7, `MDL_context::release_lock` of `sql/mdl.cc`.
     pub fn release(&mut self, space: &mut S, id: TicketId) -> Result<(), ContextError>
@@ -41,7 +41,7 @@ impl<S: LockSpace> Context<S> {
         Ok(())
     }
 
-    /// Releases all tickets of a key, in order of gain. It takes no memory.
+    /// Releases all tickets of a key, in the order in which the session got them. Takes no memory.
     ///
     /// After MySQL 5.7, `MDL_context::release_all_locks_for_name` of `sql/mdl.cc`.
     pub fn release_name(&mut self, space: &mut S, key: &Key) -> Result<(), ContextError>
@@ -62,18 +62,18 @@ impl<S: LockSpace> Context<S> {
         Ok(())
     }
 
-    /// Goes back to where the session stood at a mark: of the tickets of the statement, and of those of the
-    /// transaction, so many stay as the mark counted, from the earliest on, and the others are released. It takes no
-    /// memory.
+    /// Goes back to a mark: keeps the earliest tickets of the statement and of the transaction, as many of each as the mark
+    /// counted, and releases the others. Explicit tickets stay. Takes no memory.
     ///
-    /// It goes by these two numbers alone. A ticket that was explicit at the mark and ends with the transaction now
-    /// stands among the others in order of gain, so where it is an early one, a later one that the mark counted is
-    /// released.
+    /// Only these two numbers count. A ticket that was explicit at the mark and now ends with the transaction is counted
+    /// with the others, in the order in which the session got them. So if it is an early one, a later one that the mark
+    /// counted is released.
     ///
-    /// A mark is stale while fewer tickets of the statement or of the transaction are kept than it counted. Then this
-    /// call is refused and changes nothing, and all else goes as before: tickets are gained and released, an older mark
-    /// may be good still, [`Context::return_to`] takes a stale one, and the statement and the transaction can be ended.
-    /// Where as many tickets are kept again, whichever they are, the mark is good again.
+    /// A mark is stale while fewer tickets of the statement or of the transaction are kept than it counted. Then this call
+    /// is refused with [`ContextError::StaleSavepoint`] and changes nothing. All other calls work as before: tickets are
+    /// gained and released, an older mark may still be valid, [`Context::return_to`] accepts a stale one, and the statement
+    /// and the transaction can be ended. Once that many tickets are kept again, whichever they are, the mark is valid
+    /// again.
     ///
     /// After MySQL 5.7, `MDL_context::rollback_to_savepoint` of `sql/mdl.cc`.
     pub fn rollback_to(&mut self, space: &mut S, mark: Mark) -> Result<(), ContextError>
@@ -95,7 +95,7 @@ impl<S: LockSpace> Context<S> {
         Ok(())
     }
 
-    /// Ends a statement: its tickets are released, in order of gain. It takes no memory.
+    /// Ends a statement: releases its tickets, in the order in which the session got them. Takes no memory.
     ///
     /// After MySQL 5.7, `MDL_context::release_statement_locks` of `sql/mdl.cc`.
     pub fn end_statement(&mut self, space: &mut S) -> Result<(), ContextError>
@@ -113,8 +113,7 @@ impl<S: LockSpace> Context<S> {
         Ok(())
     }
 
-    /// Ends a transaction: the tickets of the statement are released, and then those of the transaction. It takes no
-    /// memory.
+    /// Ends a transaction: releases the tickets of the statement, and then those of the transaction. Takes no memory.
     ///
     /// After MySQL 5.7, `MDL_context::release_transactional_locks` of `sql/mdl.cc`.
     pub fn end_transaction(&mut self, space: &mut S) -> Result<(), ContextError>
@@ -132,8 +131,8 @@ impl<S: LockSpace> Context<S> {
         Ok(())
     }
 
-    /// As [`Context::rollback_to`], of a session that is known to have no wait. Where fewer tickets are kept than the
-    /// mark counted, all of these stay. It takes no memory.
+    /// As [`Context::rollback_to`], for a session that is known to have no wait. If fewer tickets of a duration are kept
+    /// than the mark counted, all of them stay. Takes no memory.
     pub fn return_to(&mut self, space: &mut S, mark: Mark)
         requires attends { Attends S.LockSpace space.old self.old }
         requires idle { self.old.wait ≡ None }
@@ -147,7 +146,7 @@ impl<S: LockSpace> Context<S> {
         self.release_beyond(space, Duration::Transaction, mark.transaction);
     }
 
-    /// As [`Context::end_statement`], of a session that is known to have no wait. It takes no memory.
+    /// As [`Context::end_statement`], for a session that is known to have no wait. Takes no memory.
     pub fn finish_statement(&mut self, space: &mut S)
         requires attends { Attends S.LockSpace space.old self.old }
         requires idle { self.old.wait ≡ None }
@@ -160,7 +159,7 @@ impl<S: LockSpace> Context<S> {
         self.release_beyond(space, Duration::Statement, 0);
     }
 
-    /// As [`Context::end_transaction`], of a session that is known to have no wait. It takes no memory.
+    /// As [`Context::end_transaction`], for a session that is known to have no wait. Takes no memory.
     pub fn finish_transaction(&mut self, space: &mut S)
         requires attends { Attends S.LockSpace space.old self.old }
         requires idle { self.old.wait ≡ None }
@@ -173,8 +172,8 @@ impl<S: LockSpace> Context<S> {
         self.return_to(space, START);
     }
 
-    /// Gives up all that the session holds, of a session that is known to have no wait: the tickets of the statement, those
-    /// of the transaction, and then the explicit ones. It takes no memory.
+    /// Releases all tickets of a session that is known to have no wait: those of the statement, those of the transaction,
+    /// and then the explicit ones. Takes no memory.
     ///
     /// After MySQL 5.7, `THD::cleanup` of `sql/sql_class.cc`.
     pub fn finish_all(&mut self, space: &mut S)
@@ -191,7 +190,7 @@ impl<S: LockSpace> Context<S> {
         self.release_beyond(space, Duration::Explicit, 0);
     }
 
-    // Releases the tickets of a duration behind so many.
+    // Releases the tickets of a duration after the first `most`.
     fn release_beyond(&mut self, space: &mut S, duration: Duration, most: usize)
         requires attends { Attends S.LockSpace space.old self.old }
         requires idle { self.old.wait ≡ None }

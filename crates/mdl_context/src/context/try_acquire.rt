@@ -1,4 +1,4 @@
-//! How a session comes by a ticket that it doesn't wait for.
+//! How a session gets a ticket without waiting.
 ghost use Rattle.std.specs.Prelude.{◌≡◌, Some, None};
 ghost use Rattle.mdl_calls.specs.Words.{Runs};
 ghost use Rattle.mdl_context.specs.Contexts.{Attends, LeavesOthers, place_known};
@@ -10,10 +10,10 @@ use crate::{Context, ContextError, Request, Tried};
 use mdl_space::{LockSpace, Place, SpaceError};
 
 impl<S: LockSpace> Context<S> {
-    /// Comes by a lock if that needs no wait, for as long as the request says.
+    /// Gets a lock for the request's duration, if that needs no wait.
     ///
-    /// All goes as by [`Context::acquire`], but where the lock can't be had now, the session doesn't begin to wait, no deadlock is
-    /// searched for, and the session has what it had before. It takes memory as that does, but for searches.
+    /// Works as [`Context::acquire`] does, but if the lock can't be granted now, the session doesn't begin to wait, makes no
+    /// search for deadlocks, and has what it had before. Takes memory as `acquire` does, except for searches.
     ///
     /// After MySQL 5.7, `MDL_context::try_acquire_lock` of `sql/mdl.cc`.
     pub fn try_acquire(
@@ -39,7 +39,7 @@ impl<S: LockSpace> Context<S> {
         }
     }
 
-    // Comes by a lock of a key whose place isn't known yet.
+    // Gets a lock of a key whose place isn't known yet, if that needs no wait.
     fn look_up_and_try(
         &mut self,
         space: &mut S,
@@ -65,7 +65,7 @@ impl<S: LockSpace> Context<S> {
         self.try_at(space, place, request)
     }
 
-    // Comes by a lock of a key whose place is known.
+    // Gets a lock of a key whose place is known, if that needs no wait.
     fn try_at(
         &mut self,
         space: &mut S,

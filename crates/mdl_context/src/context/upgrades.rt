@@ -18,12 +18,12 @@ use mdl_key::Mode;
 use mdl_space::{LockSpace, SpaceError, TicketId, Upgrade};
 
 impl<S: LockSpace> Context<S> {
-    /// Lets a held ticket have a stronger mode: SU becomes SNW, SNRW or X, SNW becomes SNRW or X, and SNRW becomes X. Where its
-    /// mode is at least as strong, nothing changes. What else the session holds at the place doesn't stand against it.
+    /// Upgrades a held ticket to a stronger mode: SU to SNW, SNRW or X, SNW to SNRW or X, and SNRW to X. If the ticket's mode is
+    /// at least as strong already, nothing changes. The session's other tickets at the place don't block the upgrade.
     ///
-    /// Where the mode can't be had now, the session begins to wait for a second ticket, in the stronger mode, and deadlocks are
-    /// searched for as [`Context::acquire`] does. Once the wait is granted, [`Context::resume`] merges that ticket into the first
-    /// one, which keeps its number. However else the wait ends, the first ticket is as it was.
+    /// If the mode can't be granted now, the session begins to wait for a second ticket, in the stronger mode, and searches for
+    /// deadlocks as [`Context::acquire`] does. Once the wait is granted, [`Context::resume`] merges that ticket into the first
+    /// one, which keeps its number. If the wait ends otherwise, the first ticket is unchanged.
     ///
     /// After MySQL 5.7, `MDL_context::upgrade_shared_lock` of `sql/mdl.cc`.
     pub fn upgrade(
@@ -59,7 +59,7 @@ impl<S: LockSpace> Context<S> {
         }
     }
 
-    /// Lets a held ticket have a weaker mode: X becomes SU, SNW or SNRW, and SNW becomes SU. It takes no memory.
+    /// Downgrades a held ticket to a weaker mode: X to SU, SNW or SNRW, and SNW to SU. Takes no memory.
     ///
     /// After MySQL 5.7, `MDL_ticket::downgrade_lock` of `sql/mdl.cc`.
     pub fn downgrade(&mut self, space: &mut S, id: TicketId, mode: Mode) -> Result<(), ContextError>
@@ -88,7 +88,7 @@ impl<S: LockSpace> Context<S> {
         }
     }
 
-    // Begins to wait for the second ticket, by which one is to be upgraded.
+    // Begins to wait for the second ticket, by which a kept one is upgraded.
     fn wait_to_upgrade(
         &mut self,
         space: &mut S,
@@ -121,7 +121,7 @@ impl<S: LockSpace> Context<S> {
         }
     }
 
-    /// Merges a new ticket, which isn't kept, into a kept one. Where that is refused, the new one is released.
+    /// Merges a new ticket, which isn't kept, into a kept one. If that is refused, the new one is released.
     pub(crate) fn merge_ticket(
         &mut self,
         space: &mut S,

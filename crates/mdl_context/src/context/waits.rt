@@ -13,12 +13,12 @@ use crate::{Context, ContextError, Resume};
 use mdl_space::{Ended, LockSpace, Poll, Settled, SpaceError, TicketId};
 
 impl<S: LockSpace> Context<S> {
-    /// Sees how the wait stands, and ends it once it is settled.
+    /// Checks the state of the wait, and ends it once it is settled.
     ///
-    /// While it isn't settled and the searches for deadlocks were cut off, this call searches on, as [`Context::acquire`]
-    /// does, and gives the wait up where a search finds no memory. Where the wait was for an upgrade and is granted, the new ticket
-    /// is merged into the one that is upgraded, and that one is told; where the merge is refused, the new ticket is released and
-    /// the first is as it was. Else it takes no memory. A wait that is lost leaves all tickets as they were.
+    /// While the wait isn't settled and its searches for deadlocks were cut off, this call continues them, as [`Context::acquire`]
+    /// makes them, and gives up the wait if a search runs out of memory. If the wait was for an upgrade and is granted, the new
+    /// ticket is merged into the upgraded one, whose number is returned. If the merge is refused, the new ticket is released and
+    /// the first is unchanged. Otherwise the call takes no memory. A lost wait leaves all tickets unchanged.
     ///
     /// After MySQL 5.7, `MDL_context::acquire_lock` of `sql/mdl.cc`, from its wait on.
     pub fn resume(&mut self, space: &mut S) -> Result<Resume, ContextError>
@@ -44,8 +44,8 @@ impl<S: LockSpace> Context<S> {
         }
     }
 
-    /// Gives the wait up, unless it is settled already, and ends it. It takes no memory, unless the wait was for an upgrade and is
-    /// granted already; then the tickets are merged as by [`Context::resume`].
+    /// Gives up the wait, unless it is settled already, and ends it. Takes no memory, unless the wait was for an upgrade and is
+    /// granted already. Then the tickets are merged as by [`Context::resume`].
     pub fn give_up(&mut self, space: &mut S) -> Result<Resume, ContextError>
         requires { Attends S.LockSpace space.old self.old }
         ensures refused { IfSome (no_wait_fault self.old) (λ fault. result ≡ Err fault) }
@@ -65,7 +65,7 @@ impl<S: LockSpace> Context<S> {
         self.end_wait(space)
     }
 
-    // Searches on for deadlocks, and then sees how the wait stands.
+    // Continues the searches for deadlocks, and then checks the state of the wait.
     fn search_on(&mut self, space: &mut S) -> Result<Resume, ContextError>
         requires attends { Attends S.LockSpace space.old self.old }
         requires waits { is_some self.old.wait ≡ true }
@@ -90,7 +90,7 @@ impl<S: LockSpace> Context<S> {
         }
     }
 
-    // Sees how the wait stands, and ends it once it is settled.
+    // Checks the state of the wait, and ends it once it is settled.
     fn look(&mut self, space: &mut S) -> Result<Resume, ContextError>
         requires attends { Attends S.LockSpace space.old self.old }
         requires waits { is_some self.old.wait ≡ true }
@@ -127,7 +127,7 @@ impl<S: LockSpace> Context<S> {
         }
     }
 
-    // Ends a wait that is granted: keeps the ticket, or merges it into the one that it is to upgrade.
+    // Ends a granted wait: keeps the ticket, or merges it into the ticket to upgrade.
     fn win(&mut self, space: &mut S, new: TicketId) -> Result<Resume, ContextError>
         requires attends { Attends S.LockSpace space.old (taking_up new self.old) }
         requires awaited { IfSome self.old.wait (IsAwaited self.old.known self.old.kept) }

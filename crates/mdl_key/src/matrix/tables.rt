@@ -1,4 +1,4 @@
-//! The rows of the matrices: for each kind and each mode asked for, the set of modes that it may not meet.
+//! The rows of the matrices: for each kind and each requested mode, the set of modes that it clashes with or waits behind.
 //!
 //! A set of modes is a bit map, after MySQL 5.7, `MDL_lock::bitmap_t` of `sql/mdl.cc`: bit n stands for the mode at place n in
 //! the order of modes.
@@ -28,7 +28,7 @@ const SNRW: u16 = 1 << Mode::SNRW as u16;
 
 const X: u16 = 1 << Mode::X as u16;
 
-// The modes that clash with the asked one, granted to another session: of scoped locks, then of object locks.
+// The modes that clash with the requested one when another session holds them: first for scoped locks, then for object locks.
 pub(super) const GRANTED: [[u16; 11]; 2] = [
     [
         S | X, // IX
@@ -58,7 +58,7 @@ pub(super) const GRANTED: [[u16; 11]; 2] = [
     ],
 ];
 
-// The modes that the asked one waits behind, pending for another session, in the same order.
+// The modes that the requested one waits behind when another session waits for them, in the same order.
 pub(super) const WAITING: [[u16; 11]; 2] = [
     [
         S | X, // IX

@@ -1,4 +1,4 @@
-//! The space of one thread as a lock space: each call has just one outcome, but that memory may run out.
+//! The space of one thread as a lock space: each call has just one outcome, except that memory may run out.
 ghost use Rattle.mdl_core.specs.CoreJoins.{SpeaksFor, own_at, numbers_at, Knows, IsSettledAs, HasRead, HasSeen, Pins, Joins};
 ghost use Rattle.std.proofs.Common.{refl};
 ghost use Rattle.mdl_core.proofs.CallLaws.{core-allowed, core-keeps, core-changes, core-others, core-draws, core-others_draw, core-rising, core-fits, core-explains, core-lists, core-resolves, core-tells_key, core-tells_tables, core-remembers};

@@ -1,4 +1,4 @@
-//! Looking for deadlocks.
+//! Searching for deadlocks.
 ghost use Rattle.std.specs.Prelude.{◌≡◌, ℕ, IfOk};
 ghost use Rattle.std.specs.FinSet as set;
 ghost use Rattle.mdl_core.specs.CoreCalls.{has_settled, victim_at};
@@ -9,7 +9,7 @@ use mdl_graph::{WaitGraph, victim};
 use std::alloc::AllocError;
 
 impl CoreSpace {
-    /// The victim of the deadlock that a session waits in, if it waits in one.
+    /// Returns the victim of the deadlock that a session is part of, if it is part of one.
     pub(crate) fn victim_of(&self, who: u16) -> Result<Option<u16>, AllocError>
         ensures { IfOk result (λ found. found ≡ victim_at who self.now) }
     {
@@ -23,7 +23,7 @@ impl CoreSpace {
         }
     }
 
-    /// The sessions whose waits are settled.
+    /// Returns the sessions whose waits are settled.
     fn settled_sessions(&self) -> Sessions
         ensures { (who : ℕ) → set.contains result who ≡ has_settled self.now who }
     {

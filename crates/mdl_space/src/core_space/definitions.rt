@@ -1,4 +1,4 @@
-//! Reading and changing what stands under keys.
+//! Reading and changing the definitions of keys.
 ghost use Rattle.std.specs.Prelude.{◌≡◌, true, IfOk, IsOkUnless};
 ghost use Rattle.mdl_core.specs.Words.{SpeaksFor, Makes, has_key, standing_at, reading, redefining, redefining_fault, redefined_unless};
 ghost use Rattle.mdl_calls.specs.Words.{change_takes_memory, read, redefined};
@@ -9,7 +9,7 @@ use mdl_defs::{Change, Standing};
 use mdl_key::Mode;
 
 impl CoreSpace {
-    /// What stands under the key of a held ticket's place.
+    /// Returns the version and the definition of the key at a held ticket's place.
     pub(crate) fn read_held(&self, who: u16, id: TicketId) -> Result<Standing, SpaceError>
         requires { SpeaksFor self.now who }
         ensures { Makes true (reading who id) self.now (read result) self.now }
@@ -20,7 +20,7 @@ impl CoreSpace {
         self.read_at(ticket.place)
     }
 
-    /// Changes what stands under the key of the place of a ticket that is held exclusively.
+    /// Changes the definition of the key at the place of a ticket that is held in mode X, and returns the new version.
     pub(crate) fn redefine_held(
         &mut self,
         who: u16,
@@ -39,7 +39,7 @@ impl CoreSpace {
         self.redefine_at(ticket.place, change)
     }
 
-    /// What stands under the key of a place.
+    /// Returns the version and the definition of the key of a place.
     fn read_at(&self, place: Place) -> Result<Standing, SpaceError>
         requires { has_key place self.now ≡ true }
         ensures read { IfOk result (λ standing. standing ≡ standing_at place self.now) }
@@ -51,7 +51,7 @@ impl CoreSpace {
         }
     }
 
-    /// Changes what stands under the key of a place.
+    /// Changes the definition of the key of a place, and returns the new version.
     fn redefine_at(&mut self, place: Place, change: &Change) -> Result<u64, SpaceError>
         requires { has_key place self.old ≡ true }
         ensures { Makes (change_takes_memory change.now) (redefined_unless (redefining_fault place change.now self.old) place change.now)

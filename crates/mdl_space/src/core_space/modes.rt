@@ -1,4 +1,4 @@
-//! Held tickets that get another mode.
+//! Changing the modes of held tickets.
 ghost use Rattle.std.specs.Prelude.{◌≡◌, ◌≢◌, None, Some, IsSome, IsTrue, OnOk, MatchResult, true, false};
 ghost use Rattle.mdl_book.specs.Books.{lock_kind};
 ghost use Rattle.mdl_book.specs.Granting.{is_compatible};
@@ -15,7 +15,7 @@ use mdl_key::Mode;
 use mdl_system::{covers, may_downgrade, may_upgrade};
 
 impl CoreSpace {
-    /// Lets a held ticket have a stronger mode, if that can be had now. It takes no memory.
+    /// Gives a held ticket a stronger mode, if that can be granted now. It takes no memory.
     pub(crate) fn upgrade_held(
         &mut self,
         who: u16,
@@ -35,7 +35,7 @@ impl CoreSpace {
         Ok(Upgrade::WouldWait)
     }
 
-    /// Lets a held ticket have the mode of another one, which is given up. It takes no memory.
+    /// Gives a held ticket the mode of another one, which is released. It takes no memory.
     pub(crate) fn merge_held(
         &mut self,
         who: u16,
@@ -57,7 +57,7 @@ impl CoreSpace {
         Ok(())
     }
 
-    /// Lets a held ticket have a weaker mode, and then grants waiters of its place.
+    /// Gives a held ticket a weaker mode, and then grants waiters of its place.
     pub(crate) fn downgrade_held(
         &mut self,
         who: u16,
@@ -78,7 +78,7 @@ impl CoreSpace {
         Ok(())
     }
 
-    /// Looks whether a session can ask for another mode of a held ticket.
+    /// Checks that a session can request another mode of a held ticket.
     fn check_upgrade(&self, who: u16, ticket: Held, mode: Mode) -> Result<(), SpaceError>
         requires session { has_session who self.now ≡ true }
         requires key { has_key ticket.place self.now ≡ true }
@@ -97,7 +97,7 @@ impl CoreSpace {
         Ok(())
     }
 
-    /// Whether a held ticket may be brought down to a mode.
+    /// Whether a held ticket may be downgraded to a mode.
     fn is_lower(&self, ticket: Held, mode: Mode) -> bool
         requires { has_key ticket.place self.now ≡ true }
         ensures { result ≡ is_lower mode ticket self.now }
@@ -106,7 +106,7 @@ impl CoreSpace {
         may_downgrade(ticket.mode, mode) && kind.has_mode(mode)
     }
 
-    /// Looks whether a session can merge two held tickets.
+    /// Checks that a session can merge two held tickets.
     fn check_merge(&self, who: u16, kept: Held, gone: Held) -> Result<(), SpaceError>
         requires { has_session who self.now ≡ true }
         ensures refused { MatchResult result
@@ -125,7 +125,7 @@ impl CoreSpace {
         Ok(())
     }
 
-    /// Lets a session's held ticket have a mode, if that can be had now. Whether it has it.
+    /// Gives a session's held ticket a mode, if that can be granted now. Returns whether it did.
     fn alter_if_free(&mut self, who: u16, ticket: Held, mode: Mode) -> bool
         requires session { has_session who self.old ≡ true }
         requires key { has_key ticket.place self.old ≡ true }
@@ -142,7 +142,7 @@ impl CoreSpace {
         true
     }
 
-    /// Lets a session's held ticket have a mode that clashes with no granted ticket.
+    /// Gives a session's held ticket a mode that clashes with no granted ticket of another session.
     fn alter(&mut self, who: u16, ticket: Held, mode: Mode)
         requires session { has_session who self.old ≡ true }
         requires key { has_key ticket.place self.old ≡ true }
@@ -156,7 +156,7 @@ impl CoreSpace {
         book.set_mode(who, ticket.id, mode, NO_FAST).unwrap();
     }
 
-    /// Lets one of a session's two held tickets of a place have the mode of the other, which is given up, and then grants
+    /// Gives one of a session's two held tickets of a place the mode of the other, which is released, and then grants
     /// waiters of the place.
     fn fold(&mut self, who: u16, kept: Held, gone: Held)
         requires session { has_session who self.old ≡ true }

@@ -11,7 +11,7 @@ use crate::{Place, Settled};
 use mdl_book::Sessions;
 
 impl CoreSpace {
-    /// Grants waiters of a place in order of arrival, as long as there is one that can be granted. It takes no memory.
+    /// Grants waiters of a place, each time the first in order of arrival that can be granted, until there is none. It takes no memory.
     pub(crate) fn serve(&mut self, place: Place)
         requires { has_key place self.old ≡ true }
         ensures { self.new ≡ serving place self.old }
@@ -28,7 +28,7 @@ impl CoreSpace {
         }
     }
 
-    /// Grants the first waiter of a place that can be granted. Whether there was one.
+    /// Grants the first waiter of a place that can be granted. Returns whether there was one.
     fn serve_next(&mut self, place: Place, unsettled: &mut Sessions) -> bool
         requires key { has_key place self.old ≡ true }
         requires unsettled { (who : ℕ) → set.contains unsettled.old who ≡ is_unsettled who self.old }
@@ -46,7 +46,7 @@ impl CoreSpace {
         true
     }
 
-    /// The first waiter of a place that can be granted: its session, and the number of its ticket.
+    /// Returns the first waiter of a place that can be granted, as its session and the number of its ticket.
     fn next_waiter(&self, place: Place, unsettled: &Sessions) -> Option<(u16, u64)>
         requires key { has_key place self.now ≡ true }
         requires unsettled { (who : ℕ) → set.contains unsettled.now who ≡ is_unsettled who self.now }
@@ -55,7 +55,7 @@ impl CoreSpace {
         self.books[usize::from(place) - 1].next_grantable(NO_FAST, unsettled)
     }
 
-    /// The sessions whose waits aren't settled.
+    /// Returns the sessions whose waits aren't settled.
     fn unsettled_sessions(&self) -> Sessions
         ensures { (who : ℕ) → set.contains result who ≡ is_unsettled who self.now }
     {

@@ -8,7 +8,7 @@ use crate::{Place, SpaceError};
 use mdl_key::{Key, Namespace};
 
 impl CoreSpace {
-    /// The places of a schema's tables that have a definition, in the order of their keys.
+    /// Returns the places of a schema's tables that have a definition, in the order of their keys.
     pub(crate) fn list_tables(&self, schema: &str) -> Result<Vec<Place>, SpaceError>
         ensures { Makes true (telling_tables schema.now) self.now (tables_told result) self.now }
     {
@@ -19,7 +19,7 @@ impl CoreSpace {
         Ok(places)
     }
 
-    /// Lists a place in the order of the keys, if a table of the schema that has a definition has it.
+    /// Adds a place to the list in the order of the keys, if it is the place of a table of the schema that has a definition.
     fn list_table(
         &self,
         places: &mut Vec<Place>,
@@ -39,7 +39,7 @@ impl CoreSpace {
         self.put_in_order(places, place)
     }
 
-    /// Puts a place before the first of these whose key comes after its own.
+    /// Inserts a place before the first place of the list whose key comes after its own, or at the end.
     fn put_in_order(&self, places: &mut Vec<Place>, place: Place) -> Result<(), SpaceError>
         requires key { has_key place self.now ≡ true }
         requires keys { All (λ other. has_key other self.now ≡ true) places.old.items }

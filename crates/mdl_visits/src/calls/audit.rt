@@ -33,8 +33,8 @@ pub fn audit<R: Wait>(
     outcome
 }
 
-// Adds the books of the places from one to the last to a list. Each book is copied as its latch is taken, and stays as it is until the latches of
-// the places behind it are given back.
+// Adds the books of the places from `place` to `last` to a list. Each book is copied when its latch is taken, and is unchanged until the
+// latches of the later places are given back.
 fn audit_from<R: Wait>(
     rt: &R,
     seat: &mut TableSeat,

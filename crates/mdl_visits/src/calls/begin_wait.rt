@@ -1,4 +1,4 @@
-//! A wish for a lock is granted at once, or its session begins to wait.
+//! Grants a request for a lock at once, or begins to wait for it.
 ghost use Rattle.std.specs.Prelude.{◌≡◌, ℕ, ◌+◌, ◌^◌, ◌<◌, [], Ok, IfErr, false};
 ghost use Rattle.mdl_steps.specs.declared.deed.Deed.TheVariants.{Gain};
 ghost use Rattle.mdl_steps.specs.SeatStates.{SeatState};
@@ -12,7 +12,7 @@ use mdl_key::{Kind, Mode, is_obtrusive};
 use mdl_steps::{Latched, TableSeat};
 use std::sync::Wait;
 
-/// What came of asking for a lock.
+/// The result of a request for a lock that may be waited for.
 #[derive(Clone, Copy, Debug, PartialEq, Eq)]
 pub enum Queued {
     /// The session has the ticket.
@@ -21,9 +21,9 @@ pub enum Queued {
     Waiting,
 }
 
-/// Grants the session a ticket of this number in this mode, where that can be done now, beside all that others hold and before none that
-/// waits. Otherwise the ticket waits there, behind all others, and the session's wait has this number. After `MDL_context::acquire_lock`,
-/// which waits itself.
+/// Grants the session a ticket with this number in this mode, if it clashes with no granted ticket of another session and needn't wait behind a
+/// waiting one. Otherwise adds the ticket there as the last waiting one, and begins the wait with the number `wait`. After
+/// `MDL_context::acquire_lock`, which waits itself.
 pub fn begin_wait<R: Wait>(
     rt: &R,
     seat: &mut TableSeat,
@@ -55,8 +55,8 @@ pub fn begin_wait<R: Wait>(
     Ok(Queued::Waiting)
 }
 
-// Opens a wait at the place that the session entered with a wish that can't be granted, and gives the latch back. If there is no room, all
-// stays as it was.
+// Opens a wait at the place that the session entered with a request that can't be granted, and gives the latch back. If there is no room,
+// nothing changes.
 fn enqueue(
     seat: &mut TableSeat,
     latch: Latched,

@@ -1,4 +1,4 @@
-//! The definition of a key is changed under the latch of its place.
+//! Changes the definition of a key, under the latch of its place.
 ghost use Rattle.std.specs.Prelude.{◌≡◌, [], true, IfOk, IfErr, OnErr};
 ghost use Rattle.mdl_defs.specs.declared.standing.Standing.{Standing};
 ghost use Rattle.mdl_steps.specs.SeatStates.{AtItsTable};

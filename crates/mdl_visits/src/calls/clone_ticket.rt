@@ -1,4 +1,4 @@
-//! A second ticket is made of one that the session has.
+//! Makes a second ticket of one that the session has.
 ghost use Rattle.std.specs.Prelude.{◌≡◌, ◌∷◌, [], None, OnOk, IfErr};
 ghost use Rattle.mdl_steps.specs.declared.deed.Deed.TheVariants.{Gain};
 ghost use Rattle.mdl_steps.specs.declared.view.Met.{Met};
@@ -15,8 +15,8 @@ use mdl_key::Mode;
 use mdl_steps::{Deed, Own, TableSeat};
 use std::sync::Wait;
 
-/// Makes a second ticket of one that the session has, which waits for nothing, of this number and in a mode that its own covers. It waits
-/// behind nobody. After `MDL_context::clone_ticket`.
+/// Makes a second ticket, with this number and in this mode, of one that the session has and whose mode covers it. The session has no
+/// wait. The new ticket waits behind no other. After `MDL_context::clone_ticket`.
 pub fn clone_ticket<R: Wait>(
     rt: &R,
     seat: &mut TableSeat,

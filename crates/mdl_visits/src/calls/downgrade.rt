@@ -1,4 +1,4 @@
-//! A ticket is brought down to a weaker mode.
+//! Gives a ticket a weaker mode.
 ghost use Rattle.std.specs.Prelude.{◌≡◌, ◌∷◌, [], Some, true};
 ghost use Rattle.mdl_steps.specs.declared.deed.Deed.TheVariants.{Alter};
 ghost use Rattle.mdl_steps.specs.Deeds.{NotWaited};
@@ -17,7 +17,7 @@ use mdl_key::Mode;
 use mdl_steps::{Deed, Own, TableSeat};
 use std::sync::Wait;
 
-/// Gives a ticket of the session a mode that its own may be brought down to, also while the session waits for another one, and grants
+/// Gives a ticket of the session a mode to which its own may be downgraded, also while the session waits for another ticket, and grants
 /// the waits at the place that can be granted then. It takes no memory. After `MDL_ticket::downgrade_lock`.
 pub fn downgrade<R: Wait>(rt: &R, seat: &mut TableSeat, held: Own, mode: Mode)
     requires at { MayVisit held.place seat.old }

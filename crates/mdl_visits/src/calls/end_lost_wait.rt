@@ -1,4 +1,4 @@
-//! A lost wait ends, under the latch of its place.
+//! Ends a lost wait, under the latch of its place.
 ghost use Rattle.std.specs.Prelude.{◌≡◌, ℕ, ◌^◌, ◌<◌, Some};
 ghost use Rattle.mdl_steps.specs.SeatStates.{AtItsTable};
 ghost use Rattle.mdl_steps.specs.WaitStates.{IsLost};
@@ -10,8 +10,8 @@ use crate::latches::await_latch;
 use mdl_steps::{Ask, TableSeat};
 use std::sync::Wait;
 
-/// Takes the ticket of the session's lost wait out of the list of its place, ends the wait, and grants the waits there that can be granted
-/// then. `wait` is the wait's number. It takes no memory. After `MDL_lock::remove_ticket`.
+/// Removes the ticket of the session's lost wait from the list of its place, ends the wait, and grants the waits there that can be
+/// granted then. `wait` is the wait's number. It takes no memory. After `MDL_lock::remove_ticket`.
 pub fn end_lost_wait<R: Wait>(rt: &R, seat: &mut TableSeat, ask: Ask, wait: u64)
     requires at { MayVisit ask.place seat.old }
     requires asks { seat.old.me.0.asks ≡ Some ask }

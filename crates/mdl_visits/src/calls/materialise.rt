@@ -18,10 +18,9 @@ use mdl_steps::{Latched, Own, TableSeat};
 use mdl_word::Word;
 use std::sync::Wait;
 
-/// Makes the session's fast tickets at a place, which are these, slow ones: they are granted in the book of the place, and the lock's word no
-/// longer counts them. The session waits for nothing. It takes the latch there once, and not at all without such tickets, and leaves the fast path
-/// open. If there is no room for all of them, all stays as it was. After
-/// `MDL_context::materialize_fast_path_locks`.
+/// Makes these fast tickets of the session slow, which are all that it has at the place: they are granted in the place's book, and the
+/// lock's word no longer counts them. The session has no wait. The call takes the latch there once, or not at all without such tickets,
+/// and leaves the fast path open. If there is no room for all of them, nothing changes. After `MDL_context::materialize_fast_path_locks`.
 pub fn materialise<R: Wait>(
     rt: &R,
     seat: &mut TableSeat,
@@ -51,7 +50,7 @@ pub fn materialise<R: Wait>(
     Ok(())
 }
 
-// Grants these tickets of the session in the book in hand. If there is no room for all of them, the book stays as it was.
+// Grants these tickets of the session in the book in hand. If there is no room for all of them, the book is unchanged.
 fn write_gains(seat: &mut TableSeat, latch: &Latched, tickets: &[Own]) -> Result<(), BookError>
     requires can { (book : BookView) × CanStand latch.now.place tickets.now book seat.old }
     ensures written { (book : BookView) → CanStand latch.now.place tickets.now book seat.old
@@ -68,7 +67,7 @@ fn write_gains(seat: &mut TableSeat, latch: &Latched, tickets: &[Own]) -> Result
     Ok(())
 }
 
-// Takes these tickets of the session, which are the last ones granted in the book in hand, out again. It takes no memory.
+// Removes these tickets of the session, the last ones granted in the book in hand, from it. It takes no memory.
 fn write_losses(seat: &mut TableSeat, latch: &Latched, tickets: &[Own])
     requires stand { (book : BookView) × Stand latch.now.place tickets.now book seat.old }
     ensures written { (book : BookView) → Stand latch.now.place tickets.now book seat.old → seat.new ≡ with_book latch.now.place book seat.old }
@@ -78,7 +77,7 @@ fn write_losses(seat: &mut TableSeat, latch: &Latched, tickets: &[Own])
     }
 }
 
-// What these few tickets add to the word of a lock of this kind, whosever they are.
+// What these few tickets add to the word of a lock of this kind, whichever session has them.
 fn weigh(kind: Kind, tickets: &[Own]) -> u64
     requires few { length tickets.now ≤ most_fast }
     ensures { (session : ℕ) → result ≡ weight_of kind (map (ticket_by session) tickets.now) }
@@ -90,7 +89,7 @@ fn weigh(kind: Kind, tickets: &[Own]) -> u64
     weight
 }
 
-// What a ticket in a mode adds, which is nothing if the mode isn't counted.
+// What a ticket in a mode adds to the word: nothing if the mode isn't counted.
 fn increment(kind: Kind, mode: Mode) -> u64
     ensures { result ≡ encode (one_in 0 kind mode) (one_in 1 kind mode) (one_in 2 kind mode) false false }
 {

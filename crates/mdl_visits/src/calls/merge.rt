@@ -1,4 +1,4 @@
-//! Two tickets of a place become one.
+//! Merges two tickets of a place.
 ghost use Rattle.std.specs.Prelude.{◌≡◌, ◌∷◌, [], None};
 ghost use Rattle.mdl_steps.specs.declared.deed.Deed.TheVariants.{Alter, Lose};
 ghost use Rattle.mdl_steps.specs.Deeds.{KnowsPlace};
@@ -13,8 +13,8 @@ use crate::no_fast_tickets::NO_FAST_TICKETS;
 use mdl_steps::{Deed, Own, TableSeat};
 use std::sync::Wait;
 
-/// Gives a ticket of the session, which waits for nothing, the mode of another one of its place, which covers its own, and gives that other
-/// one up. It takes no memory.
+/// Gives a ticket of the session the mode of another one at its place, which covers its own, and releases that other one. The session has
+/// no wait. It takes no memory.
 pub fn merge<R: Wait>(rt: &R, seat: &mut TableSeat, kept: Own, gone: Own)
     requires at { MayVisit kept.place seat.old }
     requires known { KnowsPlace seat.old.me.0 kept.place }

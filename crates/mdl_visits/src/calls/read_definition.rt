@@ -1,4 +1,4 @@
-//! The definition of a key is read under the latch of its place.
+//! Reads the definition of a key, under the latch of its place.
 ghost use Rattle.std.specs.Prelude.{◌≡◌, [], IfOk, OnErr};
 ghost use Rattle.mdl_steps.specs.SeatStates.{AtItsTable};
 ghost use Rattle.mdl_steps.specs.VersionPlays.{Follows};
@@ -11,7 +11,8 @@ use mdl_steps::TableSeat;
 use std::alloc::AllocError;
 use std::sync::Wait;
 
-/// Reads the definition at a place. The session notes the version under each ticket that it has there.
+/// Returns the version of the key at a place, with its definition if there is one. The session notes the version under each ticket that
+/// it has there.
 pub fn read_definition<R: Wait>(
     rt: &R,
     seat: &mut TableSeat,

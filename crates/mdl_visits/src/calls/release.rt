@@ -1,4 +1,4 @@
-//! A ticket is given up.
+//! Releases a ticket.
 ghost use Rattle.std.specs.Prelude.{◌∷◌, []};
 ghost use Rattle.mdl_steps.specs.declared.deed.Deed.TheVariants.{Lose};
 ghost use Rattle.mdl_steps.specs.Deeds.{KnowsPlace, NotWaited};
@@ -12,8 +12,8 @@ use crate::latches::await_latch;
 use mdl_steps::{Deed, TableSeat};
 use std::sync::Wait;
 
-/// Gives up the session's ticket of a number at a place, whose key it knows, and grants the waits there that can be granted then. It takes
-/// no memory. After `MDL_context::release_lock`.
+/// Releases the session's ticket with a number at a place, whose key it knows, and grants the waits there that can be granted then. It
+/// takes no memory. After `MDL_context::release_lock`.
 pub fn release<R: Wait>(rt: &R, seat: &mut TableSeat, place: usize, number: u64)
     requires at { MayVisit place seat.old }
     requires known { KnowsPlace seat.old.me.0 place }

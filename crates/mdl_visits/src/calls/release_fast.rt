@@ -1,4 +1,4 @@
-//! A fast ticket is given up: the lock's word no longer counts it.
+//! Releases a fast ticket: the lock's word no longer counts it.
 ghost use Rattle.mdl_steps.specs.FastPlays.{MayReleaseFast};
 ghost use Rattle.mdl_steps.specs.SeatStates.{AtItsTable};
 ghost use Rattle.mdl_steps.specs.Seats.{IsPlace};
@@ -6,7 +6,7 @@ ghost use Rattle.mdl_visits.specs.FastTries.{ReleasesFast};
 
 use mdl_steps::TableSeat;
 
-/// Gives up the session's fast ticket of a number at a place, by one step. It needs no latch and takes no memory.
+/// Releases the session's fast ticket with a number at a place, by one step. It needs no latch and takes no memory.
 ///
 /// Returns whether waits at the place may have become grantable: whether the word that the step found had its flag
 /// [`SLOW`](mdl_word::Word::SLOW) up. If so, [`reschedule`](crate::reschedule) grants them. `one` is what

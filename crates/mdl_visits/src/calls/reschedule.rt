@@ -1,4 +1,4 @@
-//! The waits at a place that can be granted are granted, before its latch is given back.
+//! Grants the waits at a place that can be granted, before its latch is given back.
 ghost use Rattle.std.specs.Prelude.{[]};
 ghost use Rattle.mdl_steps.specs.SeatStates.{AtItsTable, SeatState};
 ghost use Rattle.mdl_visits.specs.Grantings.{IsOrderly, ReschedulesAndLeaves, VisitsAndReschedules};

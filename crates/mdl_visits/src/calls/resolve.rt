@@ -14,7 +14,7 @@ use mdl_steps::{LatchedDirectory, TableSeat};
 use std::alloc::{AllocError, Global};
 use std::sync::Wait;
 
-/// The place of a key, which stays its place: the one that it has, or else the next, of which the key has been the only one ever. The
+/// Returns the place of a key, which never changes: the one that it has, or otherwise the next one, which no other key had before. The
 /// session knows it from then on.
 pub fn resolve<R: Wait>(
     rt: &R,

@@ -1,5 +1,5 @@
-//! A search for a deadlock: the latches of all places that have a key are taken one after the other, and the deadlock is looked for in their
-//! books once all are taken. Only the lists of locks where somebody waits are copied: by the others nobody waits for anybody.
+//! A search for a deadlock: the latches of all places that have a key are taken one after the other, and the books are searched once all
+//! are taken. Only the lists of locks with a waiting ticket are copied: at the others no session waits for another.
 ghost use Rattle.std.specs.Prelude.{◌≡◌, ◌≤◌, IfOk, OnErr, OnOk};
 ghost use Rattle.mdl_book.specs.declared.book_view.BookView.{BookView};
 ghost use Rattle.mdl_steps.specs.SeatStates.{AtItsTable};
@@ -17,8 +17,8 @@ use mdl_steps::{Latched, ListCopies, TableSeat};
 use std::alloc::{AllocError, Global};
 use std::sync::Wait;
 
-/// Looks for a deadlock that the session waits in, and settles the wait of its victim. No key gets a place meanwhile, since the session holds
-/// the directory's latch, and no book changes once the session has all latches. After `MDL_context::find_deadlock`.
+/// Searches for a deadlock that the session waits in, and settles the wait of its victim. No key gets a place meanwhile, since the
+/// session holds the directory's latch, and no book changes once the session has all latches. After `MDL_context::find_deadlock`.
 pub fn search_deadlock<R: Wait>(
     rt: &R,
     seat: &mut TableSeat,
@@ -39,8 +39,8 @@ pub fn search_deadlock<R: Wait>(
     outcome
 }
 
-// Appends the lists of the places from one to the last, where somebody waits, to others, and searches by all of them while their latches are
-// held.
+// Adds the lists of the places from `place` to `last` that have a waiting ticket to others, and searches by all of them while their
+// latches are held.
 fn search_from<R: Wait>(
     rt: &R,
     seat: &mut TableSeat,
@@ -65,7 +65,7 @@ fn search_from<R: Wait>(
     outcome
 }
 
-// Appends the lists of the book in hand to others, if somebody waits by it.
+// Adds the lists of the book in hand to others, if it has a waiting ticket.
 fn add_if_waited(
     seat: &mut TableSeat,
     latch: &Latched,

@@ -17,8 +17,8 @@ use mdl_steps::{Known, LatchedDirectory, TableSeat};
 use std::alloc::{AllocError, Global};
 use std::sync::Wait;
 
-/// The tables of a schema, in the order of their keys, and room for the places of all of them. The session knows them from then on, and
-/// `known` has room for them.
+/// Returns the tables of a schema, in the order of their keys, and an empty list with room for all their places. The session knows the
+/// tables from then on, and `known` has room for them.
 pub fn find_tables<R: Wait>(
     rt: &R,
     seat: &mut TableSeat,
@@ -48,7 +48,7 @@ pub fn find_tables<R: Wait>(
     }
 }
 
-// The tables by the directory in hand, and room for them and for their places.
+// The schema's tables by the directory in hand, and an empty list with room for all their places. `known` gets room for them.
 fn list_tables(
     seat: &mut TableSeat,
     directory: &LatchedDirectory,
@@ -89,7 +89,7 @@ fn is_defined<R: Wait>(rt: &R, seat: &mut TableSeat, place: usize) -> bool
     defined
 }
 
-// Looks at the place of one table, and lists it if it has a definition.
+// Looks at the place of one table, and adds it to a list if it has a definition.
 fn add_if_defined<R: Wait>(rt: &R, seat: &mut TableSeat, table: &Known, places: &mut Vec<Place>)
     requires at { MayVisit table.now.place seat.old × (seat.old.table.slots ≤ 65536) }
     requires room { vec_len places.old < vec_capacity places.old }
@@ -102,7 +102,7 @@ fn add_if_defined<R: Wait>(rt: &R, seat: &mut TableSeat, table: &Known, places: 
     }
 }
 
-/// Looks at the place of each of these tables, and lists those that have a definition. There is room for all.
+/// Looks at the place of each of these tables, and adds those that have a definition to an empty list, which has room for all.
 pub fn tables_defined<R: Wait>(
     rt: &R,
     seat: &mut TableSeat,

@@ -1,4 +1,4 @@
-//! A wish for a lock is granted without the latch, where the flag OBTRUSIVE of the lock's word is down: the word counts the ticket then.
+//! Grants a request for a lock without the latch, if the flag OBTRUSIVE of the lock's word is down: the word counts the ticket then.
 ghost use Rattle.std.specs.Prelude.{◌≡◌};
 ghost use Rattle.mdl_word.specs.declared.word.Word.{Word};
 ghost use Rattle.mdl_steps.specs.FastPlays.{MayGrantFast};
@@ -12,22 +12,22 @@ use mdl_key::Mode;
 use mdl_steps::TableSeat;
 use mdl_word::Word;
 
-/// What came of trying for a fast ticket.
+/// The result of a try for a fast ticket.
 #[derive(Clone, Copy, Debug, PartialEq, Eq)]
 pub enum FastTried {
     /// The session has the ticket.
     Granted,
-    /// The flag OBTRUSIVE of the lock's word, which is this one, is up. Nothing has changed.
+    /// The lock's word, which is this one, has the flag OBTRUSIVE up. Nothing has changed.
     Obtruded(Word),
-    /// Each try found another word than the one that it was to replace. This is the last word found. Nothing has changed.
+    /// Each try found that the lock's word had changed. This is the word that was found last. Nothing has changed.
     Contended(Word),
 }
 
-// How often the word is exchanged before the fast path is given up.
+// How many exchanges of the word are tried.
 const TRIES: u32 = 8;
 
-/// Grants the session, which waits for nothing, a fast ticket of its next number in this mode, where the flag OBTRUSIVE of the lock's word is down.
-/// Otherwise nothing changes. It makes nine steps at most, needs no latch and takes no memory.
+/// Tries to grant the session a fast ticket with its next number in this mode, which needs the flag OBTRUSIVE of the lock's word down. If
+/// it isn't granted, nothing changes. The session has no wait. It makes nine steps at most, needs no latch and takes no memory.
 ///
 /// `one` is what [`Word::increment`] returns for the mode. `noted` is the version that the session noted under a ticket of the place, if it noted
 /// one. After the fast path of `MDL_context::try_acquire_lock_impl`.

@@ -1,4 +1,4 @@
-//! A wish for a lock is granted at once, or not at all.
+//! Grants a request for a lock at once, or not at all.
 ghost use Rattle.std.specs.Prelude.{◌≡◌, Ok, IfErr};
 ghost use Rattle.mdl_steps.specs.declared.deed.Deed.TheVariants.{Gain};
 ghost use Rattle.mdl_visits.specs.declared.calls.try_now.Tried.TheVariants.{Granted, Blocked};
@@ -10,18 +10,18 @@ use mdl_key::{Kind, Mode, is_obtrusive};
 use mdl_steps::TableSeat;
 use std::sync::Wait;
 
-/// What came of trying for a lock.
+/// The result of a request for a lock that isn't waited for.
 #[derive(Clone, Copy, Debug, PartialEq, Eq)]
 pub enum Tried {
     /// The session has the ticket.
     Granted,
-    /// The wish can't be granted now. Nothing has changed.
+    /// The request can't be granted now. Nothing has changed.
     Blocked,
 }
 
-/// Grants the session, which waits for nothing, a ticket of this number in this mode, where that can be done now, beside all that
-/// others hold and before none that waits. Otherwise all stays as it was. A fast ticket of its own there counts as another session's.
-/// After `MDL_context::try_acquire_lock`.
+/// Grants the session a ticket with this number in this mode, if it clashes with no granted ticket of another session and needn't wait behind a
+/// waiting one. Otherwise nothing changes. The session has no wait. A fast ticket of its own there counts as another session's. After
+/// `MDL_context::try_acquire_lock`.
 pub fn try_now<R: Wait>(
     rt: &R,
     seat: &mut TableSeat,

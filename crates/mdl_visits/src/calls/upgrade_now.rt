@@ -1,4 +1,4 @@
-//! A ticket gets a stronger mode at once, or stays as it is.
+//! Gives a ticket a stronger mode at once, or leaves it unchanged.
 ghost use Rattle.std.specs.Prelude.{◌≡◌, true};
 ghost use Rattle.mdl_key.specs.declared.namespace.Kind.{Kind};
 ghost use Rattle.mdl_key.specs.Words.{is_obtrusive};
@@ -13,9 +13,9 @@ use mdl_key::Mode;
 use mdl_steps::{Deed, TableSeat};
 use std::sync::Wait;
 
-/// Gives the ticket of this number at a place an obtrusive mode, where that can be granted now, beside all that others hold and
-/// before none that waits. Otherwise all stays as it was. The session waits for nothing, and a fast ticket of its own
-/// there counts as another session's. It takes no memory. After `MDL_context::upgrade_shared_lock`.
+/// Gives the ticket with this number at a place an obtrusive mode, if that clashes with no granted ticket of another session and needn't wait
+/// behind a waiting one. Otherwise nothing changes. The session has no wait, and a fast ticket of its own there counts as another
+/// session's. It takes no memory. After `MDL_context::upgrade_shared_lock`.
 pub fn upgrade_now<R: Wait>(
     rt: &R,
     seat: &mut TableSeat,
