@@ -1,14 +1,14 @@
-# The two commands of the README, `make run` and `make test`, and what else can be asked for: `make help` lists it.
+# The two commands of the README, `make run` and `make test`, and all other targets: `make help` lists them.
 
-# The script that `make run` and `make try` run. By its ending it is one of statements (NAME.replay), one whose sessions run on threads
-# (NAME.run), of a scoped lock (NAME.scoped.lock), or of an object lock (NAME.lock). With OPTIONS=--scoped it is one of a scoped lock
-# whatever its ending, with SUBCOMMAND=replay, SUBCOMMAND=run or SUBCOMMAND=lock any ending will do, and OPTIONS="--patience 5 --cache 1"
-# gives a run on threads a patience, and its sessions caches.
+# The script that `make run` and `make try` run. Its ending says what kind it is: a script of statements (NAME.replay), one whose sessions run on
+# threads (NAME.run), one of a scoped lock (NAME.scoped.lock), or one of an object lock (NAME.lock). OPTIONS=--scoped makes a lock script one of a
+# scoped lock whatever its ending. With SUBCOMMAND=replay, SUBCOMMAND=run or SUBCOMMAND=lock any ending will do. OPTIONS="--patience 5 --cache 1"
+# sets the patience of a run on threads, and the size of its sessions' caches.
 SCRIPT = crates/mdlsim/stdin
 SUBCOMMAND = $(if $(filter %.replay,$(SCRIPT)),replay,$(if $(filter %.run,$(SCRIPT)),run,lock))
 OPTIONS = $(if $(filter %.scoped.lock,$(SCRIPT)),--scoped)
 
-# Where `make install` puts the program, its manual page, its completions, and the libraries for C.
+# Where `make install` puts the programs, their manual pages and completions, and the libraries for C.
 PREFIX = /usr/local
 
 # The programs that `make dist` packs. Each has a manual page, docs/NAME.1, and `--version`.
@@ -17,13 +17,13 @@ PROGRAMS = mdlsim mdlview
 PROGRAM = crates/mdlsim/out/mdlsim
 VIEW = crates/mdlview/out/mdlview
 
-# The libraries for C, which `make install` and `make dist` have, too.
+# The libraries for C. `make install` and `make dist` include them.
 ARCHIVES = crates/mdl_c/out/libmdl_c.a crates/mdl_text/out/libmdl_text.a
 
-# How long `make fuzz` goes on, and from which number it makes its scripts: any, unless SEED=N names it. MDLSIM=PATH is another program.
+# How many seconds `make fuzz` runs. SEED=N sets the seed of its scripts, which is random otherwise. MDLSIM=PATH names another program to test.
 SECONDS = 60
 
-# It is there once `make run` has printed answers.
+# This file exists once `make run` has printed answers.
 FIRST_RUN = crates/mdlsim/out/first_run
 
 BENCH = crates/mdl_bench/out/mdl_bench
@@ -58,36 +58,36 @@ run: script build
 	@$(PROGRAM) $(SUBCOMMAND) $(OPTIONS) < "$(SCRIPT)"
 	@test -e $(FIRST_RUN) || { touch $(FIRST_RUN); echo 'next: $(PROGRAM) replay < examples/alter_stops_a_table.replay' >&2; }
 
-# Builds mdlsim without the proof, and prints its answers to the script. Two lines on standard error say so, and tell its limits.
+# Builds mdlsim without the proof, and prints its answers to the script. Two lines on standard error say so, and state its limits.
 try: script kit
 	@sh make/try.sh "$(SCRIPT)" $(SUBCOMMAND) $(OPTIONS)
 
-# What would be found out only after the build: the subcommand is there, the script can be read, and its ending says what it is.
+# Checks before the build what would otherwise fail after it: the subcommand exists, the script can be read, and its ending says what kind it is.
 script:
 	@case "$(SUBCOMMAND)" in replay | run | lock | matrix) ;; *) echo "there is no $(SUBCOMMAND): SUBCOMMAND is replay, run, lock or matrix" >&2; exit 1 ;; esac
 	@{ test -r "$(SCRIPT)" && test ! -d "$(SCRIPT)"; } || { echo "$(SCRIPT) isn't there, or can't be read" >&2; exit 1; }
 	@case "$(origin SUBCOMMAND) $(SCRIPT)" in "command line "* | "file crates/mdlsim/stdin" | *.lock | *.replay | *.run) ;; \
 	*) echo "$(SCRIPT): a script ends with .lock, .replay or .run" >&2; exit 1 ;; esac
 
-# The gate: the files are in the layout, the docs agree with the tree, everything is proved and tested from nothing, the wrong bodies are refused
-# (but some of those that `make wrong` tries), the examples have their answers, the program does what its words ask for, refused growths
-# lose nothing (every twenty-third is refused here; `make growths` refuses each), and the programs of C have their answers, where there is gcc.
+# The gate checks that the files are laid out as they should be and that the docs agree with the tree, proves and tests everything from nothing, and has
+# the prover refuse the wrong bodies (except some of those that `make wrong` tries). Then it checks the answers to the examples, the programs' command
+# lines, random scripts, the programs of C, if there is gcc, and that refused growths lose nothing (every twenty-third; `make growths` refuses each).
 test: layout docs
 	@sh make/gate.sh
 
-# What the gate would refuse of the files' layout and of the wrong bodies, told at once.
+# Reports at once what the gate would refuse of the files' layout and of the wrong bodies.
 layout: kit
 	@sh make/check_layout.sh
 
-# The docs name what there is, and all that they have to name. `sh make/check_docs.sh update` counts the lines of docs/GATE.md anew. Each
-# library crate shows its example: `sh make/check_examples.sh update` puts it there. The version is the same in all places.
+# Checks that the docs name only what exists, and all that they have to name (`sh make/check_docs.sh update` updates the line counts of docs/GATE.md),
+# that each library crate shows its example (`sh make/check_examples.sh update` puts it there), and that the version is the same in all places.
 docs: kit
 	@sh make/check_docs.sh
 	@sh make/check_examples.sh
 	@sh make/check_version.sh
 
-# Lines a second and peak memory of scripts of three sizes, of one lock and of statements; what calls cost, on one thread and on four, each beside
-# what it is held against; what instructions a pair takes; and what the locks of C and Rust take.
+# Measures the lines per second and peak memory of scripts of three sizes, of one lock and of statements; the cost of calls, on one thread and on four,
+# each beside what it is compared with; the instructions of a pair of calls; and the cost of the locks of C and Rust.
 bench: build
 	@sh bench/lock.sh $(PROGRAM)
 	@sh bench/replay.sh $(PROGRAM)
@@ -96,17 +96,17 @@ bench: build
 	@sh bench/instructions.sh $(BENCH)
 	@sh bench/peers.sh
 
-# Each example gives the answers that lie beside it.
+# Checks that each example gives the answers in the file beside it.
 examples: kit
 	@sh examples/check.sh
 
-# The programs do what the words of their command lines ask for, and tell what they can't do; bad lines and streams that fail they tell, too.
+# Checks that the programs do what their command lines ask for, and that they report what they can't do, bad lines, and streams that fail.
 commands: build view
 	@python3 commands/check.py $(PROGRAM)
 	@python3 commands/check_view.py $(VIEW)
 
-# The programs of examples/c, examples/rust and examples/python give their answers, over the libraries for C as the prover passed them. Without gcc
-# they aren't tried, and without cargo those of Rust aren't.
+# Checks that the programs of examples/c, examples/rust and examples/python give their answers, with the proved libraries for C. Without gcc none of them
+# is tried, and without cargo the one of Rust isn't.
 c: kit
 	@sh make/c.sh
 
@@ -115,19 +115,19 @@ fuzz:
 	@sh make/needs.sh python3
 	@python3 fuzz/fuzz.py --seconds $(SECONDS) $(if $(SEED),--seed $(SEED)) $(or $(MDLSIM),$(PROGRAM))
 
-# Short lives of the crates go well where any one of their allocations is refused, and runs on threads tell where one of some is.
+# Refuses each allocation of some short sequences of calls in turn: they have to succeed all the same. Runs on threads have to report a refused one.
 growths: kit
 	@sh growths/check.sh
 
-# The prover refuses each wrong body: all, or with CRATE=NAME those of one crate, over the libraries below it as they were built last.
+# Has the prover refuse the wrong bodies: all, or with CRATE=NAME those of one crate. It uses the libraries below the crate as they were built last.
 wrong: kit
 	@python3 make/wrong_bodies.py $(CRATE)
 
-# Proves mdlsim and what it stands on, and builds it.
+# Proves mdlsim and the crates that it depends on, and builds it.
 build: kit
 	@sh make/build.sh mdlsim lock
 
-# The same of mdlview.
+# Does the same for mdlview.
 view: kit
 	@sh make/build.sh mdlview why --script
 
@@ -136,7 +136,7 @@ install: build view
 	@sh make/lay_out.sh "$(PREFIX)" $(PROGRAMS)
 	@sh make/lay_out_c.sh "$(PREFIX)"
 
-# Packs what was built last, and builds only what isn't there: after `make test`, the programs and the libraries that it proved.
+# Packs what was built last, and builds only what is missing. After `make test` it packs the programs and the libraries that the gate proved.
 dist: kit
 	@test -x $(PROGRAM) || sh make/build.sh mdlsim lock
 	@test -x $(VIEW) || sh make/build.sh mdlview why --script
@@ -146,7 +146,7 @@ dist: kit
 dist-check:
 	@sh make/dist_check.sh $(PROGRAMS)
 
-# The proved libraries below the programs, for whoever has the same kit and doesn't want to wait for their proofs.
+# Packs the proved libraries that the programs depend on, for users of the same kit who don't want to wait for their proofs.
 dist-libraries: kit
 	@sh make/dist_libraries.sh pack $(PROGRAMS)
 

@@ -1,5 +1,5 @@
-# Writes a script of statements of at least LINES lines, in which all forms come: one short situation after another, each of up to three of
-# 64 sessions over 50 tables, and each leaving nobody in a transaction and nothing locked. The same SEED gives the same script.
+# Writes a script of at least LINES lines with all forms of statements except those of user-level locks: one short situation after another, each of up
+# to three of 64 sessions over 50 tables. Each leaves no session in a transaction and nothing locked. The same SEED gives the same script.
 #
 #     awk -v LINES=10000 -v SEED=1 -f bench/all_forms.awk
 

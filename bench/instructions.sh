@@ -1,9 +1,9 @@
 #!/bin/sh
-# Counts the instructions of a pair of calls, `try_fast` and `release_fast`, of a session that knows and holds little, and of one that knows and
-# holds much; and the instructions and the allocations of a read that is lent by a cache of one table, and of many.
+# Counts the instructions of a pair of calls, `try_fast` and `release_fast`, for a session that knows and holds little, and for one that knows
+# and holds much; and the instructions and the allocations of a read from a cache of one table, and of many.
 # Usage: sh bench/instructions.sh PROGRAM
-# PROGRAM is mdl_bench. A count is the difference of two runs, so what is done once isn't in it. It needs valgrind; where that isn't there, a
-# line says so.
+# PROGRAM is mdl_bench. A count is the difference of two runs, so it leaves out what is done once. The script needs valgrind. If that is
+# missing, a line says so.
 program=$1
 few=10000
 many=110000
@@ -15,7 +15,7 @@ fi
 made=$(mktemp -d)
 trap 'rm -rf "$made"' EXIT
 
-# A run of the program under one of valgrind's tools: OPTION.. WORD..
+# Runs a program under one of valgrind's tools: OPTION.. PROGRAM WORD..
 watched() {
     valgrind "$@" 2> "$made/said" || {
         cat "$made/said" >&2
@@ -23,7 +23,7 @@ watched() {
     }
 }
 
-# The instructions of a run: so many turns of what the other words say.
+# The instructions of a run: a number of turns (the second word) of what the other words say.
 counted() {
     watched --tool=callgrind --callgrind-out-file="$made/counts" "$program" "$@"
     sed -n 's/^\(summary\|totals\): //p' "$made/counts" | head -n 1

@@ -13,8 +13,8 @@ if [ ! -x /usr/bin/time ]; then
     exit 1
 fi
 
-# Runs a script so many times, and prints the time of one run and the peak memory, and then the nanoseconds of a line for a program
-# to read: ROW, the workload, the threads, the figure's name and the figure.
+# Runs a script a number of times, and prints the time of one run and the peak memory, and then the nanoseconds per line for a program to read:
+# ROW, the workload, the threads, the figure's name and the figure. Its arguments: LIFE LINES TURNS
 measure() {
     life=$1
     lines=$2

@@ -1,14 +1,14 @@
-# Writes a lock script of LINES lines, in which 64 sessions live as sessions do: one that holds the lock gives it up before it asks
-# again, and one that waits does nothing but wait, or lose its patience. The same SEED gives the same script.
+# Writes a lock script of LINES lines, in which 64 sessions behave as sessions do: one that holds the lock releases it before it asks
+# again, and one that waits does nothing but wait, or time out. The same SEED gives the same script.
 #
 #     awk -v LINES=10000 -v SEED=1 -v WRITERS=5 -f bench/lock_scripts.awk
 #     awk -v LINES=10000 -v LIFE=passing -f bench/lock_scripts.awk
 #
-# By default a session that has nothing asks at its turn, and one that holds gives up. Of a thousand wishes 450 are for SR, 350 for
-# SW, 50 for SH, 50 for SWLP, 15 for SU, 10 for SRO, 5 for SNW, 5 for SNRW, WRITERS for X, and the others for S. One of four
-# turns of a session that waits is a TIMEOUT; the others are left out. To know who waits, the generator keeps the lock itself, as
-# plainly as can be. With LIFE=passing all sessions ask for X; whoever holds gives it up, which grants it to the next one, and
-# asks again.
+# By default a session that has nothing asks at its turn, and one that holds the lock releases it. Of a thousand requests 450 are for
+# SR, 350 for SW, 50 for SH, 50 for SWLP, 15 for SU, 10 for SRO, 5 for SNW, 5 for SNRW, WRITERS for X, and the others for S. One of four
+# turns of a session that waits is a TIMEOUT. The others are left out. To know which sessions wait, the generator keeps the lock itself,
+# as plainly as can be. With LIFE=passing all sessions ask for X. The session that holds it releases it, which grants it to the next one,
+# and asks again.
 
 # The high bits of a linear congruential generator modulo 2^31.
 function next_below(bound) {
@@ -27,7 +27,7 @@ function next_wish(wish, mode) {
     return "S"
 }
 
-# Whether a wish stands beside what the others hold, and behind nothing that the others wait for. A session that asks has neither.
+# Whether a requested mode clashes with nothing that others hold, and is behind nothing that others wait for. A session that asks has neither.
 function is_grantable(wish, own, mode) {
     for (mode in clashes_with) {
         if (granted[mode] > 0 && index(clashes_with[wish], " " mode " ")) {
@@ -88,7 +88,7 @@ function time_out(session) {
     grant_waiters()
 }
 
-# A turn of a session. Whether it made a line of it.
+# Plays a turn of a session. Returns whether it wrote a line.
 function lives(session) {
     if (holds[session]) {
         release(session)

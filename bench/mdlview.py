@@ -1,10 +1,10 @@
-"""Times `mdlview why` on rows of a server's metadata locks, beside `grep -c` on the same file, and says how much memory each takes.
+"""Times `mdlview why` on rows of a server's metadata locks, beside `grep -c` on the same file, and prints how much memory `why` takes.
 
 Usage, at the top of the repository: python3 bench/mdlview.py [PROGRAM]     crates/mdlview/out/mdlview, or another program
 
 It needs GNU time (the Debian package time). Each file has as many owners and locks as may be, 1,024 and 256, unless its shape needs fewer. Each time is
 the least of five runs.
-  spread     half of the owners read 38 tables each, and the others wait, two for each table
+  spread     half of the owners read up to 38 tables each, and the others wait, two for each table
   deadlocks  all read, and half of them wait for tables that others read
   one        500 owners read one table, and 500 wait to change it
 """

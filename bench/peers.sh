@@ -1,12 +1,12 @@
 #!/bin/sh
-# Times what the fast path is measured against: the C library's lock for readers and writers, Rust's, and bare atomic steps. And what calls cost through the
-# boundary of C, beside a model of the server's own design and plain mutexes.
+# Times what the fast path is compared with: the C library's readers-writer lock, Rust's, and bare atomic steps. Also times calls through the C interface,
+# beside a model of the server's own design and plain mutexes.
 # Usage: sh bench/peers.sh
-# It builds the drivers of bench/peers into bench/peers/out, with gcc and rustc. Where one of these isn't there, a line says what is left out. The
-# library for C is the one that was built last; where there is none, it is built, proved.
+# It builds the drivers of bench/peers into bench/peers/out, with gcc and rustc. If one of these is missing, a line says what is left out. The
+# library for C is the one that was built last. If there is none, it is proved and built.
 cd "$(dirname "$0")/peers" && mkdir -p out || exit 1
 
-# Whether a compiler is there that builds something. Where it isn't, this says so.
+# Whether a compiler is there. If it isn't, prints what is left out: COMPILER WHAT
 has() {
     if "$1" --version > /dev/null 2>&1; then
         return 0

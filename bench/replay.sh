@@ -1,8 +1,8 @@
 #!/bin/sh
 # Times `mdlsim replay` on seeded scripts of statements of three sizes: lines a second, and peak memory against the size of the script.
 # Usage: sh bench/replay.sh PROGRAM
-# It needs awk and GNU time (the Debian package time). Its seconds are those that the processor spent, with the kernel's part in them, so
-# that other work on the machine weighs on them little.
+# It needs awk and GNU time (the Debian package time). Its seconds are processor time, the kernel's part included, so other
+# work on the machine affects them little.
 program=$1
 folder=$(dirname "$0")
 scripts=$(mktemp -d)
@@ -14,18 +14,18 @@ if [ ! -x /usr/bin/time ]; then
     exit 1
 fi
 
-# The script of sessions that live as sessions do, so many of them in a transaction at a time.
+# A script of sessions that behave as sessions do, at most OPEN of them in a transaction at a time: OPEN LINES
 lives() {
     awk -v LINES="$2" -v SEED=7 -v CHANGES=100 -v OPEN="$1" -f "$folder/replay_scripts.awk"
 }
 
-# The script of all forms.
+# The script of all_forms.awk: LINES
 forms() {
     awk -v LINES="$1" -v SEED=7 -f "$folder/all_forms.awk"
 }
 
-# Runs a script so many times, and prints the time of one run, the peak memory and how many of its statements wait, and then the
-# nanoseconds of a line for a program to read: ROW, the workload, the threads, the figure's name and the figure.
+# Runs the script a number of times, and prints the time of one run, the peak memory and how many of its statements wait, and then the nanoseconds
+# per line for a program to read: ROW, the workload, the threads, the figure's name and the figure. Its arguments: WORKLOAD SIZE TURNS
 measure() {
     workload=$1
     size=$2

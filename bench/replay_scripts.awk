@@ -1,12 +1,12 @@
-# Writes a script of statements of LINES lines, in which 64 sessions live as sessions do over 50 tables: each begins a transaction,
+# Writes a script of statements of LINES lines, in which 64 sessions behave as sessions do over 50 tables: each begins a transaction,
 # makes 1 to 10 statements in it and commits, and one that waits does nothing but wait. The same SEED gives the same script.
 #
 #     awk -v LINES=10000 -v SEED=1 -v CHANGES=100 -v OPEN=64 -f bench/replay_scripts.awk
 #
 # The first 50 lines create the tables. Of a thousand statements CHANGES change a definition: a table is dropped, or one that was dropped is
 # created again, which ends the transaction. Half of the others read and half write. A transaction names its tables in rising order, so that
-# nobody comes to a deadlock. At most OPEN sessions have a transaction or wait at a time. To know who waits, the generator keeps the locks of
-# the tables itself, as plainly as can be.
+# there is no deadlock. At most OPEN sessions have a transaction or wait at a time. To know which sessions wait, the generator keeps the locks
+# of the tables itself, as plainly as can be.
 
 # The high bits of a linear congruential generator modulo 2^31.
 function next_below(bound) {
@@ -24,7 +24,7 @@ function hold(session, table) {
     held[session, ++tables_held[session]] = table
 }
 
-# Those that wait for a table that nobody holds: its definition is changed by each that would, and then all others hold it.
+# Grants the waits for a table that no session holds: first each waiting change of its definition is made, and then all others hold it.
 function grant_waiters(table, at, session, waiters) {
     for (at = first[table]; at <= last[table]; at++) {
         session = queue[table, at]
@@ -70,7 +70,7 @@ function use(session, table) {
     }
 }
 
-# A table is created or dropped where that can be done.
+# Creates or drops a table, if that can be done.
 function change_definition(session, table, how) {
     if (how == "DROP" && is_there[table]) {
         dropped[++all_dropped] = table
@@ -88,8 +88,8 @@ function has(session, table, at) {
     return 0
 }
 
-# A table that was dropped is created again, and if there is none, one is dropped. A session that has the table itself commits instead: else
-# the wait would end within the line for those that wait already.
+# Creates a table that was dropped, or drops one if there is none. A session that has the table itself commits instead: otherwise the wait
+# would end within the line for those that wait already.
 function change(session, table, how) {
     table = all_dropped ? dropped[all_dropped] : 1 + next_below(50)
     how = all_dropped ? "CREATE" : "DROP"
@@ -124,7 +124,7 @@ function begin(session, statements) {
     open++
 }
 
-# A turn of a session that doesn't wait.
+# Plays a turn of a session that doesn't wait.
 function live(session) {
     if (!left[session]) {
         if (open < OPEN) {

@@ -1,5 +1,5 @@
-"""Gives mdlsim words, and looks what it does: which run they ask for, and what it tells of words that ask for none. Gives it worked scripts, scripts
-as large as may be, lines that it has to refuse, and streams that fail. Looks whether the completions of the shells have the words that its help
+"""Tests mdlsim's command line: which run its words ask for, and what it reports for words that ask for none. Also gives it worked scripts, scripts as
+large as may be, lines that it has to refuse, and streams that fail. Checks that the completions of the shells have the words that its help
 lists.
 
 Usage, at the top of the repository: python3 commands/check.py [PROGRAM]    the program that was built last, or another one
@@ -19,7 +19,7 @@ PROGRAM = "crates/mdlsim/out/mdlsim"
 HERE = pathlib.Path(__file__).resolve().parent
 VERSION = HERE.with_name("VERSION").read_text().strip()
 
-# Words that ask for a run, a script, and the status, the answers and what is told of it.
+# Words that ask for a run, a script, and the expected status, standard output and standard error.
 WAITS = "1 CREATE TABLE t x\n1 BEGIN\n1 SELECT t\n2 DROP TABLE t\n1 COMMIT\n"
 ANSWERS = "1 1 OK\n2 1 OK\n3 1 OK test.t@1(x)\n4 2 WAIT TABLE test.t X\n5 1 OK\n4 2 OK\n"
 ALONE = "1 CREATE TABLE t x\n1 SELECT t\n"
@@ -41,8 +41,8 @@ TAKEN = [
     ("replay", "1 BEGIN\n65 BEGIN\n", 1, "", "line 2: BadSession\n"),
 ]
 
-# Ways to say how often a statement that waits looks again, and how many definitions a session keeps. Which numbers are taken the contract of `command`
-# says; these runs show that some are.
+# Ways to say how often a statement that waits looks again, and how many definitions a session keeps. The contract of `command` says which numbers are
+# accepted. These runs show that some are.
 NUMBERS = [
     *("--patience 0", "--patience=0", "--patience 1 --", "--patience=1 --", "--patience 4294967295", "--patience=4294967295"),
     *("--patience 007", "--patience=00000000000000000000000000000007", "--patience +7", "--patience=+7"),
@@ -56,21 +56,21 @@ TAKEN += [(f"run {words}", ALONE, 0, FINALS, "") for words in NUMBERS]
 # Both ask for the matrices.
 MATRICES = ["matrix", "matrix --"]
 
-# Words that ask for no run, and what stands in the text that is told of them.
+# A file of words that ask for no run, each with a part of the text that is reported.
 REFUSED = HERE / "refused"
 
-# For each shell the words that mdlsim can be given, to be completed.
+# For each shell the file that completes mdlsim's words.
 COMPLETIONS = sorted(HERE.glob("completions/*mdlsim*"))
 
 
 def run(program, words, script):
-    """Runs the program with words that are parted by a space, and returns its status, and what it wrote and told."""
+    """Runs the program with a list of words, and returns its status, standard output and standard error."""
     ran = subprocess.run([program, *words], input=script, capture_output=True, text=True)
     return ran.returncode, ran.stdout, ran.stderr
 
 
 def wrong_rows(program):
-    """Returns the words of the rows that go otherwise, with what the program did."""
+    """Returns the words of the rows that don't give what is expected, with what the program did."""
     for words, script, *wanted in TAKEN:
         found = run(program, words.split(" "), script)
         if found != tuple(wanted):
@@ -106,7 +106,7 @@ def wrong_completions(program):
 
 
 def main(words):
-    """Looks at all rows, and returns the status to end with."""
+    """Runs all checks, prints what is wrong, and returns the exit status."""
     program = words[0] if words else PROGRAM
     parts = (wrong_rows, wrong_completions, wrong_scripts, wrong_limits, wrong_lines, wrong_devices)
     wrong = [found for part in parts for found in part(program)]

@@ -1,5 +1,5 @@
-"""Gives mdlview words and scripts, and looks what it prints, and with which status it ends: the answers of examples/view, what each way to ask
-comes to, objects of JSON beside the tables, timelines, refused words and lines, rows of real servers and others, completions, and streams that fail.
+"""Gives mdlview words and scripts, and checks what it prints and its exit status: the answers of examples/view, what each form of its words
+gives, objects of JSON beside the tables, timelines, refused words and lines, rows of real servers and others, completions, and streams that fail.
 
 Usage, at the top of the repository: python3 commands/check_view.py [PROGRAM]    the program that was built last, or another one
 """
@@ -143,7 +143,7 @@ OBJECTS = [
     ),
 ]
 
-# Bytes of a table's name, and what its text in JSON is: bytes that are no UTF-8 are numbers of characters.
+# Bytes of a table's name, and its text in JSON: a byte that isn't UTF-8 becomes the character with that number.
 NAMES = [
     (b"caf\xc3\xa9", "TABLE s.caf\u00e9"),
     (b"caf\xe9", "TABLE s.caf\u00e9"),
@@ -175,13 +175,13 @@ REFUSED = [
 
 
 def run(program, words, script):
-    """Runs the program with words that are parted by a space, and returns its status, and what it printed and reported."""
+    """Runs the program with words that are separated by spaces, and returns its status, standard output and standard error."""
     ran = subprocess.run([program, *words.split()], input=script, capture_output=True, text=True)
     return ran.returncode, ran.stdout, ran.stderr
 
 
 def wrong_words(program):
-    """Returns the words that go otherwise, with what the program did."""
+    """Returns the words that don't give what is expected, with what the program did."""
     for words, script, *wanted in ROWS_OF_WORDS:
         found = run(program, words, script)
         if found != tuple(wanted):
@@ -193,7 +193,7 @@ def wrong_words(program):
 
 
 def object_printed(program, words, script):
-    """Returns the object of JSON that the program prints, or what it did where it prints none."""
+    """Returns the object of JSON that the program prints, or what it did if it prints none."""
     ran = subprocess.run([program, *words.split()], input=script, capture_output=True)
     try:
         if ran.returncode == 0 and not ran.stderr and ran.stdout.endswith(b"]}\n"):
@@ -204,7 +204,7 @@ def object_printed(program, words, script):
 
 
 def wrong_objects(program):
-    """Returns the words that print another object, or none, and the names that are written otherwise."""
+    """Returns the words that print a wrong object, or none, and the names that are written wrongly."""
     for words, script, wanted in OBJECTS:
         found = object_printed(program, words, script.encode())
         if found != wanted:
@@ -217,7 +217,7 @@ def wrong_objects(program):
 
 
 def wrong_lines(program):
-    """Returns what `why` prints of many readers of a table with long names, where a line has more than a hundred bytes, or readers aren't counted."""
+    """Returns what `why` prints for many readers of a table with long names, if a line has more than a hundred bytes, or readers aren't counted."""
     status, printed, reported = found = run(program, "why", READERS)
     lines = printed.splitlines()
     counted = lines[-1:] == ["  and 37 more readers"] and f"{KILL}18446744073709551615" in lines
@@ -232,7 +232,7 @@ def wrong_lines(program):
 
 
 def wrong_servers(program):
-    """Returns the rows of real servers and others to which a question is answered otherwise: NAME.rows with the answers NAME.QUESTION and
+    """Returns the rows of real servers and others for which a question gets a wrong answer: NAME.rows with the right answers NAME.QUESTION and
     NAME.QUESTION.json."""
     for rows in sorted([*SERVERS.glob("*.rows"), *VIEW.glob("*.rows")]):
         for wanted in sorted(it for it in rows.parent.glob(f"{rows.stem}.*") if it != rows):
@@ -243,7 +243,7 @@ def wrong_servers(program):
 
 
 def wrong_examples(program):
-    """Returns the examples that are answered otherwise: NAME.LINE.QUESTION beside the script NAME.replay."""
+    """Returns the examples that get a wrong answer: view/NAME.LINE.QUESTION, for the script NAME.replay."""
     for wanted in sorted((EXAMPLES / "view").glob("*")):
         name, line, question = wanted.name.split(".")
         found = run(program, f"{question} --script --at {line}", (EXAMPLES / f"{name}.replay").read_text())
@@ -252,7 +252,7 @@ def wrong_examples(program):
 
 
 def wrong_pictures(program):
-    """Returns the pictures that are drawn otherwise, NAME.svg beside the script NAME.replay, also line by line, and scripts whose pictures lack something."""
+    """Returns the pictures that are drawn wrongly, NAME.svg beside the script NAME.replay, also line by line, and scripts whose pictures lack something."""
     for wanted in sorted([*EXAMPLES.glob("*.svg"), *VIEW.glob("*.svg")]):
         found = run(program, "timeline --script", wanted.with_suffix(".replay").read_text())
         if found != (0, wanted.read_text(), ""):
@@ -270,7 +270,7 @@ def wrong_pictures(program):
 
 
 def drawn(picture):
-    """Returns how many boxes and how many waits a picture has, beside those that explain the signs. It has to be XML."""
+    """Returns how many boxes and how many waits a picture has, without those that explain the signs. It has to be XML."""
     kinds = [it.get("class") for it in ElementTree.fromstring(picture).iter("{http://www.w3.org/2000/svg}rect")]
     return sum(kinds.count(it) for it in ("done", "waiting", "failed", "refused")) - 1, kinds.count("bar") - 1
 
@@ -290,7 +290,7 @@ def wrong_completions(program):
 
 
 def wrong_devices(program):
-    """Returns the streams that fail and for which the program ends otherwise."""
+    """Returns the failing streams for which the program doesn't end as it has to."""
     with open("/dev/full", "w", encoding="ascii") as full:
         ran = subprocess.run([program, "--script"], input=WAITS, stdout=full, stderr=subprocess.PIPE, text=True)
     if (ran.returncode, ran.stderr) != (3, "fault: device\n"):
@@ -302,7 +302,7 @@ def wrong_devices(program):
 
 
 def main(words):
-    """Looks at all, prints what goes otherwise, and returns the status to end with."""
+    """Runs all checks, prints what is wrong, and returns the exit status."""
     program = words[0] if words else PROGRAM
     wrong = [
         *wrong_words(program),

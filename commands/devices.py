@@ -1,5 +1,5 @@
-"""Streams that fail mdlsim: it has to tell `fault: device`, end with status 3, and leave no more than a beginning of its answers. Of a stream
-that doesn't end it tells that memory ran out."""
+"""Gives mdlsim streams that fail: it has to report `fault: device`, end with status 3, and leave no more than a beginning of its answers. For a
+stream that doesn't end it has to report that memory ran out."""
 
 import contextlib
 import errno
@@ -16,7 +16,7 @@ FAULT = (3, b"fault: device\n")
 MEMORY = (3, b"fault: memory\n")
 REFUSAL = (1, b"line 1: BadSession\n")
 
-# For each subcommand a script and its answers, an answer to a line. A line that is cut short is refused as a `BadWord`.
+# For each subcommand a script and its answers, with an answer for each line. A line that is cut short is refused as a `BadWord`.
 SCRIPTS = {
     "lock": (b"1 X\n2 X\n1 RELEASE\n2 X\n", b"1 GRANTED X\n2 WAITS X\n1 RELEASED X\n2 GRANTED X\n2 REFUSED\n"),
     "lock --scoped": (b"1 X\n1 RELEASE\n1 TIMEOUT\n", b"1 GRANTED X\n1 RELEASED X\n1 REFUSED\n"),
@@ -27,29 +27,29 @@ SCRIPTS = {
     "run": (b"1 CREATE TABLE t x\n1 SELECT t\n", b"1 1 OK\n2 1 OK test.t@1(x)\nFINAL SCHEMA test@1\nFINAL TABLE test.t@1(x)\n"),
 }
 
-# Scripts that have more answers than a pipe has room for, and how often the line stands there.
+# For scripts that have more answers than a pipe has room for: how often a line is repeated, and the line for each subcommand.
 MANY = 20_000
 LONG = {"lock": b"1 TIMEOUT\n", "lock --scoped": b"1 RELEASE\n", "replay": b"1 SELECT t\n", "run": b"1 SELECT t\n"}
 
-# After so many bytes the reader of a pipe goes away.
+# The numbers of bytes after which the reader of a pipe goes away.
 TAKEN = [0, 1, 7, 4095, 4096, 4097, 65535, 65536, 65537, 100_000]
 
 
 def begin(program, subcommand, **streams):
-    """Begins a run on these streams. What isn't given is closed."""
+    """Starts a run on these streams. A stream that isn't given is closed."""
     closed = [at for at, it in enumerate(("stdin", "stdout", "stderr")) if it not in streams]
     return subprocess.Popen([program, *subcommand.split(" ")], preexec_fn=lambda: [os.close(it) for it in closed], **streams)
 
 
 def end(ran):
-    """Waits until a run is over, and returns its status and what it told."""
+    """Waits until a run is over, and returns its status and standard error."""
     with contextlib.closing(ran.stderr):
         told = ran.stderr.read()
     return ran.wait(timeout=60), told
 
 
 def given(program, subcommand, stdin, stdout=None):
-    """Runs the program on a stream, and returns its status, what it told, and what it wrote to a file."""
+    """Runs the program on a stream, and returns its status, its standard error, and what it wrote, which is b"" if `stdout` is given."""
     with contextlib.ExitStack() as files:
         written = stdout or files.enter_context(tempfile.TemporaryFile())
         found = end(begin(program, subcommand, stdin=stdin, stdout=written, stderr=subprocess.PIPE))
@@ -61,7 +61,7 @@ def given(program, subcommand, stdin, stdout=None):
 
 @contextlib.contextmanager
 def file_of(script):
-    """A file that is to be read."""
+    """A file that has a script to be read."""
     with tempfile.TemporaryFile() as file:
         file.write(script)
         file.seek(0)
@@ -90,7 +90,7 @@ def fails_as_it_ought():
 
 
 def wrong_readers(program):
-    """A reader that fails after any number of bytes is told, and nothing is written."""
+    """An input that fails after any number of bytes is reported, and nothing is written."""
     if not fails_as_it_ought():
         print("this machine has no reader that fails, so that isn't tried", file=sys.stderr)
         return
@@ -103,7 +103,7 @@ def wrong_readers(program):
 
 
 def piped(program, subcommand, pieces):
-    """Runs the program on a pipe into which pieces come, and returns its status, and what it wrote and told."""
+    """Runs the program on a pipe that gets these pieces, and returns its status, standard error and standard output."""
     ran = begin(program, subcommand, stdin=subprocess.PIPE, stdout=subprocess.PIPE, stderr=subprocess.PIPE)
     for piece in pieces:
         ran.stdin.write(piece)
@@ -113,7 +113,7 @@ def piped(program, subcommand, pieces):
 
 
 def wanted_of(subcommand, cut):
-    """Returns the status, what is told, and the first answers to a script that was cut off: those to its lines, unless the last is cut short."""
+    """Returns the status, standard error, and first answers for a script that was cut off: those to its lines, unless the last one is cut short."""
     script, answers = SCRIPTS[subcommand]
     lines = cut.split(b"\n")
     if lines[-1] and lines[-1] not in script.split(b"\n"):
@@ -122,7 +122,7 @@ def wanted_of(subcommand, cut):
 
 
 def wrong_ends(program):
-    """A script that ends after any number of bytes is a shorter one, and it may come byte after byte."""
+    """A script that ends after any number of bytes is treated as a shorter one, and a script may come byte after byte."""
     for subcommand, (script, answers) in SCRIPTS.items():
         for count in range(len(script) + 1):
             status, told, first = wanted_of(subcommand, script[:count])
@@ -135,12 +135,12 @@ def wrong_ends(program):
 
 
 def leave_little_memory():
-    """A program has at most 64 megabytes."""
+    """Limits a program's memory to 64 megabytes."""
     resource.setrlimit(resource.RLIMIT_AS, (2**26, 2**26))
 
 
 def wrong_endless(program):
-    """A stream without an end is read until memory runs out, and that is told."""
+    """A stream without an end is read until memory runs out, and that is reported."""
     for subcommand in SCRIPTS:
         with open("/dev/zero", "rb") as stdin, tempfile.TemporaryFile() as file:
             words = [program, *subcommand.split(" ")]
@@ -153,13 +153,13 @@ def wrong_endless(program):
 
 
 def at_most(count):
-    """No file may have more bytes, and a write beyond that fails."""
+    """Limits files to this number of bytes. A write beyond that fails."""
     signal.signal(signal.SIGXFSZ, signal.SIG_IGN)
     resource.setrlimit(resource.RLIMIT_FSIZE, (count, count))
 
 
 def written_at_most(program, subcommand, script, count):
-    """Runs the program with a file that is full after so many bytes, and returns its status, what it told, and what is in the file."""
+    """Runs the program with a file that is full after `count` bytes, and returns its status, its standard error, and what is in the file."""
     with file_of(script) as stdin, tempfile.TemporaryFile() as file:
         words = [program, *subcommand.split(" ")]
         ran = subprocess.Popen(words, stdin=stdin, stdout=file, stderr=subprocess.PIPE, preexec_fn=lambda: at_most(count))
@@ -169,7 +169,7 @@ def written_at_most(program, subcommand, script, count):
 
 
 def wrong_files(program):
-    """A file that is full after any number of bytes is told, and holds a beginning of the answers."""
+    """A file that is full after any number of bytes is reported, and has a beginning of the answers."""
     matrices = subprocess.run([program, "matrix"], capture_output=True, check=True).stdout
     for subcommand, (script, answers) in {**SCRIPTS, "matrix": (b"", matrices)}.items():
         for count in range(0, len(answers) + 2, 1 + len(answers) // 100):
@@ -180,7 +180,7 @@ def wrong_files(program):
 
 
 def left_after(program, subcommand, count):
-    """Runs the program, reads so many of its answers, and goes away. Returns its status, what it told, and what was read."""
+    """Runs the program, reads `count` bytes of its answers, and closes the pipe. Returns its status, its standard error, and what was read."""
     with file_of(LONG[subcommand] * MANY) as stdin:
         ran = begin(program, subcommand, stdin=stdin, stdout=subprocess.PIPE, stderr=subprocess.PIPE)
         with contextlib.closing(ran.stdout):
@@ -189,7 +189,7 @@ def left_after(program, subcommand, count):
 
 
 def wrong_pipes(program):
-    """A reader of the answers that goes away is told, whenever it does, and has read a beginning of them."""
+    """A reader of the answers that goes away is reported, whenever it does, and has read a beginning of them."""
     for subcommand, line in LONG.items():
         with file_of(line * MANY) as stdin:
             answers = given(program, subcommand, stdin)[2]
@@ -218,7 +218,7 @@ def useless():
 
 
 def wrong_streams(program, readers, writers):
-    """What can't be read, or can't be written, is told."""
+    """A stream that can't be read, or can't be written, is reported."""
     for subcommand, (script, _) in SCRIPTS.items():
         for name, stream in readers.items():
             found = given(program, subcommand, stream)
@@ -238,7 +238,7 @@ def wrong_streams(program, readers, writers):
 
 
 def wrong_when_closed(program):
-    """A stream that is closed is one that fails; of the stream of errors nothing is asked."""
+    """A closed stream counts as one that fails. If standard error is closed or full, only the status is checked."""
     for subcommand, (script, _) in SCRIPTS.items():
         found = end(begin(program, subcommand, stdout=subprocess.DEVNULL, stderr=subprocess.PIPE))
         if found != FAULT:
@@ -260,7 +260,7 @@ def wrong_when_closed(program):
 
 
 def wrong_devices(program):
-    """Returns the rows that go otherwise, with what the program did."""
+    """Returns the runs that go wrong, with what the program did."""
     program = str(pathlib.Path(program).resolve())
     for look in (wrong_readers, wrong_ends, wrong_endless, wrong_files, wrong_pipes, wrong_when_closed):
         yield from look(program)

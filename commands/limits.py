@@ -1,5 +1,5 @@
-"""Scripts of as many sessions, tables, columns, savepoints and lines as there may be, or of many. There is memory enough for all of them, so
-a program that tells of a lack of memory is wrong, and no contract would refuse it."""
+"""Scripts of as many sessions, tables, columns, savepoints and lines as there may be, or of many. There is enough memory for all of them, so
+a program that reports a lack of memory is wrong, although no contract rules it out."""
 
 import itertools
 import subprocess
@@ -14,7 +14,7 @@ def text_of(*parts):
 
 
 def by_others(words):
-    """Returns a line for each session but the first."""
+    """Returns a line for each session except the first."""
     return [f"{who} {words}" for who in OTHERS]
 
 
@@ -22,7 +22,7 @@ def by_others(words):
 
 
 def waits():
-    """All sessions but the first wait for a table until the end; or the first of them drops it, and all others miss it."""
+    """All sessions except the first wait for a table until the end. Or the first waiter drops it in the end, and the others find no table."""
     script = ["1 CREATE TABLE t x", "1 BEGIN", "1 SELECT t", *by_others("DROP TABLE t")]
     answers = ["1 1 OK", "2 1 OK", "3 1 OK test.t@1(x)", *(f"{who + 2} {who} WAIT TABLE test.t X" for who in OTHERS)]
     yield script, [*answers, *(f"END {it} WAIT" for it in OTHERS)]
@@ -37,12 +37,12 @@ def columns():
 
 
 def numbered(words, answer, first, last):
-    """Returns lines of session 1 that are alike but for their number, and their answers."""
+    """Returns lines of session 1 that differ only in their number, and their answers."""
     return [f"1 {words}{it}" for it in range(first, last + 1)], [f"{it} 1 {answer}" for it in range(first, last + 1)]
 
 
 def savepoints():
-    """Three hundred savepoints stand."""
+    """A transaction keeps three hundred savepoints."""
     script, answers = numbered("SAVEPOINT p", "OK", 2, 301)
     more = ["1 ROLLBACK TO p301", "1 ROLLBACK TO p2", "1 ROLLBACK TO p3"]
     yield ["1 BEGIN", *script, *more], ["1 1 OK", *answers, "302 1 OK", "303 1 OK", "304 1 ERR 1305"]
@@ -56,25 +56,25 @@ def places():
     script, answers = numbered("SELECT t", "ERR 1146", 1, 255)
     more = ["1 SELECT t256", "1 SELECT t1", "1 INSERT t1"]
     yield [*script, *more], [*answers, "256 1 ERR 9004", "257 1 ERR 1146", "258 1 ERR 9004"]
-    # Where the COMMIT lock finds no place, the lock of all writes that was had before it is given up again.
+    # If there is no place for the COMMIT lock, the GLOBAL lock that was granted before it is released again.
     script, answers = numbered("SELECT t", "ERR 1146", 2, 255)
     more = ["2 FLUSH TABLES WITH READ LOCK", "3 INSERT t2", "2 INSERT t2"]
     yield ["1 BEGIN", *script, *more], ["1 1 OK", *answers, "256 2 ERR 9004", "257 3 ERR 1146", "258 2 ERR 1146"]
-    # A user-level lock that nobody holds takes its place by RELEASE_LOCK, too, and keeps it.
+    # A user-level lock that no session holds gets its place by RELEASE_LOCK, too, and keeps it.
     script, answers = numbered("RELEASE_LOCK n", "OK NULL", 1, 255)
     more = ["1 RELEASE_LOCK n256", "1 GET_LOCK n256", "1 GET_LOCK n255", "2 RELEASE_LOCK n255"]
     yield [*script, *more], [*answers, "256 1 ERR 9004", "257 1 ERR 9004", "258 1 OK 1", "259 2 OK 0"]
 
 
 def versions():
-    """A table comes and goes, and its version tells how often."""
+    """A table is dropped and created again and again, and its version counts the changes."""
     script = [("1 DROP TABLE t", "1 CREATE TABLE t x")[it % 2] for it in range(1, 3001)]
     answers = [f"{it} 1 OK" for it in range(1, 3001)]
     yield [*script, "1 CREATE TABLE t y", "1 SELECT t"], [*answers, "3001 1 OK", "3002 1 OK test.t@3001(y)"]
 
 
 def rounds():
-    """However many lines there are, all are answered: a session reads, another one waits for it, and goes on when it is done."""
+    """However many lines there are, all are answered: a session reads, another one waits for it, and continues when the first commits."""
     script, answers = ["1 CREATE TABLE t x"], ["1 1 OK"]
     for line in range(1, 500_000, 4):
         script += ["1 BEGIN", "1 SELECT t", "2 CREATE TABLE t x", "1 COMMIT"]
@@ -87,7 +87,7 @@ def rounds():
 
 
 def all_sessions():
-    """63 sessions wait for the first, are granted, and so is the first beside them; 63 wait again, and give up."""
+    """63 sessions wait for the first and are granted, and the first is granted beside them. Then 63 wait again, and time out."""
     script = ["1 X", *by_others("SR"), "1 RELEASE", "1 SR", "1 RELEASE", *by_others("RELEASE"), "1 X", *by_others("X"), *by_others("TIMEOUT")]
     answers = ["1 GRANTED X", *by_others("WAITS SR"), "1 RELEASED X", *by_others("GRANTED SR"), "1 GRANTED SR", "1 RELEASED SR"]
     yield script, [*answers, *by_others("RELEASED SR"), "1 GRANTED X", *by_others("WAITS X"), *by_others("TIMEDOUT X")]
@@ -99,7 +99,7 @@ def long_scripts():
 
 
 def lengths():
-    """A writer that takes all is never said to have refused something, however long the output is: it has lines of 10 and of 11 bytes."""
+    """A writer that accepts everything is never reported as failing, however long the output is. The output has lines of 10 and of 11 bytes."""
     for short, longer in itertools.product(range(120), range(10)):
         yield ["10 TIMEOUT"] * longer + ["1 TIMEOUT"] * short, ["10 REFUSED"] * longer + ["1 REFUSED"] * short
 
@@ -109,19 +109,19 @@ TAKEN = {
     "lock": (all_sessions, long_scripts, lengths),
 }
 
-# How many lines are taken before one is refused, and such lines.
+# How many accepted lines come before one that is refused, and for each subcommand both lines.
 FAR_DOWN = [0, 1, 9, 99, 100, 101, 999, 20_000]
 REFUSED = {"lock": ("1 TIMEOUT", "1 GO"), "replay": ("1 COMMIT", f"1 CREATE TABLE t {' '.join(f'c{it}' for it in range(65))}")}
 
 
 def run(program, subcommand, script):
-    """Runs the program on a script, and returns its status, and what it wrote and told."""
+    """Runs the program on a script, and returns its status, standard output and standard error."""
     ran = subprocess.run([program, subcommand], input=script, capture_output=True, text=True)
     return ran.returncode, ran.stdout, ran.stderr
 
 
 def wrong_limits(program):
-    """Returns the scripts that go otherwise, with what the program did: its status, and how its answers end."""
+    """Returns the scripts that go wrong, with what the program did: its status, the end of its answers, and its standard error."""
     for subcommand, kinds in TAKEN.items():
         for kind in kinds:
             for script, answers in kind():

@@ -5,7 +5,7 @@ import subprocess
 TABLES = b" ".join(b"t%d" % it for it in range(9))
 COLUMNS = b" ".join(b"c%d" % it for it in range(65))
 
-# Of any language.
+# Lines that are refused in scripts of any language.
 REFUSED = [
     (b"#" * 4096 + b"\x80", "LongLine"),
     (b"\x80" * 4097, "LongLine"),
@@ -19,7 +19,7 @@ REFUSED = [
     (b"1 begin", "BadWord"),
     (b"1 x", "BadWord"),
 ]
-# Of scripts of statements.
+# Lines that are refused in scripts of statements.
 STATEMENTS = [
     *((b"1 KILL QUERY " + it, "BadSession") for it in (b"0", b"01", b"+1", b"65", b"18446744073709551617")),
     *((it, "BadWord") for it in (b"1 SELECT", b"1 CREATE TABLE t", b"1 LOCK TABLES a WRITE b", b"1 X")),
@@ -30,14 +30,14 @@ STATEMENTS = [
     *((it, "BadName") for it in (b"1 SELECT t\x00", b"1 SELECT t\r\r")),
     (b"1 SAVEPOINT " + b"p" * 65, "BadName"),
 ]
-# Of scripts of one lock.
+# Lines that are refused in scripts of one lock.
 LOCKS = [(it, "BadWord") for it in (b"1 BEGIN", b"1 X X", b"1 x", b"1 RELEASED", b"1 X\r\r", b"1 X\x00", b"1 IX S")]
 SUBCOMMANDS = {"lock": LOCKS, "lock --scoped": LOCKS, "replay": STATEMENTS, "run": STATEMENTS}
 
-# What such a line may end with, and what comes behind it: it is refused all the same.
+# What such a line may end with, and what may follow it: the line is refused all the same.
 ENDS = [b"\n", b"", b"\r\n", b"\n1 BEGIN\n\x80\n"]
 
-# What is written where the only line is a comment.
+# What is written if the only line is a comment.
 NOTHING = {"lock": b"", "lock --scoped": b"", "replay": b"", "run": b"FINAL SCHEMA test@1\n"}
 
 
@@ -67,13 +67,13 @@ ROWS = [
 
 
 def run(program, subcommand, script):
-    """Runs the program on a script, and returns its status, and what it wrote and told."""
+    """Runs the program on a script, and returns its status, standard output and standard error."""
     ran = subprocess.run([program, *subcommand.split(" ")], input=script, capture_output=True)
     return ran.returncode, ran.stdout, ran.stderr
 
 
 def wrong_lines(program):
-    """Returns the scripts that go otherwise, with what the program did."""
+    """Returns the scripts that go wrong, with what the program did."""
     for subcommand, script, answers in ROWS:
         found = run(program, subcommand, script)
         if found != ((1, b"", answers.encode()) if answers.startswith("line ") else (0, answers.encode(), b"")):

@@ -1,5 +1,5 @@
-"""Rows of a server's metadata locks, which mdlview has to read or to refuse: the groups of the files `view/rows` and `view/headers`, however their lines end,
-and as many threads, locks, types of other rows and bytes of a name as may be, and more."""
+"""Rows of a server's metadata locks that mdlview has to read or to refuse: the groups of the files `view/rows` and `view/headers`, with each kind of line
+end, and as many threads, locks, types of other rows and bytes of a name as may be, and more."""
 
 import json
 import pathlib
@@ -10,7 +10,7 @@ COLUMNS = ("OBJECT_TYPE", "OBJECT_SCHEMA", "OBJECT_NAME", "LOCK_TYPE", "LOCK_DUR
 HEADER = "\t".join(COLUMNS)
 WAITS = {"PENDING": "waits for", "SETTLED": "waited for"}
 
-# What stands between lines, and whether it stands behind the last one, too.
+# What ends a line, and whether it ends the last one, too.
 ENDS = [("\n", True), ("\r\n", True), ("\n", False), ("\r\n", False)]
 
 # Texts without the header: empty, and with a mark of Unicode before it.
@@ -57,7 +57,7 @@ def text_of(lines, end):
 
 
 def wrong_groups(program):
-    """Returns the groups that are read otherwise, with what was found."""
+    """Returns the groups that are read wrongly, with what was found."""
     for name, above in (("rows", [HEADER]), ("headers", [])):
         for given, wanted in groups(name):
             lines = above + ["\t".join(field(word) for word in line.split(" ")) for line in given]
@@ -71,12 +71,12 @@ def wrong_groups(program):
 
 
 def readers(threads, tables):
-    """Returns rows by which so many threads read so many tables, one after the other, and each thread in turn."""
+    """Returns rows by which `threads` threads read `tables` tables, taking both in turn."""
     rows = [f"TABLE\ts\tt{row % tables}\tSHARED_READ\tTRANSACTION\tGRANTED\t{row % threads}" for row in range(max(threads, tables))]
     return [HEADER, *rows]
 
 
-# How many threads read how many tables, and what is reported: the threads first, where there are too many of both.
+# How many threads read how many tables, and what is reported: the threads, if there are too many of both.
 LIMITS = [
     (MOST_THREADS + 3, 1, "1027 owners: at most 1024 can be looked at"),
     (2, MOST_LOCKS + 5, "261 locks: at most 256 can be looked at"),
@@ -86,14 +86,14 @@ LIMITS = [
 
 
 def wrong_limits(program):
-    """Returns the rows that are too many, or as many as may be, and are read otherwise."""
+    """Returns the rows with too many of something, or as many as may be, that are read wrongly."""
     most = found(program, text_of(readers(MOST_THREADS, MOST_LOCKS), ENDS[0]))
     if most != [f"TABLE s.t{table}: " + ", ".join(f"{it} holds SR" for it in range(table, MOST_THREADS, MOST_LOCKS)) for table in range(MOST_LOCKS)]:
         yield "as many threads and locks as may be", most
     for threads, tables, told in LIMITS:
         if (read := found(program, text_of(readers(threads, tables), ENDS[0]))) != [f"1 {told}\n"]:
             yield f"{threads} threads and {tables} tables", read
-    # A bad line behind too many threads is refused before them.
+    # If a bad line comes after too many threads, the line is what is reported.
     lines = [*readers(MOST_THREADS + 1, 1), "TABLE\ts\tt\tSHARED\tEXPLICIT\tWAITS\t7"]
     if (read := found(program, text_of(lines, ENDS[0]))) != ["1 line 1027: unknown LOCK_STATUS\n"]:
         yield "a bad line behind too many threads", read
@@ -108,5 +108,5 @@ def wrong_limits(program):
 
 
 def wrong_rows(program):
-    """Returns what is read otherwise, with what was found."""
+    """Returns what is read wrongly, with what was found."""
     return [*wrong_groups(program), *wrong_limits(program)]

@@ -1,5 +1,5 @@
-"""Scripts of statements that mdlview refuses, with what it reports of them, and lines of each form of statements, cut behind each word: a word is missing
-there, or none."""
+"""Scripts of statements that mdlview refuses, with what it reports of them, and lines of each form of statements, cut after each word: a word is missing
+there, or the line is complete."""
 
 import subprocess
 
@@ -59,7 +59,7 @@ def reported(program, words, script):
 
 
 def wrong_refusals(program):
-    """Returns the scripts that are refused otherwise, also where the refused line stands behind those that are played, or a picture is asked for."""
+    """Returns the scripts that are refused wrongly, also if the refused line comes after those that are played, or a picture is asked for."""
     for script, told in REFUSED:
         for words in (["--script"], ["--script", "--at", "1"], ["timeline", "--script"], ["timeline", "--script", "--at", "1"]):
             if (found := reported(program, words, script)) != (1, b"", told):
@@ -67,7 +67,7 @@ def wrong_refusals(program):
 
 
 def wrong_forms(program):
-    """Returns the lines that aren't taken, and the beginnings of lines where another word is refused than one that is missing."""
+    """Returns the lines that aren't accepted, and the beginnings of lines that are refused for something else than a missing word."""
     for form in FORMS:
         if (found := reported(program, ["--script"], form.encode()))[0] != 0:
             yield form, found
@@ -80,5 +80,5 @@ def wrong_forms(program):
 
 
 def wrong_scripts(program):
-    """Returns what is refused otherwise, with what the program did."""
+    """Returns what is refused wrongly, with what the program did."""
     return [*wrong_refusals(program), *wrong_forms(program)]

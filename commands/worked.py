@@ -1,5 +1,5 @@
-"""Worked scripts with their answers, which lie in scripts/: a file for each subcommand. There each line of a script stands above what is answered
-to it, which begins with four spaces, and an empty line ends a script. Of a script that is refused only that is told."""
+"""Worked scripts with their answers, from scripts/: a file for each subcommand. There each line of a script is followed by its answers, which begin
+with four spaces, and an empty line ends a script. A script that is refused has only the refusal as an answer."""
 
 import pathlib
 import subprocess
@@ -24,7 +24,7 @@ def scripts_of(subcommand):
 
 
 def wrong_scripts(program):
-    """Returns the scripts that go otherwise, with what the program did."""
+    """Returns the scripts that get other answers, with what the program did."""
     for subcommand in FILES:
         for script, answers in scripts_of(subcommand):
             ran = subprocess.run([program, *subcommand.split(" ")], input=script, capture_output=True, text=True)

@@ -1,11 +1,11 @@
 #!/bin/sh
-# Runs each example by mdlsim, and compares what it answers with the answers that lie beside it; and so those of two pages of docs/, and the
-# refused lines of one.
-# Before that it looks whether each example says in two lines of comment what to look for and stands in the list of examples/README.md, and
+# Runs each example with mdlsim, and compares its answers with those in the file beside it. Does the same for the examples of two pages of docs/, and
+# for the refused lines of one.
+# Before that it checks whether each example says in two lines of comment what to look for and is in the list of examples/README.md, and
 # whether each script that is shown there, or in the README at the top, is one of the examples, line by line and answer by answer.
 # A script NAME.lock is one of an object lock, NAME.scoped.lock one of a scoped lock, NAME.replay one of statements, and NAME.run one whose
 # sessions run on threads.
-# mdlsim is built here once, without its proof, which `rt ci` gives; or MDLSIM names a program that was built before.
+# The script builds mdlsim once, without its proof, which `rt ci` gives. Or MDLSIM names a program that was built before.
 # Usage: sh examples/check.sh            all examples, those of the pages too
 #        sh examples/check.sh SCRIPT     one of them
 examples=$(cd "$(dirname "$0")" && pwd)
@@ -14,7 +14,7 @@ made=$(mktemp -d)
 trap 'rm -rf "$made"' EXIT
 mkdir "$made/cases"
 
-# Lays a script, its words and its answers side by side, as the kit wants its cases.
+# Puts a script, its words and its answers side by side, as the kit expects its cases: SCRIPT
 lay() {
     name=$(basename "$1")
     case "$name" in
@@ -33,7 +33,7 @@ lay() {
     cp "$1" "$made/cases/$name" && cp "${1%.*}.answers" "$made/cases/$name.stdout"
 }
 
-# Takes the scripts out of a page into a folder.
+# Copies the scripts of a page into a folder: PAGE FOLDER
 take() {
     awk -v FOLDER="$2" -f "$examples/pages.awk" "$1"
 }
@@ -60,7 +60,7 @@ is_example() {
     return 1
 }
 
-# A page shows examples alone.
+# A page shows only examples.
 look_at_page() {
     shown=$(mktemp -d "$made/shown.XXXXXX")
     take "$1" "$shown" || return 1
@@ -73,8 +73,8 @@ look_at_page() {
     done
 }
 
-# Runs all cases by a program, and tells of them as `rt try` does: the name of each, what stands on standard error, and its status. Fails where
-# one has other answers than are wanted, and says which.
+# Runs all cases with a program, and prints what `rt try` prints of them: the name of each, its standard error, and its status. Fails if one has
+# other answers than are expected, and says which.
 run_by() {
     for words in "$made/cases"/*.args; do
         case=${words%.args}

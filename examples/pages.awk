@@ -1,5 +1,5 @@
-# Takes the examples out of a page: indented lines with a script of statements on the left and its answers on the right.
-# Of each it writes the script, its answers (.stdout) and the words of the command line (.args), as the kit wants its cases.
+# Copies the examples from a page: indented lines with a script of statements on the left and its answers on the right.
+# Of each it writes the script, its answers (.stdout) and the words of the command line (.args), as the kit expects its cases.
 # Usage: awk -v FOLDER=where -f pages.awk PAGE.md
 function add(line, ending) {
     print line > (FOLDER "/" page count ending)
@@ -12,7 +12,7 @@ BEGIN {
     indent = match($0, /[^ ]/) - 1
     sub(/^ +/, "")
 }
-# An answer alone stands far to the right. What is defined at the end is told of runs on threads alone.
+# A line far to the right is only an answer. Only runs on threads print what is defined at the end.
 indent > 20 {
     if (/^FINAL/) {
         words = FOLDER "/" page count ".args"

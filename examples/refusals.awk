@@ -1,5 +1,5 @@
-# Takes the refused lines out of the table of docs/LANGUAGE.md, whose rows have the words of the command line, a line and its refusal between
-# back quotes. Of each it writes the line and the words (.args), as the kit wants its cases, and prints the case's name and its refusal.
+# Copies the refused lines from the table of docs/LANGUAGE.md, whose rows have the words of the command line, a line and its refusal between
+# back quotes. Of each it writes the line and the words (.args), as the kit expects its cases, and prints the case's name and its refusal.
 # Usage: awk -v FOLDER=where -f refusals.awk PAGE.md
 !/^\|/ {
     inside = 0

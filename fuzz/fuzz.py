@@ -6,8 +6,8 @@ have to be those of plain programs, and `replay` has to print the same twice. `r
 does; its last lines have to follow from the changes that were made. With too little memory a run reports only that.
 
 The same seed gives the same scripts. A script that fails is kept in fuzz/out/, named by the seed and its number; `--only NUMBER` runs it again.
-With `--scripts COUNT` so many are played, however long that takes, and two with 100,000 lines of eight sessions on threads, and each kind of answer
-has to be among those to `replay`: the gate does that.
+With `--scripts COUNT` it plays that number of scripts, however long that takes, and two with 100,000 lines of eight sessions on threads. Each kind of
+answer has to be among those of `replay`. The gate does that.
 
 Usage, at the top of the repository: python3 fuzz/fuzz.py [--seconds 60 | --scripts COUNT] [--seed N] [--only NUMBER] [PROGRAM]
 The program is the one that was built last, MDLSIM, or the one that is named.
@@ -41,7 +41,7 @@ MEGABYTE = 2**20
 # The numbers of the two scripts of many lines begin here.
 CROWDS = 10**9
 
-# What the answers of `replay` have in them: each of many scripts is answered by some of these. Errors 9003 and 9005 take more lines than these have.
+# The kinds of answers of `replay`: with many scripts each of them has to occur. Errors 9003 and 9005 take more lines than these scripts have.
 ANSWERS = [
     *(b" OK", b" BUSY", b" OK test.", b" OK 0", b" OK 1", b" OK NULL", b"END ", b" WAIT GLOBAL ", b" WAIT SCHEMA ", b" WAIT TABLE ", b" WAIT COMMIT "),
     *(b" WAIT USER ", b" ERR 1007", b" ERR 1049", b" ERR 1050", b" ERR 1060", b" ERR 1091", b" ERR 1099", b" ERR 1100", b" ERR 1146", b" ERR 1192"),
@@ -51,8 +51,8 @@ ANSWERS = [
 
 @dataclasses.dataclass(frozen=True)
 class Case:
-    """A script, what is done with it, how often a session of `run` looks again, its other options, and the memory that the run has, if that is
-    little."""
+    """A script, its subcommand, how often a waiting session of `run` looks again, the other options of `run`, and the limit of the memory, if there
+    is one."""
 
     subcommand: str
     script: bytes
@@ -69,16 +69,16 @@ class Case:
         return self.script.count(b"\n") + 1
 
     def most_seconds(self):
-        """Returns how long the run may take, on a busy machine. A savepoint is looked for among those that there are, and who waits looks again."""
+        """Returns how many seconds the run may take, on a busy machine. A savepoint is looked for among all, and a session that waits looks again."""
         savepoints = self.script.count(b"SAVEPOINT")
         polls = self.patience * 20e-6 if self.subcommand == "run" else 0
         return 20 + self.lines() * (200e-6 + polls) + savepoints**2 * 1e-6
 
     def most_memory(self, written):
-        """Returns how much memory the run may take. There is the text, which doubles as it grows, and is copied then; a record for each line, of
-        8 bytes or more, and for each name, of 2 with its space, which double too; and the answers, as records and as text. At most
-        256 keys and 64 sessions have a part of their own, and those of `run` a stack. An answer is at most 8 tables of 64 columns, some
-        34,000 bytes, to a line of 24, so all this is linear in the script."""
+        """Returns how many bytes of memory the run may take. The text doubles as it grows, and is copied then. There is a record for each line, which
+        has 8 bytes or more, and for each name, which has 2 with its space; these double too. The answers are kept as records and as text. At
+        most 256 keys and 64 sessions have a part of their own, and those of `run` a stack. An answer has at most 8 tables of 64 columns, some
+        34,000 bytes, for a line of 24, so all this is linear in the script."""
         return 32 * MEGABYTE + 64 * len(self.script) + 4 * written
 
 
@@ -91,7 +91,7 @@ def play(runner, case):
 
 
 def wrong_end(case, seen):
-    """Tells what is wrong with how a run ended, and with what it took."""
+    """Returns what is wrong with how a run ended, and with the time and memory that it took, or None."""
     if seen.is_late:
         return f"takes more than {case.most_seconds():.0f} seconds"
     if seen.status < 0:
@@ -108,7 +108,7 @@ def wrong_end(case, seen):
 
 
 def wrong_answers(runner, case, lines, seen, matrices):
-    """Tells what is wrong with the answers to a script that isn't refused."""
+    """Returns what is wrong with the answers to a script that isn't refused, or None."""
     if case.subcommand.startswith("lock"):
         wanted = locks.answers_to(lines, SUBCOMMANDS[case.subcommand], matrices)
         return None if seen.written == wanted else "the lock is answered otherwise"
@@ -125,7 +125,7 @@ def wrong_answers(runner, case, lines, seen, matrices):
 
 
 def wrong(runner, case, matrices, answers):
-    """Runs a case, and tells what is wrong with it. Which of the answers it was given is noted."""
+    """Runs a case, and returns what is wrong with it, or None. Adds to `answers` the kinds of answers that `replay` gave."""
     seen = play(runner, case)
     found = wrong_end(case, seen)
     if found or seen.status == 3:
@@ -144,7 +144,7 @@ def wrong(runner, case, matrices, answers):
 
 
 def least_memory(runner):
-    """Returns how much memory the program needs to print the matrices, or None where it doesn't run with little."""
+    """Returns how much memory the program needs to print the matrices, or None if it doesn't run with little."""
     return next((it * MEGABYTE for it in (8, 16, 32) if runner.run(["matrix"], b"", 20, it * MEGABYTE).status == 0), None)
 
 
@@ -196,7 +196,7 @@ class Tally:
 
 
 def look_at(runner, seed, numbers, most_seconds):
-    """Runs cases until the time is over, and tells of those that are wrong."""
+    """Runs cases until the time is over. Keeps and reports those that are wrong."""
     until = time.monotonic() + most_seconds
     found, least, is_cached, matrices = scripts.seeds(), least_memory(runner), has_cache(runner), locks.matrices_of(runner.program)
     tally = Tally()
@@ -232,7 +232,7 @@ def numbers_of(asked):
 
 
 def main():
-    """Looks at cases, and returns the status to end with."""
+    """Runs the cases that are asked for, and returns the exit status."""
     asked = read_words()
     if not os.access(asked.program, os.X_OK):
         print(f"{asked.program} isn't there: make build, or MDLSIM=PATH", file=sys.stderr)

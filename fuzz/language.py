@@ -1,4 +1,4 @@
-"""The rules of lines and the forms of statements, as plainly as can be: what the lines of a script are, and which line refuses it."""
+"""The rules of lines and the forms of statements, as plainly as can be: what the lines of a script are, and for which line it is refused."""
 
 import dataclasses
 import functools
@@ -11,8 +11,8 @@ MOST_COLUMNS = 64
 NAME = re.compile(rb"[a-z0-9_]{1,64}")
 NUMBER = re.compile(rb"[1-9][0-9]{0,9}")
 
-# The forms. A word in capitals is a key word, or one of several; t is a table, c, n and s are names, and k is a session. What stands behind
-# `..` comes once or up to so many times.
+# The forms. A word in capitals is a key word, or one of several; t is a table, c, n and s are names, and k is a session. What follows
+# `.. N` comes once or up to N times.
 STATEMENTS = [
     *("BEGIN", "START TRANSACTION", "COMMIT", "ROLLBACK", "SAVEPOINT n", "ROLLBACK TO n", "UNLOCK TABLES", "TIMEOUT", "GET_LOCK|RELEASE_LOCK n"),
     *("INSERT|UPDATE|DELETE t", "INSERT|UPDATE|DELETE LOW_PRIORITY t", "RENAME TABLE t TO t", "CREATE|DROP SCHEMA s"),
@@ -25,7 +25,7 @@ MODES = {"object": "S SH SR SW SWLP SU SRO SNW SNRW X", "scoped": "IX S X"}
 
 @dataclasses.dataclass(frozen=True)
 class Form:
-    """What stands at each place of a form, and how many places a line may fill."""
+    """A form: what belongs at each of its places, and how many places a line may fill."""
 
     places: tuple
     lengths: frozenset
@@ -37,7 +37,7 @@ class Refused(Exception):
 
 @dataclasses.dataclass(frozen=True)
 class Line:
-    """A line that is run: its number, its session, and the words behind that."""
+    """A line that is run: its number, its session, and the words after that."""
 
     number: int
     session: int
@@ -69,7 +69,7 @@ def session_of(word):
 
 
 def look_at_name(place, word, tables):
-    """Looks at a word that stands where a form has no key word."""
+    """Checks a word at a place where a form has no key word."""
     if place == "k":
         session_of(word)
         return
@@ -84,7 +84,7 @@ def look_at_name(place, word, tables):
 
 
 def look_at_words(words, forms):
-    """Looks at the words behind the session, from left to right."""
+    """Checks the words after the session, from left to right."""
     tables = set()
     for at, word in enumerate(words):
         left = [it for it in forms if at < len(it.places)]
@@ -123,7 +123,7 @@ def texts_of(script):
 
 
 def read(script, language):
-    """Returns the lines of a script that are run, and None; or none, and what is told of the first line that is refused."""
+    """Returns the lines of a script that are run, and None; or no lines, and what is reported for the first line that is refused."""
     lines = []
     for number, text in enumerate(texts_of(script), 1):
         try:

@@ -15,7 +15,7 @@ def matrices_of(program):
 
 
 class Lock:
-    """One lock: who has it in which mode, and who waits for which, in order of arrival."""
+    """One lock: which session holds it in which mode, and which waits for which mode, in order of arrival."""
 
     def __init__(self, kind, matrices):
         self.kind = kind
@@ -24,7 +24,7 @@ class Lock:
         self.waiting = {}
 
     def can_have(self, session, mode):
-        """Whether a session can have the lock in a mode now."""
+        """Whether a session can be granted the lock in a mode now."""
         clashing = self.matrices[self.kind, "GRANTED", mode]
         before = self.matrices[self.kind, "WAITING", mode]
         return not any(it != session and held in clashing for it, held in self.granted.items()) and not any(
@@ -32,7 +32,7 @@ class Lock:
         )
 
     def ask(self, session, mode):
-        """Returns what is answered to a session that wants the lock."""
+        """Requests the lock for a session, and returns the answer."""
         if session in self.granted or session in self.waiting:
             return [b"%d REFUSED" % session]
         if self.can_have(session, mode):
@@ -42,7 +42,7 @@ class Lock:
         return [b"%d WAITS %s" % (session, mode)]
 
     def leave(self, session, those, told):
-        """Returns what is answered to a session that gives up its ticket or its wait, and to those that are granted then."""
+        """Releases a session's ticket or ends its wait, and returns the answers to it and to those that are granted then."""
         if session not in those:
             return [b"%d REFUSED" % session]
         answers = [b"%d %s %s" % (session, told, those.pop(session))]
@@ -54,7 +54,7 @@ class Lock:
             answers.append(b"%d GRANTED %s" % (first, self.granted[first]))
 
     def answer(self, line):
-        """Returns what is answered to a line."""
+        """Returns the answers to a line."""
         (word,) = line.words
         if word == b"RELEASE":
             return self.leave(line.session, self.granted, b"RELEASED")
@@ -64,6 +64,6 @@ class Lock:
 
 
 def answers_to(lines, kind, matrices):
-    """Returns all that is answered to the lines of a script."""
+    """Returns all answers to the lines of a script."""
     lock = Lock(kind, matrices)
     return b"".join(it + b"\n" for line in lines for it in lock.answer(line))

@@ -50,7 +50,7 @@ class Session:
         return self.space.acquire(self.who, key, mode, lasts)
 
     def lasting(self, lasts):
-        """Returns the tickets that last so long, in order of gain."""
+        """Returns the tickets of a duration, in the order in which the session got them."""
         return [it for it in self.space.held[self.who] if it.lasts == lasts]
 
     # ---- transactions
@@ -77,7 +77,7 @@ class Session:
         self.space.release(ticket)
 
     def commit_open(self):
-        """Commits an open transaction, which stays open if COMMIT's lock isn't had."""
+        """Commits an open transaction, which stays open if COMMIT's lock isn't granted."""
         if self.is_open:
             self.is_committing = True
             yield from self.commit()
@@ -88,12 +88,12 @@ class Session:
         return len(self.lasting("S")), len(self.lasting("T"))
 
     def go_back(self, mark):
-        """Gives up what was gained since a mark."""
+        """Releases the tickets that the session got since a mark."""
         for lasts, count in zip("ST", mark):
             self.space.release(self.lasting(lasts)[count:])
 
     def give_up_locked(self):
-        """Gives up the locked tables, and the scoped tickets that came with them."""
+        """Releases the locked tables, and the scoped tickets that came with them."""
         self.space.release(self.locks)
         self.locked, self.locks = None, []
 
@@ -124,7 +124,7 @@ class Session:
         yield from ()
 
     def save(self, words):
-        """SAVEPOINT: one of the same name goes."""
+        """SAVEPOINT: one of the same name is removed."""
         if self.is_open:
             self.savepoints.pop(words[0], None)
             self.savepoints[words[0]] = self.mark()
@@ -145,7 +145,7 @@ class Session:
         return shown
 
     def look_at_locked(self, key):
-        """A table that is to be changed under locked tables is locked, and to be written."""
+        """Checks that a table to be changed under locked tables is locked, and locked to be written."""
         if key not in self.locked:
             raise Early(1100)
         if self.locked[key] == b"READ":
@@ -175,7 +175,7 @@ class Session:
             yield from self.lock(it, b"IX")
 
     def change(self, schemas, keys):
-        """Looks whether definitions may be changed, and takes the locks for that."""
+        """Checks whether definitions may be changed, and takes the locks for that."""
         if self.has_read_lock:
             raise Early(1223)
         if self.locked is not None:
@@ -319,7 +319,7 @@ class Session:
         self.has_read_lock, self.read_lock = True, [first, second]
 
     def get_lock(self, words):
-        """GET_LOCK: a wait that is over in vain takes nothing else with it."""
+        """GET_LOCK: a wait that is lost releases no other ticket."""
         try:
             yield from self.lock(user_lock(words[0]), b"X", "E")
         except Lost as error:
@@ -331,7 +331,7 @@ class Session:
         return b" 1"
 
     def release_lock(self, words):
-        """RELEASE_LOCK: the newest ticket of a name, or whether nobody has the name."""
+        """RELEASE_LOCK: releases the newest ticket of a name, or says whether another session holds the name."""
         key = user_lock(words[0])
         yield from ()
         had = [it for it in self.space.held[self.who] if it.key == key]
@@ -375,7 +375,7 @@ class Session:
             self.go_back(start)
 
 
-# The statements, by as many of their words as tell them apart.
+# The statements, by the first words that tell them apart.
 STATEMENTS = {
     **{(it,): Session.begin for it in (b"BEGIN", b"START")},
     **{(it,): Session.write for it in (b"INSERT", b"UPDATE", b"DELETE")},
@@ -389,12 +389,12 @@ STATEMENTS = {
 
 
 def find(words):
-    """Returns the first words of a statement, as they stand among all."""
+    """Returns the first words of a statement, as `STATEMENTS` has them."""
     return words[:1] if words[:1] in STATEMENTS else words[:2]
 
 
 def go_on(session):
-    """Goes on with a session's statement until it is done or waits, and returns the line of that."""
+    """Continues a session's statement until it is done or waits, and returns the line of answers for that."""
     head = b"%d %d " % (session.line, session.who)
     try:
         ticket = next(session.running)
@@ -404,7 +404,7 @@ def go_on(session):
 
 
 def answers_to(lines, matrices):
-    """Returns all that is answered to the lines of a script."""
+    """Returns all answers to the lines of a script."""
     space = Space(matrices, {it.session for it in lines})
     space.place(schema(b"test"))
     space.change(schema(b"test"), "schema")

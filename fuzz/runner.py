@@ -1,6 +1,6 @@
 """Runs a program on a script, and measures it.
 
-What the kernel says of the most memory of a process has in it that of the process that started it. So programs are started by a small one, this
+The kernel's figure for the peak memory of a process includes that of the process that started it. So programs are started by a small process, this
 file by itself: `python3 -I -S runner.py` reads a request from each line of standard input, and writes what became of it."""
 
 import dataclasses
@@ -16,8 +16,8 @@ import threading
 
 @dataclasses.dataclass(frozen=True)
 class Seen:
-    """What became of a run: the status it ended with, or the signal below zero; what it wrote and told; whether it was ended since it took too long;
-    and the most memory that it had."""
+    """The result of a run: its exit status, or minus the signal that ended it; its standard output and standard error; whether it was ended because it
+    took too long; and its peak memory in bytes."""
 
     status: int
     written: bytes
@@ -44,7 +44,7 @@ class Runner:
         self.room.cleanup()
 
     def run(self, words, script, seconds, memory=None):
-        """Runs the program with words on a script, for at most so many seconds, and with at most so much memory."""
+        """Runs the program with words on a script, for at most `seconds` seconds, and with at most `memory` bytes, if that is given."""
         self.folder.joinpath("given").write_bytes(script)
         request = {"words": [self.program, *words], "seconds": seconds, "memory": memory}
         print(json.dumps(request), file=self.starter.stdin, flush=True)
@@ -54,14 +54,14 @@ class Runner:
 
 
 def limit(memory):
-    """Leaves a process so much memory, room for the stacks of its threads and all, and no file for what is left of it where it fails."""
+    """Limits the memory of a process, if `memory` is given, with the stacks of its threads and all, and has it leave no core file if it fails."""
     resource.setrlimit(resource.RLIMIT_CORE, (0, 0))
     if memory:
         resource.setrlimit(resource.RLIMIT_AS, (memory, memory))
 
 
 def became(folder, words, seconds, memory):
-    """Runs a program on what lies in the folder, and returns what became of it."""
+    """Runs a program on the script in the folder, and returns the result of the run."""
     with open(folder / "given", "rb") as given, open(folder / "written", "wb") as written, open(folder / "told", "wb") as told:
         ran = subprocess.Popen(words, stdin=given, stdout=written, stderr=told, preexec_fn=lambda: limit(memory))
         late = threading.Event()

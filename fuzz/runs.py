@@ -1,6 +1,6 @@
-"""What has to be so of the answers of `mdlsim run`, however its threads meet: each line is answered once, session after session, and then comes
-what is there at the end: just what was created and not dropped, in a version that counts the changes. A session sees no version fall. A
-session that is alone is answered as `replay` does it."""
+"""What has to hold for the answers of `mdlsim run`, however its threads interleave: each line is answered once, session after session, and then come the
+definitions at the end: just those that were created and not dropped, with a version that counts the changes. A session sees no version fall. A
+session that is alone gets the answers of `replay`."""
 
 import collections
 import re
@@ -16,13 +16,13 @@ FINAL = re.compile(rb"FINAL (?:SCHEMA %b@\d{1,7}|TABLE %b)" % (NAMES, TABLE))
 
 
 def split_where(answers, pattern):
-    """Returns the answers up to the first that is of a pattern, and those from there on."""
+    """Returns the answers before the first that matches a pattern, and those from there on."""
     at = next((at for at, it in enumerate(answers) if pattern.fullmatch(it)), len(answers))
     return answers[:at], answers[at:]
 
 
 def wrong_in_run(lines, written):
-    """Tells what is wrong with what `run` wrote for these lines."""
+    """Returns what is wrong with what `run` wrote for these lines, or None."""
     answers, finals = split_where(written.splitlines(), FINAL)
     wanted = sorted(((it.session, it.number) for it in lines))
     found = [RUN.fullmatch(it) for it in answers]
@@ -50,8 +50,8 @@ def changes_by(words):
 
 
 def wrong_at_the_end(lines, written):
-    """Tells what is wrong with what is there at the end, by the changes that were done. Where a schema was dropped nothing is told: how many
-    tables went with it no answer says."""
+    """Returns what is wrong with the definitions at the end, by the changes that were done, or None. If a schema was dropped nothing is checked: no
+    answer says how many tables were dropped with it."""
     answers, finals = split_where(written.splitlines(), FINAL)
     done = {int(it.split(b" ")[0]) for it in answers if it.split(b" ")[2] == b"OK"}
     changes, there = collections.Counter([schema(b"test")]), collections.Counter([schema(b"test")])
@@ -71,7 +71,7 @@ def wrong_at_the_end(lines, written):
 
 
 def wrong_versions(written):
-    """Tells which version a session saw fall."""
+    """Returns the answer that shows a session an older version than before, or None."""
     seen = {}
     for it in split_where(written.splitlines(), FINAL)[0]:
         session = it.split(b" ")[1]
@@ -83,7 +83,7 @@ def wrong_versions(written):
 
 
 def wrong_in_lone_run(lines, replayed, written):
-    """Tells what is wrong with what `run` wrote for the lines of one session, beside what `replay` did: it is the same, and a line for all that is left."""
+    """Returns what is wrong with what `run` wrote for the lines of one session, or None. It has to be what `replay` wrote, and a line for each definition."""
     if len({it.session for it in lines}) != 1 or b" WAIT " in replayed or b" ERR 9004" in replayed + written:
         return None
     left = written[len(replayed) :]

@@ -1,4 +1,4 @@
-"""Scripts to be given to `mdlsim`: those of the examples and the worked ones, changed by chance, and others that are made by chance."""
+"""Scripts to be given to `mdlsim`: those of the examples and the worked ones, changed at random, and others that are made at random."""
 
 import pathlib
 import re
@@ -7,7 +7,7 @@ from language import MODES
 
 TOP = pathlib.Path(__file__).resolve().parent.parent
 
-# The numbers that lie at a limit of something, or beyond any.
+# Numbers that are at a limit of something, or beyond all limits.
 NUMBERS = [0, 1, 2, 8, 9, 63, 64, 65, 99, 100, 255, 256, 257, 999, 1000, 1023, 1024, 1025, 4096, 65535, 65536, 2**31, 2**32, 2**63, 2**64, 10**30]
 HOSTILE_WORDS = [
     *(f"{it}".encode() for it in NUMBERS),
@@ -30,13 +30,13 @@ FORMS = [
 
 
 def scripts_in(file):
-    """Returns the scripts of a file of worked ones. Their answers stand four spaces to the right, and an empty line ends a script."""
+    """Returns the scripts of a file of worked ones. Their answers are indented by four spaces, and an empty line ends a script."""
     for case in file.read_text().split("\n\n"):
         yield "".join(f"{it}\n" for it in case.splitlines() if not it.startswith("    ")).encode()
 
 
 def seeds():
-    """Returns the scripts that there are, by language."""
+    """Returns the scripts of the examples and the worked ones, by language."""
     found = {"object": [], "scoped": [], "statements": []}
     for file in sorted(TOP.glob("examples/*")):
         language = {".lock": "scoped" if ".scoped." in file.name else "object", ".replay": "statements", ".run": "statements"}.get(file.suffix)
@@ -51,36 +51,36 @@ def seeds():
 
 
 def span(chance, script):
-    """Returns the two ends of a piece of a script."""
+    """Returns the two ends of a random piece of a script."""
     return sorted(chance.randrange(len(script) + 1) for _ in range(2))
 
 
 def cut(chance, script):
-    """The script ends early."""
+    """Cuts off the end of a script."""
     return script[: chance.randrange(len(script) + 1)]
 
 
 def put_bytes(chance, script):
-    """Some bytes come in, or stand in the place of others."""
+    """Inserts some bytes, or replaces others with them."""
     at = chance.randrange(len(script) + 1)
     count = chance.choice([1, 1, 1, 2, 8, 40])
     return script[:at] + chance.randbytes(count) + script[at + chance.choice([0, count]) :]
 
 
 def drop_piece(chance, script):
-    """A piece goes."""
+    """Removes a piece."""
     start, end = span(chance, script)
     return script[:start] + script[min(end, start + 30) :]
 
 
 def repeat_piece(chance, script):
-    """A piece comes again, once or many times."""
+    """Repeats a piece, once or many times."""
     start, end = span(chance, script)
     return script[:end] + script[start:end] * chance.choice([1, 1, 2, 5, 60]) + script[end:]
 
 
 def put_word(chance, script):
-    """A hostile word stands in the place of a word, or beside one."""
+    """Puts a hostile word in the place of a word, or beside one."""
     words = list(re.finditer(rb"[^\s]+", script))
     if not words:
         return chance.choice(HOSTILE_WORDS)
@@ -90,7 +90,7 @@ def put_word(chance, script):
 
 
 def move_lines(chance, script):
-    """The lines stand in another order, or a few of them do."""
+    """Changes the order of the lines, or of a few of them."""
     lines = script.splitlines(keepends=True)
     for _ in range(chance.choice([1, 2, len(lines)])):
         lines.append(lines.pop(chance.randrange(len(lines)))) if lines else None
@@ -98,13 +98,13 @@ def move_lines(chance, script):
 
 
 def end_lines(chance, script):
-    """A line ends otherwise, or each does."""
+    """Changes the ends of the first lines, or of all."""
     end = chance.choice(LINE_ENDS)
     return script.replace(b"\n", end, chance.choice([-1, 1, 2]))
 
 
 def lengthen(chance, script):
-    """A line is about as long as a line may be."""
+    """Makes a line about as long as a line may be, or longer."""
     lines = script.split(b"\n")
     at = chance.randrange(len(lines))
     length = chance.choice([4095, 4096, 4097, 4098, 8192])
@@ -117,7 +117,7 @@ CHANGES = [cut, put_bytes, drop_piece, repeat_piece, put_word, put_word, move_li
 
 
 def changed(chance, scripts):
-    """Returns a script that was changed a few times, or two of them, one behind the other."""
+    """Returns a script that was changed a few times, or two of them, one after the other."""
     script = chance.choice(scripts)
     if chance.random() < 0.3:
         script += chance.choice(scripts)
@@ -126,7 +126,7 @@ def changed(chance, scripts):
     return script
 
 
-# ---- scripts by chance
+# ---- random scripts
 
 
 def opening(chance, sessions, names):
@@ -136,7 +136,7 @@ def opening(chance, sessions, names):
 
 
 def by_chance(chance, language, count=None, sessions=None):
-    """Returns a script of lines that are read, of few sessions and few names, so that these meet."""
+    """Returns a random script of valid lines, with few sessions and few names, so that these conflict."""
     sessions = range(1, 1 + (sessions or chance.choice([1, 1, 2, 3, 3, 4, 5, 8, 64])))
     names = [*"abcdefghijkl"[: chance.choice([2, 3, 4, 12])], *chance.choice([[], ["s.a", "s.b"]])]
     words = [*MODES[language].split(" "), "RELEASE", "RELEASE", "TIMEOUT"] if language in MODES else FORMS
@@ -151,7 +151,7 @@ def by_chance(chance, language, count=None, sessions=None):
 
 
 def raw(chance):
-    """Returns bytes, of all kinds, or of those that scripts have."""
+    """Returns random bytes, of all kinds, or of those that scripts have."""
     count = chance.choice([0, 1, 2, 5, 50, 500, 20_000])
     if chance.random() < 0.5:
         return chance.randbytes(count)
@@ -180,7 +180,7 @@ def large(chance, language):
 
 
 def script_of(chance, language, scripts):
-    """Returns a script, most often in a language."""
+    """Returns a random script, most often in a language."""
     way = chance.random()
     if way < 0.05:
         return raw(chance)

@@ -1,13 +1,13 @@
-"""Locks of many keys, with tickets and waits of sessions, as plainly as can be: what `replay` plays on.
+"""Locks of many keys, with tickets and waits of sessions, as plainly as can be: what plays.py runs its statements on.
 
-A key is (0,) for GLOBAL, (1, schema), (2, schema, table), (3,) for COMMIT, or (4, name) for a user-level lock. A call that may wait is a generator: it yields as a wait begins, and
-goes on once that is settled."""
+A key is (0,) for GLOBAL, (1, schema), (2, schema, table), (3,) for COMMIT, or (4, name) for a user-level lock. A call that may wait is a generator: it
+yields when a wait begins, and continues once that is settled."""
 
 import dataclasses
 
 MOST_PLACES = 256
 
-# The modes in order. Those from SU on weigh 100 where a victim is chosen, as all of GLOBAL do. Those of user-level locks weigh 50.
+# The modes in order. When a victim is chosen, those from SU on weigh 100, as all of GLOBAL do. Those of user-level locks weigh 50, and all others 0.
 MODES = [b"IX", b"S", b"SH", b"SR", b"SW", b"SWLP", b"SU", b"SRO", b"SNW", b"SNRW", b"X"]
 HEAVY = MODES.index(b"SU")
 
@@ -18,12 +18,12 @@ NO_PLACE = 9004
 
 
 class Lost(Exception):
-    """A lock isn't had: the error that tells why."""
+    """A lock isn't granted: the error that says why."""
 
 
 @dataclasses.dataclass(eq=False)
 class Ticket:
-    """A ticket, held or waited for. It lasts for a statement, a transaction, or until it is given up: `S`, `T` or `E`."""
+    """A ticket, held or waited for. It lasts for a statement, a transaction, or until it is released: `S`, `T` or `E`."""
 
     who: int
     key: tuple
@@ -32,7 +32,7 @@ class Ticket:
 
 
 class Place:
-    """What there is of a key: its lists, and how often what stands under it was changed, and what that is."""
+    """A key's place: its granted and waiting tickets, and the key's version and definition."""
 
     def __init__(self):
         self.granted = []
@@ -42,7 +42,7 @@ class Place:
 
 
 class Space:
-    """All places, the tickets of each session in order of gain, and its wait, with how that is settled."""
+    """All places, the tickets of each session in the order in which it got them, and its wait, with how that is settled."""
 
     def __init__(self, matrices, sessions):
         self.matrices = matrices
@@ -62,13 +62,13 @@ class Space:
         return self.row(key, "GRANTED", weak) - {b"-"} <= self.row(key, "GRANTED", strong)
 
     def in_the_way(self, who, key, mode):
-        """Returns the tickets of other sessions that keep a session from having a mode now."""
+        """Returns the tickets of other sessions that block a mode now: those held, and those that wait."""
         place, clashing, before = self.places[key], self.row(key, "GRANTED", mode), self.row(key, "WAITING", mode)
         held = [it for it in place.granted if it.who != who and it.mode in clashing]
         return held, [it for it in place.waiting if it.who != who and it.mode in before]
 
     def can_have(self, who, key, mode):
-        """Whether a session can have a mode now."""
+        """Whether a session can be granted a mode now."""
         return self.in_the_way(who, key, mode) == ([], [])
 
     # ---- waits
@@ -79,7 +79,7 @@ class Space:
             self.settled.setdefault(who, how)
 
     def grant_waiters(self, key):
-        """Grants those that wait: again and again the first that can be."""
+        """Grants waiting tickets: again and again the first that can be granted."""
         place = self.places[key]
         while True:
             first = next((it for it in place.waiting if it.who not in self.settled and self.can_have(it.who, key, it.mode)), None)
@@ -90,7 +90,7 @@ class Space:
             self.settle(first.who, GRANTED)
 
     def ties(self):
-        """Returns for each session that waits, unsettled, those of the others for which it does."""
+        """Returns for each session with an unsettled wait the others of these for which it waits."""
         unsettled = {who: it for who, it in self.waits.items() if who not in self.settled}
         found = {}
         for who, it in unsettled.items():
@@ -116,14 +116,14 @@ class Space:
         return found
 
     def weight(self, who):
-        """Returns what a session's wish weighs."""
+        """Returns the weight of a session's request."""
         wish = self.waits[who]
         if wish.key[0] == 4:
             return 50
         return 100 if wish.key == (0,) or MODES.index(wish.mode) >= HEAVY else 0
 
     def break_cycles(self, who):
-        """Takes victims of the cycles through a session, until there is none, or it is one itself."""
+        """Makes victims in the cycles through a session, until there is no cycle, or the session is a victim itself."""
         while who not in self.settled and (cycle := self.cycle_of(who)):
             self.settle(min(cycle, key=lambda it: (self.weight(it), -it)), VICTIM)
 
@@ -151,7 +151,7 @@ class Space:
         return self.places[key]
 
     def acquire(self, who, key, mode, lasts):
-        """Returns a ticket: one that is held and serves, a copy of one, or a new one."""
+        """Returns a ticket: one that is held and will do, or a new one, granted at once if a stronger one is held."""
         strong = [it for it in self.held[who] if it.key == key and self.covers(key, it.mode, mode)]
         again = [it for it in strong if it.lasts == lasts != "E"]
         if again:
@@ -165,7 +165,7 @@ class Space:
         return ticket
 
     def upgrade(self, ticket, mode):
-        """Lets a held ticket have a stronger mode."""
+        """Gives a held ticket a stronger mode."""
         if self.covers(ticket.key, ticket.mode, mode):
             return
         if not self.can_have(ticket.who, ticket.key, mode):
@@ -176,12 +176,12 @@ class Space:
         self.grant_waiters(ticket.key)
 
     def downgrade(self, ticket, mode):
-        """Lets a held ticket have a weaker mode."""
+        """Gives a held ticket a weaker mode."""
         ticket.mode = mode
         self.grant_waiters(ticket.key)
 
     def release(self, tickets):
-        """Gives tickets up."""
+        """Releases tickets."""
         for it in list(tickets):
             self.held[it.who].remove(it)
             self.places[it.key].granted.remove(it)
@@ -190,10 +190,10 @@ class Space:
     # ---- definitions
 
     def found(self, key):
-        """Returns what stands under a key: `schema`, a table's columns, or None."""
+        """Returns a key's definition: `schema`, a table's columns, or None."""
         return self.places[key].found if key in self.places else None
 
     def change(self, key, found):
-        """Changes what stands under a key."""
+        """Changes a key's definition."""
         self.places[key].found = found
         self.places[key].version += 1

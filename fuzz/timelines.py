@@ -30,7 +30,7 @@ KEPT = pathlib.Path(__file__).resolve().parent / "out"
 
 @dataclasses.dataclass(frozen=True)
 class Event:
-    """What becomes of a statement, and who is in its way, if it begins to wait."""
+    """What happens to a statement, and which sessions are in its way, if it begins to wait."""
 
     line: int
     session: int
@@ -56,7 +56,7 @@ FATES = {b"WAIT": "Waits", b"OK": "Ends", b"ERR": "Fails", b"BUSY": "Busy"}
 
 
 def event_of(space, answer, words):
-    """Returns an event, from a line of answers. Who is in its way is looked up now."""
+    """Returns an event, from a line of answers. The sessions in its way are looked up now."""
     line, session, told = answer.split(b" ", 2)
     fate = FATES[told.split(b" ")[0]]
     way = in_the_way(space, int(session)) if fate == "Waits" else ()
@@ -75,7 +75,7 @@ def in_the_way(space, session):
 
 
 def asked(space, session, line):
-    """Asks a session for the statement of a line, and returns what is answered."""
+    """Gives a session the statement of a line, and returns the answer."""
     if session.who not in space.waits:
         session.running, session.line = session.run(line.words), line.number
         return plays.go_on(session)
@@ -110,15 +110,15 @@ TOP = 28  # the first row
 ROW = 80  # from row to row
 BOX = 64  # the height of a lane and of a box
 BYTE = 7  # the width of a byte
-MARGIN = 14  # a box is so much wider than its widest text
+MARGIN = 14  # how much wider a box is than its widest text
 STATEMENT = 18  # a statement of more bytes is broken, at the last space up to there
 ANSWER = 15  # and so is an answer of more bytes
 CUT = 32  # a text of more bytes ends with ..
 LEAST = 600  # the least width of the picture
-OPEN = 98  # behind the end of the waits that last
+OPEN = 98  # the room after the end of the waits that last
 BOTTOM = 24  # below the last row
 
-# Each class: how it looks by day, and what is otherwise by night.
+# Each class: its style in light mode, and what differs in dark mode.
 STYLES = {
     "ground": ("fill:#fff", "fill:#0d1117"),
     "lane": ("fill:#f1f3f5", "fill:#1a1f26"),
@@ -138,7 +138,7 @@ STYLES = {
 
 
 def rules(at):
-    """The rules of all classes, by day or by night."""
+    """The rules of all classes, for light mode or for dark mode."""
     return "".join(f".{name}{{{styles[at]}}}" for name, styles in STYLES.items())
 
 
@@ -149,7 +149,7 @@ CSS = "text{font:12px Menlo,Consolas,monospace}" + rules(0) + "@media (prefers-c
 
 
 def cut(text):
-    """A text, cut."""
+    """A text, cut if it is too long."""
     return text if len(text) <= CUT else text[: CUT - 2] + b".."
 
 
@@ -184,7 +184,7 @@ def opened(tag, attributes):
 
 
 def shape(tag, text=b"", **attributes):
-    """An element with a text alone."""
+    """An element that has only a text."""
     return opened(tag, attributes) + escaped(text) + f"</{tag}>\n"
 
 
@@ -208,7 +208,7 @@ class Box:
 
 
 class Layout:
-    """Where all is drawn."""
+    """The places of all that is drawn."""
 
     def __init__(self, moments):
         self.moments = moments
@@ -330,7 +330,7 @@ def picture(moments):
 
 
 def wrong(asked, matrices, seed):
-    """Returns what is drawn otherwise of the script of a seed, or none."""
+    """Returns what is drawn wrongly for the script of a seed, or None."""
     chance = random.Random(seed)
     script = scripts.by_chance(chance, "statements", chance.choice([None, None, 300]))
     lines, refusal = language.read(script, "statements")
@@ -348,7 +348,7 @@ def wrong(asked, matrices, seed):
 
 
 def main():
-    """Draws random scripts for so many seconds, and returns the status to end with."""
+    """Draws random scripts for the seconds that are asked for, and returns the exit status."""
     words = argparse.ArgumentParser(description=__doc__, formatter_class=argparse.RawDescriptionHelpFormatter)
     words.add_argument("program", nargs="?", default=PROGRAM)
     words.add_argument("--mdlsim", default=MDLSIM)

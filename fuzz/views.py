@@ -28,7 +28,7 @@ SCOPES = ("GLOBAL", "SCHEMA", "COMMIT")
 OBJECTS = ("TABLE", "USER LEVEL LOCK")
 READING = {"SH", "SR", "SRO"}
 
-# With which granted modes a wish clashes, and behind which waiting ones it waits.
+# With which granted modes a requested mode clashes, and behind which waiting ones it waits.
 OBJECT_GRANTED = {
     "S": "X", "SH": "X", "SR": "SNRW X", "SW": "SRO SNW SNRW X", "SWLP": "SRO SNW SNRW X", "SU": "SU SNW SNRW X", "SRO": "SW SWLP SNRW X",
     "SNW": "SW SWLP SU SNW SNRW X", "SNRW": "SR SW SWLP SU SRO SNW SNRW X", "X": " ".join(OBJECT_MODES),
@@ -46,23 +46,23 @@ COLUMNS = 100
 
 
 class Lock:
-    """Who holds a lock and who waits for it: pairs of a session and a mode."""
+    """A lock, with what is granted and what waits: pairs of a session and a mode."""
 
     def __init__(self, kind, name, granted=(), waiting=()):
         self.kind, self.name, self.granted, self.waiting = kind, name, list(granted), list(waiting)
 
     def is_scoped(self):
-        """Whether it is a lock of a scope."""
+        """Whether it is a scoped lock."""
         return self.kind in SCOPES
 
     def weight(self, mode):
-        """Returns the weight of a wish."""
+        """Returns the weight of a request for a mode."""
         if self.kind in ("GLOBAL", "USER LEVEL LOCK"):
             return 100 if self.kind == "GLOBAL" else 50
         return 100 if list(MODES).index(mode) >= list(MODES).index("SU") else 0
 
     def blockers(self, settled, wish):
-        """Returns what is in the way of a waiting ticket: a session and why, granted tickets first."""
+        """Returns what blocks a waiting ticket: sessions, each with the reason, granted tickets first."""
         session, mode = wish
         clashes = (SCOPED_GRANTED if self.is_scoped() else OBJECT_GRANTED)[mode].split()
         behind = (SCOPED_WAITING if self.is_scoped() else OBJECT_WAITING)[mode].split()
@@ -72,7 +72,7 @@ class Lock:
         return holds + waits
 
     def after(self, settled, session):
-        """Returns who is granted if a session ends, in order, and the lock that is left."""
+        """Returns the tickets that are granted if a session ends, in order, and the lock as it is then."""
         left = Lock(self.kind, self.name, *([ticket for ticket in tickets if ticket[0] != session] for tickets in (self.granted, self.waiting)))
         granted = []
         while True:
@@ -86,7 +86,7 @@ class Lock:
 
 
 class Rows:
-    """What is to be found in rows."""
+    """What mdlview has to find in rows."""
 
     def __init__(self, text):
         head, *lines = [line.split("\t") for line in text.splitlines()]
@@ -112,17 +112,17 @@ class Rows:
         self.locks = list(locks.values())
 
     def thread(self, session):
-        """Returns a session by its thread."""
+        """Returns the thread of a session."""
         return self.threads[session - 1]
 
     def left_out_line(self):
-        """Returns what is printed of rows that are left out."""
+        """Returns what is printed for rows that are left out."""
         count, kinds = sum(self.left_out.values()), [f"{kind} {rows}" for kind, rows in self.left_out.items()]
         more = f", and of {len(kinds) - MOST_LINES} more types" if len(kinds) > MOST_LINES else ""
         return cut(COLUMNS, f"{count} row{'' if count == 1 else 's'} left out: " + ", ".join(kinds[:MOST_LINES]) + more) + "\n" if count else ""
 
     def pairs(self):
-        """Returns each waiting ticket with each in its way."""
+        """Returns each waiting ticket that isn't settled with each ticket that blocks it."""
         return [(lock, wish, *blocker) for lock in self.locks for wish in lock.waiting if wish[0] not in self.settled
                 for blocker in lock.blockers(self.settled, wish)]
 
@@ -210,7 +210,7 @@ def name_of(kind, schema, name):
 
 
 def cut(room, text):
-    """Returns a text in this room."""
+    """Returns a text, cut if it is too long for this room."""
     return text if len(text) <= room else text[: room - 2] + ".."
 
 
@@ -225,7 +225,7 @@ def first_lines(lines, more):
 
 
 def wrong(program, seed):
-    """Returns what is printed otherwise of the rows of a seed, or none."""
+    """Returns what is printed wrongly for the rows of a seed, or None."""
     text = random_rows(random.Random(seed))
     rows = Rows(text)
     for question, wanted in (("waits", rows.waits()), ("why", rows.why())):
@@ -238,7 +238,7 @@ def wrong(program, seed):
 
 
 def main():
-    """Looks at random rows for so many seconds, and returns the status to end with."""
+    """Checks random rows for the seconds that are asked for, and returns the exit status."""
     words = argparse.ArgumentParser(description=__doc__, formatter_class=argparse.RawDescriptionHelpFormatter)
     words.add_argument("program", nargs="?", default=PROGRAM)
     words.add_argument("--seconds", type=float, default=60)

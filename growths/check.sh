@@ -1,10 +1,10 @@
 #!/bin/sh
-# Leads the lives of mdl_growth_trials once for each of their allocations, which is refused: they have to go well all the same.
-# The program makes as many allocations before its lives as its word says, and to each run the allocation of the same
-# number is refused, so each word has another one of the lives refused. It is built here once, without its proof, which `rt ci` gives, and
-# runs compiled alone: the kit's interpreter can't run a program that reads its words, and one step is enough for it to say so.
-# Then mdlsim plays an example on threads, behind more and more lines: to each run one allocation is refused, and it has to tell just that, unless a cache
-# alone lacks the memory.
+# Runs the lives of mdl_growth_trials once for each of their allocations, which is refused: they have to succeed all the same.
+# The program makes the number of allocations that its argument says before its lives. In each run the allocation with the same number is refused, so each
+# argument makes another allocation of the lives fail. The program is built here once, without its proof, which `rt ci` gives, and only its compiled form
+# runs: the kit's interpreter can't run a program that reads its arguments, and one step is enough for it to say so.
+# Then mdlsim plays an example on threads, after more and more lines. In each run one allocation is refused, and mdlsim has to report just that, unless
+# only a cache lacks the memory.
 # Usage: sh growths/check.sh        each allocation, in some twenty minutes
 #        sh growths/check.sh 23     every twenty-third of them
 growths=$(cd "$(dirname "$0")" && pwd)
@@ -12,13 +12,13 @@ sh "$growths/../make/needs.sh" rt python3 awk || exit 1
 made=$(mktemp -d)
 trap 'rm -rf "$made"' EXIT
 
-# The number of the allocation that is refused. It has to be more than a run makes: some 1,490, those that read the word included.
+# The number of the allocation that is refused. It has to be more than a run makes: some 1,490, those that read the argument included.
 refused=1600
 
-# The same of mdlsim, where it plays the example alone.
+# The same for mdlsim, when it plays the example alone.
 refused_on_threads=400
 
-# Refuses the allocation of this number to the program in whose folder this is, in each of the cases: NUMBER CASES
+# Runs the program of the current folder on each of the cases, and refuses it the allocation with this number: NUMBER CASES
 play() {
     if ! rt try --steps 1 --seconds 900 --fail-alloc "$1" --cases "$2" > "$made/log" 2>&1; then
         cat "$made/log" >&2
@@ -36,20 +36,20 @@ done
 play $refused "$made/lives"
 echo "$(ls "$made/lives" | grep -c args) growths were refused, one in each run, and nothing was lost"
 
-# Lays down the example behind so many lines: the more they are, the earlier in the run the allocation of that number comes.
+# Writes the example after this number of lines. The more they are, the earlier in the example the refused allocation comes: LINES
 lay() {
     { seq -f '1 SELECT t%.0f' "$1"; cat "$growths/../examples/two_threads.run"; } > "$made/plays/$1"
     echo run > "$made/plays/$1.args"
 }
 
-# The answers to the example behind so many lines, if nothing is refused.
+# The answers to the example after this number of lines, if nothing is refused: LINES
 answers() {
     seq -f '%.0f 1 ERR 1146' 1 "$1"
     awk -v LINES="$1" '$1 != "FINAL" { $1 += LINES } { print }' "$growths/../examples/two_threads.answers"
 }
 
-# Whether all cases but the example alone, which `rt try` compares, ended with status 3, and told nothing but that memory ran out; or gave all answers, since
-# a cache of definitions lacked the memory, which is no fault. Those that didn't are named.
+# Whether each case except the example alone, which `rt try` compares, ended with status 3 and reported only that memory ran out, or gave all answers
+# because a cache of definitions lacked the memory, which is no fault. Prints the cases that did neither.
 nothing_else_is_told() {
     awk -v WHOLE="$made/whole" '/^== / { told = ""; next }
         /^allocations: / { next }

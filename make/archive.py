@@ -1,5 +1,5 @@
-"""Builds the libraries for C, proved, as crates/NAME/out/libNAME.a: over the libraries below them as `rt ci` built them last, where they are there, and
-else over those that `rt lib` then proves and builds first.
+"""Builds and proves the libraries for C, as crates/NAME/out/libNAME.a. It uses the libraries that they depend on as `rt ci` built them last. If these aren't
+there, `rt lib` proves and builds them first.
 
 Usage, at the top of the repository:
     python3 make/archive.py               all, which are the lines `NAME staticlib: ..` of crates.txt
@@ -22,14 +22,14 @@ def all_archives():
 
 
 def words_of(crate, archive):
-    """Returns the words that build the archive over what is there."""
+    """Returns the command that builds the archive with the libraries that are there."""
     words = wrong_bodies.command_for(crate)
     words[words.index("check")] = "build"
     return [*words, "--crate-type", "staticlib", "--toolchain", wrong_bodies.KIT / "toolchain", "--backend", "llvm", "-o", archive]
 
 
 def build(crate):
-    """Builds one, and returns the status to end with. What the prover says is shown where that fails."""
+    """Builds one, and returns the exit status. What the prover says is shown if that fails."""
     folder = wrong_bodies.CRATES / crate
     os.makedirs(folder / "out", exist_ok=True)
     try:
@@ -43,7 +43,7 @@ def build(crate):
 
 
 def main(crates):
-    """Builds these, or all, and returns the status to end with."""
+    """Builds these, or all if none is named, and returns the exit status."""
     return max(build(crate) for crate in crates or all_archives())
 
 

@@ -1,7 +1,7 @@
 #!/bin/sh
-# Proves a program and what it stands on, builds it, and runs it once with these words. It shows which crate is being proved, and how far;
-# all that is said goes to the program's out/build.log, which is shown where the build fails. At the end it says which libraries it trusted: those
-# that `make dist-libraries` packed.
+# Proves a program and the crates that it depends on, builds it, and runs it once with these words. It shows which crate is being proved, and how far.
+# All output goes to the program's out/build.log, which is shown if the build fails. At the end it says which libraries it trusted: those that
+# `make dist-libraries` packed.
 # Usage: sh make/build.sh CRATE WORD..
 crate=$1
 shift
@@ -28,7 +28,7 @@ if [ "$status" -ne 0 ]; then
     exit "$status"
 fi
 
-# A library that is built anew loses this file, so those that have it were trusted.
+# A library that is rebuilt loses this file, so the libraries that have it were trusted.
 cat ../*/out/rlib/proved_elsewhere 2> /dev/null | sort -u | while IFS= read -r version; do
     echo "trusting the libraries of $version, proved elsewhere; \`make test\` proves everything" >&2
 done

@@ -1,7 +1,7 @@
 #!/bin/sh
-# Builds the libraries for C, proved, lays them out as `make install` does, and builds and runs the programs over them: those of examples/c, and those
-# of examples/rust and examples/python. It compares what they print with the answers beside them. Where there is no gcc it says so, and that is all;
-# where there is no cargo, those of Rust are left out.
+# Builds and proves the libraries for C, lays them out as `make install` does, and builds and runs the programs that use them: those of examples/c,
+# examples/rust and examples/python. It compares what they print with the answers beside them. Without gcc it only says that gcc is missing.
+# Without cargo it leaves out the program of Rust.
 # Usage: sh make/c.sh
 cd "$(dirname "$0")/.." || exit 1
 if ! command -v gcc > /dev/null; then
@@ -26,7 +26,7 @@ compare() {
     fi
 }
 
-# The words by which the compiler finds the libraries: from pkg-config, or, where that is missing, those that it would print.
+# The compiler options that find the libraries: from pkg-config, or, if that is missing, those that it would print.
 words_for_c() {
     if command -v pkg-config > /dev/null; then
         PKG_CONFIG_PATH=$made/lib/pkgconfig pkg-config --cflags --libs mdl mdl_text
@@ -35,7 +35,7 @@ words_for_c() {
     fi
 }
 
-# The headers are C++, too, where there is a compiler for that.
+# Checks that the headers are valid C++, too, if there is a compiler for that.
 read_as_cpp() {
     command -v g++ > /dev/null || return 0
     printf '#include "mdl.h"\n#include "mdl_text.h"\n' | g++ -x c++ -Wall -Wextra -Werror -fsyntax-only -I "$made/include" -

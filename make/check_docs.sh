@@ -1,8 +1,8 @@
 #!/bin/sh
-# Says what is stale in the docs, a line for each thing, or that nothing is.
-# Usage: sh make/check_docs.sh                looks
+# Prints what is stale in the docs, one line for each thing, or that nothing is.
+# Usage: sh make/check_docs.sh                checks the docs
 #        sh make/check_docs.sh figures        prints the table of lines that docs/GATE.md ought to have
-#        sh make/check_docs.sh update         puts that table there
+#        sh make/check_docs.sh update         puts that table there, and the right line numbers into docs/CLAIMS.md
 #        sh make/check_docs.sh definitions    prints each file of definitions, and what its first comment says
 #        sh make/check_docs.sh words          prints how many words each page has
 cd "$(dirname "$0")/.." || exit 1
@@ -23,18 +23,18 @@ crates() {
     sed -n 's/^\([a-z][a-z_0-9]*\)[^#]*:.*/\1/p' crates.txt
 }
 
-# Those that others stand on, and the program: no tests, examples or timings.
+# The crates that others depend on, and the programs: no tests, examples or timings.
 library_crates() {
     crates | grep -v -e 'trials$' -e 'examples\{0,1\}$' -e '_bench$'
 }
 
-# The files of definitions, as CRATE/specs/NAME: all but those that only gather others.
+# The files of definitions, as CRATE/specs/NAME: all except those that only gather others.
 spec_files() {
     grep -L '^-- The words of this crate for those above it' crates/*/specs/*.antt \
         | sed -n '/\/Lib\.antt$/d; /\/Tests\.antt$/d; s|^crates/\(.*\)\.antt$|\1|p'
 }
 
-# Those files, each with the comment at its head.
+# The files of definitions, each with the comment at its head.
 definitions() {
     spec_files | while read -r file; do
         awk -v FILE="$file" '/^-- / { text = text substr($0, 3); next } { exit } END { print FILE ":" text }' "crates/$file.antt"
@@ -78,7 +78,7 @@ words() {
     wc -w $pages
 }
 
-# What stands between back quotes in a column of the table of a page that begins so.
+# The words between back quotes in one column of a page's table: PAGE, the beginning of the table's first line, COLUMN
 column() {
     awk -v HEAD="$2" -v AT="$3" 'index($0, HEAD) == 1 { on = 1 } !/^\|/ { on = 0 } on { split($0, cell, "|"); print cell[AT + 1] }' "$1" \
         | grep -o '`[^`]*`' | tr -d '`'
@@ -91,13 +91,13 @@ headings() {
 
 # ---- what is stale
 
-# What a list has and the standard input lacks, a line each, in a message in which & stands for it.
+# Prints a message for each entry of a list that standard input lacks. In the message & is replaced by the entry: MESSAGE LIST
 lacking() {
     sort -u > "$made/told"
     sort -u "$made/$2" | comm -23 - "$made/told" | sed "s|.*|$1|"
 }
 
-# Likewise both ways, for a page that ought to tell just what the list has.
+# Does the same in both directions, for a page that has to name just what the list has.
 differing() {
     lacking "$1: & is missing" "$2"
     sort -u "$made/$2" | comm -13 - "$made/told" | sed "s|.*|$1: there is no &|"
@@ -137,7 +137,7 @@ stale_paths() {
         done
 }
 
-# Each file of definitions says what it defines, and stands on its crate's page.
+# Each file of definitions says what it defines, and its crate's page names it.
 stale_definitions() {
     definitions | sed -n 's|:$|: no comment at its head says what it defines|p'
     spec_files | grep -v -e 'trials/' -e 'examples\{0,1\}/' > "$made/read"
@@ -152,8 +152,8 @@ stale_names() {
     awk -F '\t' -f make/docs/rows.awk "$made/by-file" "$made/words"
 }
 
-# Each public call of a library is named on its crate's page, in the index of docs/PROOFS.md, or in the table of memory. But for the row of others,
-# that has all calls of a file, or none.
+# Each public call of a library is named on its crate's page, in the index of docs/PROOFS.md, or in the table of memory. Except for the row
+# `of others`, that table has all calls of a file, or none.
 stale_calls() {
     calls > "$made/calls"
     awk -F '\t' -f make/docs/unnamed.awk "$made/words" "$made/calls"
@@ -182,7 +182,7 @@ stale_readme() {
     grep -q -F "\`$(rt version)\`" README.md || echo "README.md: the kit is $(rt version)"
 }
 
-# Each sentence of README.md has a row in docs/CLAIMS.md, and each row a sentence, and what it names at the line that it says.
+# Each sentence of README.md has a row in docs/CLAIMS.md, each row has a sentence, and what a row names is at the line that it says.
 stale_claims() {
     [ "$(wc -w < docs/CLAIMS.md)" -le 2200 ] || echo 'docs/CLAIMS.md: more than 2,200 words'
     python3 make/docs/claims.py
@@ -202,7 +202,7 @@ stale() {
     stale_claims
 }
 
-# Puts the table of lines into docs/GATE.md.
+# Puts the table of lines into docs/GATE.md, and the right line numbers into docs/CLAIMS.md.
 update() {
     python3 make/docs/claims.py update > "$made/claims" # the lines of docs/CLAIMS.md
     figures > "$made/figures"

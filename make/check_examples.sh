@@ -1,8 +1,8 @@
 #!/bin/sh
-# Says which library crates show another example at the head of their src/lib.rt than the file of examples that names them, a line for each, or
-# that there is none. Such a file stands in mdl_examples, in src/examples of a crate of trials, or in src of a program that is an example. And which
-# code of docs/EMBEDDING.md isn't in the program that it is from, which `make c` builds and runs.
-# Usage: sh make/check_examples.sh           looks
+# Prints which library crates show an example at the head of src/lib.rt that differs from the file of examples that names them, one line for each, or
+# that there is none. Such a file is in mdl_examples, in src/examples of a crate of trials, or in src of a program that is an example. Also prints
+# which code of docs/EMBEDDING.md isn't in the program that it is from, which `make c` builds and runs.
+# Usage: sh make/check_examples.sh           checks the examples
 #        sh make/check_examples.sh update    puts the examples there
 cd "$(dirname "$0")/.." || exit 1
 sh make/needs.sh awk cmp python3 || exit 1
@@ -11,8 +11,8 @@ export LC_ALL
 made=$(mktemp -d)
 trap 'rm -rf "$made"' EXIT
 
-# The library crates: those with a src/lib.rt that are no tests. mdl_steps_laws and mdl_session_laws have nothing to call: their functions only state
-# laws. mdl_c and mdl_text are called from C, as examples/c does.
+# The library crates that show an example: those with a src/lib.rt that are no tests. mdl_steps_laws and mdl_session_laws have nothing to call: their
+# functions only state laws. mdl_c and mdl_text are called from C, as in examples/c.
 libraries() {
     ls crates/*/src/lib.rt | cut -d/ -f2 | grep -v -x -e '.*trials' -e 'mdl_examples' -e 'mdl_steps_laws' -e 'mdl_session_laws' -e 'mdl_c' -e 'mdl_text'
 }
@@ -22,12 +22,12 @@ file_of() {
     grep -l -x "//! \`$1\`: .*" crates/mdl_examples/src/*.rt crates/*_trials/src/examples/*.rt crates/*_example/src/*.rt
 }
 
-# The head of a file is all comments that begin it. Its section of an example is the last one there.
+# The section of the example in the comments at the head of a file. It is the last section there.
 section() {
     awk '!/^\/\/!/ { exit } $0 == "//! # Example" { on = 1 } on' "$1"
 }
 
-# A file with the section that the standard input has, at the end of its head.
+# Prints a file with the section from standard input at the end of its head comments.
 with_section() {
     cat > "$made/section"
     awk -v SECTION="$made/section" '

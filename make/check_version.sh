@@ -1,6 +1,6 @@
 #!/bin/sh
-# Says where the version is another one than in the file VERSION, a line for each place, or that there is none. The newest version of CHANGELOG.md
-# and the manual pages also have the same date.
+# Prints each place where the version differs from the file VERSION, one line for each, or that there is none. The newest version of CHANGELOG.md and
+# the manual pages must also have the same date.
 # Usage: sh make/check_version.sh
 cd "$(dirname "$0")/.." || exit 1
 version=$(cat VERSION)
@@ -10,7 +10,7 @@ trap 'rm -f "$stale"' EXIT
 # The newest version of the change log, as VERSION DATE. `Unreleased` has neither.
 newest=$(sed -n 's/^## \[\([0-9.]*\)\] - \([0-9-]*\)$/\1 \2/p' CHANGELOG.md | head -n 1)
 
-# Says it where a file has no line with these words: FILE WORDS
+# Reports a file that has no line with these words: FILE WORDS
 has() {
     grep -q -F -e "$2" "$1" || printf '%s: there is no line with %s\n' "$1" "$2"
 }

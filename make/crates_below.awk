@@ -1,4 +1,4 @@
-# Prints crates and those below them, a line each; with KIT=1 the libraries of the kit that these name instead.
+# Prints crates and all that they depend on in this repository, one on each line. With KIT=1 it prints the libraries of the kit that these name instead.
 # Usage: awk -v CRATES="NAME.." [-v KIT=1] -f crates_below.awk crates.txt
 function visit(name,   below, count, i) {
     if (seen[name]++) {

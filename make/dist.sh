@@ -1,8 +1,8 @@
 #!/bin/sh
 # Packs programs and the libraries for C, as they were built last, for machines without the kit: dist/gazmirov-VERSION-x86_64-linux.tar.gz, and its
 # checksum beside it.
-# With git, the program is built once more with the commit in what `--version` prints: make/program_of.sh. The object file of the proved build is
-# linked again without shared libraries. Where that can't be done, the program is packed as it is, and the README of the tarball says which C
+# With git, each program is built once more with the commit in what `--version` prints: make/program_of.sh. The object file of the proved build is
+# linked again without shared libraries. If that can't be done, the program is packed as it is, and the README of the tarball says which C
 # library it needs.
 # Usage: sh make/dist.sh PROGRAM..    each the name of a crate
 cd "$(dirname "$0")/.." || exit 1
@@ -19,7 +19,7 @@ top=$made/$name
 
 libraries='mdl_c mdl_text'
 
-# What was built of a crate is there, and is newer than all that it was built from: CRATE FILE
+# Checks that a file built from a crate exists, and is newer than all that it was built from: CRATE FILE
 look_at() {
     built=crates/$1/out/$2
     if [ ! -e "$built" ]; then
@@ -35,13 +35,13 @@ look_at() {
     done
 }
 
-# Whether the object file beside a program is the one that it was linked from: linked so again, it gives the same program. FOLDER PROGRAM
+# Whether the object file beside a program is the one that it was linked from: linked again in the same way, it gives the same program. FOLDER PROGRAM
 has_object() {
     [ -s "$1/$2.o" ] && "$kit/bin/rattle-link" --target x86_64-unknown-linux-gnu --toolchain "$kit/toolchain" -o "$made/again" \
         "$1/$2.o" "$kit/c/libos_c.a" "$kit/c/liblibc_c.a" 2> /dev/null && cmp -s "$made/again" "$1/$2"
 }
 
-# Links a program without shared libraries, and lays the files beside it from which whoever has another C library can link it again.
+# Links a program without shared libraries, and puts beside it the files from which a user with another C library can link it again.
 link_static() {
     from=$(sh make/program_of.sh "$1") && has_object "$from" "$1" || return 1
     mkdir -p "$top/relink" && cp "$from/$1.o" "$kit/c/libos_c.a" "$kit/c/liblibc_c.a" "$top/relink" || return 1
@@ -58,7 +58,7 @@ needs_of() {
     fi
 }
 
-# The libraries of the kit that the crates stand on, and those below them.
+# The libraries of the kit that the crates depend on, and those that these libraries depend on.
 kit_libraries() {
     awk -v CRATES="$*" -v KIT=1 -f make/crates_below.awk crates.txt > "$made/libraries"
     while read -r library; do
@@ -81,7 +81,7 @@ put_licences() {
     fi
 }
 
-# The README, in which lines `@NEEDS@` and `@RELINK@` stand for what is known only here.
+# Writes the README. Its lines `@NEEDS@` and `@RELINK@` are replaced by what is known only here.
 put_readme() {
     for program in "$@"; do
         needs_of "$program"

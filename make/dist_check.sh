@@ -1,6 +1,6 @@
 #!/bin/sh
 # Unpacks what `make dist` packed into an empty folder, and tries it there without the kit: its checksums, the versions, the examples, a script
-# that is refused, the manual pages, and the completions of bash where bash is there.
+# that is refused, the manual pages, the completions of bash if bash is there, and two programs of C if gcc and pkg-config are there.
 # Usage: sh make/dist_check.sh PROGRAM..
 cd "$(dirname "$0")/.." || exit 1
 version=$(cat VERSION)
@@ -35,7 +35,7 @@ completes() {
     [ "$(alone bash -c '. share/bash-completion/completions/mdlsim; COMP_WORDS=(mdlsim run --p); COMP_CWORD=2; _mdlsim; echo "${COMPREPLY[@]}"')" = --patience ]
 }
 
-# Builds a program of C with the words that the file of pkg-config has, and runs it: NAME LIBRARY
+# Builds a program of C with the options that pkg-config prints, runs it, and compares its answers: NAME LIBRARY
 builds() {
     command -v gcc > /dev/null && command -v pkg-config > /dev/null || return 0
     words=$(alone PKG_CONFIG_PATH=lib/pkgconfig pkg-config --cflags --libs "$2") || return 1

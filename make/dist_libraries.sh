@@ -1,11 +1,11 @@
 #!/bin/sh
-# Packs the proved libraries below programs, as they were built last, for checkouts of the same commit on other machines that have the same kit:
+# Packs the proved libraries that programs depend on, as they were built last, for checkouts of the same commit on other machines with the same kit:
 # dist/gazmirov-VERSION-libraries.tar.gz, and its checksum beside it. Unpacked at the top of a checkout, they spare `make run` their proofs.
-# Each is the folder out/rlib of its crate: the library, and its stamp, by which `rt` takes it for that of these sources. `rt ci` writes no
-# stamps, so they are written here. The file `proved_elsewhere` beside a stamp has make/build.sh say that the library is trusted.
+# Each is the folder out/rlib of its crate: the library, and its stamp, by which `rt` recognizes it as built from these sources. `rt ci` writes
+# no stamps, so this script writes them. The file `proved_elsewhere` beside a stamp makes make/build.sh say that the library is trusted.
 # Usage: sh make/dist_libraries.sh pack PROGRAM..
 #        sh make/dist_libraries.sh check PROGRAM..     unpacks them in a new clone, and builds the programs there
-#        sh make/dist_libraries.sh program PROGRAM..    builds the programs so once more, with the commit in what `--version` prints. They and their
+#        sh make/dist_libraries.sh program PROGRAM..    builds the programs in a clone, with the commit in what `--version` prints. They and their
 #                                                      object files go to out/of_commit of their crates
 cd "$(dirname "$0")/.." || exit 1
 sh make/needs.sh rt python3 git tar gzip sha256sum || exit 1
@@ -16,7 +16,7 @@ name=gazmirov-$version-libraries
 made=$(mktemp -d)
 trap 'rm -rf "$made"' EXIT
 
-# The library of a crate is there, and is of these sources: by its stamp, or without one by its age: CRATE STAMP
+# Checks that a crate's library exists, and is built from these sources: by its stamp, or, if it has none, by its age: CRATE STAMP
 look_at() {
     library=crates/$1/out/rlib
     if [ ! -d "$library/$1.rlib" ]; then
@@ -34,7 +34,7 @@ look_at() {
     fi
 }
 
-# Lays a library down with its stamp, and with the version that proved it, unless that stands there from elsewhere: CRATE STAMP
+# Copies a library, and writes its stamp and the version that proved it. A library that was proved elsewhere keeps that version: CRATE STAMP
 lay() {
     to=$made/crates/$1/out/rlib
     mkdir -p "$to" && cp -r "crates/$1/out/rlib/$1.rlib" "$to" && printf '%s' "$2" > "$to/stamp" || return 1
@@ -55,7 +55,7 @@ pack() {
     echo "dist/$name.tar.gz: unpack it at the top of a checkout of commit $(sh make/commit.sh), for $(rt version)"
 }
 
-# Whether each library in a folder of this clone has the stamp that its sources ask for.
+# Whether each library in this clone has the stamp that its sources require.
 are_of_these_sources() {
     python3 make/stamps.py "$@" > "$made/stamps" || return 1
     while read -r crate stamp; do
@@ -78,12 +78,12 @@ build() {
     return "$status"
 }
 
-# Puts the commit behind the version that a program prints, in its code and in the definition that its contract cites.
+# Appends the commit to the version that a program prints, in its code and in the definition that its contract cites.
 name_commit() {
     sed -i "s/\"$1 $version/& ($2)/" "crates/$1/src/program.rt" "crates/$1/specs/CommandLine.antt"
 }
 
-# What differs from the commit goes to the clone, too.
+# Builds programs in a clone, with the changes since the commit applied.
 program() {
     here=$PWD
     commit=$(sh make/commit.sh)
@@ -100,7 +100,7 @@ program() {
     done
 }
 
-# Nothing but the programs is proved there.
+# Builds programs in a clone with the packed libraries. Only the programs themselves may be proved there.
 check() {
     packed=$PWD/dist/$name.tar.gz
     clone && tar -xzf "$packed" && are_of_these_sources "$@" || return 1

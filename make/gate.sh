@@ -1,13 +1,13 @@
 #!/bin/sh
-# The gate: proves everything from nothing and runs all tests, tries the wrong bodies over what was proved, compares with what the proved
-# program answers to the examples and does by its words, plays 8,000 random scripts, refuses every twenty-third growth, and runs the programs of C.
-# At the end it says how much processor time that took.
+# The gate: proves everything from nothing and runs all tests, tries the wrong bodies with the proved libraries, checks the proved programs' answers to
+# the examples and their command lines, plays 8,000 random scripts, refuses every twenty-third growth, and runs the programs of C.
+# At the end it prints how much processor time that took.
 # Usage: sh make/gate.sh, at the top of the repository.
 spent=$(mktemp)
 trap 'rm -f "$spent"' EXIT
 
-# Each check has one processor, and there are as many at a time as processors, with 4.5 GB for each: with more processors for one check it
-# ends sooner, and takes up to two and a half times the processor time.
+# Each check has one processor. At a time there are as many checks as processors, if there are 4.5 GB for each. With more processors for one check it
+# ends sooner, but takes up to two and a half times the processor time.
 RT_JOBS=$(awk -v most="$(nproc)" '/^MemAvailable:/ { fit = int($2 / 4.5e6); print fit < 1 ? 1 : fit < most ? fit : most }' /proc/meminfo)
 export RT_JOBS
 

@@ -18,7 +18,7 @@ put_page() {
     fi
 }
 
-# A completion, where there is one.
+# Copies a completion, if there is one: NAME TO
 put_completion() {
     if [ -e "commands/completions/$1" ]; then
         put "commands/completions/$1" "$2" 644

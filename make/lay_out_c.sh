@@ -20,7 +20,7 @@ put_library() {
     done
 }
 
-# The three functions of memory, by the C library's: whoever has others leaves them out.
+# The archive of the three memory functions, which call the C library's. A program that has its own leaves this archive out.
 put_memory() {
     put "$kit/c/liblibc_c.a" "$folder/lib/libmdl_malloc.a"
 }

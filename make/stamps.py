@@ -1,5 +1,5 @@
-"""Prints the libraries below programs, a line each: the crate's name, and the stamp by which `rt` tells that the library in the crate's out/rlib is
-of these sources. The stamps are computed by the kit's own module, from the sources, crates.txt and the kit alone.
+"""Prints the libraries that programs depend on, one line each: the crate's name, and the stamp by which `rt` recognizes that the library in the crate's
+out/rlib is built from these sources. The stamps are computed by the kit's own module, from the sources, crates.txt and the kit alone.
 
 Usage, at the top of the repository: python3 make/stamps.py PROGRAM..
 """
@@ -13,7 +13,7 @@ import rtlib  # noqa: E402 (it lies beside rt)
 
 
 def main(programs):
-    """Prints the lines, and returns the status to end with."""
+    """Prints the lines, and returns the exit status."""
     crates = {crate.name: crate for crate in rtlib.crates_below(os.getcwd())}
     lacking = [name for name in programs if name not in crates]
     if lacking or not programs:

@@ -17,7 +17,7 @@ say 'answers up to 1 MB, and plays for up to 60 seconds; make run has no such li
 rt try -- "$@" < "$script" 2> "$told"
 status=$?
 
-# The kit's last line says what became of the run.
+# The kit's last line says how the run ended.
 case "$(tail -n 1 "$told")" in
     run=ended*)
         sed '/^checked: /d; /^races: /d; /^interpreter: /d; /^run=/d' "$told" >&2

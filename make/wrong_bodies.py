@@ -4,24 +4,24 @@ A wrong body is a file wrong_bodies/CRATE/NAME.edit of such lines:
 
     refused: mdl_key::key::check_name      the function that has to be refused, by the name that a check prints
     file: src/key.rt                       the file that is changed
-    old: if name.len() > LONGEST_NAME {    a text that stands there once, in one line
+    old: if name.len() > LONGEST_NAME {    a text that occurs there once, in one line
     new: if name.len() > 65 {              what is put in its place
 
-with more pairs of `old` and `new`, and more files, where it takes them, and with the line `tried: among all` where another body says as
-much to the gate. A function is proved over the contracts of those that it calls, whatever their bodies are. So all wrong bodies of a crate
-are put in place together, in a copy, and one check is asked for the functions that they name; only those that touch the same text, or the
-same function, take turns. The bodies of the functions that have no wrong one are left out of the copy, since they would only be proved
-again. That a function calls one that is refused, or that was left out, doesn't count: it has to fail by itself. Where its proof only
-misses a name that the body took away, that says little of the contract, and is told.
+It may have more pairs of `old` and `new`, and more files. The line `tried: among all` leaves it out of the gate, because another body shows as much.
+A function is proved with the contracts of the functions that it calls, whatever their bodies are. So all wrong bodies of a crate are put in place
+together, in a copy, and one check covers the functions that they name. Only bodies that change the same text, or the same function, take turns. The
+bodies of the functions that have no wrong one are left out of the copy, since they would only be proved again. That a function calls one that is
+refused, or that was left out, doesn't count: it has to fail by itself. If its proof only misses a name that the body removed, that says little about
+the contract, and is reported.
 
-The check reads the libraries below the crate as `rt ci`, or `rt check` in a crate's folder, built them last.
+The check uses the libraries that the crate depends on as `rt ci`, or `rt check` in a crate's folder, built them last.
 
 Usage, at the top of the repository:
     python3 make/wrong_bodies.py                    all
     python3 make/wrong_bodies.py CRATE [NAME ..]    those of a crate, or some of them
     python3 make/wrong_bodies.py --gate [CRATE]     all but those that are tried only among all
-    python3 make/wrong_bodies.py --right [CRATE]    none, but the right bodies in the same copies: says which of these would be refused
-    python3 make/wrong_bodies.py --fit              none: says which of them don't fit the files that they change
+    python3 make/wrong_bodies.py --right [CRATE]    no wrong ones, but the right bodies in the same copies: prints which would be refused
+    python3 make/wrong_bodies.py --fit              tries none: prints which of them don't fit the files that they change
 """
 
 import collections
@@ -38,25 +38,25 @@ import tempfile
 BODIES = pathlib.Path("wrong_bodies")
 CRATES = pathlib.Path("crates")
 
-# The kit, by where its command lies.
+# The kit's folder, found by its command.
 KIT = pathlib.Path(shutil.which("rt") or "rt").resolve().parent.parent
 
-# How a check words that a proof names what a body took away, which says nothing of the contract.
+# The messages of a check for a proof that names what a body removed. They say nothing about the contract.
 LOST_NAME = re.compile(r"has no field|is not in scope|has no `|was not admitted")
 
-# The first line of a function, of what has a type's own functions, and of a type.
+# The first line of a function, of a type's `impl`, and of a type.
 FUNCTION = re.compile(r"( {4})?(?:pub(?:\([a-z]+\))? )?(?:const )?fn (\w+)")
 OWNER = re.compile(r"impl(?:<[^{]*?>)? (\w+)(?:<[^{]*>)? \{")
 TYPE = re.compile(r"^(?:pub(?:\([a-z]+\))? )?(?:struct|enum) (\w+)", re.MULTILINE)
 
-# Stands for the proof of a function that is left out. It is refused at once, and what calls the function is checked to its end.
+# Replaces the proof of a function that is left out. It is refused at once, and the functions that call it are checked to their end.
 NO_PROOF = """use Rattle.{crate}.proofs.{path}.Statement.{{statement}}
 
 pub {name}_spec : {{M : Type 1}} → statement M
 {name}_spec = nowhere
 """
 
-# What becomes of a wrong body.
+# The outcomes of a wrong body, or of a right one.
 REFUSED, BY_A_NAME, MISSED, PASSED = "refused", "refused for a name alone", "not as it should be", "passed"
 
 
@@ -66,7 +66,7 @@ class Unfit(Exception):
 
 @dataclasses.dataclass
 class WrongBody:
-    """The function that has to be refused, which texts are put in place of which, and whether it is tried only where all are asked for."""
+    """A wrong body: its name, the function that has to be refused, which texts replace which, and whether it is tried only when all are."""
 
     name: str
     refused: str
@@ -74,7 +74,7 @@ class WrongBody:
     is_for_all: bool
 
     def spans_in(self, folder):
-        """Returns which parts of which files of a crate's folder it takes, and what it puts there: lists of (start, end, text)."""
+        """Returns which parts of which files of a crate's folder it replaces, and by what: lists of (start, end, text)."""
         spans = collections.defaultdict(list)
         for path, old, new in self.changes:
             text = (folder / path).read_text()
@@ -111,13 +111,13 @@ def read_body(file):
 
 @dataclasses.dataclass
 class Round:
-    """Bodies that are in their places at one time, and which parts of which files they take."""
+    """Bodies that are in place at the same time, and which parts of which files they replace."""
 
     bodies: list
     spans: dict
 
     def takes(self, body, spans):
-        """Adds a body that takes these parts, and returns whether there was room for it."""
+        """Adds a body that replaces these parts, unless it clashes with another one, and returns whether it was added."""
         crossed = any(
             start < of_end and of_start < end
             for path in spans
@@ -152,16 +152,16 @@ def rounds_of(bodies, folder):
 
 
 def told_of(function, said):
-    """Returns what a check that said these lines tells of a function: its verdict, and the errors in its proof."""
+    """Returns what these lines of a check say of a function: its verdict, and the errors in its proof."""
     *folders, name = function.split("::")[1:]
-    # (that of a function that calls itself is in a folder with a `+`)
+    # (the proof of a function that calls itself is in a folder with a `+`)
     proofs = tuple("/".join(["proofs", *folders, mark + name, ""]) for mark in ("", "+"))
     verdict = [it for it in said if it.startswith(f"fn {function}: ")]
     return verdict, [it for it in messages_of(said) if it.removeprefix("./").startswith(proofs) and ": error: " in it]
 
 
 def messages_of(said):
-    """Returns what a check said, each message with the indented lines that go on with it."""
+    """Returns the messages of a check, each with the indented lines that continue it."""
     messages = []
     for line in said:
         if line.startswith(" ") and messages:
@@ -172,7 +172,7 @@ def messages_of(said):
 
 
 def is_refused(function, said):
-    """Returns whether a check that said these lines has refused the function by itself, and whether for more than lost names."""
+    """Returns whether by these lines of a check the function failed by itself, and whether for more than lost names."""
     verdict, errors = told_of(function, said)
     if any("did not prove" in it for it in verdict):
         return True, True
@@ -192,7 +192,7 @@ def libraries_of(crate):
 
 
 def command_for(crate):
-    """Returns the words that check a crate in a copy of its folder."""
+    """Returns the command that checks a crate in a copy of its folder."""
     root = "src/main.rt" if (CRATES / crate / "src/main.rt").exists() else "src/lib.rt"
     words = [KIT / "bin/rattle", "check", "--crate-name", crate, root, "--links", f"{crate}=", "--jobs", "1"]
     words += ["--antt-project", KIT / "rattle/logic/antt-project.json", "--logic-built", KIT / "logic_built"]
@@ -204,7 +204,7 @@ def command_for(crate):
 
 
 def emptied(lines, module, types, but):
-    """Returns the lines of a file with the bodies of its functions emptied, but of these, and the paths of the emptied ones."""
+    """Returns the lines of a file with the bodies of its functions emptied, except those in `but`, and the paths of the emptied ones."""
     written, paths, owner, lines = [], [], None, iter(lines)
     for line in lines:
         written.append(line)
@@ -231,7 +231,7 @@ def emptied(lines, module, types, but):
 
 
 def leave_out(folder, but):
-    """Empties the functions in a crate's folder, but these and those of traits, and leaves out what proves them."""
+    """Empties the functions in a crate's folder, except those in `but` and those of traits, and leaves out their proofs."""
     source = folder / "src"
     modules = {
         file: [folder.name, *(part for part in file.relative_to(source).with_suffix("").parts if part not in ("lib", "main"))]
@@ -250,7 +250,7 @@ def leave_out(folder, but):
 
 
 def check(command, tried, folder, are_right):
-    """Has a crate checked in a folder with the bodies of a round, or the right ones, in their places, and returns what the check says."""
+    """Checks a crate in a folder with the bodies of a round, or the right ones, in place, and returns the lines that the check prints."""
     shutil.rmtree(folder, ignore_errors=True)
     for part in ("src", "specs", "proofs"):
         if (CRATES / folder.name / part).is_dir():
@@ -265,7 +265,7 @@ def check(command, tried, folder, are_right):
 
 
 def outcome_of(crate, body, said):
-    """Returns what becomes of a wrong body by what a check said, and says so where it isn't refused."""
+    """Returns the outcome of a wrong body by the lines of a check, and reports the body if it isn't refused."""
     refused, for_more = is_refused(body.refused, said)
     if refused:
         return REFUSED if for_more else BY_A_NAME
@@ -276,7 +276,7 @@ def outcome_of(crate, body, said):
 
 
 def right_outcome_of(crate, body, said):
-    """Returns what becomes of the right body of a function that has a wrong one by what a check said, and says so where it is refused."""
+    """Returns the outcome of the right body of a function that has a wrong one, by the lines of a check, and reports it if it is refused."""
     verdict, errors = told_of(body.refused, said)
     if verdict and not is_refused(body.refused, said)[0]:
         return PASSED
@@ -286,7 +286,7 @@ def right_outcome_of(crate, body, said):
 
 
 def try_crate(crate, bodies, are_right):
-    """Tries the wrong bodies of a crate, or the right ones, in a copy of it, and returns how many are not told as they should be."""
+    """Tries the wrong bodies of a crate, or the right ones, in a copy of it, and returns how many don't have the right outcome."""
     outcomes = collections.Counter()
     with tempfile.TemporaryDirectory(prefix="wrong-bodies-") as place:
         command = command_for(crate)
@@ -309,7 +309,7 @@ def size_of(crate):
 
 
 def try_all(found, are_right):
-    """Tries these wrong bodies, or the right ones, the largest crates first, one a processor, and returns how many aren't as they should be."""
+    """Tries these wrong bodies, or the right ones, the largest crates first, one for each processor, and returns how many don't have the right outcome."""
     crates = sorted(found, key=size_of, reverse=True)
     lanes = int(os.environ.get("RT_JOBS") or len(os.sched_getaffinity(0)))
     with concurrent.futures.ThreadPoolExecutor(lanes) as pool:
@@ -331,7 +331,7 @@ def bodies_of(words):
 
 
 def fit_all():
-    """Looks whether each wrong body fits, and each edit that `rt ci` tries."""
+    """Checks that each wrong body fits, and each edit that `rt ci` tries."""
     for crate, bodies in bodies_of([]).items():
         for body in bodies:
             body.spans_in(CRATES / crate)
@@ -340,7 +340,7 @@ def fit_all():
 
 
 def main(words):
-    """Tries the wrong bodies that the words name, or looks whether all fit, and returns the status to end with."""
+    """Tries the wrong bodies that the words name, or checks that all fit, and returns the exit status."""
     try:
         if words == ["--fit"]:
             fit_all()

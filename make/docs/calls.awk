@@ -1,5 +1,5 @@
-# Prints the public calls of a library crate, a line each: the crate, the file, and Type::call, or call alone where it is of no type. A call is
-# public where lib.rt, which comes first, exports it or its type; the calls of a public trait count.
+# Prints the public calls of a library crate, a line each: the crate, the file, and Type::call, or call alone if it belongs to no type. A call
+# is public if lib.rt, which has to come first, exports it or its type. The calls of a public trait count.
 # Usage: awk -v CRATE=NAME -f calls.awk LIB.rt FILE..
 function export_names(line,   name, names, i) {
     names = split(line, name, /[^A-Za-z0-9_]+/)

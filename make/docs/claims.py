@@ -1,17 +1,17 @@
-"""Says what is wrong in the table of claims, docs/CLAIMS.md, beside README.md, a line for each thing.
+"""Prints what is wrong in the table of claims, docs/CLAIMS.md, compared with README.md, one line for each thing.
 
 A row of the table is
 
     | first words of a sentence | what carries it | where |
 
-The words begin a sentence of README.md, and each sentence there has such a row. What carries it names functions, laws, definitions and tests
-between back quotes; clauses stand behind a colon, as in `replay`: `output`, `end`. Where: places `path:LINE`, parted by commas, or `-` where
-there is none. The places belong to the names in their order: each to the next name that its file has. The line has to be the one at which the
-name is defined, or else, where the name is no word of code, the first that has it as a text. The function's contract has to have the clauses.
+The words begin a sentence of README.md, and each sentence there has such a row. The second cell names functions, laws, definitions and tests between
+back quotes. Clauses follow a colon, as in `replay`: `output`, `end`. The third cell has places `path:LINE`, separated by commas, or `-` if there is
+none. The places belong to the names in order: each to the next name that its file has. The line has to be the one that defines the name, or, if the
+name isn't a word of code, the first one that contains it as text. The function's contract has to have the clauses.
 
 Usage, at the top of the repository:
-    python3 make/docs/claims.py           looks
-    python3 make/docs/claims.py update    puts the right lines there, and then looks
+    python3 make/docs/claims.py           checks the table
+    python3 make/docs/claims.py update    puts the right lines there, and then checks the table
 """
 
 import dataclasses
@@ -22,13 +22,13 @@ import sys
 PAGE = pathlib.Path("README.md")
 TABLE = pathlib.Path("docs/CLAIMS.md")
 
-# Text that is shorter than this is no sentence: it is a label, or a word alone.
+# Text that isn't longer than this is no sentence: it is a label, or a single word.
 SHORTEST_SENTENCE = 20
 
-# A name between back quotes, and the clauses that stand behind it.
+# A name between back quotes, and the clauses that follow it.
 NAME = re.compile(r"`([^`]+)`(?:: ((?:`[a-z_]+`(?:, )?)+))?")
 
-# How a line begins that defines a name, by the ending of its file.
+# The beginning of a line that defines a name, by the ending of its file.
 DEFINITIONS = {
     ".rt": r"\s*(?:pub(?:\([a-z]+\))? )?(?:const )?(?:fn|struct|enum|trait|const) {name}\b",
     ".antt": r"(?:(?:pub|abbrev|record|data) )*{name}(?![\w-])",
@@ -44,7 +44,7 @@ class Stale(Exception):
 
 @dataclasses.dataclass
 class Row:
-    """A row of the table: its line there, its cells, and the places of the last one."""
+    """A row of the table: its line number, its first two cells, and the places of the third."""
 
     line: int
     words: str
@@ -77,7 +77,7 @@ def read_lines(path):
 
 
 def look_up(path, lines, name, clauses):
-    """Returns the number of the line of a file at which a name is defined, or else first stands, and None where it doesn't."""
+    """Returns the number of the line of a file that defines a name, or otherwise the first that contains it, or None if there is none."""
     owner, _, own_name = name.rpartition("::")
     suffix = pathlib.Path(path).suffix
     own_name = own_name.removeprefix("make ") if suffix == "" else own_name
@@ -137,7 +137,7 @@ def sentences_of(text):
 
 
 def plain(text):
-    """Returns a text without what marks it as bold, slanted or linked."""
+    """Returns a text without its marks for bold, italics and links."""
     return re.sub(r"\[([^]]*)\]\([^)]*\)", r"\1", text).replace("*", "")
 
 

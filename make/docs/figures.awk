@@ -1,5 +1,5 @@
-# Prints a table of the lines of each crate, and of its wrong bodies, from the numbers of lines and the paths of its files, as wc tells them.
-# Tests are the crates of trials and examples, and files named tests.rt, if there are any. A wrong body is a file, of however many lines.
+# Prints a table of the lines of each crate, and of its wrong bodies, from the numbers of lines and the paths of its files, as wc prints them.
+# Tests are the crates of trials and examples, and files named tests.rt, if there are any. A wrong body counts as one, however many lines its file has.
 # Usage: wc -l FILE.. | awk -v CRATES="$crates" -f figures.awk
 # A number, or nothing for 0.
 function shown(name, kind) {

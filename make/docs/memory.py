@@ -1,9 +1,9 @@
-"""Says what is wrong in docs/LIBRARY.md's table of the calls that may take memory, a line for each thing.
+"""Prints what is wrong in docs/LIBRARY.md's table of the calls that may take memory, one line for each thing.
 
-A call of which the table says `none` is there, and can't be refused for want of memory. Either it answers no `Result`, or its error has no such
-case; or, of a call of `LockSpace`, no cause of a refusal is that; or the row names a clause of its contract by which all refusals are others; or
-the row names a law of what the call does. Each public call whose text says `It takes no memory.` has such a row, or it is a session's, and the
-call of `LockSpace` has one. (The pages of the inner crates say of all their calls at once which take memory.)
+A call for which the table says `none` has to exist, and can't be refused because memory runs out. Either it returns no `Result`, or its error has no
+such case; or, for a call of `LockSpace`, no cause of a refusal is that; or the row names a clause of its contract by which all refusals are others; or
+the row names a law about what the call does. Each public call whose text says `It takes no memory.` has to have such a row. For a session's call, a row
+for the call of `LockSpace` will do. (The pages of the inner crates say for all their calls at once which take memory.)
 
 Usage, at the top of the repository: python3 make/docs/memory.py < CALLS    (the public calls, a line each: CRATE FILE CALL)
 """
@@ -18,20 +18,20 @@ CAUSES = pathlib.Path("crates/mdl_calls/specs/Causes.antt")
 HEAD = "| call | memory |"
 INNER_CRATES = {"mdl_steps", "mdl_visits"}
 
-# The sentence by which the text of a call says so.
+# The sentence in the text of a call that says that it takes no memory.
 SAYS_NONE = re.compile(r"\b(?:It|This) takes no memory\.")
 
 # The error of a `Result`.
 ERROR = re.compile(r"-> Result<[^;{]*?, (\w+)(?:<\w+>)?>(?:\s|$)")
 
-# A clause, and how one begins that says just when a call is refused, and why.
+# A clause, and the beginning of one that says exactly when a call is refused, and why.
 CLAUSE = re.compile(r"ensures (\w+) \{ (.*?) \}$", re.MULTILINE)
 DECIDES = re.compile(r"RefusesJust |result ≡ |IfErr result \(λ (\w+)\. \(\1 ≡ \w+\)")
 
 
 @dataclasses.dataclass(frozen=True)
 class Call:
-    """What stands at the head of a call: its text, and its signature with the contract. Each clause is a line."""
+    """The head of a call: its text, and its signature with the contract. Each clause is a line."""
 
     text: str
     head: str
@@ -56,7 +56,7 @@ def call_of(file, name):
 
 
 def rows():
-    """Returns the calls of the table, each with what it says of their memory, and what carries that."""
+    """Returns the calls of the table, each with what the table says of its memory, and what carries that claim."""
     table = PAGE.read_text().partition(HEAD)[2].partition("\n\n")[0].splitlines()[2:]
     for cells in (it.split("|") for it in table):
         for name in re.findall(r"`([^`]+)`", cells[1]):
@@ -80,20 +80,20 @@ def errors():
 
 
 def may_be_for_memory(error, known):
-    """Whether an error may be want of memory, itself or by what it holds. One that isn't of this repository may be."""
+    """Whether an error may say that memory ran out, itself or by an error that it holds. One from outside this repository may."""
     text = known.get(error, "OutOfMemory")
     held = set(re.findall(r"\((\w+Error)\b", text)) - {error}
     return "OutOfMemory" in text or any(may_be_for_memory(it, known) for it in held)
 
 
 def is_ruled_out_by_causes(name):
-    """Whether no call of `LockSpace` of this name is refused for want of memory."""
+    """Whether the call of `LockSpace` with this name is never refused because memory runs out."""
     cause = rf"^IsCause \w+ \({name.capitalize()} .*?OutOfMemory\)? \w+ = (.*)$"
     return all(it == "⊥" for it in re.findall(cause, CAUSES.read_text(), re.MULTILINE))
 
 
 def with_faults(clause, defined):
-    """Returns the text of a clause, and of the definitions of faults that it stands on."""
+    """Returns the text of a clause, and of the definitions of faults that it uses, directly or not."""
     texts, named = clause, set()
     while more := set(re.findall(r"\b\w+_fault\b", texts)) - named:
         named |= more
@@ -102,13 +102,13 @@ def with_faults(clause, defined):
 
 
 def is_ruled_out_by_clause(call, carried_by, defined):
-    """Whether a clause that the row names decides all refusals, and none is for memory."""
+    """Whether a clause that the row names decides all refusals, and none of them says that memory ran out."""
     named = [clause for name, clause in CLAUSE.findall(call.head) if f"`{name}`" in carried_by]
     return any(DECIDES.match(it) and "OutOfMemory" not in with_faults(it, defined) for it in named)
 
 
 def is_ruled_out_by_law(call, carried_by, defined):
-    """Whether the row names a law that speaks of what the call does, itself or by a definition that it cites."""
+    """Whether the row names a law about what the call does, itself or by a definition that it cites."""
     for law in re.findall(r"the law `(\w+)`", carried_by):
         promised = defined.get("".join(it.title() for it in law.split("_")), "")
         cited = "".join(defined.get(it, "") for it in set(re.findall(r"\b[A-Z]\w+", promised)))
@@ -118,7 +118,7 @@ def is_ruled_out_by_law(call, carried_by, defined):
 
 
 def wrong_row(name, carried_by, call, defined, known):
-    """Tells what is wrong with a call that takes no memory by the table."""
+    """Returns what is wrong with a call that takes no memory according to the table, or None."""
     if call is None:
         return "there is no such call"
     error = ERROR.search(call.head)
@@ -133,7 +133,7 @@ def wrong_row(name, carried_by, call, defined, known):
 
 
 def main():
-    """Looks at the table."""
+    """Checks the table, and prints what is wrong."""
     public = [it.split() for it in sys.stdin]
     calls = {name: call_of(file, name.rpartition("::")[2]) for _, file, name in public}
     frugal = {name: carried_by for name, memory, carried_by in rows() if memory == "none"}

@@ -1,7 +1,7 @@
-# Prints which names of pages nothing has. In docs/PROOFS.md each name in a table's row about a crate has to be one of that crate, or of one
-# that the row names; on all other pages a name of several words has to be one of some crate. Names of MySQL are left out: they stand in
-# docs/MYSQL.md and in the pages of examples/, or begin with MDL_ or enum_.
-# Usage: awk -F '\t' -f names.awk NAMES WORDS, the names being lines of a crate and a name
+# Prints the names on pages that exist nowhere. In docs/PROOFS.md each name in a table's row about a crate has to be in that crate, or in one that the
+# row names. On all other pages a name of several words has to be in some crate. Names of MySQL are left out: they are in docs/MYSQL.md and in the
+# pages of examples/, or begin with MDL_ or enum_.
+# Usage: awk -F '\t' -f names.awk NAMES WORDS    each line of NAMES is a crate and a name
 function is_there(name, crates,   list, count, i) {
     count = split(crates, list, " ")
     for (i = 1; i <= count; i += 1) {

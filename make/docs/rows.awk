@@ -1,5 +1,5 @@
 # Prints which names of the index in docs/PROOFS.md aren't in the files that their rows name.
-# Usage: awk -F '\t' -f rows.awk NAMES WORDS, the names being lines of a file and a name
+# Usage: awk -F '\t' -f rows.awk NAMES WORDS    each line of NAMES is a file and a name
 function look_at_row(   part, parts, i, j) {
     for (i = 1; i <= names; i += 1) {
         parts = split(name[i], part, "::")

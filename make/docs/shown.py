@@ -1,6 +1,6 @@
-"""Says which code on pages isn't in the file that it is from, a line for each.
+"""Prints which code on pages isn't in the file that it is from, one line for each.
 
-Such code stands between lines "```LANGUAGE FILE" and "```": the file has just these lines, one after the other. Code without a file is no such code.
+Such code is between lines "```LANGUAGE FILE" and "```". The file has to have just these lines, one after the other. Code without a file isn't checked.
 
 Usage, at the top of the repository: python3 make/docs/shown.py PAGE..
 """
@@ -23,7 +23,7 @@ def stale(page):
 
 
 def main(pages):
-    """Says what is wrong on the pages, and returns the status to end with."""
+    """Prints what is wrong on the pages, and returns the exit status."""
     said = [line for page in pages for line in stale(pathlib.Path(page))]
     print(*said, sep="\n", end="\n" if said else "")
     return 1 if said else 0

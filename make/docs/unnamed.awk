@@ -1,5 +1,5 @@
 # Prints which public calls no page names: neither that of their crate, nor the part of docs/PROOFS.md about it, nor docs/LIBRARY.md.
-# Usage: awk -F '\t' -f unnamed.awk WORDS CALLS, the calls being lines of a crate, a file and a call
+# Usage: awk -F '\t' -f unnamed.awk WORDS CALLS    each line of CALLS is a crate, a file and a call
 NR == FNR {
     if ($1 ~ /^(crates\/|docs\/PROOFS)/) {
         parts = split($4, part, /[^A-Za-z0-9_]+/)

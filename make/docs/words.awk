@@ -1,6 +1,6 @@
-# Prints what pages put between back quotes, a line each: the page with the number of the line, the crate that it is about, the cell of the
-# table that it stands in (from 1, and 0 outside of tables), and the words themselves, parted by tabs. The crate is that of the page's
-# folder or of the heading; in a table it is the one that stands alone in the row's first cell or, where that is empty, in a row above.
+# Prints the words that pages put between back quotes, one line for each: the page with the line number, the crate that they are about, the cell of the
+# table that they are in (from 1, or 0 outside tables), and the words themselves, separated by tabs. The crate is that of the page's folder or of the
+# heading. In a table it is the one that is alone in the row's first cell or, if that cell has none, in a row above.
 # Usage: awk -f words.awk PAGE..
 function crate_in(text) {
     return match(text, /mdl_[a-z_]*|mdlsim/) ? substr(text, RSTART, RLENGTH) : ""

@@ -25,10 +25,10 @@ PROGRAM = "crates/mdlview/out/mdlview"
 ROWS = "SELECT * FROM performance_schema.metadata_locks"
 NEEDED = ("mariadbd", "mariadb-install-db", "mariadb")
 
-# A change that goes on for some seconds while it holds the table in X.
+# A change that runs for some seconds while it holds X of the table.
 SLOW_ALTER = "ALTER TABLE {0} ADD COLUMN c CHAR(128) DEFAULT (SHA2(REPEAT(x, 12000000), 512)), ALGORITHM=COPY, LOCK=EXCLUSIVE"
 
-# What the program prints: whose end is foretold, and who gets what then.
+# What the program prints: the session whose end is foretold, and the sessions that get a lock then.
 HEAD = re.compile(r"^If (\d+) ended, waits granted: (\d+)$")
 GETS = re.compile(r"^  then (\d+) gets ")
 
@@ -56,7 +56,7 @@ class Server:
         wait_until(lambda: self.run("SELECT 1", check=False) == "1\n", "the server to start", 60)
 
     def run(self, text, check=True, heads=False):
-        """Returns what a client of its own prints."""
+        """Runs a text in a new client, and returns what the client prints."""
         ran = subprocess.run([*self.client(), *([] if heads else ["-N"]), "-e", text], capture_output=True, check=False)
         if check and ran.returncode != 0:
             raise RuntimeError(f"{text}: {ran.stderr.decode()}")
@@ -119,7 +119,7 @@ def wait_until(test, what, seconds=20):
 
 
 def waiting(rows):
-    """Returns who waits for what: pairs of a thread and a lock, of the namespaces that the program reads."""
+    """Returns which thread waits for which lock: a thread and a lock each, of the namespaces that the program reads."""
     head, *lines = [line.split("\t") for line in rows.splitlines()]
     place = {name: column for column, name in enumerate(head)}
     return {
@@ -130,7 +130,7 @@ def waiting(rows):
 
 
 def foretold(answer):
-    """Returns each session that the program names, how many waits its end lets be granted, and who gets a lock, as far as it is printed."""
+    """Returns each session that the program names, how many waits are granted if it ends, and the sessions that get a lock, as far as they are printed."""
     found = []
     for line in answer.splitlines():
         if head := HEAD.match(line):
@@ -168,7 +168,7 @@ class Jam:
         return self.wait(self.session(), text)
 
     def wait(self, session, text):
-        """Sends a statement, and looks on until it waits."""
+        """Sends a statement, and returns the session once it waits."""
         session.tell(text)
         question = f"SELECT state FROM information_schema.processlist WHERE id = {session.connection}"
         wait_until(lambda: self.server.run(question).startswith(("Waiting for", "User lock")), text)
@@ -246,7 +246,7 @@ JAMS = {jam.__name__: jam for jam in (alter, drop, tables, forty, deadlock, name
 
 
 def wrong_end(server, program, rows):
-    """Ends the first session that the program names, and returns what was wrong, or none, and whether it named one."""
+    """Ends the first session that the program names, and returns what was wrong, or None, and whether it named one."""
     answer = ask(program, rows)
     found = foretold(answer)
     if not found:
@@ -272,7 +272,7 @@ def ask(program, rows):
 
 
 def wrong_jam(server, program, make, folder):
-    """Makes a jam and takes it apart, and returns what was wrong, or none."""
+    """Makes a jam, ends its sessions until the program names none, and returns what was wrong, or None."""
     print(f"{make.__name__}: {make.__doc__}")
     jam = make(server)
     try:
@@ -291,7 +291,7 @@ def wrong_jam(server, program, make, folder):
 
 
 def main():
-    """Makes all jams, prints what goes otherwise than foretold, and returns the status to end with."""
+    """Makes the jams that are asked for, prints what differs from the foretold, and returns the exit status."""
     words = argparse.ArgumentParser(description=__doc__, formatter_class=argparse.RawDescriptionHelpFormatter)
     words.add_argument("--program", default=PROGRAM)
     words.add_argument("--save")

@@ -1,2 +1,2 @@
--- The definitions of the tests of deadlocks.
+-- The definitions for the tests of deadlocks.
 pub mod Ways

@@ -1,4 +1,4 @@
-//! Books: their calls by rows.
+//! Tests of books, as rows of calls.
 mod fast_tickets;
 mod filling;
 mod granting;
@@ -16,7 +16,7 @@ const LIVES: &[&[Life]] = &[
     fast_tickets::LIVES,
 ];
 
-// Each step of each of these lives is answered as it says.
+// Each call of each story gives the wanted answer.
 #[test]
 fn answers_step_by_step(rt: HostRuntime) {
     for lives in LIVES {

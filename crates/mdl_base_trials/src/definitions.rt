@@ -7,14 +7,14 @@ use columns::{Names, columns};
 use mdl_defs::{Change, Column, DefError, Definition, apply};
 use std::alloc::Global;
 
-// A definition to be: a schema, or a table of these columns.
+// A definition to make: a schema, or a table with these columns.
 #[derive(Clone, Copy)]
 enum What {
     Schema,
     Table(Names),
 }
 
-// A change to be.
+// A change to make.
 #[derive(Clone, Copy)]
 enum Act {
     Create(What),
@@ -43,7 +43,7 @@ const C64: What = What::Table(Names::Numbered(64, &[]));
 
 const C65: What = What::Table(Names::Numbered(65, &[]));
 
-// What stands, a change, and what stands after it or why it is refused.
+// A definition, if there is one, a change, and the definition after it or the refusal.
 type Row = (Option<What>, Act, Result<Option<What>, DefError>);
 
 const CREATED: &[Row] = &[
@@ -136,7 +136,7 @@ const GAINED_AND_LOST: &[Row] = &[
     (Some(C64), Act::Lose("c64"), Ok(Some(C63))),
 ];
 
-// The definition, if there was memory for it.
+// Returns the definition, if there was memory for it.
 fn definition(alloc: Global, what: What) -> Option<Definition> {
     match what {
         What::Schema => Some(Definition::Schema),
@@ -154,7 +154,7 @@ fn standing(alloc: Global, what: Option<What>) -> Option<Definition> {
     }
 }
 
-// The change, if there was memory for it.
+// Returns the change, if there was memory for it.
 fn new_change(alloc: Global, act: Act) -> Option<Change> {
     match act {
         Act::Drop => Some(Change::Drop),
@@ -177,7 +177,7 @@ fn new_change(alloc: Global, act: Act) -> Option<Change> {
     }
 }
 
-// A copy of it.
+// Returns a copy of the change.
 fn change(alloc: Global, act: Act) -> Option<Change> {
     match new_change(alloc, act) {
         Some(change) => change.clone().ok(),
@@ -185,7 +185,7 @@ fn change(alloc: Global, act: Act) -> Option<Change> {
     }
 }
 
-// What becomes of what stands by a change.
+// Returns the definition after a change, or the refusal.
 fn outcome(alloc: Global, before: Option<What>, act: Act) -> Result<Option<Definition>, DefError> {
     match change(alloc, act) {
         Some(change) => apply(alloc, &standing(alloc, before), &change),
@@ -193,7 +193,7 @@ fn outcome(alloc: Global, before: Option<What>, act: Act) -> Result<Option<Defin
     }
 }
 
-// Whether a change of what stands makes of it what its row says.
+// Whether a change of a definition gives what its row says.
 fn is_changed_so(alloc: Global, (before, act, want): Row) -> bool {
     match (outcome(alloc, before, act), want) {
         (Ok(after), Ok(wanted)) => after == standing(alloc, wanted),
@@ -202,7 +202,7 @@ fn is_changed_so(alloc: Global, (before, act, want): Row) -> bool {
     }
 }
 
-// The place of the first row that says something else than what becomes of it.
+// Returns the index of the first row that is wrong.
 fn first_wrong(alloc: Global, rows: &[Row]) -> Option<usize> {
     for (place, row) in rows.iter().enumerate() {
         if !is_changed_so(alloc, *row) {

@@ -1,10 +1,9 @@
-//! Tests of the crates at the ground: keys and modes, words, definitions, books, strength, deadlocks, and the language of scripts.
+//! Tests of the base crates: keys and modes, words, definitions, books, strength, deadlocks, and the language of scripts.
 //!
-//! Everything here is for tests. Each crate below has its tests in the module that is named for its subject: `keys` those
-//! of `mdl_key`, `words` of `mdl_word`, `definitions` of `mdl_defs`, `books` of `mdl_book`, `strength` of `mdl_system`,
-//! `deadlocks` of `mdl_graph`, and `syntax` of `mdl_syntax`; `texts` has the causes of their refusals, and those of
-//! `mdl_calls`, as they are printed. They stand over what these crates show to all, so that the crates themselves have no
-//! tests and are proved once. Cases are rows of tables, and a test is a loop over one.
+//! Everything here is for tests. Each crate below has its tests in the module that is named for its subject: `keys` those of `mdl_key`, `words` of
+//! `mdl_word`, `definitions` of `mdl_defs`, `books` of `mdl_book`, `strength` of `mdl_system`, `deadlocks` of `mdl_graph`, and `syntax` of
+//! `mdl_syntax`; `texts` has the causes of their refusals, and those of `mdl_calls`, as they are printed. They use only what these crates make
+//! public, so that the crates themselves have no tests and are proved once. Cases are rows of tables, and a test is a loop over one.
 #![tactic(auto)]
 
 #[cfg(test)]

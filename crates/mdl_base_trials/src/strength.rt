@@ -22,7 +22,7 @@ fn strength_is_that_of_a_common_kind(rt: HostRuntime) {
     }
 }
 
-// A held mode and another one, and whether it may become that one by an upgrade and by a downgrade.
+// A held mode, another mode, and whether the first may become the second by an upgrade and by a downgrade.
 const BECOMES: &[(Mode, Mode, bool, bool)] = &[
     (Mode::SU, Mode::SNW, true, false),
     (Mode::SU, Mode::X, true, false),
@@ -37,7 +37,7 @@ const BECOMES: &[(Mode, Mode, bool, bool)] = &[
     (Mode::X, Mode::X, false, false),
 ];
 
-// SU, SNW and SNRW may become each that stands behind them in this order, and X too; X may become each of them, and SNW SU.
+// SU, SNW and SNRW may be upgraded to each mode after them in this order, and to X. X may be downgraded to each of them, and SNW to SU.
 #[test]
 fn few_modes_become_others(rt: HostRuntime) {
     for (held, mode, up, down) in BECOMES {

@@ -1,6 +1,5 @@
-//! Trials of the script language: scripts, and what is read of them or refuses them.
+//! Tests of the script language: scripts, and what the parser reads of them or why it refuses them.
 //!
-//! Everything here is for tests. `scripts` has them in tables, one row each; `written` writes what was read, so that a row can
-//! say it in words.
+//! Everything here is for tests. `scripts` has them in tables, one row each. `written` puts what was read into words, so that a row can say it.
 mod scripts;
 mod written;

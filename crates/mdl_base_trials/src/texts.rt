@@ -1,4 +1,4 @@
-//! What is printed, and each cause of a refusal as it is printed.
+//! What is printed of values, and of the cause of each refusal.
 use mdl_book::BookError;
 use mdl_calls::SpaceError;
 use mdl_defs::{CacheError, ChangeError, DefError};
@@ -6,7 +6,7 @@ use mdl_key::KeyError;
 use std::alloc::Global;
 use std::fmt::Display;
 
-/// Whether a value is printed so.
+/// Whether this is what is printed of a value.
 pub(crate) fn is_printed<T: Display>(alloc: Global, value: &T, text: &str) -> bool {
     match value.to_string(alloc) {
         Ok(printed) => printed.as_str() == text,

@@ -5,7 +5,7 @@ use mdl_word::Word;
 // Two tickets in S, one in SR and one in SW.
 const TWO_S_ONE_SR_ONE_SW: u64 = 0x0000_0100_0010_0002;
 
-// A ticket in SU, in a list.
+// A ticket in SU, which is in a book's list.
 const ONE_SU: u64 = 0x3000_0000_0000_0000;
 
 // A mode, and what a ticket in it adds to the word of a lock of each kind.
@@ -34,7 +34,7 @@ fn increments(rt: HostRuntime) {
     }
 }
 
-// Whether a word says so.
+// Whether a word has these counts and flags.
 fn says(word: u64, counts: [u32; 3], slow: bool, obtrusive: bool) -> bool {
     let word = Word(word);
     word.counts() == counts && word.slow() == slow && word.obtrusive() == obtrusive
@@ -62,7 +62,7 @@ fn fields(rt: HostRuntime) {
     }
 }
 
-// Two flags, the word that raises them, and the one that keeps them.
+// Two flags, the word that raises them, and the word that keeps them.
 const FLAGS: &[(bool, bool, u64, u64)] = &[
     (false, false, 0, 0xcfff_ffff_ffff_ffff),
     (true, false, 0x1000_0000_0000_0000, 0xdfff_ffff_ffff_ffff),
@@ -70,7 +70,7 @@ const FLAGS: &[(bool, bool, u64, u64)] = &[
     (true, true, 0x3000_0000_0000_0000, u64::MAX),
 ];
 
-// Whether two flags are raised and kept by these words.
+// Whether these words raise and keep the two flags.
 fn are_raised(slow: bool, obtrusive: bool, raising: u64, keeping: u64) -> bool {
     let raised = TWO_S_ONE_SR_ONE_SW | Word::raising(slow, obtrusive);
     Word::raising(slow, obtrusive) == raising
@@ -88,7 +88,7 @@ fn flags_at_once(rt: HostRuntime) {
     }
 }
 
-// A word and a wish, and whether the one blocks the other.
+// A word, a requested mode, and whether the word blocks it.
 const BLOCKED: &[(u64, Kind, Mode, bool)] = &[
     (0x1, Kind::Object, Mode::X, true),
     (0x1, Kind::Object, Mode::SNRW, false),

@@ -1,4 +1,4 @@
-//! What a session does over and over on a thread of its own, beside other sessions.
+//! The repeated calls of a session on a thread of its own, beside other sessions.
 ghost use Rattle.std.specs.Prelude.{◌≡◌, true};
 ghost use Rattle.mdl_session_laws.specs.SessionSpaces.{is_known};
 ghost use Rattle.mdl_shared.specs.SessionViews.{space_of};
@@ -16,18 +16,18 @@ use std::time::{Clock, CpuClock, Duration, Instant};
 /// What is done in a turn.
 #[derive(Clone, Copy)]
 pub enum Part {
-    /// A fast ticket to read is gained at the last table, and given up.
+    /// A fast ticket to read is gained at the last table, and released.
     Pair,
-    /// Tickets of GLOBAL in IX and of three tables in SW are gained, and all are given up.
+    /// Tickets of GLOBAL in IX and of three tables in SW are gained, and all are released.
     Transaction,
-    /// The same. Before every ten thousandth an ALTER locks the last table for itself, and gives it up.
+    /// The same. Before the first, and every ten thousandth after it, an ALTER locks the last table in X, and releases it.
     TransactionOrAlter,
 }
 
-/// How many turns there are to an ALTER.
+/// The number of turns for each ALTER.
 pub const TURNS_AN_ALTER: u32 = 10_000;
 
-/// How long a session takes for its turns, once all are there. It has tables of its own, or all have the same.
+/// Times a session's turns, once all threads are ready. If `own` is set it has tables of its own, otherwise all sessions have the same.
 pub fn time_part<R: Wait + Clock + CpuClock>(
     rt: &R,
     alloc: Global,
@@ -48,7 +48,7 @@ pub fn time_part<R: Wait + Clock + CpuClock>(
     Ok(Lap { alters, ..lap })
 }
 
-// So many turns: how long all ALTERs among them took.
+// Makes `turns` turns. Returns how long all ALTERs among them took.
 fn turn_often<R: Wait + Clock>(
     rt: &R,
     session: &mut Session<&R>,
@@ -77,7 +77,7 @@ fn turn_often<R: Wait + Clock>(
     Ok(alters)
 }
 
-// A fast ticket is gained at the last table, and given up.
+// Gains a fast ticket at the last table, and releases it.
 fn pair<R: Wait>(rt: &R, session: &mut Session<&R>, places: Places) -> Result<(), Failure>
     requires third { is_known places.third (space_of session.old).known ≡ true }
     ensures known { (space_of session.new).known ≡ (space_of session.old).known }
@@ -86,7 +86,7 @@ fn pair<R: Wait>(rt: &R, session: &mut Session<&R>, places: Places) -> Result<()
     give_up(session, places.third, id)
 }
 
-// Tickets of all four are gained, in this order, in which nobody waits for one who waits for him. Then they are given up.
+// Gains tickets of all four, and releases them. All sessions gain them in this order, so no two wait for each other.
 fn transaction<R: Wait>(rt: &R, session: &mut Session<&R>, places: Places) -> Result<(), Failure>
     requires global { is_known places.global (space_of session.old).known ≡ true }
     requires first { is_known places.first (space_of session.old).known ≡ true }
@@ -104,7 +104,7 @@ fn transaction<R: Wait>(rt: &R, session: &mut Session<&R>, places: Places) -> Re
     give_up(session, places.global, a)
 }
 
-// The last table is locked for the session itself, and given up: how long that took.
+// Locks the last table in X, and releases it. Returns how long that took.
 fn alter<R: Wait + Clock>(
     rt: &R,
     session: &mut Session<&R>,

@@ -1,4 +1,4 @@
-//! The calls of one lock's book, and searches for deadlocks among many.
+//! The calls of one lock's book, and searches for deadlocks in many books.
 use crate::failure::Failure;
 use crate::lap::spent_since;
 use crate::table::table;
@@ -12,12 +12,12 @@ use std::time::{Clock, Duration, Instant};
 // The word of a lock without fast tickets.
 const NO_FAST_TICKETS: Word = Word(0);
 
-// How many sessions hold the lock that many tickets are of, and one that doesn't, and waits.
+// The number of sessions that hold the lock with many tickets, and a session that doesn't hold it, and waits.
 const HOLDERS: u16 = 1000;
 
 const NEWCOMER: u16 = 1001;
 
-// The modes that are wished for: X and SNRW, the last two, are all that readers stand in the way of.
+// The requested modes. Readers block only the last two, X and SNRW.
 const MODES: [Mode; 8] = [
     Mode::S,
     Mode::SR,
@@ -31,13 +31,13 @@ const MODES: [Mode; 8] = [
 
 /// What is asked of a book with many tickets.
 pub enum Asked {
-    /// Whether varying wishes of varying sessions can be granted.
+    /// Whether varying requests of varying sessions can be granted.
     CanGrant,
-    /// Who can be granted next, where either every session's wait is unsettled or nobody's.
+    /// Which waiter can be granted next, if either every session's wait is unsettled or none is.
     NextGrantable,
 }
 
-/// How long so many calls took of a book of which so many tickets are granted in SR, and for which one session waits.
+/// Times `turns` calls of a book with `tickets` tickets granted in SR, and one waiter.
 pub fn time_asking<R: Clock>(
     rt: &R,
     alloc: Global,
@@ -65,7 +65,7 @@ impl Asked {
     }
 }
 
-// So many hold the lock, and the newcomer waits for it.
+// Grants `tickets` tickets, and adds the newcomer as a waiter.
 fn gather(book: &mut Book, tickets: u16) -> Result<(), Failure> {
     for number in 0..tickets {
         let ticket = ticket(1 + number % HOLDERS, u64::from(number), Mode::SR);
@@ -84,7 +84,7 @@ fn ticket(session: u16, number: u64, mode: Mode) -> Ticket {
     }
 }
 
-// So many wishes: of how many the answer was right.
+// Asks `turns` times whether a request can be granted. Returns how often the answer was right.
 fn wish_often(book: &Book, turns: u32) -> u32 {
     let mut right = 0u32;
     for turn in 0..turns {
@@ -95,7 +95,7 @@ fn wish_often(book: &Book, turns: u32) -> u32 {
     right
 }
 
-// So many looks for a waiter: how often it was the newcomer where it can be, and else nobody.
+// Looks `turns` times for a waiter to grant. Returns how often it found one if the waits are unsettled, and otherwise none.
 fn look_often(book: &Book, turns: u32) -> u32 {
     let unsettled = [Sessions::new(), Sessions::all()];
     let mut right = 0u32;
@@ -107,7 +107,7 @@ fn look_often(book: &Book, turns: u32) -> u32 {
     right
 }
 
-/// How long it took so many times to grant so many waiters one after another, once the lock is given up, without the clock's own time.
+/// Times the release of a lock with the grants of its `waiters` waiters one after another, `turns` times, without the clock's own time.
 pub fn time_grants<R: Clock>(
     rt: &R,
     alloc: Global,
@@ -124,7 +124,7 @@ pub fn time_grants<R: Clock>(
     Ok(spent)
 }
 
-// The same once, of a book where nobody has asked for anything.
+// The same once, in a book without tickets.
 fn time_book<R: Clock>(rt: &R, book: &mut Book, waiters: u16) -> Result<Duration, Failure> {
     let last = waiters.saturating_add(1);
     contest(book, Mode::X, (1, 1), Mode::SR, (2, last))?;
@@ -135,7 +135,7 @@ fn time_book<R: Clock>(rt: &R, book: &mut Book, waiters: u16) -> Result<Duration
     Ok(spent.saturating_sub(idle))
 }
 
-// The first session gives up the lock, and each waiter is granted as the next that can be: how many there were.
+// Releases the first session's ticket, and grants the next grantable waiter until there is none. Returns how many were granted.
 fn grant_all(book: &mut Book) -> Result<u16, Failure> {
     let everyone = Sessions::all();
     book.remove(1, 1)?;
@@ -150,7 +150,7 @@ fn grant_all(book: &mut Book) -> Result<u16, Failure> {
     Ok(granted)
 }
 
-// The sessions from one number to another have the lock in a mode, and others wait for it in another.
+// Grants the lock in a mode to the sessions from one number to another, and adds others as waiters in another mode.
 fn contest(
     book: &mut Book,
     had: Mode,
@@ -169,7 +169,7 @@ fn contest(
 
 /// How sessions wait for one another.
 pub enum Shape {
-    /// Each for the next, and the last for nobody.
+    /// Each for the next, and the last for no session.
     Chain,
     /// Each for the next, and the last for the first.
     Ring,
@@ -177,8 +177,8 @@ pub enum Shape {
     Dense,
 }
 
-/// How long so many searches took for a deadlock of the last of so many sessions, for which all others wait, directly or not. Who has to give
-/// way is the last one, as all wishes weigh the same.
+/// Times `turns` searches for a deadlock of the last of `sessions` sessions, for which all others wait, directly or not. If there is one, the
+/// victim is the last session, as all requests weigh the same.
 pub fn time_searches<R: Clock>(
     rt: &R,
     alloc: Global,
@@ -201,7 +201,7 @@ pub fn time_searches<R: Clock>(
     }
 }
 
-// The books of the locks that make a shape.
+// Adds the books of the locks that make a shape.
 fn tie(alloc: Global, books: &mut Vec<Book>, shape: &Shape, sessions: u16) -> Result<(), Failure> {
     let from = match shape {
         Shape::Chain => 2,
@@ -222,7 +222,7 @@ fn tie(alloc: Global, books: &mut Vec<Book>, shape: &Shape, sessions: u16) -> Re
     Ok(())
 }
 
-// One book more, of a lock that some hold and others wait for.
+// Adds a book, of a lock that some sessions hold and others wait for.
 fn shelve(
     alloc: Global,
     books: &mut Vec<Book>,
@@ -241,7 +241,7 @@ fn shelve(
     }
 }
 
-// So many searches: how many found the victim that they should.
+// Makes `turns` searches. Returns how many found the right victim.
 fn search_often(alloc: Global, books: &[Book], who: u16, wanted: u16, turns: u32) -> u32 {
     let mut right = 0u32;
     for _turn in 0..turns {
@@ -255,7 +255,7 @@ fn search_often(alloc: Global, books: &[Book], who: u16, wanted: u16, turns: u32
     right
 }
 
-// Builds the graph of all waits, and looks for a deadlock: who has to give way, or 0.
+// Builds the graph of all waits, and looks for a deadlock. Returns the victim, or 0 if there is no deadlock.
 fn search(graph: &mut WaitGraph, books: &[Book], who: u16) -> Result<u16, AllocError> {
     for book in books {
         graph.add(book)?;

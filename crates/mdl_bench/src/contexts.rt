@@ -17,10 +17,10 @@ use std::sync::Wait;
 use std::time;
 use std::time::{Clock, Instant};
 
-// The tables over which a session's other tickets are spread.
+// The number of tables over which a session's other tickets are spread.
 const SPREAD: u16 = 250;
 
-// The tables that are locked after a savepoint.
+// The number of tables that are locked after a savepoint.
 const LOCKED: u16 = 100;
 
 /// What is done in a turn through a context that knows the keys.
@@ -31,11 +31,11 @@ pub enum Wish {
     Transact,
     /// A lock that is held already is acquired again.
     AskAgain,
-    /// A hundred tables are locked, and the session goes back to where it stood.
+    /// A hundred tables are locked, and the session rolls back to the mark before them.
     GoBack,
 }
 
-/// How long so many turns took, by a session of a new table that holds so many tickets.
+/// Times `turns` turns of a session of a new table. The session holds `tickets` tickets.
 pub fn time_shared<R: Wait + Clock>(
     rt: &R,
     alloc: Global,
@@ -48,7 +48,7 @@ pub fn time_shared<R: Wait + Clock>(
     time_pass(rt, rt, alloc, &manager, pass, wish, tickets, turns)
 }
 
-// The same by the session of a pass, which waits by a handle of its own.
+// The same for the session of a pass, which waits with the handle `wait`.
 fn time_pass<R: Wait + Clock, W: Wait + Drop>(
     rt: &R,
     wait: W,
@@ -68,7 +68,7 @@ fn time_pass<R: Wait + Clock, W: Wait + Drop>(
     spent
 }
 
-/// The same by the one session of a new space of one thread.
+/// The same for the only session of a new space of one thread.
 pub fn time_alone<R: Clock>(
     rt: &R,
     alloc: Global,
@@ -88,7 +88,7 @@ pub fn time_alone<R: Clock>(
     }
 }
 
-// The same by a session that has nothing yet.
+// The same for a session that has nothing yet.
 fn timed<R: Clock, S: LockSpace>(
     rt: &R,
     alloc: Global,
@@ -111,7 +111,7 @@ fn timed<R: Clock, S: LockSpace>(
     spent
 }
 
-// The same once it has its tickets. The first turn isn't timed: the context looks the keys up then.
+// The same for a session that has its tickets. The first turn isn't timed, as the context looks up the keys then.
 fn time_wishes<R: Clock, S: LockSpace>(
     rt: &R,
     space: &mut S,
@@ -131,7 +131,7 @@ fn time_wishes<R: Clock, S: LockSpace>(
     spent_since(rt, began, made, turns)
 }
 
-// Acquires so many explicit tickets, spread over tables.
+// Acquires `tickets` explicit tickets, spread over tables.
 fn stock_up<S: LockSpace>(
     alloc: Global,
     space: &mut S,
@@ -152,7 +152,7 @@ fn stock_up<S: LockSpace>(
     Ok(())
 }
 
-// The keys of a wish.
+// Adds the keys of a wish.
 fn list_keys(alloc: Global, wish: &Wish, keys: &mut Vec<Key>) -> Result<(), Failure> {
     match wish {
         Wish::Request | Wish::AskAgain => list_tables(alloc, keys, SPREAD, 1),
@@ -164,7 +164,7 @@ fn list_keys(alloc: Global, wish: &Wish, keys: &mut Vec<Key>) -> Result<(), Fail
     }
 }
 
-// The keys of so many tables from one on.
+// Adds the keys of `count` tables from the index `from` on.
 fn list_tables(alloc: Global, keys: &mut Vec<Key>, from: u16, count: u16) -> Result<(), Failure> {
     for index in from..from.saturating_add(count) {
         let pushed = keys.push(table(alloc, index)?);
@@ -177,7 +177,7 @@ fn list_tables(alloc: Global, keys: &mut Vec<Key>, from: u16, count: u16) -> Res
     Ok(())
 }
 
-// So many turns: how many went well. The ticket of the first one has the number that is next.
+// Makes `turns` turns. Returns how many succeeded. The ticket of the first turn gets the number `next`.
 fn wish_often<S: LockSpace>(
     space: &mut S,
     context: &mut Context<S>,
@@ -205,7 +205,7 @@ fn wish_often<S: LockSpace>(
     made
 }
 
-// Acquires a lock to read and releases it. Whether that went well.
+// Acquires a lock to read and releases it. Whether both succeeded.
 fn requests<S: LockSpace>(space: &mut S, context: &mut Context<S>, key: &Key) -> bool
     requires { Attends S.LockSpace space.old context.old }
     ensures { Attends S.LockSpace space.new context.new }
@@ -216,7 +216,7 @@ fn requests<S: LockSpace>(space: &mut S, context: &mut Context<S>, key: &Key) ->
     }
 }
 
-// Acquires all locks and ends the transaction. Whether that went well.
+// Acquires all locks and ends the transaction. Whether all succeeded.
 fn transacts<S: LockSpace>(
     space: &mut S,
     context: &mut Context<S>,
@@ -231,7 +231,7 @@ fn transacts<S: LockSpace>(
         && context.end_transaction(space).is_ok()
 }
 
-// Acquires a lock that is held by a ticket. Whether that was used again.
+// Acquires a lock. Whether its ticket is `id`, which is used again once it is held.
 fn asks_again<S: LockSpace>(
     space: &mut S,
     context: &mut Context<S>,
@@ -244,7 +244,7 @@ fn asks_again<S: LockSpace>(
     acquire(space, context, key, Mode::SR, Duration::Transaction) == Some(id)
 }
 
-// Locks all tables and goes back to where the session stood. Whether that went well.
+// Locks all tables and rolls back to the mark before. Whether all succeeded.
 fn goes_back<S: LockSpace>(space: &mut S, context: &mut Context<S>, tables: &[Key]) -> bool
     requires { Attends S.LockSpace space.old context.old }
     ensures { Attends S.LockSpace space.new context.new }
@@ -253,7 +253,7 @@ fn goes_back<S: LockSpace>(space: &mut S, context: &mut Context<S>, tables: &[Ke
     acquires(space, context, tables, Mode::SR) && context.rollback_to(space, mark).is_ok()
 }
 
-// Acquires each lock in a mode, for the transaction. Whether that went well.
+// Acquires each lock in a mode, for the transaction. Whether all succeeded.
 fn acquires<S: LockSpace>(space: &mut S, context: &mut Context<S>, keys: &[Key], mode: Mode) -> bool
     requires { Attends S.LockSpace space.old context.old }
     ensures { Attends S.LockSpace space.new context.new }
@@ -265,7 +265,7 @@ fn acquires<S: LockSpace>(space: &mut S, context: &mut Context<S>, keys: &[Key],
     all
 }
 
-// Acquires a lock, unless it has to wait or is refused.
+// Acquires a lock. Returns nothing if the request has to wait or is refused.
 fn acquire<S: LockSpace>(
     space: &mut S,
     context: &mut Context<S>,

@@ -1,5 +1,5 @@
-//! Many sessions of the table that threads share, on one thread: one has a lock, and the others wait for it; each waits for the next; or each
-//! looks a key up for the first time.
+//! Many sessions of the table that threads share, on one thread. Either one holds a lock for which the others wait, or each waits for the next,
+//! or each looks up a key for the first time.
 use crate::failure::Failure;
 use crate::guests::{Guest, open_all};
 use crate::lap::spent_since;
@@ -13,23 +13,23 @@ use std::alloc::Global;
 use std::sync::Wait;
 use std::time::{Clock, Duration, Instant};
 
-// The places of a table in which sessions look for deadlocks. Each has the key of a table.
+// The number of places of a lock table in which sessions look for deadlocks. Each has the key of a table.
 const SEARCHED: u16 = 64;
 
 /// What is done in a turn.
 pub enum Crowd {
-    /// One releases X, and so many wait to read.
+    /// A session releases X, and this number of sessions wait to read.
     Grant(u16),
-    /// One looks at its wait.
+    /// A session polls its wait.
     Poll,
-    /// The first of a chain, in which so many wait for the next one's lock, looks for a deadlock.
+    /// The first session of a chain looks for a deadlock. In it this number of sessions wait, each for the next one's lock.
     Search(u16),
-    /// One looks a key up, among so many; each turn another one that knows nothing.
+    /// A session looks up a key, among this number of keys. Each turn it is another one, which knows no key.
     LookUp(u16),
 }
 
 impl Crowd {
-    // The places of the table, and its sessions.
+    // Returns the number of places of the table, and the number of its sessions.
     fn size(&self) -> (u16, u16) {
         match self {
             Crowd::Grant(waiters) => (1, waiters.saturating_add(1)),
@@ -39,7 +39,7 @@ impl Crowd {
         }
     }
 
-    // How long so many turns took, by the sessions of a new table.
+    // Times `turns` turns of the sessions of a new table.
     fn timed<R: Wait + Clock>(
         &self,
         rt: &R,
@@ -60,7 +60,7 @@ impl Crowd {
     }
 }
 
-/// How long so many turns took, without the clock's own time where the clock is looked at in each.
+/// Times `turns` turns. If the clock is read in each of them, its own time isn't counted.
 pub fn time_crowd<R: Wait + Clock>(
     rt: &R,
     alloc: Global,
@@ -77,7 +77,7 @@ pub fn time_crowd<R: Wait + Clock>(
     spent
 }
 
-// How long it took so many times to release the lock that the others wait for.
+// Times `turns` releases of the lock that the others wait for.
 fn time_grants<R: Wait + Clock>(
     rt: &R,
     alloc: Global,
@@ -95,7 +95,7 @@ fn time_grants<R: Wait + Clock>(
     Ok(spent)
 }
 
-// All look the same key up: its place.
+// Has all sessions look up the same key. Returns its place.
 fn meet<R: Wait>(
     alloc: Global,
     first: &mut Session<&R>,
@@ -107,7 +107,7 @@ fn meet<R: Wait>(
     look_table_up(alloc, first, 0, 0)
 }
 
-// The first takes the lock for itself, and all others begin to wait for it.
+// The first takes the lock in X, and all others begin to wait for it.
 fn fill<R: Wait>(
     first: &mut Session<&R>,
     others: &mut [Guest<'_, R>],
@@ -120,7 +120,7 @@ fn fill<R: Wait>(
     Ok(id)
 }
 
-// Each comes by the lock that it waits for, which is granted, and gives it up.
+// Each ends its wait, which is granted, and releases the lock.
 fn empty<R: Wait>(others: &mut [Guest<'_, R>]) -> Result<(), Failure> {
     for other in others {
         come_and_go(&mut other.session)?;
@@ -128,7 +128,7 @@ fn empty<R: Wait>(others: &mut [Guest<'_, R>]) -> Result<(), Failure> {
     Ok(())
 }
 
-// How long it takes to release a lock, without the clock's own time.
+// Returns how long the release of a lock took, without the clock's own time.
 fn time_release<R: Wait + Clock>(
     rt: &R,
     session: &mut Session<&R>,
@@ -141,7 +141,7 @@ fn time_release<R: Wait + Clock>(
     Ok(spent.saturating_sub(idle))
 }
 
-// Begins to wait for a lock that isn't free, to read.
+// Begins to wait to read, for a lock that isn't free.
 fn wait_for<R: Wait>(session: &mut Session<&R>, place: Place) -> Result<(), Failure> {
     match session.begin_wait(place, Mode::SR)? {
         Begun::Waiting(_) => Ok(()),
@@ -149,7 +149,7 @@ fn wait_for<R: Wait>(session: &mut Session<&R>, place: Place) -> Result<(), Fail
     }
 }
 
-// The same by one of them.
+// Ends a session's wait, which is granted, and releases the lock.
 fn come_and_go<R: Wait>(session: &mut Session<&R>) -> Result<(), Failure> {
     match session.end_wait()? {
         Ended::Granted(id) => Ok(session.release(id)?),
@@ -157,7 +157,7 @@ fn come_and_go<R: Wait>(session: &mut Session<&R>) -> Result<(), Failure> {
     }
 }
 
-// How long it took so many times to look at a wait.
+// Times `turns` polls of a wait.
 fn time_polls<R: Wait + Clock>(
     rt: &R,
     alloc: Global,
@@ -175,7 +175,7 @@ fn time_polls<R: Wait + Clock>(
     spent_since(rt, began, pending, turns)
 }
 
-// Looks so many times at a wait: how often it wasn't settled.
+// Polls a wait `turns` times. Returns how often it was pending.
 fn poll_often<R: Wait>(session: &mut Session<&R>, turns: u32) -> u32 {
     let mut pending = 0u32;
     for _turn in 0..turns {
@@ -188,7 +188,7 @@ fn poll_often<R: Wait>(session: &mut Session<&R>, turns: u32) -> u32 {
     pending
 }
 
-// How long it took the first of a chain so many times to look for a deadlock. Each place has a key.
+// Times `turns` searches for a deadlock by the first of a chain. Each place has a key.
 fn time_searches<R: Wait + Clock>(
     rt: &R,
     alloc: Global,
@@ -203,7 +203,7 @@ fn time_searches<R: Wait + Clock>(
     spent_since(rt, began, untangled, turns)
 }
 
-// Each takes the lock of a table for itself, and each but the last one begins to wait for that of the next one.
+// Each takes the lock of its own table in X. Then each except the last begins to wait for the next one's lock.
 fn link<R: Wait>(
     alloc: Global,
     first: &mut Session<&R>,
@@ -221,7 +221,7 @@ fn link<R: Wait>(
     Ok(())
 }
 
-// Takes the lock of the session's own table, which is free, for itself.
+// Takes the lock of the session's own table, which is free, in X.
 fn take_own<R: Wait>(alloc: Global, session: &mut Session<&R>) -> Result<(), Failure> {
     let own = session.number().saturating_sub(1);
     let place = look_table_up(alloc, session, own, 0)?;
@@ -236,7 +236,7 @@ fn wait_for_next<R: Wait>(alloc: Global, session: &mut Session<&R>) -> Result<()
     wait_for(session, place)
 }
 
-// Looks so many times for a deadlock: how often there was none.
+// Looks `turns` times for a deadlock. Returns how often there was none.
 fn search_often<R: Wait>(session: &mut Session<&R>, turns: u32) -> u32 {
     let mut untangled = 0u32;
     for _turn in 0..turns {
@@ -249,7 +249,7 @@ fn search_often<R: Wait>(session: &mut Session<&R>, turns: u32) -> u32 {
     untangled
 }
 
-// A session looks so many keys up: the last place.
+// Looks up `keys` keys. Returns the last place.
 fn learn<R: Wait>(alloc: Global, session: &mut Session<&R>, keys: u16) -> Result<Place, Failure> {
     let mut place = 0;
     for index in 0..keys {
@@ -258,7 +258,7 @@ fn learn<R: Wait>(alloc: Global, session: &mut Session<&R>, keys: u16) -> Result
     Ok(place)
 }
 
-// How long it took to look a key up that the first session gave its place, the last of so many: each time by another one.
+// Times look-ups of the last of `keys` keys, to which the first session gave a place. Each is by another session.
 fn time_look_ups<R: Wait + Clock>(
     rt: &R,
     alloc: Global,
@@ -272,7 +272,7 @@ fn time_look_ups<R: Wait + Clock>(
     look_up_by_each(rt, others, &key, wanted, turns)
 }
 
-// The same by the others, once the key has its place.
+// The same once the key has its place.
 fn look_up_by_each<R: Wait + Clock>(
     rt: &R,
     others: &mut [Guest<'_, R>],

@@ -1,18 +1,18 @@
-//! What can end a measurement.
+//! The reasons why a measurement fails.
 use mdl_book::BookError;
 use mdl_calls::{NewError, SpaceError};
 use mdl_key::KeyError;
 use std::alloc::AllocError;
 use std::io;
 
-/// What can end a measurement.
+/// The reasons why a measurement fails.
 #[derive(Clone, Copy)]
 pub enum Failure {
     /// A key, or a table, that can't be made.
     Unmade,
     /// A call that is refused.
     Refused,
-    /// A call that answers something else than it should.
+    /// A call that returns a wrong answer.
     Unexpected,
     /// Memory ran out.
     Memory,
@@ -21,7 +21,7 @@ pub enum Failure {
 }
 
 impl Failure {
-    /// What the program says of it.
+    /// Returns the message that the program prints.
     pub fn text(self) -> &'static str {
         match self {
             Failure::Unmade => "a key or a table can't be made",

@@ -1,4 +1,4 @@
-//! The sessions of a new table that threads share. Each is closed as it is let go.
+//! The sessions of a new table that threads share. Each is closed when it is dropped.
 ghost use Rattle.std.specs.Prelude.{◌≡◌};
 ghost use Rattle.mdl_shared.specs.Passes.{ArePasses, table_of, pass_table};
 
@@ -8,7 +8,7 @@ use mdl_shared::{Manager, Pass, Session};
 use std::alloc::Global;
 use std::sync::Wait;
 
-/// A session. As it is let go, it gives up all that it has, and is closed.
+/// A session. When it is dropped, it releases all that it has, and is closed.
 pub struct Guest<'r, R: Wait> {
     rt: &'r R,
     pub session: Session<&'r R>,
@@ -21,7 +21,7 @@ impl<R: Wait> Drop for Guest<'_, R> {
     }
 }
 
-/// Opens the sessions of a new table of so many places and sessions.
+/// Opens the sessions of a new table of `places` places and `sessions` sessions.
 pub fn open_all<'r, R: Wait>(
     rt: &'r R,
     alloc: Global,
@@ -52,7 +52,7 @@ fn admit<'r, R: Wait>(
     all
 }
 
-// The session of a pass.
+// Opens the session of a pass.
 fn open<'r, R: Wait>(rt: &'r R, manager: &Manager, pass: Pass) -> Guest<'r, R>
     requires { pass_table pass ≡ table_of manager.now }
 {

@@ -1,4 +1,4 @@
-//! How long a thread takes for its turns, from when all threads of a race are there.
+//! How long a thread takes for its turns, once all threads of a race are ready.
 use crate::failure::Failure;
 use crate::words::Words;
 use std::alloc::Global;
@@ -6,11 +6,11 @@ use std::sync::atomic::{AtomicU32, Ordering};
 use std::thread;
 use std::time::{Clock, CpuClock, Duration, Instant};
 
-// How often a thread looks whether the others are there, before it begins without them: for a second or so.
+// How often a thread checks whether the others are ready, before it begins without them: for a second or so.
 const LOOKS: u32 = 1_000_000;
 
-/// What the threads of a race share: where they wait for one another, so that all begin at once, words for atomic steps, and how many turns
-/// each makes.
+/// What the threads of a race share: the count of those that are ready, so that all begin at once, words for atomic steps, and the number of
+/// turns that each makes.
 #[derive(Drop)]
 pub struct Race {
     here: AtomicU32,
@@ -20,7 +20,7 @@ pub struct Race {
 }
 
 impl Race {
-    /// A race of so many threads.
+    /// Returns a race of `threads` threads, each with `turns` turns.
     pub fn new(alloc: Global, threads: u16, turns: u32) -> Result<Race, Failure> {
         Ok(Race {
             here: AtomicU32::new(0),
@@ -42,7 +42,7 @@ impl Race {
     }
 }
 
-/// How long turns took, by the clock and of the processor; and how long the ALTERs among them.
+/// How long turns took, by the clock and in processor time, and how long the ALTERs among them took.
 #[derive(Clone, Copy)]
 pub struct Lap {
     pub clock: Duration,
@@ -51,14 +51,14 @@ pub struct Lap {
 }
 
 impl Lap {
-    /// That of no thread.
+    /// The lap of no thread.
     pub const NONE: Lap = Lap {
         clock: Duration::ZERO,
         processor: Duration::ZERO,
         alters: Duration::ZERO,
     };
 
-    /// That of two threads: the longer time of each, and the ALTERs of both.
+    /// Returns the lap of two threads: the longer time of each kind, and the sum of their ALTERs.
     pub fn beside(self, other: Lap) -> Lap {
         Lap {
             clock: self.clock.max(other.clock),
@@ -68,7 +68,7 @@ impl Lap {
     }
 }
 
-/// A time from which turns of a thread count.
+/// The time from which a thread's turns are measured.
 #[derive(Clone, Copy)]
 pub struct Start {
     at: Instant,
@@ -76,7 +76,7 @@ pub struct Start {
 }
 
 impl Start {
-    /// The time when all threads of a race are there.
+    /// Waits for all threads of a race, and returns the time then.
     pub fn of<R: Clock + CpuClock>(rt: &R, race: &Race) -> Result<Start, Failure> {
         race.await_all();
         let used = rt.thread_cpu_time()?;
@@ -84,7 +84,7 @@ impl Start {
         Ok(Start { at, used })
     }
 
-    /// What it took since, where each turn of the race went well.
+    /// Returns the time since then. Fails with [`Failure::Unexpected`] unless each turn of the race succeeded.
     pub fn lap<R: Clock + CpuClock>(self, rt: &R, race: &Race, well: u32) -> Result<Lap, Failure> {
         let clock = self.at.elapsed(rt)?;
         let used = rt.thread_cpu_time()?;
@@ -99,7 +99,7 @@ impl Start {
     }
 }
 
-/// What it took since a time, where as many turns went well as were made.
+/// Returns the time since `began`. Fails with [`Failure::Unexpected`] unless as many turns succeeded as were made.
 pub fn spent_since<R: Clock>(
     rt: &R,
     began: Instant,

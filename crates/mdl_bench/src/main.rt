@@ -1,10 +1,11 @@
-//! `mdl_bench` times calls: of sessions of the table that threads share, alone, through a context and beside each other on threads, beside the
-//! bare steps of each; of a space of one thread; of one lock's book; and searches for deadlocks.
+//! `mdl_bench` times calls: of sessions of the table that threads share (alone, through a context, on several threads, and compared with the
+//! bare atomic steps of the same work), of a space of one thread, and of one lock's book; and searches for deadlocks.
 //!
-//! A row has some figures. Each is timed once in each of ten rounds. For a program it prints two lines for each figure: what a turn took in
-//! the least round, and in the median one; and for a reader how figures do beside each other. With the argument `quick` it makes one turn of
-//! each, which shows that all of them work, and prints nothing. With `pairs TURNS KNOWN HELD` it makes so many pairs of calls, and nothing
-//! else, by a session that knows and holds so much. With `reads TURNS KEPT` it makes so many reads by a cache that keeps so much.
+//! A row is a group of figures. Each is timed once in each of ten rounds. For each figure the program prints two lines for other programs: the
+//! time of a turn in the fastest round, and in the median one. For readers it prints how figures compare. With the argument `quick` it makes one
+//! turn of each, which shows that all of them work, and prints nothing. With `pairs TURNS KNOWN HELD` it makes only TURNS pairs of calls, by a
+//! session that knows KNOWN places and holds HELD tickets. With `reads TURNS KEPT` it makes only TURNS reads, through a cache that keeps KEPT
+//! tables.
 #![tactic(auto)]
 
 mod beside;

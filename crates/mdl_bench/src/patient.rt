@@ -1,4 +1,4 @@
-//! Calls of sessions beside others on threads: what others change meanwhile is tried again, and what isn't to be had is waited for.
+//! Calls of sessions beside sessions of other threads: they try again if the word changed meanwhile, and wait if the lock isn't free.
 ghost use Rattle.std.specs.Prelude.{◌≡◌, true};
 ghost use Rattle.mdl_session_laws.specs.SessionSpaces.{is_known};
 ghost use Rattle.mdl_shared.specs.SessionViews.{space_of};
@@ -10,7 +10,7 @@ use mdl_shared::{Fast, Released, Session};
 use std::sync::Wait;
 use std::thread;
 
-/// Gains a fast ticket, however often others change the lock's word meanwhile. Where the fast path is closed, it waits for the lock.
+/// Gains a fast ticket, however often other sessions change the lock's word meanwhile. If the fast path is closed, waits for the lock.
 pub fn gain<R: Wait>(
     rt: &R,
     session: &mut Session<&R>,
@@ -32,7 +32,7 @@ pub fn gain<R: Wait>(
     unreachable!()
 }
 
-/// Gets a lock, and waits for it where it isn't free.
+/// Acquires a lock, and waits for it if it isn't free.
 pub fn take<R: Wait>(
     rt: &R,
     session: &mut Session<&R>,
@@ -69,7 +69,7 @@ fn wait_for<R: Wait>(
     }
 }
 
-// Waits until its wait is settled, or can't be looked at.
+// Waits until the session's wait is settled, or can't be polled.
 fn wait<R: Wait>(rt: &R, session: &mut Session<&R>)
     ensures known { (space_of session.new).known ≡ (space_of session.old).known }
 {
@@ -82,7 +82,7 @@ fn wait<R: Wait>(rt: &R, session: &mut Session<&R>)
     unreachable!()
 }
 
-/// Gives a ticket up, and has those granted who waited for it.
+/// Releases a ticket, and reschedules the place if the release owes it.
 pub fn give_up<R: Wait>(
     session: &mut Session<&R>,
     place: Place,
@@ -102,7 +102,7 @@ pub fn give_up<R: Wait>(
     }
 }
 
-// Gives up a ticket that a book has.
+// Releases a slow ticket.
 fn give_up_slow<R: Wait>(session: &mut Session<&R>, id: TicketId) -> Result<(), Failure>
     ensures known { (space_of session.new).known ≡ (space_of session.old).known }
 {

@@ -21,7 +21,7 @@ pub struct Places {
     pub third: Place,
 }
 
-/// A session looks the keys up, of the tables from a number on, and makes room for a ticket of each.
+/// Looks up GLOBAL and three tables from the index `from` on, and makes room for a ticket of each.
 pub fn look_all_up<R: Wait>(
     alloc: Global,
     session: &mut Session<R>,
@@ -44,7 +44,7 @@ pub fn look_all_up<R: Wait>(
     })
 }
 
-/// The place of one of many tables, which the session knows from then on, beside what it knew. There is room for so many tickets more.
+/// Returns the place of a table. The session knows its key from then on, and all that it knew before. It has room for `tickets` more tickets.
 pub fn look_table_up<R: Wait>(
     alloc: Global,
     session: &mut Session<R>,

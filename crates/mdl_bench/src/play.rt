@@ -1,4 +1,4 @@
-//! Sessions of a new table play, each on a thread of its own: how long they take.
+//! Times the tasks of sessions of a new table, each on a thread of its own.
 use crate::beside::{Part, time_part};
 use crate::failure::Failure;
 use crate::guests::{Guest, open_all};
@@ -17,7 +17,7 @@ use std::time::{Clock, CpuClock};
 /// What each session does in its turns.
 #[derive(Drop)]
 pub enum Task {
-    /// No call, but atomic steps alone.
+    /// No calls, only atomic steps.
     Steps(Step),
     /// Fast tickets to read, of a session with a stock.
     Pairs(Stock),
@@ -25,14 +25,14 @@ pub enum Task {
     Calls(Call, Stock),
     /// Transactions.
     Transactions,
-    /// The same and other parts beside other sessions: each has tables of its own, or all have the same.
+    /// Transactions and other parts, beside other sessions. If the flag is set each session has tables of its own, otherwise all have the same.
     Beside(Part, bool),
-    /// So many tables are read, each of so many columns.
+    /// Reads of the last of this number of tables, each with this number of columns.
     Reads(Reading, u16, u16),
 }
 
 impl Task {
-    // What another session does before: it lets the tables stand that are read.
+    // Prepares the task by another session: it defines the tables that are read.
     fn prepare<R: Wait>(&self, alloc: Global, session: &mut Session<&R>) -> Result<(), Failure> {
         match self {
             Task::Reads(_, tables, columns) => create_all(alloc, session, *tables, *columns),
@@ -40,7 +40,7 @@ impl Task {
         }
     }
 
-    // By a session that has nothing yet.
+    // Performs the task by a session that has nothing yet.
     fn play<R: Wait + Clock + CpuClock>(
         &self,
         rt: &R,
@@ -61,7 +61,7 @@ impl Task {
     }
 }
 
-// How long the steps of a thread take.
+// Times the steps of a thread.
 fn time_steps<R: Clock + CpuClock>(
     rt: &R,
     step: &Step,
@@ -73,7 +73,7 @@ fn time_steps<R: Clock + CpuClock>(
     start.lap(rt, race, made)
 }
 
-/// How long so many threads take for so many turns each.
+/// Times a task on `threads` threads, each with `turns` turns.
 pub fn time_task<R: Threads + Wait + Sync + Clock + CpuClock>(
     rt: &R,
     alloc: Global,
@@ -94,7 +94,7 @@ pub fn time_task<R: Threads + Wait + Sync + Clock + CpuClock>(
     lap
 }
 
-// The sessions of a new table that play. The last one has done what is done before.
+// Opens the sessions of a new table, prepares the task by the last one, and keeps one session for each thread.
 fn seat_all<'r, R: Wait>(
     rt: &'r R,
     alloc: Global,
@@ -110,7 +110,7 @@ fn seat_all<'r, R: Wait>(
     Ok(())
 }
 
-// Each session plays on a thread of its own: how long the slowest takes.
+// Performs the task by each session on a thread of its own. Returns the lap of all threads.
 fn run<R: Threads + Wait + Sync + Clock + CpuClock>(
     rt: &R,
     alloc: Global,
@@ -125,7 +125,7 @@ fn run<R: Threads + Wait + Sync + Clock + CpuClock>(
     }
 }
 
-// A session plays, and is closed.
+// Performs the task by a session, and closes the session.
 fn play<R: Wait + Clock + CpuClock>(
     rt: &R,
     alloc: Global,
@@ -138,7 +138,7 @@ fn play<R: Wait + Clock + CpuClock>(
     lap
 }
 
-// The lap of all threads.
+// Returns the lap of all threads: the times of the slowest one, and the ALTERs of all.
 fn slowest(laps: &[Result<Lap, Failure>]) -> Result<Lap, Failure> {
     let mut all = Lap::NONE;
     for lap in laps {

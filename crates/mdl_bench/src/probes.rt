@@ -1,4 +1,4 @@
-//! Look-ups in maps, beside which calls are told.
+//! Look-ups in maps, with which calls are compared.
 use crate::failure::Failure;
 use crate::lap::spent_since;
 use crate::table::table;
@@ -10,7 +10,7 @@ use std::alloc::Global;
 use std::sync::atomic::Ordering;
 use std::time::{Clock, Duration, Instant};
 
-/// How long so many probes of a map of so many keys took.
+/// Times `turns` look-ups in a map of `keys` keys.
 pub fn time_key_probes<R: Clock>(
     rt: &R,
     alloc: Global,
@@ -23,7 +23,7 @@ pub fn time_key_probes<R: Clock>(
     spent
 }
 
-// Fills a map with the keys of tables, and looks the last one up.
+// Fills a map with the keys of tables, and times look-ups of the last one.
 fn probe_keys<R: Clock>(
     rt: &R,
     alloc: Global,
@@ -42,7 +42,7 @@ fn probe_keys<R: Clock>(
     find_key(rt, map, &key, last, turns)
 }
 
-// Looks a key up so many times, whose place is there.
+// Times `turns` look-ups of a key whose place is in the map.
 fn find_key<R: Clock>(
     rt: &R,
     map: &IndexMap<Key, Place>,
@@ -58,7 +58,7 @@ fn find_key<R: Clock>(
     spent_since(rt, began, made, turns)
 }
 
-/// How long so many probes of a map of so many places and versions took.
+/// Times `turns` look-ups in a map of `places` places with versions.
 pub fn time_version_probes<R: Clock>(
     rt: &R,
     alloc: Global,
@@ -73,7 +73,7 @@ pub fn time_version_probes<R: Clock>(
     spent
 }
 
-// Fills a map with places and versions, and looks the last one up.
+// Fills a map with places and versions, and times look-ups of the last one.
 fn probe_versions<R: Clock>(
     rt: &R,
     map: &mut IndexMap<(Place, u64), Place>,
@@ -91,8 +91,8 @@ fn probe_versions<R: Clock>(
     spent_since(rt, began, made, turns)
 }
 
-// Looks a place up so many times, with the version that a word has then, so that no turn can use what another one has computed: how often
-// it was there.
+// Looks up a place `turns` times, each time with the version read from a word, so that no turn can reuse what another one computed. Returns how
+// often it was found.
 fn find_version(
     map: &IndexMap<(Place, u64), Place>,
     words: &Words,

@@ -20,15 +20,15 @@ use std::time::{Clock, CpuClock};
 /// How a session reads.
 #[derive(Clone, Copy)]
 pub enum Reading {
-    /// It is lent what its cache keeps, without the latch.
+    /// It is lent the definition that its cache keeps, without the latch.
     Cached,
-    /// It copies what its cache keeps, without the latch.
+    /// It copies the definition that its cache keeps, without the latch.
     Kept,
-    /// It copies what stands, under the latch.
+    /// It copies the key's definition, under the latch.
     Latched,
 }
 
-/// How long a session reads the last of so many tables, all of which it holds, and its cache keeps.
+/// Times reads of the last of `tables` tables. The session holds a ticket of each, and its cache keeps all of them.
 pub fn time_reads<R: Wait + Clock + CpuClock>(
     rt: &R,
     alloc: Global,
@@ -46,7 +46,7 @@ pub fn time_reads<R: Wait + Clock + CpuClock>(
     lap
 }
 
-// A fast ticket of each table.
+// Gains a ticket to read of each table, and adds it to `ids`.
 fn hold_each<R: Wait>(
     rt: &R,
     alloc: Global,
@@ -64,7 +64,7 @@ fn hold_each<R: Wait>(
     Ok(())
 }
 
-// Keeps all tables, and then reads under the last ticket.
+// Fills a cache with all tables, and then times reads under the last ticket.
 fn time_cached<R: Wait + Clock + CpuClock>(
     rt: &R,
     alloc: Global,
@@ -89,7 +89,7 @@ fn time_cached<R: Wait + Clock + CpuClock>(
     lap
 }
 
-// Reads under a ticket, once all sessions are there.
+// Times reads under a ticket, once all threads are ready.
 fn read_last<R: Wait + Clock + CpuClock>(
     rt: &R,
     session: &mut Session<&R>,
@@ -109,7 +109,7 @@ fn read_last<R: Wait + Clock + CpuClock>(
     start.lap(rt, race, found)
 }
 
-// Reads under each ticket, and keeps the tables. Whether all are there.
+// Reads under each ticket, and keeps the tables in the cache. Whether all are defined.
 fn keep_all<R: Wait>(session: &mut Session<R>, ids: &[TicketId], cache: &mut DefCache) -> bool
     requires met { AreMet (HasMet (space_of session.old) session.old.me.0.number) cache.old.kept }
     ensures met { AreMet (HasMet (space_of session.new) session.new.me.0.number) cache.new.kept }
@@ -121,7 +121,7 @@ fn keep_all<R: Wait>(session: &mut Session<R>, ids: &[TicketId], cache: &mut Def
     all
 }
 
-// Is lent a definition so many times: how often the cache kept it.
+// Reads a definition that the cache lends, `turns` times. Returns how often the cache kept it.
 fn look_often<R>(session: &mut Session<R>, id: TicketId, cache: &mut DefCache, turns: u32) -> u32
     requires met { AreMet (HasMet (space_of session.old) session.old.me.0.number) cache.old.kept }
 {
@@ -134,7 +134,7 @@ fn look_often<R>(session: &mut Session<R>, id: TicketId, cache: &mut DefCache, t
     found
 }
 
-// Whether the cache keeps the table that stands there.
+// Whether the cache lends a table for the ticket.
 fn looks<R>(session: &mut Session<R>, id: TicketId, cache: &mut DefCache) -> bool
     requires met { AreMet (HasMet (space_of session.old) session.old.me.0.number) cache.old.kept }
     ensures met { AreMet (HasMet (space_of session.new) session.new.me.0.number) cache.new.kept }
@@ -150,7 +150,7 @@ fn is_hit(found: Result<Cached<'_>, SpaceError>) -> bool {
     }
 }
 
-// Copies what the cache keeps so many times: how often it was a table.
+// Copies the definition that the cache keeps, `turns` times. Returns how often it was a table.
 fn copy_often<R: Wait>(
     session: &mut Session<R>,
     id: TicketId,
@@ -168,7 +168,7 @@ fn copy_often<R: Wait>(
     found
 }
 
-// Copies a table from the cache, or reads and keeps it. Whether it is there.
+// Copies the definition from the cache, or reads it and keeps it there. Whether it is a table.
 fn keeps<R: Wait>(session: &mut Session<R>, id: TicketId, cache: &mut DefCache) -> bool
     requires met { AreMet (HasMet (space_of session.old) session.old.me.0.number) cache.old.kept }
     ensures met { AreMet (HasMet (space_of session.new) session.new.me.0.number) cache.new.kept }
@@ -186,7 +186,7 @@ fn is_table(definition: &Option<Definition>) -> bool {
     }
 }
 
-// Copies what stands so many times: how often it was a table.
+// Copies the key's definition under the latch, `turns` times. Returns how often it was a table.
 fn read_often<R: Wait>(session: &mut Session<R>, id: TicketId, turns: u32) -> u32 {
     let mut found = 0u32;
     for _turn in 0..turns {
@@ -197,7 +197,7 @@ fn read_often<R: Wait>(session: &mut Session<R>, id: TicketId, turns: u32) -> u3
     found
 }
 
-// Copies what stands under the latch. Whether it is a table.
+// Copies the key's definition under the latch. Whether it is a table.
 fn reads<R: Wait>(session: &mut Session<R>, id: TicketId) -> bool {
     match session.read_definition(id) {
         Ok(standing) => is_table(&standing.definition),
@@ -205,7 +205,7 @@ fn reads<R: Wait>(session: &mut Session<R>, id: TicketId) -> bool {
     }
 }
 
-/// A session lets so many tables stand, each of so many columns.
+/// Defines `tables` tables, each with `columns` columns.
 pub fn create_all<R: Wait>(
     alloc: Global,
     session: &mut Session<R>,
@@ -219,7 +219,7 @@ pub fn create_all<R: Wait>(
     Ok(())
 }
 
-// A table of so many columns, under a key that has none.
+// Defines a table of `columns` columns, under a key that has no definition.
 fn create<R: Wait>(
     alloc: Global,
     session: &mut Session<R>,
@@ -232,7 +232,7 @@ fn create<R: Wait>(
     made
 }
 
-// So many columns.
+// Makes `count` columns.
 fn columns_of(alloc: Global, count: u16) -> Result<Columns, Failure> {
     let mut columns = Columns::new(alloc);
     match name_columns(alloc, &mut columns, count) {
@@ -254,7 +254,7 @@ fn column(alloc: Global, index: u16) -> Result<Column, Failure> {
     Ok(Column::new(alloc, name.as_str())?)
 }
 
-// The session locks a table for itself, and changes what stands there.
+// Locks a table in X, changes its definition, and releases it.
 fn change_at<R: Wait>(
     session: &mut Session<R>,
     place: Place,

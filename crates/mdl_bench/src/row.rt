@@ -6,24 +6,23 @@ use std::sync::Wait;
 use std::thread::Threads;
 use std::time::{Clock, CpuClock, Duration};
 
-// The rounds of which the least and the median are told: as the median the upper of the two in the middle.
+// The number of rounds. The least and the median time are printed. The median is the upper of the two in the middle.
 const ROUNDS: usize = 10;
 
-/// What a turn is: what it is of, where `shared` is the table that threads share; by how many threads; its name; and how many turns a round
-/// has: so few that a round takes a millisecond or two, and often ends before other work gets the processor.
+/// What a turn is: what its calls are of (`shared` is the table that threads share), the number of threads, its name, and the number of turns in
+/// a round. There are so few that a round takes a millisecond or two, and often ends before other work gets the processor.
 pub struct Turn(pub &'static str, pub u16, pub &'static str, pub u32);
 
-/// What is timed: its name, its turns, and what is done.
+/// What is timed: its name, its turns, and the work.
 pub struct Figure(pub &'static str, pub Turn, pub Work);
 
-/// Of two figures of a row, by their places from 0 on, how many percent of the second one the first takes at most, where all is as wanted.
+/// A goal for two figures of a row, given by their indexes from 0: the most that the first should take, in percent of the second.
 pub struct Goal(pub usize, pub usize, pub u64);
 
 /// Figures that are timed beside each other, and goals for them.
 pub struct Row(pub &'static [Figure], pub &'static [Goal]);
 
-/// Times the figures of some rows, and prints them. Where no figures are wanted it makes one turn of each, which shows that they work, and
-/// prints nothing.
+/// Times the figures of some rows, and prints them. If `quick` is set it makes one turn of each, which shows that they work, and prints nothing.
 pub fn time_rows<R: Threads + Wait + Sync + Clock + CpuClock + Print>(
     rt: &R,
     alloc: Global,
@@ -40,8 +39,8 @@ pub fn time_rows<R: Threads + Wait + Sync + Clock + CpuClock + Print>(
     Ok(())
 }
 
-// Times the figures of a row, one after another in each round, so that other work on the machine weighs on all of them alike. Prints them, and
-// how they do beside each other.
+// Times the figures of a row, one after another in each round, so that other work on the machine affects all of them alike. Prints them, and how
+// they compare.
 fn time_row<R: Threads + Wait + Sync + Clock + CpuClock + Print>(
     rt: &R,
     alloc: Global,
@@ -57,7 +56,7 @@ fn time_row<R: Threads + Wait + Sync + Clock + CpuClock + Print>(
     told
 }
 
-// One turn of each.
+// Makes one turn of each.
 fn make_each<R: Threads + Wait + Sync + Clock + CpuClock>(
     rt: &R,
     alloc: Global,
@@ -69,7 +68,7 @@ fn make_each<R: Threads + Wait + Sync + Clock + CpuClock>(
     Ok(())
 }
 
-// The rounds of each: what a turn took goes to the times.
+// Times each figure in each round, and adds the time of a turn to `times`.
 fn time_each<R: Threads + Wait + Sync + Clock + CpuClock>(
     rt: &R,
     alloc: Global,
@@ -87,7 +86,8 @@ fn time_each<R: Threads + Wait + Sync + Clock + CpuClock>(
 }
 
 impl Figure {
-    // What a turn took in a round of so many, in tenths of a nanosecond. All is made anew, and each answer was what it ought to be.
+    // Returns how long a turn took in a round of `turns` turns, in tenths of a nanosecond. Everything is set up anew. Fails if an answer is
+    // wrong.
     fn round<R: Threads + Wait + Sync + Clock + CpuClock>(
         &self,
         rt: &R,
@@ -100,7 +100,7 @@ impl Figure {
     }
 }
 
-// The tenths of a nanosecond of each of so many turns.
+// Returns the time of each of `turns` turns, in tenths of a nanosecond.
 fn tenths(spent: Duration, turns: u32) -> u64 {
     let tenths = spent.as_nanos().saturating_mul(10);
     match tenths.checked_div(u128::from(turns)) {
@@ -109,7 +109,7 @@ fn tenths(spent: Duration, turns: u32) -> u64 {
     }
 }
 
-// Prints all figures, and then how they do beside each other.
+// Prints all figures, and then how they compare.
 fn tell<R: Print>(
     rt: &R,
     figures: &[Figure],
@@ -127,7 +127,7 @@ fn tell<R: Print>(
     Ok(())
 }
 
-// What a turn took in the least round and in the median one, of the figure at a place of a row of so many.
+// Returns how long a turn took in the least round and in the median one, for the figure at `place` in a row of `figures` figures.
 fn told_of(times: &[u64], place: usize, figures: usize) -> (u64, u64) {
     let mut rounds = [0; ROUNDS];
     for round in 0..ROUNDS {
@@ -138,7 +138,7 @@ fn told_of(times: &[u64], place: usize, figures: usize) -> (u64, u64) {
     (rounds[0], rounds[ROUNDS / 2])
 }
 
-// The line for a program: NAME OF THREADS WHAT NS, where WHAT ends with the kind of the round.
+// Prints the line for programs: NAME OF THREADS WHAT NS, where WHAT ends with the kind of the round.
 fn print_line<R: Print>(rt: &R, figure: &Figure, kind: &str, tenths: u64) -> Result<(), Failure> {
     let Figure(name, Turn(of, threads, what, _), _) = figure;
     println!(rt;
@@ -149,7 +149,7 @@ fn print_line<R: Print>(rt: &R, figure: &Figure, kind: &str, tenths: u64) -> Res
     Ok(())
 }
 
-// How often a figure contains the one beside it, in percent: by the least rounds, by the median ones, and what is wanted.
+// Prints how long a figure takes in percent of another: by the least rounds, by the median ones, and the goal.
 fn print_goal<R: Print>(
     rt: &R,
     figures: &[Figure],

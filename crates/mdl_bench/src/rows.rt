@@ -67,7 +67,7 @@ const PAIR: Turn = Turn("shared", 1, "pair", 20_000);
 
 const REQUEST: Turn = Turn("shared", 1, "request", 20_000);
 
-// A fast ticket to read is gained and given up, and the same through a context.
+// A fast ticket to read is gained and released, and the same through a context.
 const PAIRS: &[Figure] = &[
     Figure("a_pair", PAIR, Plays(Pairs(NOTHING))),
     Figure("a_pair_held_250", PAIR, Plays(Pairs(MUCH))),
@@ -77,7 +77,7 @@ const PAIRS: &[Figure] = &[
 
 const TRANSACTION: Turn = Turn("shared", 1, "transaction", 5_000);
 
-// What a transaction locks that writes three tables, by fast tickets and through a context.
+// The locks of a transaction that writes three tables, by fast tickets and through a context.
 const TRANSACTIONS: &[Figure] = &[
     Figure("d_transaction", TRANSACTION, Plays(Transactions)),
     Figure(
@@ -94,7 +94,7 @@ const TRANSACTIONS: &[Figure] = &[
 
 const EXCLUSIVE_PAIR: Turn = Turn("shared", 1, "pair", 10_000);
 
-// A lock is taken in X, which goes past the fast path, and given up.
+// A lock is taken in X, without the fast path, and released.
 const EXCLUSIVE: &[Figure] = &[
     Figure(
         "x_exclusive",
@@ -127,7 +127,7 @@ const CALL: Turn = Turn("shared", 1, "call", 20_000);
 
 const PROBE: Turn = Turn("shared", 1, "probe", 20_000);
 
-// A lock is asked for again that is held, beside 0, 9 or 999 others.
+// A lock that is held is requested again, beside 0, 9 or 999 others.
 const AGAIN: &[Figure] = &[
     Figure("h_again_1", CALL, Shared(Wish::AskAgain, 0)),
     Figure("h_again_1_probe", PROBE, Keys(1)),
@@ -141,7 +141,7 @@ const READ: Turn = Turn("shared", 1, "read", 20_000);
 
 const LONG_READ: Turn = Turn("shared", 1, "read", 1_000);
 
-// A definition is read: lent by a cache, beside a probe of a map, and copied, beside a copy under the latch.
+// A definition is read: lent by a cache, compared with a look-up in a map; and copied from it, compared with a copy under the latch.
 const READS: &[Figure] = &[
     Figure("r_read_cached", READ, Plays(Reads(Reading::Cached, 1, 1))),
     Figure("r_read_cached_probe", PROBE, Versions(1)),
@@ -274,7 +274,7 @@ const LONG_SEARCH: Turn = Turn("shared", 1, "search", 200);
 
 const SEARCH_STEPS: Turn = Turn("shared", 1, "search", 1_000);
 
-// A look at a wait, and searches for a deadlock from the first of a chain, beside all latches.
+// A poll of a wait, and searches for a deadlock from the first of a chain, compared with taking all latches.
 const WAITS: &[Figure] = &[
     Figure("poll_wait", LOOK, Crowds(Crowd::Poll)),
     Figure("poll_wait_steps", LOOK, Plays(Steps(Step::Load))),
@@ -365,7 +365,7 @@ const CONTEXT_PAIR: Turn = Turn("context", 1, "pair", 20_000);
 
 const GO_BACK: Turn = Turn("context", 1, "turn", 100);
 
-// A space of one thread: a lock is taken and given up, also through a context, by a session that holds so many tickets; and a hundred are.
+// A space of one thread: a session that holds 1 to 1000 tickets takes and releases a lock, also through a context; and it rolls back a hundred.
 const SPACES: &[Figure] = &[
     Figure("try_now_and_release_1", SPACE_PAIR, Takes(1)),
     Figure("try_now_and_release_10", SPACE_PAIR, Takes(10)),
@@ -400,7 +400,7 @@ const BOOK_RELEASE: Turn = Turn("book", 1, "release", 500);
 
 const LONG_BOOK_RELEASE: Turn = Turn("book", 1, "release", 50);
 
-// The calls of one lock's book, by its tickets or its waiters.
+// The calls of one lock's book, by the number of its tickets or waiters.
 const BOOKS: &[Figure] = &[
     Figure("can_grant_10", BOOK_CALL, Asks(Asked::CanGrant, 10)),
     Figure("can_grant_60000", BOOK_CALL, Asks(Asked::CanGrant, 60_000)),

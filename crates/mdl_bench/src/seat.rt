@@ -1,4 +1,4 @@
-//! Sessions of the table that threads share: how they are closed, and their calls that leave the keys that they know.
+//! Sessions of the table that threads share: how they are closed, and calls after which they still know all keys that they knew.
 ghost use Rattle.std.specs.Prelude.{◌≡◌, ℕ, true, IfOk};
 ghost use Rattle.mdl_session_laws.specs.SessionSpaces.{is_known};
 ghost use Rattle.mdl_shared.specs.SessionViews.{space_of};
@@ -9,7 +9,7 @@ use mdl_key::{Key, Mode};
 use mdl_shared::{Fast, HoldsTickets, Released, Session};
 use std::sync::Wait;
 
-/// The place of a key, which the session knows from then on, beside what it knew. There is room for so many tickets more.
+/// Returns the place of a key. The session knows the key from then on, and all that it knew before. It has room for `tickets` more tickets.
 pub fn look_up<R: Wait>(
     session: &mut Session<R>,
     key: &Key,
@@ -28,7 +28,7 @@ pub fn look_up<R: Wait>(
     }
 }
 
-/// Gains a fast ticket, if it is granted.
+/// Tries to gain a fast ticket. Returns its number if it is granted.
 pub fn gain<R>(session: &mut Session<R>, place: Place, mode: Mode) -> Option<TicketId>
     requires known { is_known place (space_of session.old).known ≡ true }
     ensures known { (space_of session.new).known ≡ (space_of session.old).known }
@@ -39,7 +39,7 @@ pub fn gain<R>(session: &mut Session<R>, place: Place, mode: Mode) -> Option<Tic
     }
 }
 
-/// Gives a fast ticket up. Whether it was there, and nothing is owed.
+/// Releases a fast ticket. Whether the session had it, and owes no reschedule.
 pub fn give_up<R>(session: &mut Session<R>, id: TicketId) -> bool
     ensures known { (space_of session.new).known ≡ (space_of session.old).known }
 {
@@ -49,7 +49,7 @@ pub fn give_up<R>(session: &mut Session<R>, id: TicketId) -> bool
     }
 }
 
-/// Closes a session. Where there is no memory to list what it has to give up before, it tries again.
+/// Closes a session, and releases all that it has before. If memory runs out for the list of its tickets, tries again.
 pub fn close<R: Wait, W: Wait + Drop>(rt: &R, mut session: Session<W>) {
     for _ in rt.forever() {
         match session.close() {
@@ -61,7 +61,7 @@ pub fn close<R: Wait, W: Wait + Drop>(rt: &R, mut session: Session<W>) {
     unreachable!()
 }
 
-// Gives a session's wait and all its tickets up.
+// Ends a session's wait, and releases all its tickets.
 fn give_all_up<R: Wait>(session: &mut Session<R>) -> Result<(), SpaceError> {
     if session.settle_timeout().is_ok() {
         session.end_wait()?;

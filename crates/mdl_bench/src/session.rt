@@ -1,4 +1,4 @@
-//! What a session of the table that threads share does over and over, while no other session asks for anything.
+//! The repeated calls of a session of the table that threads share, while no other session requests anything.
 ghost use Rattle.std.specs.Prelude.{◌≡◌, true};
 ghost use Rattle.mdl_session_laws.specs.SessionSpaces.{is_known};
 ghost use Rattle.mdl_shared.specs.SessionViews.{space_of};
@@ -15,7 +15,7 @@ use std::alloc::Global;
 use std::sync::Wait;
 use std::time::{Clock, CpuClock};
 
-/// How many places a session knows, and at how many of them, the last ones, it holds a ticket.
+/// The number of places that a session knows, and at how many of them, the last ones, it holds a ticket.
 #[derive(Clone, Copy)]
 pub struct Stock {
     pub known: u16,
@@ -23,35 +23,35 @@ pub struct Stock {
 }
 
 impl Stock {
-    // The table that is learnt last.
+    // The index of the table that is looked up last.
     fn last(self) -> u16 {
         self.known.saturating_sub(1)
     }
 }
 
-/// A call, or two, at the place that was learnt last.
+/// A call, or two, at the place that was looked up last.
 #[derive(Clone, Copy)]
 pub enum Call {
-    /// The lock is taken in X and given up. The session's own ticket doesn't stand in the way.
+    /// The lock is taken in X and released. The session's own ticket doesn't block it.
     Exclusive,
-    /// The place of the key is asked for, which the session knows.
+    /// The place of the key, which the session knows, is looked up.
     Resolve,
-    /// The key of the place is asked for.
+    /// The key of the place is looked up.
     KeyOf,
-    /// What stands there is read.
+    /// The version and definition of the key are read.
     Read,
-    /// The ticket there gets a stronger mode, and its own again.
+    /// The ticket there is upgraded to a stronger mode, and downgraded to its own again.
     Alter,
 }
 
-// The place that was learnt last, and the ticket there, if any.
+// The place that was looked up last, and the ticket there, if any.
 #[derive(Clone, Copy)]
 struct Last {
     place: Place,
     id: TicketId,
 }
 
-/// How long a session takes for fast tickets to read, which it gains and gives up at the place that it learnt last.
+/// Times fast tickets to read, which a session gains and releases at the place that it looked up last.
 pub fn time_pairs<R: Wait + Clock + CpuClock>(
     rt: &R,
     alloc: Global,
@@ -66,7 +66,7 @@ pub fn time_pairs<R: Wait + Clock + CpuClock>(
     start.lap(rt, race, made)
 }
 
-// So many pairs: how many went well.
+// Makes `turns` pairs of calls. Returns how many succeeded.
 fn make_pairs<R>(session: &mut Session<R>, place: Place, turns: u32) -> u32
     requires known { is_known place (space_of session.old).known ≡ true }
 {
@@ -82,7 +82,7 @@ fn make_pairs<R>(session: &mut Session<R>, place: Place, turns: u32) -> u32
     made
 }
 
-// The session learns its places, and takes its tickets in a mode: what it learnt last.
+// Looks up the session's places, and takes its tickets in a mode. Returns the place that was looked up last, with its ticket.
 fn stock_up<R: Wait>(
     alloc: Global,
     session: &mut Session<R>,
@@ -111,7 +111,7 @@ pub fn take<R: Wait>(
     }
 }
 
-/// How long a session takes for calls.
+/// Times a session's calls.
 pub fn time_calls<R: Wait + Clock + CpuClock>(
     rt: &R,
     alloc: Global,
@@ -125,7 +125,7 @@ pub fn time_calls<R: Wait + Clock + CpuClock>(
     call_often(rt, session, call, &key, last, race)
 }
 
-// So many calls, each of which had the answer that it should have.
+// Times the calls. Fails with [`Failure::Unexpected`] unless all have the right answer.
 fn call_often<R: Wait + Clock + CpuClock>(
     rt: &R,
     session: &mut Session<&R>,
@@ -185,7 +185,7 @@ fn alters<R: Wait>(session: &mut Session<R>, id: TicketId) -> bool {
     }
 }
 
-/// How long a session takes for transactions: fast tickets of GLOBAL in IX and of three tables in SW, which it gains and gives up.
+/// Times transactions: a session gains fast tickets of GLOBAL in IX and of three tables in SW, and releases them.
 pub fn time_transactions<R: Wait + Clock + CpuClock>(
     rt: &R,
     alloc: Global,
@@ -198,7 +198,7 @@ pub fn time_transactions<R: Wait + Clock + CpuClock>(
     start.lap(rt, race, made)
 }
 
-// So many transactions: how many went well.
+// Makes `turns` transactions. Returns how many succeeded.
 fn transact_often<R>(session: &mut Session<R>, places: Places, turns: u32) -> u32
     requires global { is_known places.global (space_of session.old).known ≡ true }
     requires first { is_known places.first (space_of session.old).known ≡ true }
@@ -214,7 +214,7 @@ fn transact_often<R>(session: &mut Session<R>, places: Places, turns: u32) -> u3
     made
 }
 
-// Gains the fast tickets and gives them up, the last one first, as MySQL ends a transaction. Whether all went well.
+// Gains the fast tickets and releases them, the last one first, as MySQL ends a transaction. Whether all calls succeeded.
 fn transacts<R>(session: &mut Session<R>, places: Places) -> bool
     requires global { is_known places.global (space_of session.old).known ≡ true }
     requires first { is_known places.first (space_of session.old).known ≡ true }

@@ -1,4 +1,4 @@
-//! A session of a space of one thread takes locks and gives them up.
+//! A session of a space of one thread takes locks and releases them.
 ghost use Rattle.std.specs.Prelude.{ℕ};
 
 use crate::failure::Failure;
@@ -10,7 +10,7 @@ use mdl_space::CoreSpace;
 use std::alloc::Global;
 use std::time::{Clock, Duration, Instant};
 
-/// How long so many turns took, each at the next place, where the session holds so many tickets, and another one as many.
+/// Times `turns` turns, each at the next place. The session and another one hold `tickets` tickets each.
 pub fn time_taking<R: Clock>(
     rt: &R,
     alloc: Global,
@@ -23,7 +23,7 @@ pub fn time_taking<R: Clock>(
     timed(rt, alloc, &mut space, tickets, turns)
 }
 
-// The same in a space where nobody has anything yet.
+// The same in a space where no session has anything yet.
 fn timed<R: Clock, S: LockSpace>(
     rt: &R,
     alloc: Global,
@@ -58,7 +58,7 @@ fn name_places<S: LockSpace>(alloc: Global, space: &mut S) -> Result<(), Failure
     Ok(())
 }
 
-// A session takes so many tickets, spread over the places.
+// Takes `tickets` tickets for a session, spread over the places.
 fn hold<S: LockSpace>(space: &mut S, who: u16, tickets: u16) -> Result<(), Failure>
     requires { S.speaks_for space.old who }
     ensures { (w : ℕ) → S.speaks_for space.old w → S.speaks_for space.new w }
@@ -72,7 +72,7 @@ fn hold<S: LockSpace>(space: &mut S, who: u16, tickets: u16) -> Result<(), Failu
     Ok(())
 }
 
-// The first session takes a lock and gives it up, each time at the next place: how often that went well.
+// The first session takes and releases a lock, each time at the next place. Returns how often that succeeded.
 fn take_often<S: LockSpace>(space: &mut S, turns: u32) -> u32
     requires { S.speaks_for space.old 1 }
 {
@@ -85,7 +85,7 @@ fn take_often<S: LockSpace>(space: &mut S, turns: u32) -> u32
     taken
 }
 
-// Takes a lock and gives it up. Whether that went well.
+// Takes a lock and releases it. Whether both succeeded.
 fn takes<S: LockSpace>(space: &mut S, place: Place) -> bool
     requires { S.speaks_for space.old 1 }
     ensures { S.speaks_for space.new 1 }

@@ -1,35 +1,35 @@
-//! Atomic steps alone, on words that stand as those of the table do.
+//! Atomic steps alone, on words that are laid out as those of the table are.
 use crate::failure::Failure;
 use std::alloc::Global;
 use std::sync::atomic::{AtomicU64, Ordering};
 
-// The places whose words there are: as many as a table of 64 places has, with the directory's.
+// The number of places that have words: those of a table of 64 places, and the directory.
 const PLACES: usize = 65;
 
-// The words of a place, of which the first is its latch and the second its lock's word.
+// The number of words of a place. The first is its latch, and the second its lock's word.
 const A_PLACE: usize = 8;
 
-// What a lock's word counts a ticket by.
+// What a ticket adds to a lock's word.
 const ONE: u64 = 1 << 20;
 
 // Both flags of a lock's word.
 const FLAGS: u64 = 3 << 60;
 
-// The most tries. Others are between their steps for as long only where something is wrong.
+// The most tries of an exchange. They run out only if something is wrong.
 const TRIES: u32 = 1_000_000;
 
 /// What is done in a turn.
 #[derive(Clone, Copy)]
 pub enum Step {
-    /// A ticket is counted in a word, and taken out again.
+    /// A ticket is counted in a word, and removed again.
     Pair,
     /// The same in four words.
     Transaction,
-    /// A lock is taken for itself and given up.
+    /// A lock is taken in X and released.
     Exclusive,
-    /// As many words as these are raised by one exchange each.
+    /// This number of words are raised by one exchange each.
     Exchanges(u16),
-    /// The latches of all places are taken and put.
+    /// The latches of all places are taken and given back.
     Latches,
     /// A word is read.
     Load,
@@ -56,7 +56,7 @@ impl Words {
         Ok(Words { all })
     }
 
-    /// Makes so many turns for a thread: how many went as they should.
+    /// Makes `turns` turns for a thread. Returns how many succeeded.
     pub fn make(&self, step: &Step, thread: u16, turns: u32) -> u32 {
         match step {
             Step::Pair => self.count_pairs(turns),
@@ -72,12 +72,12 @@ impl Words {
         }
     }
 
-    /// The word of a place's lock.
+    /// Returns the word of a place's lock.
     pub fn word(&self, place: usize) -> Option<&AtomicU64> {
         self.all.get(place.wrapping_mul(A_PLACE).wrapping_add(1))
     }
 
-    // Reads a word, which is 0.
+    // Reads a word. Returns how often it was 0.
     fn load_often(&self, turns: u32) -> u32 {
         let Some(word) = self.word(0) else {
             return 0;
@@ -91,7 +91,7 @@ impl Words {
         made
     }
 
-    // Counts a ticket in a word, and takes it out again: how often the word had nothing else.
+    // Counts a ticket in a word, and removes it again. Returns how often the word counted nothing else.
     fn count_pairs(&self, turns: u32) -> u32 {
         let Some(word) = self.word(0) else {
             return 0;
@@ -125,7 +125,7 @@ impl Words {
         made
     }
 
-    // Takes a lock for itself and gives it up: how often its latch was free, and nobody else had the lock.
+    // Takes a lock in X and releases it. Returns how often its latch was free, and no other thread had the lock.
     fn latch_pairs(&self, turns: u32) -> u32 {
         let (Some(latch), Some(word)) = (self.all.first(), self.word(0)) else {
             return 0;
@@ -139,7 +139,7 @@ impl Words {
         made
     }
 
-    // Raises the words of so many places by one exchange each: how often none failed.
+    // Raises the first words of `places` places by one exchange each. Returns how often none failed.
     fn exchange_all(&self, places: usize, turns: u32) -> u32 {
         let mut made = 0u32;
         for turn in 0..turns {
@@ -152,7 +152,7 @@ impl Words {
         made
     }
 
-    // Takes the latches of all places, and puts them again: how often all were free.
+    // Takes the latches of all places, and gives them back. Returns how often all were free.
     fn latch_all(&self, turns: u32) -> u32 {
         let mut made = 0u32;
         for _turn in 0..turns {
@@ -168,7 +168,7 @@ impl Words {
         made
     }
 
-    // Counts a ticket in a word that others change, and takes it out again: how often both was done.
+    // Counts a ticket in a word that other threads change, and removes it again. Returns how often both succeeded.
     fn count_beside(&self, turns: u32) -> u32 {
         let Some(word) = self.word(0) else {
             return 0;
@@ -182,7 +182,7 @@ impl Words {
         made
     }
 
-    // The same in the first word, and in the words of three places from one on.
+    // The same in the first word, and in the words of three places from `place` on.
     fn count_four_beside(&self, place: usize, turns: u32) -> u32 {
         let (Some(a), Some(b), Some(c), Some(d)) = (
             self.word(0),
@@ -204,25 +204,25 @@ impl Words {
     }
 }
 
-// A word is raised by one. Whether it was as it should be.
+// Raises a word by one. Whether it was `from`.
 fn exchange(word: &AtomicU64, from: u64) -> bool {
     let more = from.wrapping_add(1);
     word.compare_exchange(from, more, Ordering::SeqCst, Ordering::SeqCst)
         .is_ok()
 }
 
-// A ticket is counted by one exchange. Whether the word had nothing.
+// Counts a ticket by one exchange. Whether the word was 0.
 fn gain(word: &AtomicU64) -> bool {
     word.compare_exchange(0, ONE, Ordering::SeqCst, Ordering::SeqCst)
         .is_ok()
 }
 
-// It is taken out again. Whether the word had nothing else.
+// Removes the ticket again. Whether the word counted nothing else.
 fn give_up(word: &AtomicU64) -> bool {
     word.fetch_sub(ONE, Ordering::SeqCst) == ONE
 }
 
-// A ticket is counted: each exchange is tried until it replaces the word that was found last. Whether that was done.
+// Counts a ticket: tries exchanges until one replaces the value that was read last. Whether one did.
 fn gain_beside(word: &AtomicU64) -> bool {
     let mut found = word.load(Ordering::SeqCst);
     for _try in 0..TRIES {
@@ -235,12 +235,12 @@ fn gain_beside(word: &AtomicU64) -> bool {
     false
 }
 
-// It is taken out again. Whether it was counted.
+// Removes the ticket again. Whether it was counted.
 fn give_up_beside(word: &AtomicU64) -> bool {
     word.fetch_sub(ONE, Ordering::SeqCst) >= ONE
 }
 
-// The latch is taken, the flags are raised, the word is read, and the latch is put. Whether all were as they should be.
+// Takes the latch, sets the flags, reads the word, and gives the latch back. Whether latch and word were as expected.
 fn take(latch: &AtomicU64, word: &AtomicU64) -> bool {
     let free = take_latch(latch);
     word.fetch_or(FLAGS, Ordering::SeqCst);
@@ -249,7 +249,7 @@ fn take(latch: &AtomicU64, word: &AtomicU64) -> bool {
     free && read == FLAGS
 }
 
-// The latch is taken, the flags are lowered, and the latch is put. Whether all were as they should be.
+// Takes the latch, clears the flags, and gives the latch back. Whether latch and word were as expected.
 fn put(latch: &AtomicU64, word: &AtomicU64) -> bool {
     let free = take_latch(latch);
     let found = word.fetch_and(!FLAGS, Ordering::SeqCst);
@@ -257,7 +257,7 @@ fn put(latch: &AtomicU64, word: &AtomicU64) -> bool {
     free && found == FLAGS
 }
 
-// Whether a latch was free.
+// Takes a latch. Whether it was free.
 fn take_latch(latch: &AtomicU64) -> bool {
     latch
         .compare_exchange(0, 1, Ordering::SeqCst, Ordering::SeqCst)

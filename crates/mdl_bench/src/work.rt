@@ -1,4 +1,4 @@
-//! What is done for a figure.
+//! The work that is timed for a figure.
 use crate::beside::TURNS_AN_ALTER;
 use crate::books::{Asked, Shape, time_asking, time_grants, time_searches};
 use crate::contexts::{Wish, time_alone, time_shared};
@@ -13,36 +13,36 @@ use std::sync::Wait;
 use std::thread::Threads;
 use std::time::{Clock, CpuClock, Duration};
 
-/// What is done for a figure.
+/// The work that is timed for a figure.
 pub enum Work {
-    /// Sessions of the table that threads share, as many as there are threads: how long by the clock.
+    /// A task of sessions of the table that threads share, one on each thread: its time by the clock.
     Plays(Task),
-    /// How long by the processor's time of a thread.
+    /// The same: the longest processor time of a thread.
     Processors(Task),
-    /// How long if each turn took what an ALTER took.
+    /// The same: the time if each turn took the mean time of an ALTER.
     Alters(Task),
-    /// Many sessions of that table on one thread.
+    /// Many sessions of the table that threads share, on one thread.
     Crowds(Crowd),
-    /// A context of a session of that table that holds so many tickets.
+    /// A context of a session of the table that threads share. The session holds this number of tickets.
     Shared(Wish, u16),
-    /// A context of a session of a space of one thread.
+    /// A context of a session of a space of one thread. The session holds this number of tickets.
     Alone(Wish, u16),
-    /// A session of a space of one thread that holds so many tickets, without a context.
+    /// A session of a space of one thread, without a context. It holds this number of tickets.
     Takes(u16),
-    /// A book of so many tickets.
+    /// A book of this number of tickets.
     Asks(Asked, u16),
-    /// A book of so many waiters, which are granted one after another.
+    /// A book of this number of waiters, which are granted one after another.
     Grants(u16),
-    /// Books of so many sessions, searched for a deadlock.
+    /// Books of this number of sessions, searched for a deadlock.
     Searches(Shape, u16),
-    /// A map of so many keys.
+    /// A map of this number of keys.
     Keys(u16),
-    /// A map of so many places and versions.
+    /// A map of this number of places and versions.
     Versions(u16),
 }
 
 impl Work {
-    /// How long so many turns took, for which all is made anew. Each answer was what it ought to be.
+    /// Returns how long `turns` turns took, with everything set up anew. Fails if an answer is wrong.
     pub fn round<R: Threads + Wait + Sync + Clock + CpuClock>(
         &self,
         rt: &R,
@@ -71,7 +71,7 @@ impl Work {
     }
 }
 
-// How long if each turn took what an ALTER took, of which there is one before the first turn of each thread, and then at times.
+// Returns how long the turns would take if each took the mean time of an ALTER. A thread makes one before every [`TURNS_AN_ALTER`] turns.
 fn of_alters(lap: Lap, threads: u16, turns: u32) -> Duration {
     let each = u64::from(turns.div_ceil(TURNS_AN_ALTER));
     let alters = each.saturating_mul(u64::from(threads));

@@ -1,4 +1,4 @@
-//! Calls of a session of a space that threads share, and what they answer.
+//! Calls of a session of a space that threads share, and their answers.
 ghost use Rattle.std.specs.Prelude.{◌≡◌, true};
 ghost use Rattle.mdl_session_laws.specs.SessionSpaces.{is_known};
 ghost use Rattle.mdl_shared.specs.SessionViews.{space_of};
@@ -23,20 +23,20 @@ pub(crate) enum Act {
     Upgrade(TicketId, Mode),
     Merge(TicketId, TicketId),
     Downgrade(TicketId, Mode),
-    /// Under the first ticket, a table of one column is created, or gains another one.
+    /// Creates a table of one column under the first ticket, or adds another column to it.
     Create,
     AddColumn,
-    /// Room for so many tickets.
+    /// Reserves room for this number of tickets.
     Reserve(usize),
-    /// So many fast tickets, for which there is room.
+    /// Gains this number of fast tickets, for which there is room.
     TryFast(Place, Mode, usize),
-    /// The tickets from one number to another are given up.
+    /// Releases the tickets from one number to another.
     Release(TicketId, TicketId),
-    /// Its fast tickets become slow ones.
+    /// Makes the session's fast tickets slow.
     Materialise,
 }
 
-/// What it answers. Where memory is refused to a key or a change that is to be made for it, the call isn't made, and that is its answer, too.
+/// The answer of a call. If memory runs out for a key or a change that the call needs, the call isn't made, and the answer is `NoMemory`, too.
 #[derive(Clone, Copy, PartialEq, Eq)]
 pub(crate) enum Reply {
     At(Place),
@@ -83,7 +83,7 @@ pub(crate) fn make<R: Wait>(session: &mut Session<R>, alloc: Global, act: Act) -
     }
 }
 
-// The place of a table.
+// Looks up the place of a table.
 fn resolve<R: Wait>(session: &mut Session<R>, alloc: Global, name: &str) -> Reply {
     let Ok(key) = Key::table(alloc, "test", name) else {
         return Reply::NoMemory;
@@ -117,7 +117,7 @@ fn add_column<R: Wait>(session: &mut Session<R>, alloc: Global) -> Reply {
     }
 }
 
-// Changes what stands under the key of the first ticket.
+// Changes the definition of the first ticket's key.
 fn redefine<R: Wait>(session: &mut Session<R>, change: Change) -> Reply {
     let outcome = session.change_definition(1, &change);
     drop(change);
@@ -127,7 +127,7 @@ fn redefine<R: Wait>(session: &mut Session<R>, change: Change) -> Reply {
     }
 }
 
-// Tries for so many fast tickets, as long as they are granted. What comes of the last try.
+// Tries to gain `count` fast tickets, as long as they are granted. Returns the answer of the last try.
 fn try_fast<R>(session: &mut Session<R>, place: Place, mode: Mode, count: usize) -> Reply {
     if !knows(session, place) {
         return Reply::Refused;
@@ -142,7 +142,7 @@ fn try_fast<R>(session: &mut Session<R>, place: Place, mode: Mode, count: usize)
     reply
 }
 
-/// Whether a session knows the key of a place. Memory may be refused once.
+/// Whether a session knows the key of a place. Tries a second time if memory runs out.
 pub(crate) fn knows<R>(session: &mut Session<R>, place: Place) -> bool
     ensures { result ≡ true → is_known place (space_of session.new).known ≡ true }
 {
@@ -153,7 +153,7 @@ pub(crate) fn knows<R>(session: &mut Session<R>, place: Place) -> bool
     }
 }
 
-// Gives up the tickets from one number to another. What comes of the last one.
+// Releases the tickets from one number to another. Refused at the first release that fails.
 fn release_all<R: Wait>(session: &mut Session<R>, first: TicketId, last: TicketId) -> Reply {
     for id in first..=last {
         if session.release(id).is_err() {

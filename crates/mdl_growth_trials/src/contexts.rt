@@ -1,6 +1,6 @@
-//! The contexts of two sessions of a space that threads share, on one thread: tickets by duration, waits, a deadlock and stronger modes. Where a
-//! call is refused for want of memory, the session holds what it held and waits for nothing, and the call is made again. What gives up takes no
-//! memory.
+//! The contexts of two sessions of a space that threads share, on one thread: tickets by duration, waits, a deadlock and stronger modes. If a
+//! call runs out of memory, the session holds what it held and waits for nothing, and the call is made again. Calls that release or give up take
+//! no memory.
 ghost use Rattle.std.specs.Prelude.{◌≡◌, [], None};
 ghost use Rattle.mdl_context.specs.Contexts.{Attends};
 
@@ -21,17 +21,17 @@ enum Act {
     // Of the ticket that it gained last.
     Upgrade(Mode),
     Downgrade(Mode),
-    // To a mark of so many tickets of the statement and of the transaction.
+    // To a mark with these numbers of tickets of the statement and of the transaction.
     GoBack(usize, usize),
     EndStatement,
     EndTransaction,
     Resume,
-    // The wait for a stronger mode is over, and the ticket gets it.
+    // The wait for a stronger mode is over, and the ticket gets that mode.
     Raise(Mode),
     GiveUp,
 }
 
-// What it answers.
+// The answer of a call.
 #[derive(Clone, Copy, PartialEq, Eq)]
 enum Reply {
     Acquired,
@@ -52,7 +52,7 @@ impl Act {
         )
     }
 
-    // What is called where memory was refused to it: a wait that it was to end is over then.
+    // Returns the call to make after this one ran out of memory. A wait that it was to end is over then.
     fn again(self) -> Act {
         match self {
             Act::Raise(mode) => Act::Upgrade(mode),
@@ -78,7 +78,7 @@ impl<S: LockSpace> Model for Seat<S> {
 }
 
 impl<S: LockSpace> Seat<S> {
-    // A session of this number, which has nothing.
+    // Returns a session of this number, which has nothing, with a new context.
     fn new(alloc: Global, session: S, who: u16) -> Seat<S>
         requires speaks { S.speaks_for session who }
         requires nothing { S.own session who ≡ record { held = []; wait = None } }
@@ -94,7 +94,7 @@ impl<S: LockSpace> Seat<S> {
         make(alloc, &mut self.session, &mut self.context, act)
     }
 
-    // Whether the context keeps the tickets that the session holds, and so many of them.
+    // Whether the context keeps the tickets that the session holds, and there are `count` of them.
     fn keeps(&self, count: usize) -> bool {
         let context = &self.context;
         let held = match self.session.held(context.who()) {
@@ -107,7 +107,7 @@ impl<S: LockSpace> Seat<S> {
         }
     }
 
-    // How many tickets there are of the statement, of the transaction and in all, and whether the session waits.
+    // Returns how many tickets there are of the statement, of the transaction and in all, and whether the session waits.
     fn stands(&self) -> (Mark, usize, bool) {
         let context = &self.context;
         (
@@ -117,7 +117,7 @@ impl<S: LockSpace> Seat<S> {
         )
     }
 
-    // The session, with what it has, and without its context.
+    // Returns the session, with what it has, and drops its context.
     fn into_session(self) -> S {
         let Seat { session, context } = self;
         drop(context);
@@ -125,7 +125,7 @@ impl<S: LockSpace> Seat<S> {
     }
 }
 
-// Whether these tickets are kept.
+// Whether the kept tickets are those that are held.
 fn are_kept(kept: &[Kept], held: &[Held]) -> bool {
     for (ticket, other) in kept.iter().zip(held) {
         if ticket.id != other.id || ticket.place != other.place || ticket.mode != other.mode {
@@ -158,7 +158,7 @@ fn make<S: LockSpace>(alloc: Global, space: &mut S, context: &mut Context<S>, ac
     }
 }
 
-// A ticket at a table is wished for.
+// Requests a ticket of a table.
 fn acquire<S: LockSpace>(
     alloc: Global,
     space: &mut S,
@@ -183,7 +183,7 @@ fn acquire<S: LockSpace>(
     }
 }
 
-// The number of the ticket that a session gained last, or of none.
+// Returns the number of the ticket that a session gained last, or 0 if it has none.
 fn last_ticket<S: LockSpace>(context: &Context<S>) -> TicketId {
     match context.kept().last() {
         Some(ticket) => ticket.id,
@@ -223,7 +223,7 @@ fn refused(error: ContextError) -> Reply {
     }
 }
 
-// A session, its call, what it answers, and how many tickets the session has then.
+// A session, its call, the right answer, and the number of tickets that the session has then.
 type Row = (u16, Act, Reply, usize);
 
 const STATEMENT: Duration = Duration::Statement;
@@ -245,7 +245,7 @@ const ROWS: &[Row] = &[
         Reply::Acquired,
         1,
     ),
-    // It is used again, and cloned twice.
+    // The ticket is used again, and cloned twice.
     (
         2,
         Act::Acquire("b", Mode::SR, TRANSACTION),
@@ -266,7 +266,7 @@ const ROWS: &[Row] = &[
         1,
     ),
     (1, Act::Resume, Reply::Waits, 1),
-    // A deadlock, in which the greater number falls.
+    // A deadlock. The victim is the session with the greater number.
     (
         2,
         Act::Acquire("a", Mode::X, TRANSACTION),
@@ -283,7 +283,7 @@ const ROWS: &[Row] = &[
     (1, Act::EndTransaction, Reply::Done, 0),
     (2, Act::Resume, Reply::Acquired, 2),
     (2, Act::EndTransaction, Reply::Done, 1),
-    // A ticket gets a stronger mode at once, and then after a reader is done. Another time it doesn't wait so long.
+    // A ticket gets a stronger mode at once, and then after a reader is done. Another time its session gives up before.
     (
         1,
         Act::Acquire("a", Mode::SU, TRANSACTION),
@@ -330,7 +330,7 @@ pub(crate) fn calls_are_answered<R: Wait>(rt: &R, alloc: Global) -> bool {
     go_well
 }
 
-// Whether all rows are as they say, by two sessions of these numbers that have nothing, and the sessions behind them.
+// Whether all rows have their answers, by two sessions of these numbers that have nothing. Returns the sessions, too.
 fn sessions_outlive<S: LockSpace>(
     alloc: Global,
     first: S,
@@ -363,8 +363,8 @@ fn all_outlive<S: LockSpace>(alloc: Global, first: &mut Seat<S>, second: &mut Se
     true
 }
 
-// Whether this comes of a row: at once, or at the second try, where memory was refused to the first, after which the session had the tickets that it
-// had, and didn't wait.
+// Whether a row has its answer: at once, or at the second try if the first ran out of memory, and the session then had the tickets that it had
+// before, and didn't wait.
 fn outlives<S: LockSpace>(alloc: Global, seat: &mut Seat<S>, row: Row) -> bool {
     let (_, act, want, count) = row;
     let (mark, had, _) = seat.stands();

@@ -1,9 +1,8 @@
-//! `mdl_growth_trials` leads short lives of the crates below, and says which of them went wrong.
+//! `mdl_growth_trials` runs short lives of the crates below, and prints which of them went wrong first.
 //!
-//! Each life is a row of public calls. Where a call is refused for want of memory, it is seen that nothing has changed, and
-//! the call is made again, so a life bears that any one of its allocations is refused. Which one that is the number on the
-//! command line says: before the lives, the program makes so many allocations, so one that is refused by its number in the
-//! whole run comes so much the earlier in the lives.
+//! Each life is a sequence of public calls. If a call runs out of memory, the life checks that nothing has changed, and makes the call again. So
+//! it passes even if any one of its allocations is refused. The number on the command line selects that one: the program makes this number of
+//! allocations before the lives. So the allocation that is refused by its number in the whole run comes by as much earlier in the lives.
 #![tactic(auto)]
 
 mod acts;
@@ -34,7 +33,7 @@ fn main(rt: HostRuntime) -> ExitCode {
     }
 }
 
-// The number on the command line, and 0 where there is none.
+// Returns the number on the command line, or 0 if there is none.
 fn lead_of(rt: &HostRuntime) -> usize {
     let Ok(words) = std::env::args(rt) else {
         return 0;
@@ -46,7 +45,7 @@ fn lead_of(rt: &HostRuntime) -> usize {
     lead
 }
 
-// Makes so many allocations, one of which may be refused.
+// Makes `count` allocations, one of which may be refused.
 fn spend(alloc: Global, count: usize) {
     for _ in 0..count {
         let mut bytes = Vec::new(alloc);
@@ -54,7 +53,7 @@ fn spend(alloc: Global, count: usize) {
     }
 }
 
-// The first life that goes wrong.
+// Returns the first life that goes wrong.
 fn first_wrong<R: Wait>(rt: &R, alloc: Global) -> Option<&'static str> {
     if !sessions::calls_are_answered(rt, alloc) {
         return Some("three sessions");

@@ -7,7 +7,7 @@ use std::alloc::Global;
 use std::mem::drop;
 use std::sync::Wait;
 
-/// A space of so many places and the passes of its three sessions, at the second try, where memory was refused to the first.
+/// Returns a space of `places` places and the passes of its three sessions. Tries a second time if memory runs out.
 pub(crate) fn new_passes(alloc: Global, places: u16) -> Result<(Manager, Vec<Pass>), NewError>
     ensures { IfOk result (λ made. (length made.1.items ≡ 3) × ArePasses (table_of made.0) made.1.items) }
 {
@@ -17,7 +17,7 @@ pub(crate) fn new_passes(alloc: Global, places: u16) -> Result<(Manager, Vec<Pas
     }
 }
 
-/// Closes a session, which gives up what it has before. Whether it had nothing.
+/// Closes a session, and releases all that it has before. Whether it had nothing.
 pub(crate) fn closes<R: Wait + Drop>(rt: &impl Wait, session: Session<R>) -> bool {
     let mut session = session;
     let mut had_nothing = true;
@@ -37,7 +37,7 @@ pub(crate) fn closes<R: Wait + Drop>(rt: &impl Wait, session: Session<R>) -> boo
     unreachable!()
 }
 
-// Gives up a wait and a ticket, of what a session has.
+// Ends the session's wait, and releases its first ticket.
 fn give_up<R: Wait>(session: &mut Session<R>) {
     let _settled = session.settle_timeout();
     let _ended = session.end_wait();

@@ -1,4 +1,4 @@
-//! Scenes of statements: transactions and changes of tables, of schemas, what sessions lock as a whole, and user-level locks.
+//! Scenes of statements: transactions, changes of tables and of schemas, locked tables, the global read lock, and user-level locks.
 use crate::statements::{Outcome, Row, Scene, goes_well};
 use std::alloc::Global;
 
@@ -27,7 +27,7 @@ const TRANSACTIONS: &[Row<'static>] = &[
     ("2 ROLLBACK", Outcome::Done),
 ];
 
-// Tables that are altered behind an open transaction, and for which the other session's readers are waited for.
+// Tables that are altered while a transaction is open, and after a wait for the other session's readers.
 const ALTERED: &[Row<'static>] = &[
     ("1 CREATE SCHEMA test", Outcome::Done),
     ("1 CREATE TABLE t x", Outcome::Done),
@@ -48,7 +48,7 @@ const ALTERED: &[Row<'static>] = &[
     ("1 SELECT t", Outcome::Reads(4)),
 ];
 
-// Tables that are locked, altered so, and others that are locked in their place.
+// Tables that are locked, and altered while they are, and others that are locked in their place.
 const LOCKED: &[Row<'static>] = &[
     ("1 CREATE SCHEMA test", Outcome::Done),
     ("1 CREATE TABLE t x", Outcome::Done),
@@ -70,7 +70,7 @@ const LOCKED: &[Row<'static>] = &[
     ("1 SELECT t", Outcome::Reads(3)),
 ];
 
-// The global read lock: behind a transaction, beside locked tables, waited for, and before a commit that waits.
+// The global read lock: while a transaction is open, beside locked tables, after a wait, and before a commit that waits.
 const READ_LOCK: &[Row<'static>] = &[
     ("1 CREATE SCHEMA test", Outcome::Done),
     ("1 CREATE TABLE t x", Outcome::Done),
@@ -98,7 +98,7 @@ const READ_LOCK: &[Row<'static>] = &[
     ("1 DROP TABLE t", Outcome::Done),
 ];
 
-// Schemas that are created behind an open transaction, and dropped with their tables, for whose readers is waited.
+// Schemas that are created and dropped while a transaction is open, and dropped with their tables after a wait for their readers.
 const SCHEMAS: &[Row<'static>] = &[
     ("1 CREATE SCHEMA s", Outcome::Done),
     ("1 CREATE TABLE s.a x", Outcome::Done),
@@ -120,7 +120,7 @@ const SCHEMAS: &[Row<'static>] = &[
     ("1 SELECT s.a", Outcome::Reads(3)),
 ];
 
-// User-level locks, which are got twice, waited for, and given up in vain.
+// User-level locks, which are got twice, waited for, and released in vain.
 const USER_LOCKS: &[Row<'static>] = &[
     ("1 GET_LOCK a", Outcome::Says(true)),
     ("1 GET_LOCK a", Outcome::Says(true)),
@@ -139,7 +139,7 @@ const USER_LOCKS: &[Row<'static>] = &[
     ("1 RELEASE_LOCK a", Outcome::Null),
 ];
 
-// A table of a column that is named twice is never created: the attempt tells whether its schema is there.
+// A table of a column that is named twice is never created: the attempt shows whether its schema is defined.
 const SCENES: &[(&str, Scene<'static>)] = &[
     (
         "transactions",
@@ -190,7 +190,7 @@ const SCENES: &[(&str, Scene<'static>)] = &[
     ),
 ];
 
-/// The first scene that goes wrong.
+/// Returns the first scene that goes wrong.
 pub(crate) fn first_wrong(alloc: Global) -> Option<&'static str> {
     for (name, scene) in SCENES {
         if !goes_well(alloc, *scene) {

@@ -1,4 +1,4 @@
-//! Scripts, by which a lock is driven and which are replayed. Where memory is refused, that is what is told, and nothing is written.
+//! Scripts that drive a lock, and scripts that are replayed. If memory runs out, that is the error, and nothing is written.
 use mdl_key::Kind;
 use mdl_lines::Fault;
 use mdl_lock::lock_run;
@@ -27,7 +27,7 @@ const LOCK: Play = Play::OfLock(
     b"1 GRANTED X\n2 WAITS SR\n3 WAITS SW\n1 RELEASED X\n2 GRANTED SR\n3 GRANTED SW\n",
 );
 
-// Waits that are granted and one that is a victim, a savepoint, changes of definitions, and a wait that is left.
+// Waits that are granted and one that is a victim, a savepoint, changes of definitions, and a wait that is left at the end.
 const STATEMENTS: Play = Play::OfStatements(
     b"1 CREATE TABLE a x\n1 CREATE TABLE t x y\n1 BEGIN\n1 SAVEPOINT p\n1 SELECT t\n2 DROP TABLE t a\n3 INSERT t\n\
     1 SELECT a\n3 CREATE TABLE t z\n1 BEGIN\n1 SELECT t\n4 DROP TABLE t\n",
@@ -39,7 +39,7 @@ const STATEMENTS: Play = Play::OfStatements(
 // Room for the longest answers, and more than a byte besides.
 const ROOM: usize = 1_000;
 
-/// The first script that goes wrong.
+/// Returns the first script that goes wrong.
 pub(crate) fn first_wrong(alloc: Global) -> Option<&'static str> {
     if !goes_well(alloc, LOCK) {
         return Some("a lock's script");
@@ -50,7 +50,7 @@ pub(crate) fn first_wrong(alloc: Global) -> Option<&'static str> {
     None
 }
 
-// Whether a script has its answers, at the second run, where memory was refused to the first.
+// Whether a script has its answers. Runs it a second time if memory runs out.
 fn goes_well(alloc: Global, play: Play) -> bool {
     match end_of_run(alloc, play) {
         End::Whole => true,
@@ -74,7 +74,7 @@ fn end_of_run(alloc: Global, play: Play) -> End {
     }
 }
 
-// How a run ended that wrote into this room, which was all zeros.
+// Returns how a run ended that wrote into this room, which was all zeros.
 fn end_of(end: Result<(), Fault>, room: &[u8], answers: &[u8]) -> End {
     match end {
         Ok(()) if begins_so(room, answers) => End::Whole,
@@ -83,7 +83,7 @@ fn end_of(end: Result<(), Fault>, room: &[u8], answers: &[u8]) -> End {
     }
 }
 
-// Whether just this is written.
+// Whether exactly this is written.
 fn begins_so(room: &[u8], written: &[u8]) -> bool {
     room.get(..written.len()) == Some(written) && room.get(written.len()) == Some(&0)
 }

@@ -12,7 +12,7 @@ GLOBAL\tNULL\tNULL\tINTENTION_EXCLUSIVE\tSTATEMENT\tGRANTED\t48300
 BACKUP\tNULL\tNULL\tBACKUP_DDL\tTRANSACTION\tGRANTED\t48300
 ";
 
-/// Whether the rows are read whole, at the second try, where memory was refused to the first.
+/// Whether the rows are read completely. Tries a second time if memory runs out.
 pub(crate) fn rows_are_read(alloc: Global) -> bool {
     match read_lock_rows(alloc, TEXT) {
         Err(LockRowsError::OutOfMemory) => is_whole(read_lock_rows(alloc, TEXT)),

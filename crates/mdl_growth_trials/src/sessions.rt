@@ -1,5 +1,5 @@
-//! Sessions of a space that threads share, on one thread: fast tickets, waits, a deadlock, and what stands under a key. Where a call is refused for
-//! want of memory, all stands as before, but that fast tickets may have become slow ones, those of a place together; then the call is made again.
+//! Sessions of a space that threads share, on one thread: fast tickets, waits, a deadlock, and a key's definition. If a call runs out of memory,
+//! all is unchanged, except that fast tickets may have become slow ones, those of a place together. Then the call is made again.
 use crate::acts::{Act, Reply, knows, make};
 use crate::alike::are_alike;
 use crate::passes::{closes, new_passes};
@@ -11,13 +11,13 @@ use std::alloc::Global;
 use std::mem::drop;
 use std::sync::Wait;
 
-// The places of the space: those of two tables.
+// The number of places of the space: those of two tables.
 const PLACES: u16 = 2;
 
-// A session, what it is asked for, and what comes of it.
+// A session, its call, and the right answer.
 type Row = (u16, Act, Reply);
 
-// Three sessions of a space. The third one gains nothing, and looks on.
+// Three sessions of a space. The third one keeps no ticket, and only observes the others.
 struct Trio<R> {
     one: Session<R>,
     two: Session<R>,
@@ -34,7 +34,7 @@ impl<R: Wait> Trio<R> {
         }
     }
 
-    // Whether of so many rows that comes that should.
+    // Whether the first `count` rows have the right answers.
     fn answers(&mut self, alloc: Global, count: usize) -> bool {
         for at in 0..count {
             let Some((who, act, want)) = row(at) else {
@@ -47,7 +47,8 @@ impl<R: Wait> Trio<R> {
         true
     }
 
-    // Whether all stands here as in another trio, but that this session's fast tickets may have become slow ones, at some places and not at others.
+    // Whether all is the same here as in another trio, except that fast tickets of the session `who` may have become slow ones, at some places
+    // and not at others.
     fn stands_as(&mut self, other: &mut Trio<R>, alloc: Global, who: u16) -> bool {
         if !self.has_the_same(other) {
             return false;
@@ -58,7 +59,7 @@ impl<R: Wait> Trio<R> {
         (first || self.place_stands_as(other, 1)) && (second || self.place_stands_as(other, 2))
     }
 
-    // Whether each session has the same tickets here as in another trio, and a wait that stands the same.
+    // Whether each session has the same tickets here as in another trio, and a wait in the same state.
     fn has_the_same(&mut self, other: &mut Trio<R>) -> bool {
         for who in 1..=3 {
             if self.three.wait_of(who) != other.three.wait_of(who) {
@@ -70,19 +71,20 @@ impl<R: Wait> Trio<R> {
             && has_the_same(&mut self.three, &mut other.three)
     }
 
-    // Whether a place stands here as in another trio: its key, its lists, what stands under the key with the version, and the flag of its word.
+    // Whether a place is the same here as in another trio: its key, its lists, the key's version and definition, and its word if that closes the
+    // fast path.
     fn place_stands_as(&mut self, other: &mut Trio<R>, place: Place) -> bool {
         audits_the_same(&mut self.three, &mut other.three, place)
             && word_at(&mut self.three, place) == word_at(&mut other.three, place)
     }
 }
 
-// Whether a session has the same tickets as another one, and a wait that stands the same.
+// Whether a session has the same tickets as another one, and a wait in the same state.
 fn has_the_same<R: Wait>(here: &mut Session<R>, there: &mut Session<R>) -> bool {
     are_alike(here.held(), there.held()) && here.poll_wait() == there.poll_wait()
 }
 
-// Whether the book of a place is to two sessions the same.
+// Whether the audits of two sessions have the same book of a place.
 fn audits_the_same<R: Wait>(here: &mut Session<R>, there: &mut Session<R>, place: Place) -> bool {
     let (here, there) = (here.audit(), there.audit());
     let is_so = match (&here, &there) {
@@ -94,7 +96,7 @@ fn audits_the_same<R: Wait>(here: &mut Session<R>, there: &mut Session<R>, place
     is_so
 }
 
-// Whether the book of a place is in both lists the same, or in neither.
+// Whether two audits have the same book of a place, or neither has one.
 fn have_the_same(here: &[Audited], there: &[Audited], place: Place) -> bool {
     let at = usize::from(place.saturating_sub(1));
     match (here.get(at), there.get(at)) {
@@ -108,7 +110,7 @@ fn have_the_same(here: &[Audited], there: &[Audited], place: Place) -> bool {
     }
 }
 
-// The word of a place, where its flag is up that closes the fast path to a session without tickets.
+// Returns the word of a place, if its flag is set that closes the fast path to a session without tickets.
 fn word_at<R: Wait>(session: &mut Session<R>, place: Place) -> Option<Word> {
     if !knows(session, place) {
         return None;
@@ -123,7 +125,7 @@ fn word_at<R: Wait>(session: &mut Session<R>, place: Place) -> Option<Word> {
     }
 }
 
-// The sessions of a new space.
+// Opens the sessions of a new space.
 fn open<'r, R>(rt: &'r R, alloc: Global) -> Option<Trio<&'r R>> {
     let Ok((manager, mut passes)) = new_passes(alloc, PLACES) else {
         return None;
@@ -156,7 +158,7 @@ const ROWS: &[Row] = &[
     (1, Act::TryNow(1, Mode::X), Reply::Granted(1)),
     (1, Act::Create, Reply::Changed(1)),
     (1, Act::AddColumn, Reply::Changed(2)),
-    // A deadlock. One release grants who waits.
+    // A deadlock. One release grants the waiter.
     (2, Act::TryNow(2, Mode::X), Reply::Granted(1)),
     (2, Act::BeginWait(1, Mode::SR), Reply::Waiting(1)),
     (1, Act::BeginWait(2, Mode::SR), Reply::Waiting(1)),
@@ -165,7 +167,7 @@ const ROWS: &[Row] = &[
     (2, Act::EndWait, Reply::Lost(Settled::Victim)),
     (2, Act::Release(1, 1), Reply::Done),
     (1, Act::EndWait, Reply::Granted(2)),
-    // A ticket gets other modes, and becomes one with another.
+    // A ticket gets other modes, and is merged with another.
     (1, Act::Downgrade(1, Mode::SU), Reply::Done),
     (1, Act::Upgrade(1, Mode::SNW), Reply::Done),
     (1, Act::Clone(1, Mode::SU), Reply::Granted(3)),
@@ -176,7 +178,7 @@ const ROWS: &[Row] = &[
     (1, Act::TryFast(1, Mode::SR, 25), Reply::Granted(28)),
     (1, Act::TryFast(2, Mode::SW, 2), Reply::Granted(30)),
     (1, Act::Materialise, Reply::Done),
-    // Whoever has a fast ticket waits for another one, where the book has no room yet. The last release grants it.
+    // A session with a fast ticket waits for another ticket, at a place whose book has no room yet. The last release grants it.
     (2, Act::Reserve(1), Reply::Done),
     (2, Act::TryFast(1, Mode::S, 1), Reply::Granted(3)),
     (2, Act::BeginWait(2, Mode::X), Reply::Waiting(2)),
@@ -218,7 +220,7 @@ fn row(at: usize) -> Option<Row> {
     }
 }
 
-// Whether this comes of a row: at once, or at the second try, where memory was refused to the first, after which all stood as before it.
+// Whether a row has its answer: at once, or at the second try if the first ran out of memory and left all unchanged.
 fn outlives<'r, R: Wait>(rt: &'r R, alloc: Global, trio: &mut Trio<&'r R>, at: usize) -> bool {
     let Some((who, act, want)) = row(at) else {
         return false;
@@ -230,7 +232,7 @@ fn outlives<'r, R: Wait>(rt: &'r R, alloc: Global, trio: &mut Trio<&'r R>, at: u
     nothing_is_lost(rt, alloc, trio, at, who) && trio.make(alloc, who, act) == want
 }
 
-// Whether all stands as in a trio that is led up to a row of this session.
+// Whether all is the same as in another trio that has made the rows before a row of this session.
 fn nothing_is_lost<'r, R: Wait>(
     rt: &'r R,
     alloc: Global,

@@ -1,6 +1,6 @@
-//! The statements of two sessions over a space, in scenes. Where a statement finds no memory, it has ended, and all stands as it did before:
-//! what the sessions hold, and what is told of the tables. A second pair of sessions, which is led as far and to which no memory is refused,
-//! shows how that is. Then the statement is made again.
+//! The statements of two sessions over a space, in scenes. If a statement runs out of memory, it has ended, and all is unchanged: what the
+//! sessions hold, and what statements show of the tables. This is compared with a second pair of sessions, which plays the lines before and to
+//! which no memory is refused. Then the statement is made again.
 ghost use Rattle.std.specs.Prelude.{◌≡◌, ℕ, ◌≤◌, IfSome, [], None};
 ghost use Rattle.mdl_context.specs.Contexts.{LeavesOthers};
 ghost use Rattle.mdl_core.specs.Words.{SpeaksFor, empty_core};
@@ -16,7 +16,7 @@ use std::alloc::{AllocError, Global};
 use std::marker::Model;
 use std::mem::drop;
 
-/// What comes of a statement.
+/// The outcome of a statement.
 #[derive(Clone, Copy, PartialEq, Eq)]
 pub(crate) enum Outcome {
     Done,
@@ -32,19 +32,19 @@ pub(crate) enum Outcome {
     NoMemory,
 }
 
-/// A line, and what comes of it. That of a session that waits stands for going on with what waits.
+/// A line, and its outcome. A line of a session that waits continues the statement that waits.
 pub(crate) type Row<'a> = (&'a str, Outcome);
 
-/// Lines of two sessions, which nothing stands before.
+/// Lines of two sessions of a space in which nothing is defined before.
 #[derive(Clone, Copy)]
 pub(crate) struct Scene<'a> {
     /// The lines.
     pub(crate) rows: &'a [Row<'a>],
-    /// Lines that tell what stands, and change nothing.
+    /// Lines that show what is defined, and change nothing.
     pub(crate) looks: &'a [&'a str],
 }
 
-// The places of a space: those of the names in the longest scene, and some more.
+// The number of places of a space: those of the names in the longest scene, and some more.
 const PLACES: u16 = 12;
 
 // How many definitions the cache of a session keeps.
@@ -69,7 +69,7 @@ impl<'s> Model for Pair<'s> {
 }
 
 impl<'s> Pair<'s> {
-    // Nobody has asked for anything.
+    // Returns a new space with its sessions, which have nothing.
     fn new(alloc: Global) -> Option<Pair<'s>> {
         let space = new_space(alloc, PLACES, 2)?;
         let Some(first) = new_runner(alloc, 1) else {
@@ -88,7 +88,7 @@ impl<'s> Pair<'s> {
         })
     }
 
-    // Starts a statement of a session, or goes on with the one that waits.
+    // Starts a statement of a session, or continues the one that waits.
     fn play(&mut self, who: u16, statement: &'s Statement) -> Outcome {
         if who == 1 {
             play(&mut self.space, &mut self.first, statement)
@@ -106,7 +106,7 @@ impl<'s> Pair<'s> {
         }
     }
 
-    // Whether the sessions have the same in another pair.
+    // Whether the sessions have the same tickets as those of another pair, and the same of them wait.
     fn has_the_same(&self, other: &Pair<'s>) -> bool {
         are_alike(self.space.held(1), other.space.held(1))
             && are_alike(self.space.held(2), other.space.held(2))
@@ -114,7 +114,7 @@ impl<'s> Pair<'s> {
             && self.waits(2) == other.waits(2)
     }
 
-    // What a look tells, unless its session waits.
+    // Returns the outcome of a look, unless its session waits.
     fn look(&mut self, line: &'s Line) -> Option<Outcome> {
         if self.waits(line.session) {
             return None;
@@ -123,7 +123,7 @@ impl<'s> Pair<'s> {
     }
 }
 
-// A space of so many places and sessions, at the second try, where memory was refused to the first.
+// Returns a space of `places` places and `sessions` sessions. Tries a second time if memory runs out.
 fn new_space(alloc: Global, places: u16, sessions: u16) -> Option<CoreSpace>
     ensures made { IfSome result (λ space. space ≡ empty_core places sessions) }
     ensures speaks { IfSome result (λ space. (who : ℕ) → 1 ≤ who → who ≤ sessions → SpeaksFor space who) }
@@ -135,7 +135,7 @@ fn new_space(alloc: Global, places: u16, sessions: u16) -> Option<CoreSpace>
     }
 }
 
-// A session that has made no statement, at the second try, where memory was refused to the first.
+// Returns a session that has made no statement. Tries a second time if memory runs out.
 fn new_runner<'s>(alloc: Global, who: u16) -> Option<Runner<'s, CoreSpace>>
     ensures context { IfSome result (λ runner. runner.context ≡ record { who = who; kept = []; known = []; wait = None }) }
     ensures cache { IfSome result (λ runner. runner.cache.kept ≡ []) }
@@ -146,7 +146,7 @@ fn new_runner<'s>(alloc: Global, who: u16) -> Option<Runner<'s, CoreSpace>>
     }
 }
 
-// Starts a statement, or goes on with the one that waits.
+// Starts a statement, or continues the one that waits.
 fn play<'s>(
     space: &mut CoreSpace,
     runner: &mut Runner<'s, CoreSpace>,
@@ -174,7 +174,7 @@ fn outcome_of(progress: Result<Progress, OutOfMemory>) -> Outcome {
     outcome
 }
 
-// What comes of a statement that is answered so.
+// Returns the outcome of a statement with this reply.
 fn outcome_of_reply(reply: &Reply) -> Outcome {
     match reply {
         Reply::Ok => Outcome::Done,
@@ -188,10 +188,10 @@ fn outcome_of_reply(reply: &Reply) -> Outcome {
     }
 }
 
-// By these a session commits, or gives up the tables that it has locked and nothing else.
+// The lines by which a session commits, or releases the tables that it has locked and nothing else.
 const ENDS: &[&str] = &["1 COMMIT", "1 BEGIN", "1 ROLLBACK"];
 
-// A scene whose lines are read.
+// A scene whose lines are parsed.
 #[derive(Clone, Copy)]
 struct Staged<'s> {
     alloc: Global,
@@ -202,7 +202,7 @@ struct Staged<'s> {
 }
 
 impl<'s> Staged<'s> {
-    // A scene, and its lines, its looks, and the ends behind them.
+    // Returns a scene with its lines, its looks, and the ends after them.
     fn new(alloc: Global, scene: Scene<'s>, lines: &'s [Line]) -> Option<Staged<'s>> {
         let (lines, rest) = lines.split_at_checked(scene.rows.len())?;
         let (looks, ends) = rest.split_at_checked(scene.looks.len())?;
@@ -215,7 +215,7 @@ impl<'s> Staged<'s> {
         })
     }
 
-    // A line, and what comes of it.
+    // Returns a line, and its outcome.
     fn row(self, at: usize) -> Option<(&'s Line, Outcome)> {
         match (self.lines.get(at), self.rows.get(at)) {
             (Some(line), Some((_, want))) => Some((line, *want)),
@@ -223,7 +223,7 @@ impl<'s> Staged<'s> {
         }
     }
 
-    // Whether it goes as it should, played by these two, also where memory is refused once.
+    // Whether the scene goes as it should, played by this pair, even if memory is refused once.
     fn goes_well(self, pair: &mut Pair<'s>) -> bool {
         for at in 0..self.rows.len() {
             let Some((line, want)) = self.row(at) else {
@@ -236,7 +236,7 @@ impl<'s> Staged<'s> {
         true
     }
 
-    // Whether this comes of a line: at once, or at the second try, where memory was refused to the first.
+    // Whether a line has this outcome: at once, or at the second try if the first ran out of memory and left all unchanged.
     fn outlives(self, pair: &mut Pair<'s>, at: usize, line: &'s Line, want: Outcome) -> bool {
         let outcome = pair.play(line.session, &line.statement);
         if outcome != Outcome::NoMemory || !takes_memory(&line.statement) {
@@ -245,7 +245,7 @@ impl<'s> Staged<'s> {
         self.nothing_is_lost(pair, at, line) && pair.play(line.session, &line.statement) == want
     }
 
-    // Whether all stands as with two others, who are led up to a line, but for the statement with which its session waits.
+    // Whether all is the same as with another pair that has played the lines before this one, except the statement with which its session waits.
     fn nothing_is_lost(self, pair: &mut Pair<'s>, at: usize, line: &Line) -> bool {
         let Some(mut others) = Pair::new(self.alloc) else {
             return false;
@@ -257,13 +257,13 @@ impl<'s> Staged<'s> {
         is_so
     }
 
-    // Whether all stands as before a line's statement, or as behind what the statement ends first.
+    // Whether all is as it was before a line's statement, or as it is after what the statement ends first.
     fn is_as_before(self, pair: &mut Pair<'s>, others: &mut Pair<'s>, line: &Line) -> bool {
         self.are_alike(pair, others)
             || (self.ends_first(others, line) && self.are_alike(pair, others))
     }
 
-    // Plays the lines before one, but those of a session that come after its last end. Whether what should come of them does.
+    // Plays the lines before one, except those of a session after its last statement that ended. Whether they have the right outcomes.
     fn leads_up_to(self, pair: &mut Pair<'s>, at: usize, who: u16, ended: usize) -> bool {
         for index in 0..at {
             let Some((line, want)) = self.row(index) else {
@@ -277,7 +277,7 @@ impl<'s> Staged<'s> {
         true
     }
 
-    // How far a session's last statement goes that ended before a line.
+    // Returns the index after the line at which a session's last statement before a line ended, or 0 if none did.
     fn last_end(self, at: usize, who: u16) -> usize {
         let mut ended = 0;
         for index in 0..at {
@@ -291,7 +291,7 @@ impl<'s> Staged<'s> {
         ended
     }
 
-    // Whether both sessions have the same in two pairs, and are told the same.
+    // Whether the sessions of two pairs have the same, and the looks have the same outcomes.
     fn are_alike(self, one: &mut Pair<'s>, other: &mut Pair<'s>) -> bool {
         if !one.has_the_same(other) {
             return false;
@@ -304,7 +304,7 @@ impl<'s> Staged<'s> {
         true
     }
 
-    // Makes what a statement does before its first lock, if it does anything.
+    // Does what a statement does before its first lock. Whether there is anything to do, and it succeeded.
     fn ends_first(self, pair: &mut Pair<'s>, line: &Line) -> bool {
         let [commit, begin, rollback] = self.ends else {
             return false;
@@ -333,7 +333,7 @@ fn takes_memory(statement: &Statement) -> bool {
     )
 }
 
-/// Whether a scene goes as it should, also where memory is refused once.
+/// Whether a scene goes as it should, even if memory is refused once.
 pub(crate) fn goes_well(alloc: Global, scene: Scene<'_>) -> bool {
     let Some(script) = read(alloc, scene) else {
         return false;
@@ -343,7 +343,7 @@ pub(crate) fn goes_well(alloc: Global, scene: Scene<'_>) -> bool {
     is_so
 }
 
-// Whether it goes as it should, played by the sessions of a new space.
+// Whether a scene goes as it should, played by the sessions of a new space.
 fn is_played_well<'s>(alloc: Global, scene: Scene<'s>, lines: &'s [Line]) -> bool {
     let Some(staged) = Staged::new(alloc, scene, lines) else {
         return false;
@@ -356,7 +356,7 @@ fn is_played_well<'s>(alloc: Global, scene: Scene<'s>, lines: &'s [Line]) -> boo
     goes_well
 }
 
-// The lines of a scene, at the second try, where memory was refused to the first. Nothing else than that is told then.
+// Parses the lines of a scene. Tries a second time if memory runs out. The first try must fail with no other fault then.
 fn read(alloc: Global, scene: Scene<'_>) -> Option<Script> {
     match script_of(alloc, scene) {
         Err(Fault::Memory) => script_of(alloc, scene).ok(),
@@ -372,7 +372,7 @@ fn script_of(alloc: Global, scene: Scene<'_>) -> Result<Script, Fault> {
     }
 }
 
-// All lines of a scene, its looks, and the ends behind them.
+// Adds all lines of a scene, its looks, and the ends after them.
 fn put_all(text: &mut String, scene: Scene<'_>) -> Result<(), AllocError> {
     for (line, _) in scene.rows {
         put(text, line)?;

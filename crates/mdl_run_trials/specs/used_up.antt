@@ -1,2 +1,2 @@
--- The definitions of the tests of what is used up.
+-- The definitions for the tests of exhausted versions, places and tickets.
 pub mod Rooms

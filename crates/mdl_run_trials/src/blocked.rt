@@ -1,4 +1,4 @@
-//! A session of the test's own has a table for itself while a script is played over the same lock table.
+//! A session outside the script holds a table lock while the script is played over the same lock table.
 ghost use Rattle.std.specs.Prelude.{◌≡◌, ◌≤◌, All, length};
 ghost use Rattle.mdl_shared.specs.Passes.{table_of, pass_table};
 
@@ -19,7 +19,7 @@ const SCRIPT: &str = "1 CREATE TABLE t x / 1 CREATE TABLE u x";
 
 const TEXT: &str = "1 1 ERR 1205 / 2 1 OK / FINAL SCHEMA test@1 / FINAL TABLE test.u@1(x)";
 
-// The ticket by which a session has a table of the schema test at once.
+// Locks a table of the schema test, if the lock can be granted at once, and returns the ticket.
 fn take<R: Wait>(
     session: &mut Session<R>,
     alloc: Global,
@@ -40,7 +40,7 @@ fn place_of<R: Wait>(session: &mut Session<R>, alloc: Global, table: &str) -> Op
     place.ok()
 }
 
-// Whether a table is free to be read, and has just been created.
+// Whether a table can be locked for reading at once, and has just been created.
 fn sees_new<R: Wait>(session: &mut Session<R>, alloc: Global, table: &str) -> bool {
     let Some(id) = take(session, alloc, table, Mode::SR) else {
         return false;
@@ -52,7 +52,7 @@ fn sees_new<R: Wait>(session: &mut Session<R>, alloc: Global, table: &str) -> bo
     session.release(id).is_ok() && is_new
 }
 
-// Whether a table with the one column x stands, in its first version.
+// Whether this is the first version of a table with the one column x.
 fn is_new_table(standing: Standing) -> bool {
     let is_new = match &standing.definition {
         Some(Definition::Table(columns)) => {
@@ -71,7 +71,8 @@ fn are_only_x(columns: &[Column]) -> bool {
     }
 }
 
-// The text of the run while a session has table t, and whether it sees then that table u is new, and gives up its own.
+// Plays a script while the session `own` has table t locked. Returns the text of the run, and whether the session then sees that table u is new and
+// can release its own ticket.
 fn played_beside<R: Threads + Wait + Sync>(
     rt: &R,
     alloc: Global,
@@ -101,7 +102,7 @@ fn played_beside<R: Threads + Wait + Sync>(
     (text, own.release(id).is_ok() && sees_new)
 }
 
-/// The session has no ticket and no wait: it is closed.
+/// Closes a session, which must have no ticket and no wait.
 pub(crate) fn close<R: Drop>(rt: &impl Abort, session: Session<R>) {
     match session.close() {
         Ok(_pass) => {}

@@ -1,4 +1,4 @@
-//! Readers that fail behind each number of bytes, writers that do, and slow ones that are interrupted there.
+//! Readers and writers that fail after each possible number of bytes, and slow ones that are interrupted there.
 use crate::fakes::{Habit, SOUND, Slip};
 use crate::matrices::MATRICES;
 use crate::runs::Words::{Lock, Matrix, OnThreads, Replay};
@@ -8,10 +8,10 @@ use std::io::ErrorKind;
 use std::sync::Wait;
 use std::thread::Threads;
 
-// What is run, with its script and what is answered.
+// What is run, its script, and the answers.
 type Talk = (Words, &'static str, &'static str);
 
-// Two readers and two that wait; a deadlock, a change of definitions and a wait that is left; one session on its thread.
+// Two readers and two waiters; a deadlock, a change of definitions, and a wait that never ends; one session on its thread.
 const TALKS: &[Talk] = &[
     (
         Lock,
@@ -35,12 +35,12 @@ const TALKS: &[Talk] = &[
     (Matrix, "", MATRICES),
 ];
 
-// It moves 7 bytes at a call, and slips so after so many.
+// A device that moves at most 7 bytes at a call, and slips once after `bytes` bytes.
 fn slipping(bytes: usize, slip: Slip) -> Habit {
     Habit::steps_of(7).slips_after(bytes, slip)
 }
 
-// Whether a read that fails so after so many bytes is told by this line, and nothing is written.
+// Whether a run whose read fails in this way after `bytes` bytes reports this line and writes nothing.
 fn is_told<T: Threads + Wait + Sync>(
     rt: &T,
     alloc: Global,
@@ -52,7 +52,7 @@ fn is_told<T: Threads + Wait + Sync>(
     goes_so(rt, alloc, (talk.0, talk.1, input, SOUND, 3, "", line))
 }
 
-// Failures of a read, and what is told of each.
+// Failures of a read, and the line that reports each.
 const FAILURES: &[(ErrorKind, &str)] = &[
     (ErrorKind::ConnectionReset, "fault: device\n"),
     (ErrorKind::OutOfMemory, "fault: memory\n"),
@@ -73,7 +73,7 @@ fn a_read_that_fails_is_told(rt: HostRuntime) {
     }
 }
 
-// Whether a writer that slips so after so many bytes of the answers is left with just these bytes.
+// Whether a run whose writer slips in this way after `bytes` bytes has written exactly the first `bytes` bytes of the answers.
 fn is_cut_off<T: Threads + Wait + Sync>(
     rt: &T,
     alloc: Global,
@@ -105,7 +105,7 @@ fn a_write_that_fails_leaves_a_beginning(rt: HostRuntime) {
     }
 }
 
-// Whether all is read and written where both devices move so many bytes at a call, and are interrupted after so many.
+// Whether everything is read and written if both devices move at most `step` bytes at a call and are interrupted once after `bytes` bytes.
 fn is_served<T: Threads + Wait + Sync>(
     rt: &T,
     alloc: Global,

@@ -1,16 +1,16 @@
-//! Readers and writers for tests: they work in small steps, and slip once.
+//! Readers and writers for tests: they move a few bytes at a call, and slip at most once.
 ghost use Rattle.std.specs.Prelude.{◌≡◌, ◌≤◌, IfOk};
 
 use std::alloc::Global;
 use std::io;
 use std::io::{ErrorKind, Read, Write};
 
-/// What a call does in place of its work.
+/// What a call does in place of its work when the device slips.
 #[derive(Clone, Copy)]
 pub(crate) enum Slip {
-    /// It fails with an error of this kind.
+    /// The call fails with an error of this kind.
     Fails(ErrorKind),
-    /// It says that it moved no byte.
+    /// The call reports that it moved no byte.
     MovesNothing,
 }
 
@@ -25,33 +25,33 @@ impl Slip {
     }
 }
 
-/// When a device slips, and how many bytes it moves at a call.
+/// How many bytes a device moves at a call at most, and when it slips.
 #[derive(Clone, Copy)]
 pub(crate) struct Habit {
     step: usize,
-    // The bytes to go until the slip.
+    // The bytes left until the slip, and the slip.
     slip: Option<(usize, Slip)>,
 }
 
-/// It moves 7 bytes at a call, and never slips.
+/// Moves at most 7 bytes at a call, and never slips.
 pub(crate) const SOUND: Habit = Habit {
     step: 7,
     slip: None,
 };
 
-/// It breaks off at once.
+/// Fails at the first call.
 pub(crate) const GONE: Habit = Habit {
     step: 7,
     slip: Some((0, Slip::Fails(ErrorKind::BrokenPipe))),
 };
 
 impl Habit {
-    /// It moves at most so many bytes at a call.
+    /// Moves at most `step` bytes at a call, and never slips.
     pub(crate) fn steps_of(step: usize) -> Habit {
         Habit { step, slip: None }
     }
 
-    /// It slips once, after so many bytes.
+    /// The same habit with one slip after `bytes` bytes.
     pub(crate) fn slips_after(self, bytes: usize, slip: Slip) -> Habit {
         Habit {
             step: self.step,
@@ -59,7 +59,7 @@ impl Habit {
         }
     }
 
-    // How many of these bytes the next call moves, or its slip.
+    // Returns how many of these bytes the next call moves, or its slip.
     fn next(&mut self, bytes: usize) -> Result<usize, Slip>
         ensures { IfOk result (λ count. count ≤ bytes) }
     {
@@ -77,7 +77,7 @@ impl Habit {
     }
 }
 
-/// A reader of a text.
+/// A reader of a text, with a habit.
 #[derive(Drop)]
 pub(crate) struct Source<'a> {
     text: &'a [u8],
@@ -104,7 +104,7 @@ impl Read for Source<'_> {
     }
 }
 
-/// A writer that keeps what it took.
+/// A writer that keeps the bytes it has taken.
 #[derive(Drop)]
 pub(crate) struct Target {
     pub(crate) taken: Vec<u8>,

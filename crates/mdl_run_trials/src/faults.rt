@@ -1,4 +1,4 @@
-//! Faults, each with its line and its status, and which one a run ends with whose devices fail.
+//! Faults with their lines and exit statuses, and the fault that a run ends with if a device fails.
 use crate::fakes::{Habit, SOUND, Slip, Source, Target};
 use mdl_key::Kind;
 use mdl_lines::{Fault, LineError, report};
@@ -18,7 +18,7 @@ const FAULTS: [(Fault, &str, u8); 4] = [
     (Fault::Write, "fault: device\n", 3),
 ];
 
-// Whether a writer that slips after so many bytes is left with just these bytes of a fault's line, and the status is this one.
+// Whether a fault gives this status and, on a writer that slips after `bytes` bytes, exactly the first `bytes` bytes of its line.
 fn is_told(alloc: Global, (fault, line, status): (Fault, &str, u8), bytes: usize) -> bool {
     let slip = Slip::Fails(ErrorKind::BrokenPipe);
     let mut errors = Target::new(alloc, Habit::steps_of(3).slips_after(bytes, slip));
@@ -27,7 +27,7 @@ fn is_told(alloc: Global, (fault, line, status): (Fault, &str, u8), bytes: usize
         && line.as_bytes().starts_with(&errors.taken)
 }
 
-// A line that can't be written to its end leaves the status; each line is also told whole.
+// The status is the same when the line can't be written to its end. Each line is also written whole.
 #[test]
 fn faults_are_told(rt: HostRuntime) {
     for row in FAULTS {
@@ -37,14 +37,14 @@ fn faults_are_told(rt: HostRuntime) {
     }
 }
 
-// How a replay ends over devices of these habits.
+// The outcome of a replay over devices of these habits.
 fn end_of_replay(alloc: Global, input: Habit, output: Habit) -> Result<(), Fault> {
     let mut source = Source::new(b"1 BEGIN\n1 COMMIT\n", input);
     let mut target = Target::new(alloc, output);
     replay(alloc, &mut source, &mut target)
 }
 
-// How a lock that a script drives does.
+// The outcome of a script of one lock over devices of these habits.
 fn end_of_lock(alloc: Global, input: Habit, output: Habit) -> Result<(), Fault> {
     let mut source = Source::new(b"1 SR\n1 RELEASE\n", input);
     let mut target = Target::new(alloc, output);
@@ -57,7 +57,7 @@ fn end_with(alloc: Global, input: Habit, output: Habit, fault: Fault) -> bool {
         && end_of_lock(alloc, input, output) == Err(fault)
 }
 
-// The line of a fault doesn't say which device failed. Its kind does.
+// The line of a fault doesn't say which device failed. The fault itself does.
 #[test]
 fn a_device_that_fails_is_named(rt: HostRuntime) {
     let broken = SOUND.slips_after(5, Slip::Fails(ErrorKind::BrokenPipe));

@@ -1,11 +1,11 @@
-//! Flags by which threads wait for one another.
+//! Flags by which threads wait for each other.
 use std::sync::atomic::{AtomicBool, Ordering};
 use std::thread;
 
-// So often a thread looks at a flag.
+// How many times a thread checks a flag before it gives up.
 const MOST_TURNS: u32 = 1_000_000_000;
 
-/// A flag, which is raised once.
+/// A flag that is raised once.
 #[derive(Drop)]
 pub(crate) struct Flag {
     raised: AtomicBool,
@@ -26,7 +26,7 @@ impl Flag {
         self.raised.load(Ordering::SeqCst)
     }
 
-    /// Whether the flag is raised in time. Others have their turns meanwhile.
+    /// Whether the flag is raised in time. The thread yields between the checks.
     pub(crate) fn comes_up(&self) -> bool {
         for _turn in 0..MOST_TURNS {
             if self.is_raised() {

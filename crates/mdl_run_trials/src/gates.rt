@@ -1,11 +1,11 @@
-//! Gates are told of each statement of a session, before and after it.
+//! A gate is called before and after each statement of a session.
 use crate::outcomes::Outcome;
 use crate::room::{Answers, answers_so, new_space};
 use mdl_work::Gate;
 use std::alloc::Global;
 use std::cell::Cell;
 
-// Notes the lines of which it is told, digit behind digit, with a 0 behind those that are over.
+// A gate that notes each call as a decimal digit: before a statement its line plus the session's number, after it a 0.
 #[derive(Drop)]
 struct Notes {
     digits: Cell<u64>,
@@ -28,7 +28,7 @@ impl Gate for Notes {
     }
 }
 
-// What a gate has noted as session 1 has worked off its lines.
+// Returns what a gate has noted once session 1 has executed its lines, if the answers are the wanted ones.
 fn noted(alloc: Global, text: &[u8], want: Answers<'_>) -> Option<u64> {
     let mut space = new_space(alloc).ok()?;
     let notes = Notes {
@@ -40,7 +40,7 @@ fn noted(alloc: Global, text: &[u8], want: Answers<'_>) -> Option<u64> {
     Some(notes.digits.get())
 }
 
-// Lines 1 and 3 are those of session 1: each is told with the session's number added to it.
+// Session 1 has lines 1 and 3, so the digits before its statements are 2 and 4.
 #[test]
 fn a_gate_is_told_of_each_statement(rt: HostRuntime) {
     let text = b"1 BEGIN\n2 BEGIN\n1 COMMIT\n";

@@ -33,7 +33,7 @@ OBJECT WAITING SNRW: X
 OBJECT WAITING X: -
 ";
 
-// What is printed, without what is known of it: the test looks at what it is.
+// Returns what is printed. It has no contract: the test compares the text.
 fn printed(alloc: Global) -> Result<Vec<u8>, Fault> {
     let mut written = Vec::new(alloc);
     matrix_run(alloc, &mut written)?;

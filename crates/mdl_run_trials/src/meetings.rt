@@ -1,10 +1,10 @@
-//! Two sessions that read at the same time: neither goes on before the other one is there too.
+//! Two sessions that read at the same time: neither goes on before both are there.
 use crate::flags::Flag;
 use crate::playing::must_be_played_so;
 use mdl_script::Gate;
 use std::test::Fail;
 
-// Where the sessions 1 and 2 come together.
+// A point at which sessions 1 and 2 wait for each other.
 #[derive(Drop)]
 struct Meeting {
     one: Flag,
@@ -19,7 +19,7 @@ impl Meeting {
         }
     }
 
-    // A session comes. Whether the other one comes in time.
+    // The session arrives. Whether the other session arrives in time.
     fn is_met_by(&self, session: u16) -> bool {
         let (own, other) = match session {
             1 => (&self.one, &self.two),
@@ -30,7 +30,7 @@ impl Meeting {
     }
 }
 
-// The sessions come together before they read, and again behind that.
+// A gate at which the sessions meet before they read, and again afterwards.
 #[derive(Drop)]
 struct ReadTogether {
     before: Meeting,
@@ -54,7 +54,7 @@ impl ReadTogether {
     }
 }
 
-// The lines that read.
+// The lines that read a table.
 const READS: [u64; 2] = [2, 5];
 
 impl Gate for ReadTogether {
@@ -76,7 +76,7 @@ const SCRIPT: &str = "1 BEGIN / 1 SELECT t / 1 COMMIT / 2 BEGIN / 2 SELECT t / 2
 const TEXT: &str =
     "1 1 OK / 2 1 ERR 1146 / 3 1 OK / 4 2 OK / 5 2 ERR 1146 / 6 2 OK / FINAL SCHEMA test@1";
 
-// Were the sessions played in turn, they wouldn't meet.
+// If the sessions were played in turn, they would not meet.
 #[test]
 fn sessions_read_at_the_same_time(rt: HostRuntime) -> Result<(), Fail> {
     let gate = ReadTogether::new();

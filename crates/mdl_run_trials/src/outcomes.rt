@@ -1,12 +1,12 @@
-//! What comes of a statement.
+//! Outcomes of statements.
 use mdl_stmt::{OutOfMemory, Progress, Reply};
 use std::mem::drop;
 
-/// What comes of a statement.
+/// The outcome of a statement.
 #[derive(Clone, Copy, PartialEq, Eq)]
 pub(crate) enum Outcome {
     Done,
-    /// The version of the last table that it read.
+    /// The version of the last table that the statement read.
     Reads(u64),
     /// A truth value.
     Says(bool),
@@ -18,7 +18,7 @@ pub(crate) enum Outcome {
 }
 
 impl Outcome {
-    /// What is replied.
+    /// The outcome that a reply shows.
     pub(crate) fn of(reply: &Reply) -> Outcome {
         match reply {
             Reply::Ok => Outcome::Done,
@@ -32,7 +32,7 @@ impl Outcome {
         }
     }
 
-    /// How far a statement has come.
+    /// The outcome so far: a finished statement's reply, a wait, or a failure.
     pub(crate) fn at(progress: Result<Progress, OutOfMemory>) -> Outcome {
         let outcome = match &progress {
             Ok(Progress::Done(reply)) => Outcome::of(reply),

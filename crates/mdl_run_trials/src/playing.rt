@@ -1,4 +1,4 @@
-//! Scripts are played on threads, from text to text.
+//! Plays scripts on threads, from text to text.
 ghost use Rattle.std.specs.Prelude.{◌≡◌, ◌≤◌, All, length};
 ghost use Rattle.std.specs.List.{list_all};
 ghost use Rattle.mdl_shared.specs.Passes.{table_of, pass_table};
@@ -14,7 +14,7 @@ use std::sync::Wait;
 use std::test::Fail;
 use std::thread::Threads;
 
-/// The lines of a row, which are parted by ` / `.
+/// Returns the lines of a row, which are separated by ` / `.
 pub(crate) fn lines(alloc: Global, row: &str) -> Result<String, AllocError> {
     let mut text = String::new(alloc);
     for line in row.split(" / ") {
@@ -24,7 +24,7 @@ pub(crate) fn lines(alloc: Global, row: &str) -> Result<String, AllocError> {
     Ok(text)
 }
 
-/// A script has this text, where no session has patience. The lines of both are parted by ` / `.
+/// Fails unless a script has this text when no session has patience. The lines of both are separated by ` / `.
 pub(crate) fn must_be_played_so<R: Threads + Wait + Sync + Abort, G: Gate + Sync>(
     rt: &R,
     alloc: Global,
@@ -39,7 +39,7 @@ pub(crate) fn must_be_played_so<R: Threads + Wait + Sync + Abort, G: Gate + Sync
     Ok(())
 }
 
-// The text of a run of a script.
+// Returns the text of a run of a script.
 fn played<R: Threads + Wait + Sync, G: Gate + Sync>(
     rt: &R,
     alloc: Global,
@@ -50,14 +50,14 @@ fn played<R: Threads + Wait + Sync, G: Gate + Sync>(
     Ok(run_threads(rt, alloc, &script, 0, DEFAULT_CACHE, gate)?)
 }
 
-// Whether a session has one of these passes.
+// Whether one of these passes is that of the session.
 fn has_pass(passes: &[Pass], who: u16) -> bool
     ensures { result ≡ has_pass passes.now who }
 {
     passes.iter().any(|pass| pass.number() == who)
 }
 
-// Whether the session of each line has one.
+// Whether there is a pass for the session of each line.
 fn are_there(passes: &[Pass], script: &Script) -> bool
     ensures { result ≡ list_all (λ line. has_pass passes.now line.session) script.now }
 {
@@ -67,7 +67,7 @@ fn are_there(passes: &[Pass], script: &Script) -> bool
         .all(|line| has_pass(passes, line.session))
 }
 
-/// The text of a run of a script by these passes of a lock table that is there already.
+/// Returns the text of a run of a script over an existing lock table, with these of its passes.
 pub(crate) fn played_on<R: Threads + Wait + Sync, G: Gate + Sync>(
     rt: &R,
     alloc: Global,

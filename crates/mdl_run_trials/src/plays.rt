@@ -6,7 +6,7 @@ use mdl_script::{Line, Play, Script, Told, parse, push_end, push_told, space_aft
 use std::alloc::{AllocError, Global};
 use std::test::Fail;
 
-// A wait that is granted, a line of a session that waits, and a wait that is left.
+// A wait that is granted, a line of a session that waits, and a wait that never ends.
 const SCRIPT: &[u8] = b"\
 1 CREATE TABLE t x
 1 BEGIN
@@ -20,7 +20,7 @@ const SCRIPT: &[u8] = b"\
 2 DROP TABLE t
 ";
 
-// Plays a line in two steps.
+// Plays a line in two steps: asks, then settles.
 fn play_line<'s>(
     play: &mut Play<'s>,
     line: &'s Line,
@@ -36,7 +36,7 @@ fn play_line<'s>(
     play.settle(told)
 }
 
-// Plays all lines so.
+// Plays all lines, each in two steps.
 fn play_lines<'s>(
     alloc: Global,
     script: &'s Script,
@@ -51,14 +51,14 @@ fn play_lines<'s>(
     Ok(play)
 }
 
-// What is printed of a script that is played so, and for each session that still waits.
+// Returns what is printed for a script that is played line by line, and for each session that still waits.
 fn played(alloc: Global, script: &Script) -> Result<String, AllocError> {
     let mut told = Vec::new(alloc);
     let play = play_lines(alloc, script, &mut told)?;
     text_of(alloc, &told, play.waiting())
 }
 
-// The text of these answers, and of these sessions that wait.
+// Returns the text of these answers, and of these sessions that wait.
 fn text_of(alloc: Global, told: &[Told], waiting: &[u16]) -> Result<String, AllocError> {
     let mut out = String::new(alloc);
     for told in told {
@@ -70,7 +70,7 @@ fn text_of(alloc: Global, told: &[Told], waiting: &[u16]) -> Result<String, Allo
     Ok(out)
 }
 
-// How many books a script leaves that is played line by line.
+// Returns how many books there are after a script was played line by line.
 fn books_left(alloc: Global, script: &Script) -> Result<usize, AllocError> {
     let mut told = Vec::new(alloc);
     let play = play_lines(alloc, script, &mut told)?;

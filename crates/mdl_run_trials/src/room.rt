@@ -1,4 +1,4 @@
-//! A lock space of two sessions, one of which works off its lines.
+//! A lock space of two sessions, one of which executes its lines.
 ghost use Rattle.std.specs.Prelude.{IfOk};
 ghost use Rattle.mdl_run_trials.specs.Rooms.{IsFree, LeavesFree};
 
@@ -10,10 +10,10 @@ use mdl_work::{Gate, work};
 use std::alloc::Global;
 use std::mem::drop;
 
-/// The lines that are answered, and what comes of their statements.
+/// Line numbers, and the outcomes of their statements.
 pub(crate) type Answers<'a> = &'a [(u64, Outcome)];
 
-// Places for the keys of a script, and two sessions.
+// The number of places for the keys of a script.
 const PLACES: u16 = 16;
 
 const SESSIONS: u16 = 2;
@@ -21,7 +21,7 @@ const SESSIONS: u16 = 2;
 // How many definitions the cache of each session keeps.
 const CACHE: u16 = 64;
 
-/// A space in which nobody has asked for anything.
+/// Creates a space in which no session has asked for anything.
 pub(crate) fn new_space(alloc: Global) -> Result<CoreSpace, NewError>
     ensures one { IfOk result (λ space. IsFree space 1) }
     ensures two { IfOk result (λ space. IsFree space 2) }
@@ -29,7 +29,7 @@ pub(crate) fn new_space(alloc: Global) -> Result<CoreSpace, NewError>
     CoreSpace::new(alloc, PLACES, SESSIONS)
 }
 
-/// Whether a session answers so as it works off its lines.
+/// Whether a session gives these answers when it executes its lines.
 pub(crate) fn answers_so<G: Gate>(
     alloc: Global,
     space: &mut CoreSpace,
@@ -54,7 +54,7 @@ pub(crate) fn answers_so<G: Gate>(
     }
 }
 
-// Whether answers are these.
+// Whether the answers are the wanted ones.
 fn are_told(answers: Vec<(u64, Reply)>, want: Answers<'_>) -> bool {
     let mut are_so = answers.len() == want.len();
     for (answer, want) in answers.iter().zip(want) {
@@ -64,7 +64,7 @@ fn are_told(answers: Vec<(u64, Reply)>, want: Answers<'_>) -> bool {
     are_so
 }
 
-/// Whether session 2 makes a statement at once. It keeps what it locks.
+/// Whether session 2 executes a statement at once. It keeps what it locks.
 pub(crate) fn holds(alloc: Global, space: &mut CoreSpace, text: &[u8]) -> bool
     requires { IsFree space.old 2 }
     ensures { LeavesFree 2 space.old space.new }
@@ -77,7 +77,7 @@ pub(crate) fn holds(alloc: Global, space: &mut CoreSpace, text: &[u8]) -> bool
     is_made
 }
 
-// Whether session 2 makes the statement of the only one of these lines at once.
+// Whether there is only one line, and session 2 executes its statement at once.
 fn makes(alloc: Global, space: &mut CoreSpace, lines: &[Line]) -> bool
     requires { IsFree space.old 2 }
     ensures { LeavesFree 2 space.old space.new }

@@ -1,9 +1,9 @@
-//! Worked scripts of one session, which has all in its own order.
+//! Scripts of one session, whose answers come in the order of its lines.
 use crate::playing::must_be_played_so;
 use mdl_script::OpenGate;
 use std::test::Fail;
 
-// A script of lines that are parted by ` / `, and its text.
+// Each row is a script and its text. The lines of both are separated by ` / `.
 const ROWS: &str = "\
 1 CREATE TABLE t x / 1 SELECT t => 1 1 OK / 2 1 OK test.t@1(x) / FINAL SCHEMA test@1 / FINAL TABLE test.t@1(x)
 # nothing is asked => FINAL SCHEMA test@1

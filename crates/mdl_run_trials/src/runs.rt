@@ -1,4 +1,4 @@
-//! What a command line asks for is run over fakes.
+//! Runs what a command line asks for over fake devices.
 ghost use Rattle.std.specs.Prelude.{IfOk};
 ghost use Rattle.mdl_program.specs.Runs.{IsRun};
 
@@ -9,7 +9,7 @@ use std::alloc::Global;
 use std::sync::Wait;
 use std::thread::Threads;
 
-/// Words of a command line, read or refused.
+/// The words of a command line, accepted or refused.
 #[derive(Clone, Copy)]
 pub(crate) enum Words {
     Lock,
@@ -20,7 +20,7 @@ pub(crate) enum Words {
     Refused,
 }
 
-// What the words ask for, or what is said of words that ask for nothing.
+// Returns the run that the words ask for, or the message about words that ask for none.
 fn asked_by(words: Words) -> Result<Run, &'static str>
     ensures { IfOk result IsRun }
 {
@@ -34,7 +34,7 @@ fn asked_by(words: Words) -> Result<Run, &'static str>
     }
 }
 
-// What is seen of a run: its status, what it wrote, and what it told.
+// What is observed of a run: its status, what it wrote, and what it reported.
 #[derive(Drop)]
 struct Seen {
     status: u8,
@@ -42,11 +42,10 @@ struct Seen {
     told: Vec<u8>,
 }
 
-/// Words, a script, the habits of the devices that it is read from and answered to, and then the status, what is written, and
-/// what is told.
+/// Words, a script, the habits of the input and of the output, and then the status, what is written, and what is reported.
 pub(crate) type Row<'a> = (Words, &'a str, Habit, Habit, u8, &'a str, &'a str);
 
-// Runs what a row asks for without what is promised of it: the tests look at what it does.
+// Runs what a row asks for. It has no contract: the tests compare what the run does.
 fn look_at<T: Threads + Wait + Sync>(rt: &T, alloc: Global, row: Row<'_>) -> Seen {
     let (words, script, input, output, ..) = row;
     let mut source = Source::new(script.as_bytes(), input);
@@ -61,7 +60,7 @@ fn look_at<T: Threads + Wait + Sync>(rt: &T, alloc: Global, row: Row<'_>) -> See
     }
 }
 
-/// Whether a run goes as its row says.
+/// Whether a run gives what its row says.
 pub(crate) fn goes_so<T: Threads + Wait + Sync>(rt: &T, alloc: Global, row: Row<'_>) -> bool {
     let seen = look_at(rt, alloc, row);
     let (.., status, written, told) = row;

@@ -1,4 +1,4 @@
-//! What a program answers, and what it tells on which stream.
+//! The statuses of a program, and what it writes on which stream.
 use crate::fakes::{GONE, SOUND};
 use crate::matrices::MATRICES;
 use crate::runs::Words::{Lock, Matrix, OnThreads, Refused, Replay, Scoped};
@@ -12,7 +12,7 @@ const STATEMENTS: &str = "1 BEGIN\n2 COMMIT\n";
 
 const BAD_WORD: &str = "line 2: BadWord\n";
 
-// Whoever refuses a script or its words doesn't write, and only what has a script to read reads.
+// A run that refuses its script or its words writes no answers. Input is only read if the words ask for a script.
 const ROWS: &[Row<'static>] = &[
     (
         Lock,
@@ -67,7 +67,7 @@ fn statuses_and_lines_of_a_run(rt: HostRuntime) {
     }
 }
 
-// Whether missing words of this kind end with this status, and this line is told.
+// Whether missing words of this kind end with this status and report this line.
 fn is_lack(alloc: Global, kind: ErrorKind, status: u8, line: &str) -> bool {
     let mut told = Vec::new(alloc);
     lack_words(&io::Error::from(kind), &mut told) == status && told.as_slice() == line.as_bytes()

@@ -7,7 +7,7 @@ use std::sync::Wait;
 use std::test::Fail;
 use std::thread::Threads;
 
-// Line 4 is held until line 3 was answered, and line 5 until line 4 was.
+// Holds line 4 until line 3 is answered, and line 5 until line 4 is.
 #[derive(Drop)]
 struct InOrder {
     third: Flag,
@@ -55,7 +55,7 @@ const TEXT: &str =
     "1 1 OK / 2 1 OK / 3 1 OK test.t@1(x) / 5 1 OK / 4 2 ERR 1205 / FINAL SCHEMA test@1 / \
     FINAL TABLE test.t@1(x)";
 
-// A script whose lines come in order has this text, where no session has patience.
+// Fails unless a script whose lines are let through in order has this text. No session has patience.
 fn is_played_so<R: Threads + Wait + Sync + Abort + AllocGlobal>(
     rt: &R,
     script: &str,
@@ -67,13 +67,13 @@ fn is_played_so<R: Threads + Wait + Sync + Abort + AllocGlobal>(
     Ok(())
 }
 
-// Whoever has no patience doesn't wait for the transaction that has read the table.
+// A session without patience doesn't wait for the transaction that has read the table.
 #[test]
 fn a_drop_without_patience_times_out(rt: HostRuntime) -> Result<(), Fail> {
     is_played_so(&rt, SCRIPT, TEXT)
 }
 
-// Nor for the session that has a user-level lock, and that is no error.
+// Nor does it wait for the session that has a user-level lock. That is no error: the reply is 0.
 #[test]
 fn a_user_lock_is_not_had_without_patience(rt: HostRuntime) -> Result<(), Fail> {
     is_played_so(

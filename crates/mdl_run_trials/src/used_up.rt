@@ -1,10 +1,10 @@
-//! Trials of statements over a lock space in which something is used up, or another session has a lock: what each statement tells then, and
-//! what its session holds.
+//! Statements over a lock space that has run out of something, or in which another session has a lock: what each statement answers then, and what its
+//! session holds.
 //!
-//! Everything here is for tests. A `room` has a session whose statements are tried, and another one that fills locks; `rows` plays
-//! statements one after another. `versions` are those of tables and schemas that have had all theirs (9003), `places` those of a space
-//! that has no place for one more key (9004), and `full` those of locks that have all the tickets that they can have (9005). A session's
-//! numbers would run out only behind 2^60 - 1 of them, which no trial comes to. `waits` are statements that are dropped while they wait.
+//! Everything here is for tests. A `room` has a session whose statements are tried, and a second one that fills locks; `rows` plays statements one
+//! after another. `versions` are tables and schemas that have had their last version (9003), `places` are spaces without a place for one more key
+//! (9004), and `full` are locks with as many tickets as a lock can have (9005). A session's numbers would run out only after 2^60 - 1 of them, which
+//! no test reaches. `waits` are statements that are dropped while they wait.
 mod full;
 mod places;
 mod room;
@@ -16,13 +16,13 @@ use crate::used_up::rows::{Story, first_wrong};
 use std::alloc::Global;
 use std::process::Abort;
 
-// All rows of a story have to go as they say.
+// Fails unless all rows of a story go as they say.
 fn must_go_so(rt: &impl Abort, alloc: Global, story: Story) {
     let wrong = first_wrong(alloc, story);
     assert!(rt; wrong.is_none(), "{}: row {}", story.0, wrong.unwrap_or(0));
 }
 
-// Those of all stories have to.
+// The same for all stories.
 fn must_all_go_so(rt: &impl Abort, alloc: Global, stories: &[Story]) {
     for story in stories {
         must_go_so(rt, alloc, *story);

@@ -1,4 +1,4 @@
-//! Eight sessions read two tables in turn while a ninth one makes and changes them.
+//! Eight sessions read two tables in turn while a ninth creates and changes them.
 use crate::blocked::close;
 use crate::playing::played_on;
 use mdl_key::MOST_PLACES;
@@ -11,7 +11,7 @@ use std::sync::Wait;
 use std::test::Fail;
 use std::thread::Threads;
 
-// So often each of the readers reads, one table and the other in turn.
+// How many reads each of the readers makes, of the two tables in turn.
 const READS: u32 = 250;
 
 const CHANGES: &str = "\
@@ -47,7 +47,7 @@ fn script(alloc: Global) -> Result<String, AllocError> {
     Ok(script)
 }
 
-// The session of an answer, and the version of the table that it read: 0 where there was none. Nothing else is answered to a read.
+// Returns the session of an answer, and the version of the table that it read: 0 if there was no table. No other answer to a read is valid.
 fn reading(line: &str, table: &str) -> Option<(u16, u64)> {
     let (_number, answer) = line.split_once(' ')?;
     let (who, reply) = answer.split_once(' ')?;
@@ -64,14 +64,14 @@ fn version(reply: &str, table: &str) -> Option<u64> {
     version.parse().ok()
 }
 
-// A table, and the version of it that was read last.
+// A table, and its version that was read last.
 #[derive(Clone, Copy)]
 struct Seen {
     table: &'static str,
     version: u64,
 }
 
-// The readings of a session, of one table and the other in turn.
+// The reads of one session, of the two tables in turn.
 #[derive(Clone, Copy)]
 struct Readings {
     who: u16,
@@ -96,7 +96,7 @@ impl Readings {
         }
     }
 
-    // Notes an answer. Whether it is one of the session, and the version of the table that comes next is not below the last one.
+    // Notes an answer. Whether it is one of the session, and the version that it read is not below the table's last one.
     fn note(&mut self, line: &str) -> bool {
         let Seen { table, version } = self.next;
         match reading(line, table) {
@@ -114,7 +114,7 @@ impl Readings {
     }
 }
 
-// The session of a text's first lines whose versions fall, if there is one, or that has too few of them.
+// Returns the first session whose versions fall, or that has too few answers, if there is one. The text begins with the answers of the readers.
 fn first_that_falls(text: &str) -> Option<u16> {
     let mut lines = text.lines();
     for who in 1..=8_u16 {
@@ -131,7 +131,7 @@ fn first_that_falls(text: &str) -> Option<u16> {
     None
 }
 
-// Whether nobody has a ticket in any book, or waits for one.
+// Whether no session has a ticket in any book, or waits for one.
 fn are_free(books: &[Audited]) -> bool {
     for book in books {
         if !book.book.granted.is_empty() || !book.book.waiting.is_empty() {
@@ -141,7 +141,7 @@ fn are_free(books: &[Audited]) -> bool {
     true
 }
 
-// Whether a session finds all books so.
+// Whether an audit by a session shows no ticket in any book.
 fn finds_all_free<R: Wait>(session: &mut Session<R>) -> bool {
     let Ok(books) = session.audit() else {
         return false;
@@ -151,7 +151,7 @@ fn finds_all_free<R: Wait>(session: &mut Session<R>) -> bool {
     are_free
 }
 
-// The text of a run whose sessions' caches keep one definition, and whether a tenth session finds all books free when it is over.
+// Plays a script with caches that keep one definition. Returns the text, and whether a tenth session finds all books free afterwards.
 fn played_alone<R: Threads + Wait + Sync + Abort>(
     rt: &R,
     alloc: Global,
@@ -169,7 +169,7 @@ fn played_alone<R: Threads + Wait + Sync + Abort>(
     Ok((played?, are_free))
 }
 
-// Each read is of the other table, so the cache, which keeps one definition, has just dropped it.
+// Each read is of the other table, so the cache, which keeps one definition, has just dropped the one that is needed.
 #[test]
 fn versions_never_fall(rt: HostRuntime) -> Result<(), Fail> {
     let (played, are_free) = played_alone(&rt, rt.alloc())?;

@@ -1,4 +1,4 @@
-//! Sessions work off their own lines, wait for what the other one has locked until they have no more patience, and leave nothing at their end.
+//! Sessions execute their own lines, wait for what the other session has locked until their patience ends, and leave nothing at their end.
 use crate::outcomes::Outcome;
 use crate::room::{Answers, answers_so, holds, new_space};
 use mdl_work::OpenGate;
@@ -8,11 +8,11 @@ const DONE: Outcome = Outcome::Done;
 
 const YES: Outcome = Outcome::Says(true);
 
-// A script, and what the one session answers, and then the other.
+// A script, the answers of session 1, and then those of session 2.
 type Talk = (&'static [u8], Answers<'static>, Answers<'static>);
 
 const TALKS: &[Talk] = &[
-    // Each answers its own lines.
+    // Each session answers its own lines.
     (
         b"1 CREATE SCHEMA shop\n2 SELECT shop.orders\n# what is sold\n\
         1 CREATE TABLE shop.orders id\n1 CREATE TABLE shop.parts id\n\
@@ -20,25 +20,25 @@ const TALKS: &[Talk] = &[
         &[(1, DONE), (4, DONE), (5, DONE), (7, Outcome::Fails(1146))],
         &[(2, Outcome::Reads(1)), (6, Outcome::Reads(1))],
     ),
-    // What the first session has locked, and its transaction, it has given up at its end.
+    // At its end the first session has released its locks and ended its transaction.
     (
         b"1 CREATE SCHEMA shop\n1 CREATE TABLE shop.orders id\n1 BEGIN\n1 INSERT shop.orders\n\
         2 DROP TABLE shop.orders\n2 CREATE TABLE shop.orders id\n2 LOCK TABLES shop.orders WRITE\n",
         &[(1, DONE), (2, DONE), (3, DONE), (4, DONE)],
         &[(5, DONE), (6, DONE), (7, DONE)],
     ),
-    // And its user-level locks, which no COMMIT does.
+    // It has also released its user-level locks, which COMMIT does not.
     (
         b"1 GET_LOCK job\n1 GET_LOCK job\n1 BEGIN\n1 COMMIT\n1 RELEASE_LOCK job\n\
         2 RELEASE_LOCK job\n2 GET_LOCK job\n2 RELEASE_LOCK job\n",
         &[(1, YES), (2, YES), (3, DONE), (4, DONE), (5, YES)],
         &[(6, Outcome::Null), (7, YES), (8, YES)],
     ),
-    // Whoever has no lines answers nothing.
+    // A session without lines answers nothing.
     (b"2 COMMIT\n", &[], &[(1, DONE)]),
 ];
 
-// Whether the sessions answer so, first the one and then the other.
+// Whether the sessions give these answers, first session 1 and then session 2.
 fn go_so(alloc: Global, (text, one, two): Talk) -> bool {
     let Ok(mut space) = new_space(alloc) else {
         return false;
@@ -58,7 +58,7 @@ const TABLES: &[u8] = b"1 CREATE SCHEMA shop\n1 CREATE TABLE shop.orders id\n";
 
 const TIMED_OUT: Outcome = Outcome::Fails(1205);
 
-// What session 2 locks, the lines of session 1, its patience, and what it answers.
+// The statement by which session 2 locks something, the lines of session 1, its patience, and its answers.
 type Wait = (&'static [u8], &'static [u8], u32, Answers<'static>);
 
 const WRITTEN: &[u8] = b"2 LOCK TABLES shop.orders WRITE\n";
@@ -66,7 +66,7 @@ const WRITTEN: &[u8] = b"2 LOCK TABLES shop.orders WRITE\n";
 const LINES: &[u8] =
     b"1 SELECT shop.orders\n1 BEGIN\n1 INSERT shop.orders\n1 ROLLBACK\n1 DROP SCHEMA shop\n1 COMMIT\n";
 
-// The lock never comes free, so each wait times out, and its session goes on.
+// The lock is never released, so each wait times out, and its session goes on.
 const ANSWERS: Answers<'static> = &[
     (1, TIMED_OUT),
     (2, DONE),
@@ -79,7 +79,7 @@ const ANSWERS: Answers<'static> = &[
 const WAITS: &[Wait] = &[
     (WRITTEN, LINES, 0, ANSWERS),
     (WRITTEN, LINES, 3, ANSWERS),
-    // A user-level lock that isn't had in time is an answer, and the transaction goes on.
+    // A user-level lock that isn't granted in time is an answer, and the transaction goes on.
     (
         b"2 GET_LOCK job\n",
         b"1 BEGIN\n1 SAVEPOINT p\n1 GET_LOCK job\n1 RELEASE_LOCK job\n1 ROLLBACK TO p\n",
@@ -94,7 +94,7 @@ const WAITS: &[Wait] = &[
     ),
 ];
 
-// Whether session 1 answers so where session 2 has made a statement that locks something.
+// Whether session 1 gives these answers after session 2 has locked something.
 fn waits_so(alloc: Global, (lock, text, patience, want): Wait) -> bool {
     let Ok(mut space) = new_space(alloc) else {
         return false;

@@ -1,4 +1,4 @@
-//! Calls of a session and what comes of them, as the rows of tests have them.
+//! Calls of a session and their replies, as the rows of tests have them.
 
 use crate::audits::{Shown, are_shown};
 use crate::columns::{adding, table};
@@ -26,7 +26,7 @@ pub(crate) enum Lock {
 }
 
 impl Lock {
-    /// Its key.
+    /// Returns the lock's key.
     pub(crate) fn key(self, alloc: Global) -> Result<Key, KeyError> {
         match self {
             Lock::Global => Ok(Key::global(alloc)),
@@ -40,7 +40,7 @@ impl Lock {
     }
 }
 
-// The key of the table of a number.
+// Returns the key of the table of a number.
 fn numbered(alloc: Global, number: u16) -> Result<Key, KeyError> {
     match format!(in alloc; "t{number}") {
         Ok(name) => Key::table(alloc, "shop", &name),
@@ -48,7 +48,7 @@ fn numbered(alloc: Global, number: u16) -> Result<Key, KeyError> {
     }
 }
 
-/// A change of what stands under a key.
+/// A change of a key's definition.
 #[derive(Clone, Copy)]
 pub(crate) enum Edit {
     CreateSchema,
@@ -61,7 +61,7 @@ pub(crate) enum Edit {
 }
 
 impl Edit {
-    // The change, unless no memory is found.
+    // Returns the change, unless memory runs out.
     fn change(self, alloc: Global) -> Option<Change> {
         match self {
             Edit::CreateSchema => Some(Change::Create(Definition::Schema)),
@@ -93,17 +93,17 @@ pub(crate) enum Act {
     Merge(TicketId, TicketId),
     Release(TicketId),
     ReleaseFast(TicketId),
-    // It tries for a fast ticket as often, and tells what comes of the last time.
+    // It tries for a fast ticket this number of times. The reply is that of the last time.
     TryFastOften(Place, Mode, u32),
-    // It gives all its tickets up, and counts them.
+    // It releases all its tickets, and counts them.
     ReleaseAll,
     // Its fast tickets become slow ones.
     Materialise,
-    // It makes room for so many tickets.
+    // It makes room for this number of tickets.
     Reserve(usize),
     Read(TicketId),
     Change(TicketId, Edit),
-    // It puts a schema as often, and tells what comes of the last time.
+    // It puts a schema this number of times. The reply is that of the last time.
     PutOften(TicketId, u32),
     // It asks for the tables of `shop`, and counts them.
     Tables,
@@ -111,7 +111,7 @@ pub(crate) enum Act {
     Holds(&'static [Held]),
     // Whether the key of a place is this lock's.
     Names(Place, Lock),
-    // Whether an audit tells just these books.
+    // Whether an audit returns just these books.
     Audit(&'static [Shown]),
     Begin(Place, Mode),
     Poll,
@@ -120,7 +120,7 @@ pub(crate) enum Act {
     // It kills the wait of a session that has this number.
     Kill(u16, u64),
     WaitOf(u16),
-    // It makes way at a place that it knows.
+    // It reschedules a place that it knows.
     Reschedule(Place),
     // It reads the version of a place that it knows.
     Version(Place),
@@ -128,7 +128,7 @@ pub(crate) enum Act {
     Search,
 }
 
-/// What comes of it.
+/// The reply to an act.
 #[derive(Clone, Copy, PartialEq)]
 pub(crate) enum Reply {
     Place(Place),
@@ -139,14 +139,14 @@ pub(crate) enum Reply {
     WouldWait,
     Upgraded,
     Done,
-    // Its ticket is given up. Whether it owes the place a reschedule.
+    // Its ticket is released. Whether it owes the place a reschedule.
     Owes(bool),
     Version(u64),
-    // What stands is nothing, and never was anything else.
+    // There is no definition, and the version is 0.
     New,
-    // What stands is a schema, of this version.
+    // The definition is a schema, of this version.
     Schema(u64),
-    // What stands is something else, of this version.
+    // The definition is a table, or it was dropped. The number is the version.
     Other(u64),
     Count(usize),
     Is(bool),
@@ -162,7 +162,7 @@ pub(crate) enum Reply {
     Refused(SpaceError),
 }
 
-/// Does it.
+/// Makes an act. Returns the reply.
 pub(crate) fn make<R: Wait>(alloc: Global, session: &mut Session<R>, act: Act) -> Reply {
     match act {
         Act::Resolve(lock) => resolve(alloc, session, lock),
@@ -201,11 +201,11 @@ pub(crate) fn make<R: Wait>(alloc: Global, session: &mut Session<R>, act: Act) -
 #[derive(Clone, Copy)]
 pub(crate) enum Memory {
     Ample,
-    /// Once: the act is made again then, if it may take some.
+    /// Once. The act is made again then, if it may take memory.
     Scarce,
 }
 
-/// Does it, and does it again where memory was refused that may be.
+/// Makes an act, and makes it again if memory is scarce, the act may take some, and it ran out. Returns the last reply.
 pub(crate) fn make_at_last<R: Wait>(
     alloc: Global,
     session: &mut Session<R>,
@@ -219,12 +219,13 @@ pub(crate) fn make_at_last<R: Wait>(
     }
 }
 
-/// The reply to an act that found no memory.
+/// The reply to an act that ran out of memory.
 pub(crate) const NO_MEMORY: Reply = Reply::Refused(SpaceError::OutOfMemory);
 
-// A release and a downgrade take none, nor what is done with a wait once it has begun, nor does it to put a schema or to drop what stands. Where no
-// ticket is fast, a merge and an upgrade take none, and to a mode that a ticket covers an upgrade takes none ever. Who tries for a fast ticket or
-// makes way asks for the key of the place first, which takes some. The fast ticket itself takes none where room was made before.
+// Whether an act may take memory. A release, a downgrade, a change that defines a schema and a drop take none, nor do a poll, a timeout, a kill
+// and the end of a wait. A merge and an upgrade take none if no ticket is fast, and an upgrade to a mode that the ticket covers never takes any.
+// An act that tries for a fast ticket or reschedules asks for the key of the place first, which takes some. The fast ticket itself takes none if
+// room was made before.
 fn may_take_memory(act: Act) -> bool {
     match act {
         Act::Resolve(_)

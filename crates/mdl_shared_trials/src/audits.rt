@@ -1,11 +1,11 @@
-//! What an audit tells: the books of all places that have a key.
+//! What an audit returns: the books of all places that have a key.
 use crate::acts::{Lock, NO_MEMORY, Reply};
 use mdl_book::Ticket;
 use mdl_calls::Place;
 use mdl_shared::Audited;
 use std::alloc::Global;
 
-/// A book in which nobody waits, and under whose key nothing was ever defined.
+/// A book without waiting tickets, whose key has no definition, and version 0.
 #[derive(Clone, Copy)]
 pub(crate) struct Shown {
     pub(crate) place: Place,

@@ -1,11 +1,12 @@
-//! A session reads what stands under its keys with a cache of its own, and looks in it without the latch, while another session makes changes. All is
-//! done on one thread.
+//! A session reads definitions with a cache of its own, and looks in it without the latch, while another session makes changes. All is done on
+//! one thread.
 use crate::acts::{Act, Edit, Lock, Reply};
 use crate::readers::{Found, Step, Story, are_right};
 use mdl_key::Mode;
 use std::test::Fail;
 
-// What is kept is read as long as its version stands; another version is read anew, and kept, too. Nothing is kept of what has no definition.
+// A kept definition is read as long as its version is current. Another version is read anew, and kept, too. Nothing is kept if there is no
+// definition.
 const WHILE_IT_STANDS: &[Step] = &[
     Step::LookUp(Lock::Orders, 1),
     Step::Beside(Act::Resolve(Lock::Orders), Reply::Place(1)),
@@ -45,7 +46,7 @@ const LOOKS: &[Step] = &[
     Step::Look(1, &["x"], Found::Named),
 ];
 
-// After each change a look finds nothing that is current, a read finds what stands now, and a look finds that.
+// After each change a look finds nothing that is current, a read finds the new definition, and then a look finds it, too.
 const ANEW: &[Step] = &[
     Step::Beside(Act::Resolve(Lock::Orders), Reply::Place(1)),
     Step::LookUp(Lock::Orders, 1),
@@ -67,7 +68,7 @@ const ANEW: &[Step] = &[
     Step::Keeps(2),
 ];
 
-// A cache of two drops what was used last of all: a look that finds a definition counts as a use.
+// A cache of two drops the definition that is unused for longest. A look that finds a definition counts as a use.
 const THREE_TABLES: &[Step] = &[
     Step::Beside(Act::Resolve(Lock::Orders), Reply::Place(1)),
     Step::Beside(Act::Resolve(Lock::Sales), Reply::Place(2)),

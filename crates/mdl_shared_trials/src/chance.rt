@@ -1,4 +1,4 @@
-//! Numbers that look like chance, and are the same in each run.
+//! Pseudorandom numbers, which are the same in each run.
 use mdl_calls::Held;
 use mdl_key::Mode;
 
@@ -15,21 +15,21 @@ const MODES: [Mode; 10] = [
     Mode::X,
 ];
 
-/// A row of such numbers.
+/// A sequence of such numbers.
 #[derive(Clone, Copy)]
 pub(crate) struct Chance {
     state: u64,
 }
 
 impl Chance {
-    /// The row of a number.
+    /// Returns the sequence of a number.
     pub(crate) fn new(number: u16) -> Chance {
         Chance {
             state: u64::from(number),
         }
     }
 
-    /// The next number of the row below a bound, and 0 where that is 0.
+    /// Returns the next number of the sequence, below a bound, or 0 if the bound is 0.
     pub(crate) fn below(&mut self, bound: usize) -> usize {
         self.state = self
             .state
@@ -39,12 +39,12 @@ impl Chance {
         drawn.checked_rem(bound).unwrap_or(0)
     }
 
-    /// One of the modes of a table's lock.
+    /// Returns one of the modes of a table's lock.
     pub(crate) fn mode(&mut self) -> Mode {
         MODES.get(self.below(10)).copied().unwrap_or(Mode::S)
     }
 
-    /// One of the tickets, if there is one.
+    /// Returns one of the tickets, if there is one.
     pub(crate) fn ticket(&mut self, held: &[Held]) -> Option<Held> {
         held.get(self.below(held.len())).copied()
     }

@@ -1,4 +1,4 @@
-//! Sessions change what stands under their keys, and read its version.
+//! Sessions change the definitions of keys, and read their versions.
 use crate::acts::{Act, Edit, Lock, Memory, Reply};
 use crate::rows::{Case, Row, are_right};
 use mdl_calls::SpaceError;
@@ -6,7 +6,7 @@ use mdl_defs::DefError;
 use mdl_key::Mode;
 use std::test::Fail;
 
-// Each change is one version more, and is read by all who come later.
+// Each change raises the version by one, and all later reads see it.
 const CHANGES: &[Row] = &[
     (1, Act::Resolve(Lock::Shop), Reply::Place(1)),
     (2, Act::Resolve(Lock::Shop), Reply::Place(1)),
@@ -31,7 +31,7 @@ const MISSING: Reply = Reply::Refused(SpaceError::Def(DefError::Missing));
 
 const EXISTS: Reply = Reply::Refused(SpaceError::Def(DefError::Exists));
 
-// Only an exclusive ticket lets its session change anything, and only what suits the key and what stands there.
+// A session can change a definition only under an exclusive ticket, and only if the change suits the key and its definition.
 const REFUSED: &[Row] = &[
     (1, Act::Resolve(Lock::Shop), Reply::Place(1)),
     (1, Act::Resolve(Lock::Sales), Reply::Place(2)),

@@ -1,4 +1,4 @@
-//! Which modes of a table's lock can't stand beside one another, written out here once more, and what books may be by that.
+//! Which modes of a table's lock clash, written out here once more, and checks of books against that.
 use mdl_book::Ticket;
 use mdl_calls::Held;
 use mdl_key::Mode;
@@ -32,7 +32,7 @@ pub(crate) fn are_lawful(books: &[Audited]) -> bool {
     true
 }
 
-/// Whether the books have of a session, which waits for nothing, just the tickets that it holds.
+/// Whether the books have just the tickets that a session holds, and no waiting ticket of it.
 pub(crate) fn are_of(books: &[Audited], session: u16, held: &[Held]) -> bool {
     let (mut granted, mut waiting) = (0usize, 0usize);
     for book in books {
@@ -46,7 +46,7 @@ pub(crate) fn are_of(books: &[Audited], session: u16, held: &[Held]) -> bool {
     granted == held.len() && waiting == 0 && listed
 }
 
-// How many of the tickets are a session's.
+// Returns how many of the tickets are a session's.
 fn count(tickets: &[Ticket], session: u16) -> usize {
     let mut count = 0usize;
     for ticket in tickets {

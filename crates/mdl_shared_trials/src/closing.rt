@@ -1,4 +1,4 @@
-//! A session that has a ticket or a wait isn't closed: it comes back as it was, and goes on.
+//! A session that has a ticket or a wait isn't closed: the caller gets it back unchanged, and it goes on.
 use crate::acts::{Act, Lock, Memory, Reply};
 use crate::rows::{Row, none_is_wrong, open_three};
 use mdl_calls::{Ended, Settled};
@@ -8,7 +8,7 @@ use std::process::Abort;
 use std::sync::Wait;
 use std::test::Fail;
 
-// What rows show, the rows before session 2 isn't closed, and those after that.
+// What rows show, the rows before the attempt to close session 2, and those after it.
 type Story = (&'static str, &'static [Row], &'static [Row]);
 
 const HOLDS: &[Row] = &[
@@ -49,7 +49,7 @@ const KILLED: &[Row] = &[
     (2, Act::Poll, Reply::Settled(Settled::Killed)),
 ];
 
-// The session's next wait isn't hit by the old number, nor by its own once it is granted.
+// A kill by the old number misses the session's next wait, and so does one by its own number once it is granted.
 const KILLED_TOO_LATE: &[Row] = &[
     (2, Act::End, Reply::Ended(Ended::Killed)),
     (1, Act::Try(1, Mode::X), Reply::Granted(2)),
@@ -62,7 +62,7 @@ const KILLED_TOO_LATE: &[Row] = &[
     (2, Act::Release(2), Reply::Done),
 ];
 
-// A wait that is lost stands in the others' way until its session ends it.
+// A lost wait blocks the others until its session ends it.
 const LOST: &[Row] = &[
     (1, Act::Resolve(Lock::Sales), Reply::Place(1)),
     (2, Act::Resolve(Lock::Sales), Reply::Place(1)),
@@ -91,7 +91,7 @@ const STORIES: &[Story] = &[
     ("a lost wait stands until it is ended", LOST, ENDED),
 ];
 
-// Which row comes to something else, if there is one, counted from the first before the second session isn't closed.
+// Returns the index of the first row with a wrong reply, if there is one, counted over the rows before and after the attempt to close.
 fn first_wrong<R: Wait + Abort + AllocGlobal>(
     rt: &R,
     before: &[Row],

@@ -1,8 +1,8 @@
-//! Definitions of tables, and a change of one, where memory is found for them.
+//! Definitions of tables, and a change of one, unless memory runs out.
 use mdl_defs::{Change, Column, Columns, Definition};
 use std::alloc::Global;
 
-/// A table of one column.
+/// Returns a table of one column.
 pub(crate) fn table(alloc: Global, column: &str) -> Option<Definition> {
     let column = Column::new(alloc, column).ok()?;
     let mut columns = Columns::new(alloc);
@@ -12,7 +12,7 @@ pub(crate) fn table(alloc: Global, column: &str) -> Option<Definition> {
     }
 }
 
-/// A column is added to a table.
+/// Returns the change that adds a column to a table.
 pub(crate) fn adding(alloc: Global, column: &str) -> Option<Change> {
     match Column::new(alloc, column) {
         Ok(column) => Some(Change::AddColumn(column)),

@@ -1,4 +1,4 @@
-//! Sessions try for fast tickets, give them up and make slow ones of them.
+//! Sessions try for fast tickets, release them and make them slow.
 use crate::acts::{Act, Lock, Memory, Reply};
 use crate::audits::Shown;
 use crate::rows::{Case, Row, are_right};
@@ -12,7 +12,7 @@ const NOT_HELD: Reply = Reply::Refused(SpaceError::NotHeld);
 
 const BAD_MODE: Reply = Reply::Refused(SpaceError::BadMode);
 
-// A session has 1,023 fast tickets at a place and no more, but more elsewhere. The lock's word counts each of them.
+// A session can have at most 1,023 fast tickets at a place, and more at other places. The lock's word counts each of them.
 const MOST: &[Row] = &[
     (1, Act::Resolve(Lock::Sales), Reply::Place(1)),
     (1, Act::Resolve(Lock::Orders), Reply::Place(2)),
@@ -35,7 +35,7 @@ const MOST: &[Row] = &[
     (1, Act::ReleaseAll, Reply::Count(1023)),
 ];
 
-// A wait keeps new fast tickets away. It is granted once whoever gave the last one up reschedules the place.
+// A wait keeps new fast tickets away. It is granted once the session that released the last one reschedules the place.
 const OWED: &[Row] = &[
     (1, Act::Resolve(Lock::Sales), Reply::Place(1)),
     (2, Act::Resolve(Lock::Sales), Reply::Place(1)),
@@ -60,7 +60,7 @@ const OWED: &[Row] = &[
     (2, Act::Release(1), Reply::Done),
 ];
 
-// A wait that was killed isn't granted, and keeps nobody away once it has ended.
+// A wait that was killed isn't granted, and keeps no ticket away once it has ended.
 const KILLED: &[Row] = &[
     (1, Act::Resolve(Lock::Sales), Reply::Place(1)),
     (2, Act::Resolve(Lock::Sales), Reply::Place(1)),
@@ -123,7 +123,7 @@ const THREE: Shown = Shown {
     ],
 };
 
-// Tickets that become slow ones stand in the books, and stay what they were.
+// Tickets that become slow are in the books, and are otherwise unchanged.
 const MADE_SLOW: &[Row] = &[
     (1, Act::Resolve(Lock::Sales), Reply::Place(1)),
     (1, Act::TryFast(1, Mode::S), Reply::Granted(1)),
@@ -141,7 +141,7 @@ const MADE_SLOW: &[Row] = &[
     (1, Act::Materialise, Reply::Done),
 ];
 
-// An obtrusive ticket makes the fast tickets of its session slow, and closes the fast path to all until it is given up.
+// An obtrusive ticket makes the fast tickets of its session slow, and closes the fast path to all until it is released.
 const BESIDE_READ_ONLY: &[Row] = &[
     (1, Act::Resolve(Lock::Sales), Reply::Place(1)),
     (2, Act::Resolve(Lock::Sales), Reply::Place(1)),
@@ -165,7 +165,7 @@ const BESIDE_READ_ONLY: &[Row] = &[
     (1, Act::Release(1), Reply::Done),
 ];
 
-// Only modes that aren't obtrusive are tried for so, and only what was gained so is given up so.
+// Only modes that aren't obtrusive can be tried for on the fast path, and only fast tickets can be released on it.
 const REFUSED: &[Row] = &[
     (
         1,
@@ -192,8 +192,8 @@ const REFUSED: &[Row] = &[
     (2, Act::Release(1), Reply::Done),
 ];
 
-// All calls that wish for an unobtrusive mode get a fast ticket, which the lock's word counts. Whoever gives up the last one that stands against a
-// wait grants that.
+// All calls that request an unobtrusive mode get a fast ticket, which the lock's word counts. The release of the last one that blocks a wait
+// grants the wait.
 const WAITED_FOR: &[Row] = &[
     (1, Act::Resolve(Lock::Sales), Reply::Place(1)),
     (2, Act::Resolve(Lock::Sales), Reply::Place(1)),
@@ -282,8 +282,8 @@ const MERGED: Shown = Shown {
     }],
 };
 
-// What goes by the latch of one place makes the session's fast tickets at all places slow first. An upgrade to a mode that the ticket has leaves
-// them.
+// An upgrade, a merge or a clone under the latch of one place first makes the session's fast tickets at all places slow. An upgrade to a mode
+// that the ticket has leaves them fast.
 const ELSEWHERE: &[Row] = &[
     (1, Act::Resolve(Lock::Sales), Reply::Place(1)),
     (1, Act::Resolve(Lock::Orders), Reply::Place(2)),

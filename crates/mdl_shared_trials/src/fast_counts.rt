@@ -3,7 +3,7 @@ use mdl_calls::{Held, Place};
 use mdl_key::Mode;
 use mdl_word::Word;
 
-// How many of the tickets are at a place, in these modes.
+// Returns how many of the tickets are at a place, in these modes.
 fn count(held: &[Held], place: Place, modes: &[Mode]) -> u32 {
     let mut count = 0u32;
     for ticket in held {
@@ -13,7 +13,7 @@ fn count(held: &[Held], place: Place, modes: &[Mode]) -> u32 {
     count
 }
 
-/// Whether the word of a place's lock counts just these tickets of all sessions, where each that is at the place is a fast one.
+/// Whether the word of a place's lock counts just the tickets at the place, of all sessions. Each of these tickets must be fast.
 pub(crate) fn are_counted(word: Word, held: &[Held], place: Place) -> bool {
     let [shared, read, written] = word.counts();
     shared == count(held, place, &[Mode::S, Mode::SH])

@@ -1,9 +1,10 @@
 //! Tests of the lock space that threads share.
 //!
-//! Everything here is for tests: spaces are made, and sessions open, look keys up, try for locks, with the latch and without, wait, change, clone and
-//! merge tickets, change what stands under keys, give locks up and close, on one thread and on several. `rows` plays the tables of calls that most modules
-//! have, `stress` lets sessions race, `steps` has tests of the steps below sessions, and `contexts` of statements over them; `examples` are those of three
-//! crates. The tests stand over what `mdl_shared` and `mdl_steps` show to all, so that these have none themselves and are proved once.
+//! Everything here is for tests: spaces are made, and sessions open, look keys up, try for locks, with the latch and without, wait, change,
+//! clone and merge tickets, change definitions, release locks and close, on one thread and on several. `rows` plays the tables of calls that
+//! most modules have, `stress` lets sessions race, `steps` has tests of the steps below sessions, and `contexts` of statements over them;
+//! `examples` are those of three crates. The tests use only what `mdl_shared` and `mdl_steps` make public, so these have no tests themselves and
+//! are proved once.
 #![tactic(auto)]
 
 #[cfg(test)]

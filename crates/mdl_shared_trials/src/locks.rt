@@ -1,4 +1,4 @@
-//! Sessions look keys up, try for locks and give them up, and are told keys, tickets and books.
+//! Sessions look up keys, try for locks and release them, and read keys, tickets and books.
 use crate::acts::{Act, Lock, Memory, Reply};
 use crate::audits::Shown;
 use crate::rows::{Case, Row, are_right};
@@ -11,7 +11,7 @@ const NO_PLACE: Reply = Reply::Refused(SpaceError::NoPlace);
 
 const NOT_HELD: Reply = Reply::Refused(SpaceError::NotHeld);
 
-// One session gives two keys their places, and the other finds them there. A third key has none, as there are two.
+// One session gives two keys their places, and the other finds them there. A third key gets none, as there are only two places.
 const PLACES: &[Row] = &[
     (1, Act::Resolve(Lock::Shop), Reply::Place(1)),
     (1, Act::Resolve(Lock::Sales), Reply::Place(2)),
@@ -22,7 +22,7 @@ const PLACES: &[Row] = &[
     (1, Act::Resolve(Lock::Global), NO_PLACE),
 ];
 
-// Two readers stand beside each other, and a writer beside nobody. Each session counts its own tickets.
+// Two readers hold a lock beside each other, and a writer holds it alone. Each session numbers its own tickets.
 const WRITERS: &[Row] = &[
     (1, Act::Resolve(Lock::Sales), Reply::Place(1)),
     (2, Act::Resolve(Lock::Sales), Reply::Place(1)),
@@ -39,7 +39,7 @@ const WRITERS: &[Row] = &[
     (1, Act::Release(2), Reply::Done),
 ];
 
-// A place counts only for the session that has looked its key up. A table has no intention mode.
+// A place can be used only by a session that has looked up its key. A table has no intention mode.
 const REFUSED: &[Row] = &[
     (1, Act::Resolve(Lock::Sales), Reply::Place(1)),
     (
@@ -55,7 +55,7 @@ const REFUSED: &[Row] = &[
     (1, Act::Release(1), NOT_HELD),
 ];
 
-// Under a ticket a session reads what stands at its place, and under none nothing.
+// Under a ticket a session reads the definition at its place. Without a ticket it reads nothing.
 const READS: &[Row] = &[
     (1, Act::Resolve(Lock::Sales), Reply::Place(1)),
     (1, Act::Read(1), NOT_HELD),
@@ -78,7 +78,7 @@ const SECOND: Held = Held {
     mode: Mode::IX,
 };
 
-// Tickets are told in the order in which they were gained. What wasn't granted isn't told, nor what was given up.
+// Tickets are listed in the order in which the session got them. A ticket that wasn't granted or was released isn't listed.
 const GAINS: &[Row] = &[
     (1, Act::Resolve(Lock::Shop), Reply::Place(1)),
     (1, Act::Resolve(Lock::Sales), Reply::Place(2)),
@@ -91,7 +91,7 @@ const GAINS: &[Row] = &[
     (1, Act::Holds(&[]), Reply::Is(true)),
 ];
 
-// What others hold isn't told.
+// The tickets of other sessions aren't listed.
 const OF_OTHERS: &[Row] = &[
     (1, Act::Resolve(Lock::Sales), Reply::Place(1)),
     (2, Act::Resolve(Lock::Sales), Reply::Place(1)),
@@ -101,7 +101,7 @@ const OF_OTHERS: &[Row] = &[
     (1, Act::Release(1), Reply::Done),
 ];
 
-// A key is told to the session that has looked it up, and to no other.
+// A place's key is returned only to a session that has looked up the key.
 const KEYS: &[Row] = &[
     (1, Act::Names(1, Lock::Shop), NO_PLACE),
     (1, Act::Resolve(Lock::Shop), Reply::Place(1)),
@@ -115,7 +115,7 @@ const KEYS: &[Row] = &[
     (2, Act::Names(2, Lock::Sales), Reply::Is(true)),
 ];
 
-// Nothing is defined yet, and so no table is told. But whoever asks knows the schema's tables from then on, and no other key.
+// Nothing is defined yet, so no table is returned. But the session that asks knows the schema's tables from then on, and no other key.
 const ASKED: &[Row] = &[
     (2, Act::Tables, Reply::Count(0)),
     (1, Act::Resolve(Lock::Shop), Reply::Place(1)),
@@ -163,7 +163,8 @@ const FREE_BOOKS: &[Shown] = &[
     },
 ];
 
-// A place whose key nobody has looked up isn't told. Of the others each book is, in the order of the places, and it may be told again.
+// An audit doesn't list a place whose key no session has looked up. It lists the books of all others, in the order of the places, and may be
+// repeated.
 const AUDITS: &[Row] = &[
     (1, Act::Audit(&[]), Reply::Is(true)),
     (1, Act::Resolve(Lock::Shop), Reply::Place(1)),

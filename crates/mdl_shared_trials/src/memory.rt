@@ -1,4 +1,4 @@
-//! Growths refused in turn: where each allocation fails once, each call does at the second try what it would have done at the first.
+//! Allocations refused in turn: if each fails once, each call does at the second try what it would have done at the first.
 //!
 //! `rt try --test --fail-alloc N` refuses the allocation of that number.
 use crate::acts::{Act, Edit, Lock, Memory, Reply};
@@ -62,7 +62,7 @@ const TOLD: &[Row] = &[
     (1, Act::Release(1), Reply::Done),
 ];
 
-// An upgrade takes no memory, nor does it to drop what stands.
+// An upgrade takes no memory, nor does a drop of a definition.
 const CHANGES: &[Row] = &[
     (1, Act::Resolve(Lock::Sales), Reply::Place(1)),
     (1, Act::Try(1, Mode::SU), Reply::Granted(1)),
@@ -122,7 +122,7 @@ const BOOKS: &[Shown] = &[
     },
 ];
 
-// Where room was made ahead, fast tickets take no memory. They are the same where there is none at first to make slow ones of them.
+// If room was made ahead, fast tickets take no memory. They are unchanged if memory runs out at the first try to make them slow.
 const AHEAD: &[Row] = &[
     (1, Act::Resolve(Lock::Sales), Reply::Place(1)),
     (1, Act::Resolve(Lock::Orders), Reply::Place(2)),
@@ -139,7 +139,7 @@ const AHEAD: &[Row] = &[
     (1, Act::Release(3), Reply::Done),
 ];
 
-// Nor do many of them.
+// Many of them take none, either.
 const ROOM: &[Row] = &[
     (1, Act::Resolve(Lock::Sales), Reply::Place(1)),
     (1, Act::Reserve(100), Reply::Done),
@@ -160,7 +160,7 @@ const COVERED: &[Row] = &[
     (1, Act::Release(1), Reply::Done),
 ];
 
-// A call that has no memory leaves the session as it was, and the next one tells the same.
+// A call that runs out of memory leaves the session unchanged, and the next one returns the right result.
 const TABLES: &[Row] = &[
     (1, Act::Resolve(Lock::Sales), Reply::Place(1)),
     (2, Act::Tables, Reply::Count(0)),

@@ -11,7 +11,7 @@ const NOT_UPGRADABLE: Reply = Reply::Refused(SpaceError::NotUpgradable);
 
 const BAD_MODE: Reply = Reply::Refused(SpaceError::BadMode);
 
-// What the weaker mode lets stand is had beside it at once.
+// Modes that don't clash with the weaker mode are granted beside it at once.
 const DOWNGRADES: &[Row] = &[
     (1, Act::Resolve(Lock::Sales), Reply::Place(1)),
     (2, Act::Resolve(Lock::Sales), Reply::Place(1)),
@@ -28,7 +28,7 @@ const DOWNGRADES: &[Row] = &[
     (2, Act::Release(2), Reply::Done),
 ];
 
-// A schema's lock has none of the modes that X may become.
+// A schema's lock has none of the modes to which X may be downgraded.
 const NO_DOWNGRADES: &[Row] = &[
     (1, Act::Resolve(Lock::Sales), Reply::Place(1)),
     (1, Act::Resolve(Lock::Shop), Reply::Place(2)),
@@ -43,7 +43,7 @@ const NO_DOWNGRADES: &[Row] = &[
     (1, Act::Release(2), Reply::Done),
 ];
 
-// A clone keeps the lock when the first ticket is gone. Where others hold weaker modes it is had still.
+// A clone keeps the lock when the first ticket is released. It is granted even if others hold weaker modes.
 const CLONES: &[Row] = &[
     (1, Act::Resolve(Lock::Sales), Reply::Place(1)),
     (2, Act::Resolve(Lock::Sales), Reply::Place(1)),
@@ -79,7 +79,7 @@ const NO_CLONES: &[Row] = &[
     (1, Act::Release(3), Reply::Done),
 ];
 
-// The first ticket has the mode of the second then, and the second is gone.
+// After a merge the first ticket has the mode of the second, and the second is removed.
 const MERGES: &[Row] = &[
     (1, Act::Resolve(Lock::Sales), Reply::Place(1)),
     (2, Act::Resolve(Lock::Sales), Reply::Place(1)),
@@ -94,7 +94,7 @@ const MERGES: &[Row] = &[
     (2, Act::Release(1), Reply::Done),
 ];
 
-// Two tickets of one place are merged, into the mode of the stronger.
+// Only two tickets of one place are merged, and only if the released one is as strong as the other.
 const NO_MERGES: &[Row] = &[
     (1, Act::Resolve(Lock::Sales), Reply::Place(1)),
     (1, Act::Resolve(Lock::Orders), Reply::Place(2)),
@@ -112,8 +112,7 @@ const NO_MERGES: &[Row] = &[
     (1, Act::Release(3), Reply::Done),
 ];
 
-// A stronger mode is had at once where no other session stands in the way, and then stands in theirs. Nobody stands in the way of
-// itself.
+// A stronger mode is granted at once if no other session blocks it, and blocks the others then. A session doesn't block itself.
 const UPGRADES: &[Row] = &[
     (1, Act::Resolve(Lock::Sales), Reply::Place(1)),
     (2, Act::Resolve(Lock::Sales), Reply::Place(1)),
@@ -133,7 +132,7 @@ const UPGRADES: &[Row] = &[
     (2, Act::Release(2), Reply::Done),
 ];
 
-// A reader's ticket is for readers. What the held mode covers is there already.
+// A reader's ticket can't be upgraded to X. An upgrade to a mode that the held one covers succeeds.
 const NO_UPGRADES: &[Row] = &[
     (1, Act::Resolve(Lock::Sales), Reply::Place(1)),
     (1, Act::Upgrade(1, Mode::X), NOT_HELD),

@@ -11,7 +11,7 @@ const LIMITS: &[(u16, u16, Option<NewError>)] = &[
     (256, 64, None),
 ];
 
-// Why there can't be a space of so many places and sessions.
+// Returns why there can't be a space of these numbers of places and sessions, unless there can.
 fn fault(alloc: Global, places: u16, sessions: u16) -> Option<NewError> {
     Manager::new(alloc, places, sessions).err()
 }

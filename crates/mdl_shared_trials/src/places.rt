@@ -11,7 +11,7 @@ use std::test::Fail;
 // How many places there are.
 const PLACES: u16 = 256;
 
-// The first table whose place isn't its number, or doesn't tell its key, if there is one.
+// Returns the first table whose place isn't its number, or has another key, if there is one.
 fn first_elsewhere<R: Wait>(alloc: Global, session: &mut Session<R>) -> Option<u16> {
     for number in 1..=PLACES {
         let lock = Lock::Numbered(number);
@@ -24,7 +24,7 @@ fn first_elsewhere<R: Wait>(alloc: Global, session: &mut Session<R>) -> Option<u
     None
 }
 
-// The first place whose lock it doesn't get, with a ticket that has the place's number, if there is one.
+// Returns the first place whose lock the session doesn't get with a ticket that has the place's number, if there is one.
 fn first_not_taken<R: Wait>(alloc: Global, session: &mut Session<R>) -> Option<u16> {
     for place in 1..=PLACES {
         let granted = Reply::Granted(TicketId::from(place));
@@ -35,7 +35,7 @@ fn first_not_taken<R: Wait>(alloc: Global, session: &mut Session<R>) -> Option<u
     None
 }
 
-// Releases the ticket of each other place, from the first one on: how many could be.
+// Releases the ticket of every second place, from the first one on. Returns how many releases succeeded.
 fn released<R: Wait>(alloc: Global, session: &mut Session<R>) -> u16 {
     let mut right = 0u16;
     for step in 0..PLACES / 2 {
@@ -48,7 +48,7 @@ fn released<R: Wait>(alloc: Global, session: &mut Session<R>) -> u16 {
 
 const NO_PLACE: Reply = Reply::Refused(SpaceError::NoPlace);
 
-// One more key has no place. Before the first place and behind the last one there is none. Half of the tickets are left.
+// One more key gets no place. There is none before the first place and after the last one. Half of the tickets are left.
 const OUTSIDE: &[Row] = &[
     (1, Act::Resolve(Lock::Numbered(PLACES + 1)), NO_PLACE),
     (1, Act::Names(0, Lock::Numbered(1)), NO_PLACE),
@@ -58,7 +58,7 @@ const OUTSIDE: &[Row] = &[
     (1, Act::ReleaseAll, Reply::Count(0)),
 ];
 
-// Whether one session gives the tables their places, the other finds them there, and the first has their locks and gives them up.
+// Whether one session gives the tables their places, the other finds them there, and the first gets their locks and releases them.
 fn are_right<R: Wait>(alloc: Global, sessions: &mut Three<R>) -> bool {
     first_elsewhere(alloc, sessions.session(1)).is_none()
         && first_elsewhere(alloc, sessions.session(2)).is_none()

@@ -1,5 +1,5 @@
-//! Sessions that make calls of every kind by chance for some seconds, over the locks of some tables, wait with short patience, look for deadlocks
-//! and kill each other's waits. Another one looks at all books each tenth of a second meanwhile.
+//! Sessions that make random calls of every kind for some seconds, over the locks of some tables, wait with short patience, look for deadlocks
+//! and kill each other's waits. Meanwhile another session checks all books each tenth of a second.
 use crate::acts::{Act, Edit, Lock, Reply, make};
 use crate::chance::Chance;
 use crate::clashes::{are_lawful, are_of};
@@ -13,12 +13,12 @@ use std::sync::atomic::{AtomicBool, Ordering};
 use std::thread;
 use std::time::{Clock, Duration, Instant};
 
-// How many thousandths of a second the sessions make calls, and how many go by between two looks of the ninth.
+// How many milliseconds the sessions make calls, and how many pass between two audits of the session that watches.
 const SPAN: u64 = 3_000;
 
 const PAUSE: u64 = 100;
 
-// How many calls a session makes at most, and how many of them go by until it looks at the clock, and at all books.
+// How many calls a session makes at most, and how many of them pass until it reads the clock, and until it checks all books.
 const CALLS: u32 = 10_000_000;
 
 const UNTIMED: u32 = 100;
@@ -27,7 +27,7 @@ const UNWATCHED: u32 = 5_000;
 
 const MOST_HELD: usize = 4;
 
-// How many turns a session waits at most, and has the lock for itself.
+// How many turns a session waits at most, and how many it holds the lock in X at most.
 const PATIENCE: usize = 120;
 
 const TURNS: usize = 12;
@@ -35,7 +35,7 @@ const TURNS: usize = 12;
 // How often a session tries for a fast ticket that it keeps.
 const KEPT: u32 = 40;
 
-/// A session's row of chances, how many tables there are, of each how often it changed that and the last version that it saw, and what waits came to.
+/// A session's random numbers, the number of tables, how often it changed each and the last version that it saw of each, and how waits ended.
 #[derive(Clone, Copy)]
 pub(crate) struct Player {
     alloc: Global,
@@ -47,7 +47,7 @@ pub(crate) struct Player {
 }
 
 impl Player {
-    /// That of the session of a number.
+    /// Returns the player of the session of a number.
     pub(crate) fn new(alloc: Global, number: u16, tables: u16) -> Player {
         Player {
             alloc,
@@ -59,18 +59,18 @@ impl Player {
         }
     }
 
-    /// How often it changed a table, of those that are counted from 0.
+    /// Returns how often it changed a table. Tables are counted from 0 here.
     pub(crate) fn changes(&self, table: usize) -> u64 {
         self.changes.get(table).copied().unwrap_or(0)
     }
 
-    // The place of one of the tables.
+    // Returns the place of a random table.
     fn draw(&mut self) -> Place {
         let drawn = self.chance.below(usize::from(self.tables));
         u16::try_from(drawn).unwrap_or(0).saturating_add(1)
     }
 
-    // Notes a version that was read of a place's table. Versions don't fall.
+    // Notes a version that was read of a place's table. Whether it is no less than the one before.
     fn see(&mut self, place: Place, version: u64) -> bool {
         match self.seen.get_mut(usize::from(place).wrapping_sub(1)) {
             Some(seen) if *seen <= version => {
@@ -81,7 +81,7 @@ impl Player {
         }
     }
 
-    // Notes a change, which has brought a place's table to a version.
+    // Notes a change, which has brought a place's table to a version. Whether that is no less than the one before.
     fn count(&mut self, place: Place, version: u64) -> bool {
         if let Some(changes) = self.changes.get_mut(usize::from(place).wrapping_sub(1)) {
             *changes = changes.saturating_add(1);
@@ -90,7 +90,7 @@ impl Player {
     }
 }
 
-/// Whether a call was made, or refused for what it asked.
+/// Whether a call was made, or refused because of what it requested.
 pub(crate) fn was_answered(reply: Reply) -> bool {
     match reply {
         Reply::Refused(why) => matches!(
@@ -102,7 +102,8 @@ pub(crate) fn was_answered(reply: Reply) -> bool {
     }
 }
 
-// One call of any kind. Each that makes it tells whether all went well: nothing was refused that must not be, and what was seen can be so.
+// Makes one call of any kind. This function and those that it calls return whether all went well: nothing was refused that must not be, and what
+// was read is possible.
 fn make_call<R: Wait>(session: &mut Session<R>, player: &mut Player, taken: &AtomicBool) -> bool {
     let Ok(held) = session.held() else {
         return false;
@@ -115,7 +116,7 @@ fn make_call<R: Wait>(session: &mut Session<R>, player: &mut Player, taken: &Ato
     }
 }
 
-// A lock is asked for, or what is known of a table or of all.
+// Requests a lock, reads a place's key, lists the tables, or kills a wait.
 fn ask<R: Wait>(session: &mut Session<R>, player: &mut Player, taken: &AtomicBool) -> bool {
     let place = player.draw();
     let act = match player.chance.below(40) {
@@ -133,7 +134,7 @@ fn ask<R: Wait>(session: &mut Session<R>, player: &mut Player, taken: &AtomicBoo
     was_answered(make(player.alloc, session, act))
 }
 
-// The wait of some session is killed, if it has one, or mostly none is by the number of the one before.
+// Kills the wait of some session, if it has one. Sometimes it uses the number of the wait before, which mostly kills none.
 fn kill<R: Wait>(session: &mut Session<R>, player: &mut Player) -> bool {
     let target = u16::try_from(player.chance.below(17)).unwrap_or(0);
     let wait = match make(player.alloc, session, Act::WaitOf(target)) {
@@ -150,7 +151,7 @@ fn kill<R: Wait>(session: &mut Session<R>, player: &mut Player) -> bool {
     true
 }
 
-// A deadlock is looked for.
+// Looks for a deadlock.
 fn search<R: Wait>(session: &mut Session<R>, player: &mut Player) -> bool {
     match make(player.alloc, session, Act::Search) {
         Reply::NoCycle => {}
@@ -160,7 +161,7 @@ fn search<R: Wait>(session: &mut Session<R>, player: &mut Player) -> bool {
     true
 }
 
-// Between two turns a deadlock is looked for, or some session's wait is killed. Mostly nothing is done.
+// Looks for a deadlock, or kills some session's wait, between two turns. Mostly does nothing.
 fn meddle<R: Wait>(session: &mut Session<R>, player: &mut Player) -> bool {
     match player.chance.below(64) {
         0..=1 => kill(session, player),
@@ -169,7 +170,7 @@ fn meddle<R: Wait>(session: &mut Session<R>, player: &mut Player) -> bool {
     }
 }
 
-// The first lock is asked for as the session's own. It has it for some turns, as nobody else does meanwhile, and gives it up.
+// Requests the first lock in X. The session holds it for some turns, in which no other session does, and releases it.
 fn write<R: Wait>(session: &mut Session<R>, player: &mut Player, taken: &AtomicBool) -> bool {
     match gain(session, player, 1, Mode::X) {
         Some(Some(own)) => {
@@ -186,7 +187,8 @@ fn write<R: Wait>(session: &mut Session<R>, player: &mut Player, taken: &AtomicB
     }
 }
 
-// A lock is asked for, and waited for with some patience, where it can't be had at once. Its ticket, if the session gets it, unless something goes wrong.
+// Requests a lock, and waits for it with some patience if it can't be granted at once. Returns its ticket, if the session gets it, or `None` if
+// something goes wrong.
 fn gain<R: Wait>(
     session: &mut Session<R>,
     player: &mut Player,
@@ -201,7 +203,7 @@ fn gain<R: Wait>(
     }
 }
 
-// The wait is looked at until it is settled or patience is lost, and ended.
+// Polls the wait until it is settled or patience is lost, and ends it. Returns its ticket, if it is granted, or `None` if something goes wrong.
 fn wait_for<R: Wait>(
     session: &mut Session<R>,
     player: &mut Player,
@@ -229,7 +231,7 @@ fn wait_for<R: Wait>(
     }
 }
 
-// What a wait was settled by that ended so.
+// Returns how a wait was settled that ended so.
 fn settlement(ended: Ended) -> Settled {
     match ended {
         Ended::Granted(_) => Settled::Granted,
@@ -239,7 +241,7 @@ fn settlement(ended: Ended) -> Settled {
     }
 }
 
-// How its wait is settled, or that it still isn't after some turns, unless something goes wrong in between.
+// Polls the wait for some turns. Returns how it is settled, or that it is pending, or `None` if something goes wrong.
 fn look_on<R: Wait>(session: &mut Session<R>, player: &mut Player) -> Option<Reply> {
     for _ in 0..player.chance.below(PATIENCE) {
         let looked = make(player.alloc, session, Act::Poll);
@@ -253,7 +255,7 @@ fn look_on<R: Wait>(session: &mut Session<R>, player: &mut Player) -> Option<Rep
     Some(Reply::Pending)
 }
 
-// How its wait is settled, as a timeout if nobody has settled it yet. Then whoever has the lock gets a turn.
+// Settles the wait as a timeout if it isn't settled yet, and lets the other threads run then. Returns how it is settled.
 fn settle<R: Wait>(session: &mut Session<R>, player: &mut Player, wait: u64) -> Reply {
     match make(player.alloc, session, Act::TimeOut) {
         Reply::Done => {
@@ -265,7 +267,7 @@ fn settle<R: Wait>(session: &mut Session<R>, player: &mut Player, wait: u64) -> 
     }
 }
 
-// Something is done with a ticket.
+// Makes a call with a ticket.
 fn use_ticket<R: Wait>(
     session: &mut Session<R>,
     player: &mut Player,
@@ -291,7 +293,8 @@ fn use_ticket<R: Wait>(
     follow(session, player, place, act, reply)
 }
 
-// What comes of it is noted. A ticket that isn't fast is left, and the reschedule that is owed for one that was is made. A read is never refused.
+// Notes the reply to a call with a ticket. Makes the reschedule that a fast release owes. A fast release may refuse a ticket that isn't fast. A
+// read is never refused.
 fn follow<R: Wait>(
     session: &mut Session<R>,
     player: &mut Player,
@@ -317,7 +320,7 @@ fn follow<R: Wait>(
     }
 }
 
-// Whether the books are lawful, and have of the session just the tickets that it holds, none of which is fast.
+// Whether the books are lawful, and have just the tickets that the session holds, none of which is fast.
 fn are_right<R>(session: &Session<R>, books: &[Audited]) -> bool {
     match session.held() {
         Ok(held) => are_lawful(books) && are_of(books, session.number(), &held),
@@ -325,7 +328,7 @@ fn are_right<R>(session: &Session<R>, books: &[Audited]) -> bool {
     }
 }
 
-// Looks at all books, once no ticket of the session is fast.
+// Makes the session's fast tickets slow, and then checks all books.
 fn audit<R: Wait>(alloc: Global, session: &mut Session<R>) -> bool {
     if make(alloc, session, Act::Materialise) != Reply::Done {
         return false;
@@ -336,13 +339,13 @@ fn audit<R: Wait>(alloc: Global, session: &mut Session<R>) -> bool {
     }
 }
 
-/// Looks at all books, and gives all its tickets up.
+/// Checks all books, and releases all tickets of the session.
 pub(crate) fn leave<R: Wait>(alloc: Global, session: &mut Session<R>) -> bool {
     let audited = audit(alloc, session);
     matches!(make(alloc, session, Act::ReleaseAll), Reply::Count(_)) && audited
 }
 
-/// Looks so many tables up, which get the places from 1 on in this order.
+/// Looks up `tables` tables, which get the places from 1 on in this order.
 pub(crate) fn look_all_up<R: Wait>(alloc: Global, session: &mut Session<R>, tables: u16) -> bool {
     let mut all = true;
     for number in 1..=tables {
@@ -371,7 +374,7 @@ fn is_in_time<R: Clock>(rt: &R, start: Instant) -> bool {
     }
 }
 
-// Makes all its calls.
+// Makes all calls of a player.
 fn make_calls<R: Wait + Clock>(
     rt: &R,
     session: &mut Session<&R>,
@@ -392,7 +395,7 @@ fn make_calls<R: Wait + Clock>(
     well
 }
 
-/// A session's part: all its calls, after which it looks at all books, gives all its tickets up, and gets some fast ones and no others.
+/// Plays a session's part: it makes all its calls, checks all books, releases all its tickets, and gets some fast ones and no others.
 pub(crate) fn play<R: Wait + Clock>(
     rt: &R,
     session: &mut Session<&R>,
@@ -405,7 +408,7 @@ pub(crate) fn play<R: Wait + Clock>(
         && keep_some(session, player)
 }
 
-/// Looks at all books from time to time.
+/// Checks all books from time to time.
 pub(crate) fn watch<R: Wait + Clock>(rt: &R, session: &mut Session<&R>, player: &Player) -> bool {
     for _ in 0..SPAN / PAUSE {
         thread::sleep(rt, Duration::from_millis(PAUSE));

@@ -1,4 +1,4 @@
-//! What a session does that reads with a cache of its own, while another one makes changes, and what comes of it.
+//! Steps of a session that reads with a cache of its own, while another one makes changes, and their results.
 ghost use Rattle.std.specs.Prelude.{◌≡◌, []};
 ghost use Rattle.mdl_calls.specs.Words.{AreMet};
 ghost use Rattle.mdl_shared.specs.SessionSpaces.{HasMet};
@@ -25,15 +25,15 @@ pub(crate) enum Found {
     Named,
     /// Another definition.
     Other,
-    /// No definition stands there.
+    /// There is no definition.
     Nothing,
-    /// The cache keeps none of the version that stands there.
+    /// The cache keeps no definition of the current version.
     Stale,
     /// It was refused.
     Refused,
 }
 
-/// What is done, and what is to come of it.
+/// A step, and its right result.
 #[derive(Clone, Copy)]
 pub(crate) enum Step {
     /// The other session does something.
@@ -46,11 +46,11 @@ pub(crate) enum Step {
     TakeFast(Place, TicketId),
     /// It looks in its cache for a definition that has these columns.
     Look(TicketId, Names, Found),
-    /// It reads with its cache: the version, and what stands. What it may not read has the version 0.
+    /// It reads with its cache: the version, and the definition. If the read is refused the version is 0.
     Read(TicketId, Names, u64, Found),
-    /// It gives a ticket up.
+    /// It releases a ticket.
     GiveUp(TicketId),
-    /// So many definitions are in its cache.
+    /// This number of definitions is in its cache.
     Keeps(usize),
 }
 
@@ -76,7 +76,7 @@ fn are_named(columns: &[Column], names: Names) -> bool {
     true
 }
 
-// What stands somewhere: its version, and the definition.
+// Returns a key's version, and what its definition is.
 fn standing_there(standing: &Standing, names: Names) -> (u64, Found) {
     match &standing.definition {
         Some(definition) => (standing.version, compared(definition, names)),
@@ -84,7 +84,7 @@ fn standing_there(standing: &Standing, names: Names) -> (u64, Found) {
     }
 }
 
-// What a look in a cache comes to.
+// Returns what a look in a cache found.
 fn looked(outcome: Result<Cached<'_>, SpaceError>, names: Names) -> Found {
     match outcome {
         Ok(Cached::Hit(definition)) => compared(definition, names),
@@ -99,7 +99,7 @@ fn begin<S: LockSpace>(_space: &S, _who: u16, _cache: &DefCache)
     ensures met { AreMet (S.has_met _space.now _who) _cache.now.kept }
 {}
 
-// Looks in a cache, which may be used again, without the latch.
+// Looks in a cache, without the latch. The cache may be used again.
 fn look<R>(cache: &mut DefCache, session: &mut Session<R>, id: TicketId, names: Names) -> Found
     requires met { AreMet (HasMet (space_of session.old) session.old.me.0.number) cache.old.kept }
     ensures met { AreMet (HasMet (space_of session.new) session.new.me.0.number) cache.new.kept }
@@ -146,7 +146,7 @@ fn take<S: LockSpace>(space: &mut S, who: u16, place: Place, _cache: &DefCache) 
     }
 }
 
-// Gives a lock up.
+// Releases a lock.
 fn give_up<S: LockSpace>(space: &mut S, who: u16, id: TicketId, _cache: &DefCache) -> bool
     requires speaks { S.speaks_for space.old who }
     requires met { AreMet (S.has_met space.old who) _cache.now.kept }
@@ -173,7 +173,7 @@ fn granted(outcome: Result<Fast, SpaceError>) -> Option<TicketId> {
     }
 }
 
-// Whether what the reader does comes to what it should.
+// Whether a step of the reader has its right result.
 fn does<R: Wait>(alloc: Global, cache: &mut DefCache, reader: &mut Session<R>, step: Step) -> bool
     requires met { AreMet (HasMet (space_of reader.old) reader.old.me.0.number) cache.old.kept }
     ensures met { AreMet (HasMet (space_of reader.new) reader.new.me.0.number) cache.new.kept }
@@ -196,7 +196,7 @@ fn does<R: Wait>(alloc: Global, cache: &mut DefCache, reader: &mut Session<R>, s
     }
 }
 
-// Whether what the other session does, if it does something, comes to what it should.
+// Whether a step of the other session, if it is one, has its right reply.
 fn does_beside<R: Wait>(alloc: Global, other: &mut Session<R>, step: Step) -> bool {
     match step {
         Step::Beside(act, wanted) => make(alloc, other, act) == wanted,
@@ -204,7 +204,7 @@ fn does_beside<R: Wait>(alloc: Global, other: &mut Session<R>, step: Step) -> bo
     }
 }
 
-// Which step comes to something else, if there is one. The cache keeps nothing before the first.
+// Returns the index of the first step with a wrong result, if there is one. The cache keeps nothing before the first.
 fn first_wrong<R: Wait>(
     alloc: Global,
     cache: &mut DefCache,
@@ -227,8 +227,8 @@ fn first_wrong<R: Wait>(
     None
 }
 
-// Which step comes to something else, if there is one. Behind them all the reader's own call has to find a definition that has these columns, before it
-// gives its tickets up.
+// Returns the index of the first step with a wrong result, if there is one. After all steps the reader's own call has to find a definition that
+// has these columns, before it releases its tickets.
 fn first_wrong_at_last<R: Wait>(
     alloc: Global,
     cache: &mut DefCache,
@@ -248,7 +248,7 @@ fn first_wrong_at_last<R: Wait>(
     wrong
 }
 
-/// The steps are right of two sessions that have done nothing yet, the first of which has a cache for so many definitions, and so is a last look.
+/// Makes the steps of a story and its last look, by two new sessions, the first of which has a cache, and fails the test if a result is wrong.
 pub(crate) fn are_right<R: Wait + Abort + AllocGlobal>(rt: &R, story: Story) -> Result<(), Fail> {
     let (shown, capacity, steps, last) = story;
     let mut cache = DefCache::new(rt.alloc(), capacity)?;

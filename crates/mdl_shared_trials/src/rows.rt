@@ -10,7 +10,7 @@ use std::process::Abort;
 use std::sync::Wait;
 use std::test::Fail;
 
-/// A session's number, 1 to 3, what it does, and what is to come of it.
+/// A session's number, 1 to 3, its act, and the right reply.
 pub(crate) type Row = (u16, Act, Reply);
 
 /// What rows show, how many places there are, and the rows.
@@ -24,7 +24,7 @@ pub(crate) struct Three<R> {
 }
 
 impl<R> Three<R> {
-    /// The session of a number.
+    /// Returns the session of a number.
     pub(crate) fn session(&mut self, number: u16) -> &mut Session<R> {
         match number {
             3 => &mut self.three,
@@ -35,7 +35,7 @@ impl<R> Three<R> {
 }
 
 impl<R: Wait> Three<R> {
-    /// Which row comes to something else, if there is one.
+    /// Returns the index of the first row with a wrong reply, if there is one.
     pub(crate) fn first_wrong(
         &mut self,
         alloc: Global,
@@ -52,7 +52,7 @@ impl<R: Wait> Three<R> {
 }
 
 impl<R: Drop> Three<R> {
-    /// The second has a ticket or a wait: it isn't closed, and is as it was.
+    /// Tries to close the second session, which has a ticket or a wait. It isn't closed, and is unchanged.
     pub(crate) fn keep_two_open(self, rt: &impl Abort) -> Three<R> {
         let Three { one, two, three } = self;
         match two.close() {
@@ -61,7 +61,7 @@ impl<R: Drop> Three<R> {
         }
     }
 
-    /// None of them has a ticket: they are closed.
+    /// Closes the sessions, none of which has a ticket.
     pub(crate) fn close(self, rt: &impl Abort) {
         let Three { one, two, three } = self;
         closed(rt, one);
@@ -70,7 +70,7 @@ impl<R: Drop> Three<R> {
     }
 }
 
-// A space of so many places and three sessions, at the second try where memory was refused to the first.
+// Returns a space of `places` places and three sessions. Tries a second time if memory runs out.
 fn space(alloc: Global, places: u16) -> Result<(Manager, Vec<Pass>), NewError>
     ensures { IfOk result (λ made. (length made.1.items ≡ 3) × ArePasses (table_of made.0) made.1.items) }
 {
@@ -80,7 +80,7 @@ fn space(alloc: Global, places: u16) -> Result<(Manager, Vec<Pass>), NewError>
     }
 }
 
-/// The sessions of a space of so many places.
+/// Opens the sessions of a new space of `places` places.
 pub(crate) fn open_three<R: AllocGlobal>(rt: &R, places: u16) -> Result<Three<&R>, NewError> {
     let (manager, mut passes) = space(rt.alloc(), places)?;
     let three = Session::open(rt, &manager, passes.remove(2));
@@ -89,12 +89,12 @@ pub(crate) fn open_three<R: AllocGlobal>(rt: &R, places: u16) -> Result<Three<&R
     Ok(Three { one, two, three })
 }
 
-/// No row of what is shown comes to something else.
+/// Fails the test if there is a wrong row.
 pub(crate) fn none_is_wrong(rt: &impl Abort, shown: &str, wrong: Option<usize>) {
     assert!(rt; wrong.is_none(), "{shown}: row {wrong:?}");
 }
 
-/// The rows of each case are right of the sessions of a space of so many places.
+/// Makes the rows of each case, by the sessions of a new space, and fails the test if a reply is wrong.
 pub(crate) fn are_right<R: Wait + Abort + AllocGlobal>(
     rt: &R,
     memory: Memory,

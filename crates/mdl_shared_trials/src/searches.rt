@@ -5,8 +5,8 @@ use mdl_calls::{Ended, Held, Settled};
 use mdl_key::Mode;
 use std::test::Fail;
 
-/// Two that wait for one another weigh as much, and so the one of the greater number falls. Its deadlock is gone then, and who waits alone, or not at
-/// all, is in none.
+/// The requests of two sessions that wait for each other weigh the same, so the victim is the one with the greater number. Then the deadlock is
+/// gone. A session that waits alone, or not at all, is in none.
 pub(crate) const A_CYCLE: &[Row] = &[
     (1, Act::Resolve(Lock::Sales), Reply::Place(1)),
     (2, Act::Resolve(Lock::Sales), Reply::Place(1)),
@@ -31,7 +31,7 @@ pub(crate) const A_CYCLE: &[Row] = &[
     (1, Act::Release(2), Reply::Done),
 ];
 
-// A wish to read weighs less than one to change: the session that searches goes on to wait, and the other one falls.
+// A request to read weighs less than one to change: the session that searches keeps waiting, and the other one is the victim.
 const THE_OTHER: &[Row] = &[
     (1, Act::Resolve(Lock::Sales), Reply::Place(1)),
     (2, Act::Resolve(Lock::Sales), Reply::Place(1)),
@@ -53,7 +53,7 @@ const THE_OTHER: &[Row] = &[
     (2, Act::Release(2), Reply::Done),
 ];
 
-// A wait that was lost before it is ended ties nobody.
+// A lost wait is in no deadlock, even before it is ended.
 const SETTLED: &[Row] = &[
     (1, Act::Resolve(Lock::Sales), Reply::Place(1)),
     (2, Act::Resolve(Lock::Sales), Reply::Place(1)),
@@ -73,7 +73,7 @@ const SETTLED: &[Row] = &[
     (2, Act::Release(2), Reply::Done),
 ];
 
-// Of three that wait in a round the one falls whose wish weighs least.
+// Of three sessions that wait in a ring the victim is the one whose request weighs least.
 const A_ROUND: &[Row] = &[
     (1, Act::Resolve(Lock::Sales), Reply::Place(1)),
     (3, Act::Resolve(Lock::Sales), Reply::Place(1)),
@@ -113,7 +113,7 @@ const BOTH_AS_BEFORE: &[Held] = &[
     },
 ];
 
-// Two upgrades stand in each other's way. The victim keeps both its tickets until it gives them up.
+// Two upgrades block each other. The victim keeps both its tickets until it releases them.
 const CROSSED: &[Row] = &[
     (1, Act::Resolve(Lock::Sales), Reply::Place(1)),
     (2, Act::Resolve(Lock::Sales), Reply::Place(1)),

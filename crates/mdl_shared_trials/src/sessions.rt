@@ -7,7 +7,7 @@ use std::process::Abort;
 use std::test::Fail;
 use std::thread;
 
-/// The pass of a session that has no ticket: it is closed.
+/// Closes a session that has no ticket, and returns its pass.
 pub(crate) fn closed<R: Drop>(rt: &impl Abort, session: Session<R>) -> Pass {
     match session.close() {
         Ok(pass) => pass,
@@ -27,7 +27,7 @@ fn reopen(manager: &Manager, pass: Pass) -> Pass
     }
 }
 
-// The number of a session that was opened and closed so many times.
+// Opens and closes a session `times` times, and returns its number.
 fn reopened(manager: &Manager, mut pass: Pass, times: u32) -> u16
     requires { pass_table pass ≡ table_of manager.now }
 {

@@ -1,6 +1,6 @@
-//! Sessions play on threads of their own, while one more looks on: eight over eight tables, and sixteen that race for one. In the end each has some fast
-//! tickets, and the words of the locks count just these; each wait was settled once, as one of those says who settle; and as many versions are told as
-//! changes were made.
+//! Sessions make calls on threads of their own, while one more audits the books: eight sessions over eight tables, and sixteen that race for
+//! one. In the end each has some fast tickets, and the words of the locks count just these. Each wait was settled once, as the session that
+//! settled it recorded. Each table's version is the number of its changes.
 ghost use Rattle.std.specs.Prelude.{◌≡◌, ◌+◌, ◌<◌, length};
 ghost use Rattle.mdl_shared.specs.Passes.{ArePasses, pass_table, table_of};
 
@@ -21,12 +21,13 @@ use std::thread;
 use std::thread::Threads;
 use std::time::Clock;
 
-// A game: how many tables there are, and how many sessions play. The next one looks on, and two more see in the end that all went well.
+// A game: the number of tables, and the number of sessions that play. The next session audits meanwhile, and two more check in the end that all
+// went well.
 type Game = (u16, u16);
 
 const GAMES: &[Game] = &[(8, 8), (1, 16)];
 
-// A session with its part, and whether all has gone well.
+// A session with its player, and whether all has gone well.
 struct Part<R> {
     session: Session<R>,
     player: Player,
@@ -34,7 +35,7 @@ struct Part<R> {
 }
 
 impl<R> Part<R> {
-    // That of the session of a pass, which has done nothing yet.
+    // Opens the session of a pass. It has done nothing yet.
     fn open(rt: R, alloc: Global, manager: &Manager, pass: Pass, tables: u16) -> Part<R>
         requires { pass_table pass ≡ table_of manager.now }
     {
@@ -48,7 +49,7 @@ impl<R> Part<R> {
     }
 }
 
-// Plays it, or looks on, or does nothing.
+// Plays, watches or does nothing, by the session's number.
 fn act<R: Wait + Clock>(rt: &R, part: &mut Part<&R>, players: u16, taken: &AtomicBool) {
     let number = part.session.number();
     if number <= players {
@@ -58,7 +59,7 @@ fn act<R: Wait + Clock>(rt: &R, part: &mut Part<&R>, players: u16, taken: &Atomi
     }
 }
 
-// The pass of the last session.
+// Removes and returns the pass of the last session.
 fn take_last(_manager: &Manager, passes: &mut Vec<Pass>) -> Pass
     requires some { 0 < length passes.old.items }
     requires theirs { ArePasses (table_of _manager.now) passes.old.items }
@@ -69,7 +70,7 @@ fn take_last(_manager: &Manager, passes: &mut Vec<Pass>) -> Pass
     passes.remove(passes.len() - 1)
 }
 
-// The parts of the sessions of all passes, the last one first, if there is memory for them.
+// Opens the sessions of all passes, the last one first, if there is memory for their parts.
 fn open_all<'a, R>(
     rt: &'a R,
     alloc: Global,
@@ -87,7 +88,7 @@ fn open_all<'a, R>(
     Ok(parts)
 }
 
-// Likewise of a new space.
+// The same for a new space.
 fn open_game<R: AllocGlobal>(rt: &R, game: Game) -> Option<Vec<Part<&R>>> {
     let (tables, players) = game;
     let alloc = rt.alloc();
@@ -109,7 +110,7 @@ fn close_all<R: Drop>(rt: &impl Abort, mut parts: Vec<Part<R>>) {
     parts.destroy_empty();
 }
 
-// How often they together changed a table.
+// Returns how often the sessions together changed a table.
 fn changes<R>(parts: &[Part<R>], table: usize) -> u64 {
     let mut sum = 0u64;
     for part in parts {
@@ -118,7 +119,7 @@ fn changes<R>(parts: &[Part<R>], table: usize) -> u64 {
     sum
 }
 
-// Whether each wait of a session was settled once, as one of all says.
+// Whether each wait of a session was settled once, as one of all sessions recorded.
 fn is_settled<R>(parts: &[Part<R>], part: &Part<R>) -> bool {
     let (mut killed, mut victims) = (Waits::NONE, 0u64);
     let session = part.session.number();
@@ -131,7 +132,7 @@ fn is_settled<R>(parts: &[Part<R>], part: &Part<R>) -> bool {
     part.player.tally.agrees(killed, victims)
 }
 
-// Whether that is so of each session, nothing went wrong, and some waited.
+// Whether that holds for each session, nothing went wrong, and some waited.
 fn are_settled<R>(parts: &[Part<R>]) -> bool {
     let (mut well, mut waits) = (true, 0u64);
     for part in parts {
@@ -141,7 +142,7 @@ fn are_settled<R>(parts: &[Part<R>]) -> bool {
     well && waits > 0
 }
 
-// Adds all their tickets: whether there was memory.
+// Adds the tickets of all parts. Whether there was memory.
 fn add_held<R>(parts: &[Part<R>], all: &mut Vec<Held>) -> bool {
     let mut added = true;
     for part in parts {
@@ -162,7 +163,7 @@ fn leave_all<R: Wait>(alloc: Global, parts: &mut [Part<R>]) -> bool {
     all
 }
 
-// The word of a place's lock, as a session is told it that tries for a fast ticket while another one asks for the lock for itself.
+// Returns the word of a place's lock, as a session gets it that tries for a fast ticket while another one requests X.
 fn read_word<R: Wait>(
     alloc: Global,
     asker: &mut Session<R>,
@@ -206,7 +207,7 @@ fn are_words_right<R: Wait>(
     right
 }
 
-// What is left in the end: no ticket, and of each table as many versions as changes.
+// Whether no ticket is left, and each table's version is the number of its changes.
 fn is_left<R>(books: &[Audited], parts: &[Part<R>]) -> bool {
     let mut left = true;
     for (table, book) in books.iter().enumerate() {
@@ -227,7 +228,7 @@ fn have_left<R: Wait>(session: &mut Session<R>, parts: &[Part<R>], tables: u16) 
     }
 }
 
-// Sees in the end, by two sessions that did nothing, that all went well with the others.
+// Checks in the end, by two sessions that did nothing, that all went well with the others.
 fn is_well<R: Wait>(
     alloc: Global,
     parts: &mut [Part<R>],
@@ -242,7 +243,7 @@ fn is_well<R: Wait>(
     words && left && are_settled(parts) && have_left(reader, parts, tables)
 }
 
-// The same, of the sessions of a game, the last two of which come first and did nothing.
+// The same for the sessions of a game, the last two of which come first and did nothing.
 fn went_well<R: Wait>(alloc: Global, parts: &mut [Part<R>], tables: u16) -> bool {
     match parts {
         [reader, asker, others @ ..] => is_well(
@@ -256,7 +257,7 @@ fn went_well<R: Wait>(alloc: Global, parts: &mut [Part<R>], tables: u16) -> bool
     }
 }
 
-// All of them play on threads of their own, or look on.
+// Plays all parts, each on a thread of its own.
 fn play_all<R: Threads + Wait + Clock + Sync>(rt: &R, parts: &mut [Part<&R>], players: u16) {
     let taken = AtomicBool::new(false);
     let threads = parts.len().max(1);

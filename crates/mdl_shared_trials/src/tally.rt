@@ -1,7 +1,7 @@
-//! What settlers say of waits, and what the sessions that waited meet.
+//! How waits were settled, as recorded by the sessions that settled them and by those that waited.
 use mdl_calls::Settled;
 
-// Sessions have numbers below this, and what is told of a session stands at its number.
+// Sessions have numbers below this. What is recorded of a session is at its number.
 const SESSIONS: usize = 17;
 
 /// Some waits of a session: how many, and the sum of their numbers.
@@ -14,7 +14,7 @@ pub(crate) struct Waits {
 impl Waits {
     pub(crate) const NONE: Waits = Waits { count: 0, sum: 0 };
 
-    // The first so many waits, whose numbers begin with 1.
+    // Returns the first `count` waits, whose numbers begin with 1.
     fn first(count: u64) -> Waits {
         Waits {
             count,
@@ -22,7 +22,7 @@ impl Waits {
         }
     }
 
-    // These and others.
+    // Returns these waits together with others.
     fn with(self, others: Waits) -> Waits {
         Waits {
             count: self.count.saturating_add(others.count),
@@ -30,7 +30,7 @@ impl Waits {
         }
     }
 
-    // One more.
+    // Adds a wait.
     fn add(&mut self, wait: u64) {
         *self = self.with(Waits {
             count: 1,
@@ -44,8 +44,8 @@ impl Waits {
     }
 }
 
-/// The waits of a session, by how they ended, and those that it settled, as its calls told: those that it killed and the victims of its searches, by
-/// whose they were, and its own that it lost patience with.
+/// The waits of a session, by how they ended, and those that it settled, as its calls reported: those that it killed and the victims of its
+/// searches, by their sessions, and its own that it lost patience with.
 #[derive(Clone, Copy)]
 pub(crate) struct Tally {
     // The number of its last wait.
@@ -71,18 +71,18 @@ impl Tally {
         victims: [0; SESSIONS],
     };
 
-    /// A wait begins. Whether it has the number behind that of the last one.
+    /// Records that a wait begins. Whether its number is the one after that of the last wait.
     pub(crate) fn begin(&mut self, wait: u64) -> bool {
         self.last = self.last.saturating_add(1);
         wait == self.last
     }
 
-    /// The session loses patience with its wait.
+    /// Records that the session loses patience with its wait.
     pub(crate) fn lose_patience(&mut self, wait: u64) {
         self.impatient.add(wait);
     }
 
-    /// Its wait has ended so.
+    /// Records how the session's wait has ended.
     pub(crate) fn end(&mut self, how: Settled, wait: u64) {
         match how {
             Settled::Granted => self.granted.add(wait),
@@ -92,26 +92,26 @@ impl Tally {
         }
     }
 
-    /// It has killed a wait of a session.
+    /// Records that it has killed a wait of a session.
     pub(crate) fn kill(&mut self, session: u16, wait: u64) {
         if let Some(kills) = self.kills.get_mut(usize::from(session)) {
             kills.add(wait);
         }
     }
 
-    /// Its search has found a session for a victim.
+    /// Records that its search has found a session as the victim.
     pub(crate) fn fell(&mut self, session: u16) {
         if let Some(victims) = self.victims.get_mut(usize::from(session)) {
             *victims = victims.saturating_add(1);
         }
     }
 
-    /// How many waits it had.
+    /// Returns how many waits it had.
     pub(crate) fn waits(&self) -> u64 {
         self.last
     }
 
-    /// Adds what it says of the waits of a session: those that it killed, and how many victims it found.
+    /// Adds what it recorded of the waits of a session: those that it killed, and how often its searches found the session as the victim.
     pub(crate) fn tell(&self, session: u16, killed: &mut Waits, victims: &mut u64) {
         if let Some(kills) = self.kills.get(usize::from(session)) {
             *killed = killed.with(*kills);
@@ -121,7 +121,7 @@ impl Tally {
         }
     }
 
-    /// Whether each of its waits ended once, and just as those say who settled them.
+    /// Whether each of its waits ended once, and just as the sessions that settled them recorded.
     pub(crate) fn agrees(&self, killed: Waits, victims: u64) -> bool {
         let met = self
             .granted

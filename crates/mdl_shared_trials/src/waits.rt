@@ -11,7 +11,7 @@ const WAITS_ALREADY: Reply = Reply::Refused(SpaceError::AlreadyWaiting);
 
 const BAD_MODE: Reply = Reply::Refused(SpaceError::BadMode);
 
-// What cannot be had now is waited for, and all sessions see the wait's number.
+// A lock that can't be granted now is waited for, and all sessions see the wait's number.
 const CLASHING: &[Row] = &[
     (1, Act::Resolve(Lock::Sales), Reply::Place(1)),
     (2, Act::Resolve(Lock::Sales), Reply::Place(1)),
@@ -27,7 +27,7 @@ const CLASHING: &[Row] = &[
     (1, Act::Release(1), Reply::Done),
 ];
 
-// Whoever gives a ticket up grants the wait that stood against it alone. A kill comes too late then.
+// A release grants the wait that only the released ticket blocked. A kill comes too late then.
 const MAKING_WAY: &[Row] = &[
     (1, Act::Resolve(Lock::Sales), Reply::Place(1)),
     (2, Act::Resolve(Lock::Sales), Reply::Place(1)),
@@ -46,7 +46,7 @@ const MAKING_WAY: &[Row] = &[
     (2, Act::Release(1), Reply::Done),
 ];
 
-// So does whoever weakens one.
+// So does a downgrade.
 const DOWNGRADED: &[Row] = &[
     (1, Act::Resolve(Lock::Sales), Reply::Place(1)),
     (2, Act::Resolve(Lock::Sales), Reply::Place(1)),
@@ -59,7 +59,7 @@ const DOWNGRADED: &[Row] = &[
     (1, Act::Release(1), Reply::Done),
 ];
 
-// A kill hits the wait of its number once, and its session learns of it. A wait that was killed isn't granted.
+// A kill hits the wait of its number once, and the session that waits sees it. A wait that was killed isn't granted.
 const KILLED: &[Row] = &[
     (1, Act::Resolve(Lock::Sales), Reply::Place(1)),
     (2, Act::Resolve(Lock::Sales), Reply::Place(1)),
@@ -92,7 +92,7 @@ const KILLED_LATE: &[Row] = &[
     (1, Act::Release(1), Reply::Done),
 ];
 
-// What can be had now isn't waited for, and what isn't there is refused.
+// A lock that can be granted now isn't waited for. Calls about a place or a wait that isn't there are refused, or find none.
 const ALONE: &[Row] = &[
     (
         1,
@@ -114,7 +114,8 @@ const ALONE: &[Row] = &[
     (1, Act::Release(1), Reply::Done),
 ];
 
-// A session that waits asks for nothing more, but keeps its tickets, and may give them up. A cause of a lesser number is told first.
+// A session that waits can't request more, but keeps its tickets, and may release them. Of several causes the first in the order of
+// [`SpaceError`] is returned.
 const ASKING_MORE: &[Row] = &[
     (1, Act::Resolve(Lock::Sales), Reply::Place(1)),
     (2, Act::Resolve(Lock::Sales), Reply::Place(1)),
@@ -138,7 +139,7 @@ const ASKING_MORE: &[Row] = &[
     (1, Act::Release(1), Reply::Done),
 ];
 
-// A reader that waits behind a lost wish to write gets its lock as that wait ends.
+// A reader that waits behind a lost request to write gets its lock when that wait ends.
 const BEHIND: &[Row] = &[
     (1, Act::Resolve(Lock::Sales), Reply::Place(1)),
     (1, Act::Try(1, Mode::SR), Reply::Granted(1)),

@@ -1,2 +1,2 @@
--- The definitions of the tests of contexts.
+-- The definitions for the tests of contexts.
 pub mod Halls

@@ -1,4 +1,4 @@
-//! Calls of a space with what they have to answer: by these all tests of the space call it.
+//! Calls of a space with the answers that they have to give. All tests call a space by these.
 ghost use Rattle.std.specs.Prelude.{ℕ};
 
 use crate::wishes::{Shown, Wish, change_of, what_stands};
@@ -9,7 +9,7 @@ use mdl_space::{
 };
 use std::alloc::Global;
 
-/// The version and the definition that are read under a key.
+/// A version, and the definition that is read with it.
 pub(crate) type Seen = (u64, Shown);
 
 /// A call of a space, and the wanted answer.
@@ -29,7 +29,7 @@ pub(crate) enum Act {
     Merge(TicketId, TicketId, Result<(), SpaceError>),
     Downgrade(TicketId, Mode, Result<(), SpaceError>),
     Read(TicketId, Result<Seen, SpaceError>),
-    // With a cache that keeps nothing yet.
+    // With an empty cache.
     ReadKept(TicketId, Result<Seen, SpaceError>),
     Redefine(TicketId, Wish, Result<u64, SpaceError>),
 }
@@ -37,7 +37,7 @@ pub(crate) enum Act {
 /// The session that makes a call, and the call.
 pub(crate) type Row = (u16, Act);
 
-// Whether an answer is the wanted one, unless no memory was found.
+// Whether an answer is the wanted one. None if memory ran out.
 fn compared<T: PartialEq + Copy>(
     answer: Result<T, SpaceError>,
     wanted: Result<T, SpaceError>,
@@ -48,7 +48,7 @@ fn compared<T: PartialEq + Copy>(
     }
 }
 
-/// Makes a call for a session: whether it answers as it should, unless no memory is found.
+/// Makes a call for a session. Whether the answer is the wanted one, or None if memory ran out.
 pub(crate) fn call<S: LockSpace>(space: &mut S, alloc: Global, who: u16, act: Act) -> Option<bool>
     requires { S.speaks_for space.old who }
     ensures { (w : ℕ) → S.speaks_for space.old w → S.speaks_for space.new w }
@@ -75,7 +75,7 @@ pub(crate) fn call<S: LockSpace>(space: &mut S, alloc: Global, who: u16, act: Ac
     }
 }
 
-// Reads what stands under the key of a ticket's place with a cache that keeps nothing yet. It is to keep nothing afterwards, too.
+// Reads the definition at a ticket's place with an empty cache, which has to stay empty.
 fn read_kept<S: LockSpace>(
     space: &mut S,
     alloc: Global,
@@ -99,7 +99,7 @@ fn read_kept<S: LockSpace>(
     }
 }
 
-// Changes what stands under the key of a ticket's place.
+// Changes the definition at a ticket's place.
 fn redefine<S: LockSpace>(
     space: &mut S,
     alloc: Global,

@@ -1,4 +1,4 @@
-//! The books of a space: who holds each lock and who waits for it, as a tool lists them that shows locks.
+//! The books of a space: which sessions hold each lock and which wait for it, as a tool that shows locks lists them.
 use crate::acts::{Act, Row};
 use crate::room::{Room, TABLE};
 use mdl_book::Ticket;
@@ -34,7 +34,7 @@ const TIMED_OUT: &[Row] = &[
 // The session of the change ends its wait, so the reader behind it is granted.
 const ENDED: &[Row] = &[(2, Act::EndWait(Ok(Ended::Timeout)))];
 
-// Whether the books are those of the places from 1 to this one, in order.
+// Whether the books are those of the places from 1 to `last`, in order.
 fn are_of_places(room: &mut Room, last: Place) -> bool {
     for index in 0..last {
         let Ok(key) = room.key_of(index + 1) else {
@@ -48,7 +48,7 @@ fn are_of_places(room: &mut Room, last: Place) -> bool {
     room.books().len() == usize::from(last)
 }
 
-// Whether the book of the first place has just these tickets.
+// Whether the book of the first place has exactly these tickets.
 fn first_has(room: &Room, granted: &[Ticket], waiting: &[Ticket]) -> bool {
     match room.books().first() {
         Some(book) => book.granted() == granted && book.waiting() == waiting,
@@ -63,7 +63,7 @@ const LISTED: &[(&[Row], &[Ticket], &[Ticket])] = &[
     (ENDED, &[READER, LATE_READER], &[]),
 ];
 
-/// Whether the books are those of all places, and list what stands.
+/// Whether the books are those of all places, and list the right tickets.
 pub(crate) fn list_what_stands(room: &mut Room) -> bool {
     for (rows, granted, waiting) in LISTED {
         if room.first_wrong(rows).is_some() || !first_has(room, granted, waiting) {

@@ -1,7 +1,6 @@
 //! Worked examples of contexts, over the lock space of one thread.
 //!
-//! `acts` names what a session may do and what comes of it, and `rows` plays lists of both in a hall; each other file has
-//! stories of one kind.
+//! `acts` has the calls of a session and their replies, and `rows` plays lists of both in a hall. Each other file has stories of one kind.
 pub(crate) mod acts;
 mod deadlocks;
 mod many;

@@ -30,7 +30,7 @@ const TWO_CYCLES: &[Row] = &[
 ];
 
 const LEAST_CYCLE: &[Row] = &[
-    // From 3 to 4 and back, and from 3 to 2, which came later, and back.
+    // Two cycles: 3 and 4 wait for each other, and so do 3 and 2. Session 2 came later.
     (3, Act::TryNow(B, Mode::X, Ok(Attempt::Granted(1)))),
     (4, Act::TryNow(A, Mode::SR, Ok(Attempt::Granted(1)))),
     (2, Act::TryNow(A, Mode::SR, Ok(Attempt::Granted(1)))),
@@ -43,7 +43,7 @@ const LEAST_CYCLE: &[Row] = &[
 ];
 
 const SHORTEST_CYCLE: &[Row] = &[
-    // From 5 by 1 and 2 and back, and from 5 to 4 and back.
+    // Two cycles: 5 waits for 1, 1 for 2, and 2 for 5; and 5 and 4 wait for each other.
     (5, Act::TryNow(GLOBAL, Mode::X, Ok(Attempt::Granted(1)))),
     (1, Act::TryNow(A, Mode::SR, Ok(Attempt::Granted(1)))),
     (4, Act::TryNow(A, Mode::SR, Ok(Attempt::Granted(1)))),
@@ -52,21 +52,21 @@ const SHORTEST_CYCLE: &[Row] = &[
     (2, Act::BeginWait(GLOBAL, Mode::IX, Ok(Begun::Waiting(1)))),
     (4, Act::BeginWait(GLOBAL, Mode::IX, Ok(Begun::Waiting(1)))),
     (5, Act::BeginWait(A, Mode::X, Ok(Begun::Waiting(1)))),
-    // The wish of 1 weighs least of all, but the cycle by 4 is shorter.
+    // The request of 1 weighs least of all, but the cycle with 4 is shorter.
     (5, Act::Search(Ok(Search::Victim(5)))),
     (1, Act::Search(Ok(Search::NoCycle))),
     (4, Act::Search(Ok(Search::NoCycle))),
 ];
 
 const LONGER_CYCLE: &[Row] = &[
-    // 2 waits for 1, behind whose back 3 waits for 2, and 1 for 3.
+    // 2 waits for 1, 3 is behind the pending X of 2, and 1 waits for 3.
     (1, Act::TryNow(A, Mode::SR, Ok(Attempt::Granted(1)))),
     (3, Act::TryNow(B, Mode::X, Ok(Attempt::Granted(1)))),
     (2, Act::BeginWait(A, Mode::X, Ok(Begun::Waiting(1)))),
     (3, Act::BeginWait(A, Mode::SR, Ok(Begun::Waiting(1)))),
     (3, Act::Search(Ok(Search::NoCycle))),
     (1, Act::BeginWait(B, Mode::SR, Ok(Begun::Waiting(1)))),
-    // Two of them weigh nothing.
+    // Two of the three requests weigh nothing.
     (1, Act::Search(Ok(Search::Victim(3)))),
     (1, Act::Search(Ok(Search::NoCycle))),
 ];
@@ -79,7 +79,7 @@ const LOST_WAITS: &[Row] = &[
     (1, Act::BeginWait(B, Mode::SR, Ok(Begun::Waiting(1)))),
     (2, Act::BeginWait(A, Mode::SR, Ok(Begun::Waiting(1)))),
     (2, Act::TimeOut(Ok(TimedOut::ByThisCall))),
-    // Neither the one whose wait is lost nor the other finds one, while the lost ticket still waits.
+    // While the lost ticket still waits, neither its session nor the other finds a cycle.
     (2, Act::Search(Ok(Search::NoCycle))),
     (1, Act::Search(Ok(Search::NoCycle))),
     (2, Act::EndWait(Ok(Ended::Timeout))),
@@ -88,7 +88,7 @@ const LOST_WAITS: &[Row] = &[
 ];
 
 const BEHIND_A_KILLED_WAIT: &[Row] = &[
-    // A wish that stands behind a killed one waits for nobody.
+    // A request behind one whose wait was killed waits for no session.
     (1, Act::TryNow(A, Mode::SR, Ok(Attempt::Granted(1)))),
     (3, Act::TryNow(B, Mode::X, Ok(Attempt::Granted(1)))),
     (2, Act::BeginWait(A, Mode::X, Ok(Begun::Waiting(1)))),
@@ -111,11 +111,10 @@ pub(crate) const DEADLOCKS: &[Story] = &[
     ),
 ];
 
-// A lock that one holds in a mode, and another one wishes for in the other mode.
+// A lock, the mode in which one session holds it, and the mode in which another session requests it.
 type Wish = (Place, Mode, Mode);
 
-// Where 1 wishes for a lock of 2's, and 2 for one of 1's, a search has this victim: the first call that answers something else
-// than it should.
+// Sessions 1 and 2 each request a lock of the other, and a search has to choose this victim. Returns the index of the first call that goes wrong.
 fn first_wrong_between(alloc: Global, first: Wish, second: Wish, victim: u16) -> Option<usize> {
     let rows = [
         (2, Act::TryNow(first.0, first.1, Ok(Attempt::Granted(1)))),
@@ -141,7 +140,7 @@ const VICTIMS: &[(Wish, Wish, u16)] = &[
     (LIGHT_TABLE, HEAVY_GLOBAL, 1),
     ((A, Mode::X, Mode::SWLP), (B, Mode::SU, Mode::SU), 1),
     ((A, Mode::X, Mode::SW), (B, Mode::SW, Mode::SRO), 1),
-    // Of equal weights the greatest number falls.
+    // At equal weights the session with the greatest number is the victim.
     (LIGHT_TABLE, LIGHT_COMMIT, 2),
     (HEAVY_GLOBAL, HEAVY_TABLE, 2),
     ((A, Mode::SU, Mode::SU), (GLOBAL, Mode::S, Mode::IX), 2),

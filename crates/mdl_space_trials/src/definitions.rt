@@ -1,6 +1,6 @@
-//! What stands under keys: read and changed under tickets, and each refusal, alone and beside those that come later in the order.
+//! Definitions of keys, read and changed under tickets, and each refusal, alone and together with those that are checked later.
 //!
-//! One refusal is in no row: what stands under a key has had all its versions only after 1,000,000 changes.
+//! One refusal is in no row: a key has had its last version only after 1,000,000 changes.
 use crate::acts::{Act, Row};
 use crate::room::{GLOBAL, SCHEMA, Story, TABLE};
 use crate::wishes::{Shown, Wish};
@@ -22,7 +22,7 @@ const CHANGES: &[Row] = &[
     (1, Act::Redefine(1, Wish::AddY, Ok(2))),
     (1, Act::Read(1, Ok((2, Shown::Table(2))))),
     (1, Act::Release(1, Ok(()))),
-    // Others read what was left, under any mode, and as often as they like.
+    // Other sessions read the definition that was left, in any mode and any number of times.
     (2, Act::TryNow(TABLE, Mode::SR, Ok(Attempt::Granted(1)))),
     (3, Act::TryNow(TABLE, Mode::SH, Ok(Attempt::Granted(1)))),
     (2, Act::Read(1, Ok((2, Shown::Table(2))))),
@@ -44,7 +44,7 @@ const CHANGES: &[Row] = &[
     (4, Act::Read(1, Ok((6, Shown::Table(1))))),
 ];
 
-// A cache changes no answer in the space of one thread, and is left alone.
+// A cache changes no answer in the space of one thread, and is itself not changed.
 const WITH_A_CACHE: &[Row] = &[
     (1, Act::ReadKept(1, Err(NOT_HELD))),
     (1, Act::TryNow(TABLE, Mode::X, Ok(Attempt::Granted(1)))),
@@ -54,7 +54,7 @@ const WITH_A_CACHE: &[Row] = &[
     (1, Act::ReadKept(1, Ok((1, Shown::Table(1))))),
     (1, Act::Read(1, Ok((1, Shown::Table(1))))),
     (1, Act::ReadKept(2, Err(NOT_HELD))),
-    // A ticket is its own session's.
+    // Another session can't use the ticket.
     (2, Act::ReadKept(1, Err(NOT_HELD))),
     (1, Act::Release(1, Ok(()))),
     (1, Act::ReadKept(1, Err(NOT_HELD))),
@@ -66,12 +66,12 @@ const REFUSED: &[Row] = &[
     (1, Act::Read(1, Err(NOT_HELD))),
     (1, Act::Redefine(1, Wish::Drop, Err(NOT_HELD))),
     (2, Act::TryNow(TABLE, Mode::SR, Ok(Attempt::Granted(1)))),
-    // A ticket is its own session's.
+    // Another session can't use the ticket.
     (1, Act::Read(1, Err(NOT_HELD))),
     (2, Act::Release(1, Ok(()))),
     (1, Act::TryNow(TABLE, Mode::SNRW, Ok(Attempt::Granted(1)))),
     (1, Act::Redefine(1, Wish::CreateTable, Err(NOT_EXCLUSIVE))),
-    // Beside what suits no table, and what doesn't stand.
+    // Also if the definition isn't valid for a table, or if there is none to drop.
     (1, Act::Redefine(1, Wish::CreateSchema, Err(NOT_EXCLUSIVE))),
     (1, Act::Redefine(1, Wish::Drop, Err(NOT_EXCLUSIVE))),
     (1, Act::Release(1, Ok(()))),
@@ -87,7 +87,7 @@ const REFUSED: &[Row] = &[
         Act::Redefine(2, Wish::AddX, Err(SpaceError::Def(DefError::Missing))),
     ),
     (1, Act::Redefine(2, Wish::CreateTable, Ok(1))),
-    // Beside one that stands.
+    // Also if there is a definition already.
     (1, Act::Redefine(2, Wish::CreateSchema, Err(WRONG_KIND))),
     (
         1,
@@ -123,7 +123,7 @@ const REFUSED: &[Row] = &[
     (1, Act::TryNow(GLOBAL, Mode::X, Ok(Attempt::Granted(4)))),
     (1, Act::Redefine(4, Wish::Drop, Err(WRONG_KIND))),
     (1, Act::Redefine(4, Wish::CreateSchema, Err(WRONG_KIND))),
-    // None of them has changed a thing.
+    // No refused call has changed anything.
     (1, Act::Read(2, Ok((1, Shown::Table(1))))),
     (1, Act::Read(3, Ok((1, Shown::Schema)))),
     (1, Act::Read(4, Ok((0, Shown::Nothing)))),

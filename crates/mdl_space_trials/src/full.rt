@@ -1,4 +1,4 @@
-//! A lock that has as many tickets as it can have.
+//! A lock with as many tickets as it can have.
 use crate::acts::{Act, Row};
 use crate::room::{Room, SCHEMA, TABLE};
 use mdl_key::Mode;
@@ -6,7 +6,7 @@ use mdl_space::{Attempt, Begun, SpaceError};
 
 const MOST_TICKETS: u64 = 65_535;
 
-// Clones a session's first ticket, and gives the number of the last clone that was made, up to this one.
+// Clones a session's first ticket until it is refused, and returns the number of the last clone, below `most`.
 fn clone_until_refused(room: &mut Room, who: u16, most: u64) -> u64 {
     let mut last = 1;
     for number in 2..most {
@@ -32,7 +32,7 @@ const FULL_UP: &[Row] = &[
     (1, Act::TryNow(TABLE, Mode::S, Err(FULL))),
     (1, Act::BeginWait(TABLE, Mode::S, Err(FULL))),
     (1, Act::BeginWait(TABLE, Mode::X, Err(FULL))),
-    // A lock that can't be had now isn't looked at any further.
+    // If the lock can't be granted now, its number of tickets isn't checked.
     (1, Act::TryNow(TABLE, Mode::X, Ok(Attempt::WouldWait))),
     (1, Act::TryNow(TABLE, Mode::IX, Err(BAD_MODE))),
     (2, Act::Clone(1, Mode::X, Err(BAD_MODE))),
@@ -43,7 +43,7 @@ const FULL_UP: &[Row] = &[
     (2, Act::Clone(1, Mode::SR, Err(FULL))),
 ];
 
-/// Whether a lock is full at so many tickets.
+/// Whether a lock is full at `MOST_TICKETS` tickets.
 pub(crate) fn is_full_at_last(room: &mut Room) -> bool {
     room.first_wrong(TWO_LOCKS).is_none()
         && clone_until_refused(room, 2, MOST_TICKETS + 9) == MOST_TICKETS

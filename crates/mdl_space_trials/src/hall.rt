@@ -10,10 +10,10 @@ use mdl_space::{CoreSpace, LockSpace, NewError};
 use std::alloc::Global;
 use std::marker::Model;
 
-/// The sessions are numbered from 1 up to this.
+/// The number of sessions, which are numbered from 1.
 pub(crate) const SESSIONS: u16 = 5;
 
-// A space, at the second try where memory was refused to the first.
+// Creates a space. Tries again if memory runs out at first.
 fn new_space(alloc: Global, places: u16, sessions: u16) -> Result<CoreSpace, NewError>
     ensures made { IfOk result (λ space. space ≡ empty_core places sessions) }
     ensures speaks { IfOk result (λ space. (who : ℕ) → 1 ≤ who → who ≤ sessions → SpeaksFor space who) }
@@ -24,7 +24,7 @@ fn new_space(alloc: Global, places: u16, sessions: u16) -> Result<CoreSpace, New
     }
 }
 
-/// The space speaks for each of these sessions, and keeps what its context does.
+/// A space with the contexts of these sessions. The space speaks for each session, and its seat agrees with its context.
 #[derive(Drop)]
 pub(crate) struct Hall {
     alloc: Global,
@@ -43,7 +43,7 @@ impl Model for Hall {
 }
 
 impl Hall {
-    /// Nobody has asked for anything. Memory may be refused once.
+    /// Creates a hall in which no session has asked for anything. Memory may be refused once.
     pub(crate) fn new(alloc: Global, places: u16) -> Result<Hall, NewError> {
         let space = new_space(alloc, places, SESSIONS)?;
         Ok(Hall {
@@ -59,7 +59,7 @@ impl Hall {
         })
     }
 
-    /// What an act of a session comes to, unless no memory is found, or there is no such session.
+    /// Performs an act of a session and returns its reply. None if memory ran out, or if there is no such session.
     pub(crate) fn make(&mut self, who: u16, act: Act) -> Option<Reply> {
         if who == 0 || who > SESSIONS {
             return None;
@@ -67,13 +67,13 @@ impl Hall {
         make_among(self.alloc, &mut self.space, &mut self.contexts, who, act)
     }
 
-    /// Whether each session stands where it does in the plain program.
+    /// Whether each session holds what it has in the plain program.
     pub(crate) fn stands_as(&self, plain: &Plain) -> bool {
         hold_the_same(&self.space, &self.contexts, plain)
     }
 }
 
-// What an act of a session comes to, unless no memory is found.
+// Performs an act of a session and returns its reply. None if memory ran out.
 fn make_among(
     alloc: Global,
     space: &mut CoreSpace,
@@ -90,7 +90,7 @@ fn make_among(
     make(alloc, space, context, act)
 }
 
-// Whether each session holds in the space what the plain program has, and keeps as many of each duration in its context.
+// Whether each session holds in the space what it has in the plain program, and its context keeps the same number of tickets of each duration.
 fn hold_the_same(space: &CoreSpace, contexts: &[Context<CoreSpace>], plain: &Plain) -> bool
     requires served { AreServed space.now 1 contexts.now }
     requires all { length contexts.now ≡ 5 }

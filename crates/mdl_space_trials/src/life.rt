@@ -27,7 +27,7 @@ const GRANTED_UNENDED: &[Row] = &[
     (1, Act::TryNow(TABLE, Mode::SW, Ok(Attempt::Granted(1)))),
     (2, Act::BeginWait(TABLE, Mode::SNRW, Ok(Begun::Waiting(1)))),
     (1, Act::Release(1, Ok(()))),
-    // Nobody has ended the wait, and the lock is had all the same.
+    // The wait isn't ended, but the lock is taken.
     (1, Act::TryNow(TABLE, Mode::SR, Ok(Attempt::WouldWait))),
     (2, Act::TimeOut(Ok(TimedOut::Already(Settled::Granted)))),
     (1, Act::Kill(2, 1, false)),
@@ -54,7 +54,7 @@ const BEHIND_A_LOST_WAIT: &[Row] = &[
     (5, Act::TryNow(TABLE, Mode::SR, Ok(Attempt::Granted(1)))),
     (3, Act::EndWait(Ok(Ended::Granted(1)))),
     (4, Act::EndWait(Ok(Ended::Granted(1)))),
-    // The number of the lost ticket isn't given again.
+    // The number of the lost ticket isn't used again.
     (2, Act::TryNow(TABLE, Mode::SR, Ok(Attempt::Granted(2)))),
     (2, Act::BeginWait(TABLE, Mode::X, Ok(Begun::Waiting(2)))),
 ];
@@ -72,7 +72,7 @@ const KILLS: &[Row] = &[
     (2, Act::EndWait(Ok(Ended::Killed))),
     (1, Act::TryNow(TABLE, Mode::X, Ok(Attempt::Granted(2)))),
     (2, Act::BeginWait(TABLE, Mode::SR, Ok(Begun::Waiting(2)))),
-    // Meant for the wait before.
+    // A kill meant for the earlier wait.
     (1, Act::Kill(2, 1, false)),
     (2, Act::Poll(Ok(Poll::Pending))),
     (1, Act::Kill(2, 2, true)),
@@ -101,7 +101,7 @@ const ONE_RELEASE: &[Row] = &[
     (4, Act::BeginWait(SCHEMA, Mode::IX, Ok(Begun::Waiting(1)))),
     (5, Act::BeginWait(SCHEMA, Mode::S, Ok(Begun::Waiting(1)))),
     (1, Act::Release(1, Ok(()))),
-    // IX stands behind a pending S, and the first S comes before the other.
+    // IX is behind a pending S. Both S are granted, the earlier one first.
     (2, Act::Poll(Ok(Poll::Pending))),
     (3, Act::Poll(Ok(Poll::Settled(Settled::Granted)))),
     (4, Act::Poll(Ok(Poll::Pending))),
@@ -127,7 +127,7 @@ const APART: &[Row] = &[
     (4, Act::Poll(Ok(Poll::Settled(Settled::Granted)))),
     (5, Act::Poll(Ok(Poll::Pending))),
     (1, Act::BeginWait(SCHEMA, Mode::IX, Ok(Begun::Waiting(1)))),
-    // A session gives up what it holds while it waits.
+    // A session can release what it holds while it waits.
     (1, Act::Release(1, Ok(()))),
     (3, Act::EndWait(Ok(Ended::Granted(1)))),
     (2, Act::Release(1, Ok(()))),

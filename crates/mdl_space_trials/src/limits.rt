@@ -15,7 +15,7 @@ const LIMITS: &[(u16, u16, Option<NewError>)] = &[
     (256, 64, None),
 ];
 
-// Why there can't be a space of so many places and sessions.
+// Returns why there can't be a space with these numbers of places and sessions.
 fn fault(alloc: Global, places: u16, sessions: u16) -> Option<NewError> {
     CoreSpace::new(alloc, places, sessions).err()
 }
@@ -41,7 +41,7 @@ const PLACES: &[(Of, Result<Place, SpaceError>)] = &[
     (Of::Table("test", "v"), Err(SpaceError::NoPlace)),
 ];
 
-/// Whether keys keep their places, which are numbered from 1 to 5, and a sixth key finds none.
+/// Whether keys keep their places, which are numbered from 1 to 5, and a sixth key is refused.
 pub(crate) fn keeps_places(room: &mut Room) -> bool {
     for (of, place) in PLACES {
         if room.place_of(*of) != *place {
@@ -53,7 +53,7 @@ pub(crate) fn keeps_places(room: &mut Room) -> bool {
 
 const MOST_VERSIONS: u64 = 1_000_000;
 
-// Lets another schema stand again and again, and gives the last version that came of it, up to this one.
+// Redefines a schema again and again, and returns the last version that came of it, below `most`.
 fn change_until_refused(room: &mut Room, most: u64) -> u64 {
     let mut last = 0;
     for version in 1..most {
@@ -73,14 +73,14 @@ const NO_VERSION_LEFT: &[Row] = &[
     (1, Act::Redefine(1, Wish::PutSchema, Err(VERSION_FULL))),
     (1, Act::Redefine(1, Wish::Drop, Err(VERSION_FULL))),
     (1, Act::Read(1, Ok((MOST_VERSIONS, Shown::Schema)))),
-    // That is told before any other reason why it can't be made.
+    // This refusal comes before any other.
     (1, Act::Redefine(1, Wish::CreateTable, Err(VERSION_FULL))),
     (1, Act::Release(1, Ok(()))),
     (2, Act::TryNow(SCHEMA, Mode::X, Ok(Attempt::Granted(1)))),
     (2, Act::Redefine(1, Wish::Drop, Err(VERSION_FULL))),
 ];
 
-/// Whether the versions of a schema end at this many.
+/// Whether a schema's last version is `MOST_VERSIONS`.
 pub(crate) fn has_versions_up_to_the_last(room: &mut Room) -> bool {
     room.first_wrong(LOCKED).is_none()
         && change_until_refused(room, MOST_VERSIONS + 9) == MOST_VERSIONS

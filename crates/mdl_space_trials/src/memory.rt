@@ -1,4 +1,4 @@
-//! Growths refused in turn: where each allocation fails once, the space has lost nothing, and goes on.
+//! Refused growths: if each allocation fails once in turn, the space loses nothing, and goes on.
 //!
 //! `rt try --test --fail-alloc N` refuses the allocation of that number. Then the call that needed it is made again.
 use crate::acts::{Act, Row};
@@ -10,7 +10,7 @@ use std::alloc::Global;
 
 const SESSIONS: u16 = 16;
 
-// A room of many sessions, at the second try, where memory was refused to the first.
+// Creates a room of many sessions. Tries again if memory runs out at first.
 fn new_room(alloc: Global) -> Option<Room> {
     match Room::of_keys(alloc, ORDINARY, SESSIONS) {
         Some(room) => Some(room),
@@ -18,7 +18,7 @@ fn new_room(alloc: Global) -> Option<Room> {
     }
 }
 
-// The first call that answers something else than it should. Where memory was refused to it, it is made again.
+// Makes calls one after another, and returns the index of the first that goes wrong. A call that runs out of memory is made again.
 fn first_lost(room: &mut Room, rows: &[Row]) -> Option<usize> {
     for (place, (who, act)) in rows.iter().enumerate() {
         let is_right = match room.make(*who, *act) {
@@ -36,7 +36,7 @@ const WAIT: Act = Act::BeginWait(OTHER_TABLE, Mode::S, Ok(Begun::Waiting(1)));
 
 const GAINED: Act = Act::EndWait(Ok(Ended::Granted(1)));
 
-// One session comes to many tickets, beside a lock that all others wait for.
+// One session gets many tickets, beside a lock that all others wait for.
 const CROWD: &[Row] = &[
     (1, Act::TryNow(TABLE, Mode::SW, Ok(Attempt::Granted(1)))),
     (
@@ -148,14 +148,14 @@ const CHANGES: &[Row] = &[
     (1, Act::Read(1, Ok((5, Shown::Nothing)))),
 ];
 
-// What calls show, those that may take memory, and then those that take none.
+// What calls show, the calls that may take memory, and then those that take none.
 const STORIES: &[(&str, &[Row], &[Row])] = &[
     ("a crowd", CROWD, GRANTED),
     ("searches", SEARCHES, &[]),
     ("reads and changes", CHANGES, &[]),
 ];
 
-// The first of these in a new room that goes wrong.
+// Returns the index of the first call of a list that goes wrong in a new room.
 fn first_lost_of_new(alloc: Global, taking: &[Row], sparing: &[Row]) -> Option<usize> {
     match new_room(alloc) {
         Some(mut room) => first_lost(&mut room, taking).or(room.first_wrong(sparing)),

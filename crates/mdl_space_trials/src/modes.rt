@@ -1,5 +1,4 @@
-//! Held tickets that get other modes: upgrades, downgrades and merges, and each refusal, alone and beside those that come later in
-//! the order.
+//! Held tickets that get other modes: upgrades, downgrades and merges, and each refusal, alone and together with those that are checked later.
 use crate::acts::{Act, Row};
 use crate::room::{Room, SCHEMA, Story, TABLE};
 use mdl_key::Mode;
@@ -14,7 +13,7 @@ const HAS_WAIT: SpaceError = SpaceError::AlreadyWaiting;
 
 const BAD_MODE: SpaceError = SpaceError::BadMode;
 
-// The session's other ticket is in nobody's way but others'.
+// The session's other ticket doesn't block the session itself, only others.
 const BESIDE_OWN_TICKETS: &[Row] = &[
     (1, Act::TryNow(TABLE, Mode::SU, Ok(Attempt::Granted(1)))),
     (1, Act::TryNow(TABLE, Mode::SR, Ok(Attempt::Granted(2)))),
@@ -30,7 +29,7 @@ const BESIDE_OTHERS: &[Row] = &[
     (1, Act::TryNow(TABLE, Mode::SU, Ok(Attempt::Granted(1)))),
     (2, Act::TryNow(TABLE, Mode::SR, Ok(Attempt::Granted(1)))),
     (1, Act::Upgrade(1, Mode::X, Ok(Upgrade::WouldWait))),
-    // The ticket is as it was, which a writer stands beside.
+    // The ticket's mode is unchanged, so a writer is granted beside it.
     (3, Act::TryNow(TABLE, Mode::SW, Ok(Attempt::Granted(1)))),
     (1, Act::Upgrade(1, Mode::SNW, Ok(Upgrade::WouldWait))),
     (3, Act::Release(1, Ok(()))),
@@ -38,7 +37,7 @@ const BESIDE_OTHERS: &[Row] = &[
     (3, Act::TryNow(TABLE, Mode::SW, Ok(Attempt::WouldWait))),
     (3, Act::TryNow(TABLE, Mode::SR, Ok(Attempt::Granted(2)))),
     (1, Act::Upgrade(1, Mode::SNRW, Ok(Upgrade::WouldWait))),
-    // What is covered is had already, and the ticket keeps its mode.
+    // An upgrade to a mode that the ticket covers succeeds, and the ticket keeps its mode.
     (1, Act::Upgrade(1, Mode::SU, Ok(Upgrade::Upgraded))),
     (4, Act::TryNow(TABLE, Mode::SW, Ok(Attempt::WouldWait))),
     (2, Act::Release(1, Ok(()))),
@@ -49,7 +48,7 @@ const BESIDE_OTHERS: &[Row] = &[
     (1, Act::WaitOf(1, None)),
 ];
 
-// A weaker mode stands behind a wish for X, and X itself behind none.
+// A weaker mode is behind a pending X, and X itself is behind no mode.
 const BEHIND_WAITERS: &[Row] = &[
     (1, Act::TryNow(TABLE, Mode::SU, Ok(Attempt::Granted(1)))),
     (2, Act::BeginWait(TABLE, Mode::X, Ok(Begun::Waiting(1)))),
@@ -78,7 +77,7 @@ const DOWNGRADES: &[Row] = &[
     (3, Act::EndWait(Ok(Ended::Granted(1)))),
     (1, Act::Release(1, Ok(()))),
     (4, Act::EndWait(Ok(Ended::Granted(1)))),
-    // A session that waits downgrades all the same.
+    // A session can downgrade while it waits.
     (1, Act::TryNow(SCHEMA, Mode::X, Ok(Attempt::Granted(2)))),
     (2, Act::Release(1, Ok(()))),
     (3, Act::Release(1, Ok(()))),
@@ -102,7 +101,7 @@ const MERGES: &[Row] = &[
     (1, Act::Downgrade(1, Mode::SNW, Ok(()))),
     (2, Act::EndWait(Ok(Ended::Granted(1)))),
     (1, Act::Downgrade(1, Mode::SU, Ok(()))),
-    // Of two that are each as strong as the other the first one may go.
+    // If two tickets are each as strong as the other, a merge may remove the first of them.
     (2, Act::TryNow(TABLE, Mode::S, Ok(Attempt::Granted(2)))),
     (2, Act::TryNow(TABLE, Mode::SH, Ok(Attempt::Granted(3)))),
     (2, Act::Merge(3, 2, Ok(()))),
@@ -119,26 +118,26 @@ const REFUSED: &[Row] = &[
     (1, Act::TryNow(TABLE, Mode::SR, Ok(Attempt::Granted(1)))),
     (1, Act::TryNow(TABLE, Mode::SH, Ok(Attempt::Granted(2)))),
     (1, Act::TryNow(SCHEMA, Mode::X, Ok(Attempt::Granted(3)))),
-    // A ticket is its own session's. One that isn't held is told before all else.
+    // Another session can't use a ticket. That a ticket isn't held is checked first.
     (2, Act::Upgrade(1, Mode::X, Err(NOT_HELD))),
     (2, Act::Downgrade(3, Mode::SU, Err(NOT_HELD))),
     (2, Act::Merge(1, 2, Err(NOT_HELD))),
     (1, Act::Merge(1, 9, Err(NOT_HELD))),
     (1, Act::Merge(9, 1, Err(NOT_HELD))),
     (1, Act::Upgrade(9, Mode::IX, Err(NOT_HELD))),
-    // In a mode that the lock doesn't have.
+    // To a mode that the lock doesn't have.
     (1, Act::Upgrade(1, Mode::IX, Err(NOT_UPGRADABLE))),
     (1, Act::Upgrade(3, Mode::SU, Err(NOT_UPGRADABLE))),
     (1, Act::Downgrade(3, Mode::SU, Err(NOT_UPGRADABLE))),
     (1, Act::Upgrade(3, Mode::S, Ok(Upgrade::Upgraded))),
-    // With itself, of two places, and with a weaker one.
+    // With itself, of another place, and with a weaker ticket.
     (1, Act::Merge(1, 1, Err(BAD_MODE))),
     (1, Act::Merge(1, 3, Err(BAD_MODE))),
     (1, Act::Merge(1, 2, Err(BAD_MODE))),
     (1, Act::Merge(2, 1, Ok(()))),
 ];
 
-// Some of which only who waits is refused.
+// Some of these calls are refused only because the session waits.
 const WHILE_WAITING: &[Row] = &[
     (1, Act::TryNow(SCHEMA, Mode::X, Ok(Attempt::Granted(1)))),
     (2, Act::TryNow(TABLE, Mode::SU, Ok(Attempt::Granted(1)))),
@@ -153,7 +152,7 @@ const WHILE_WAITING: &[Row] = &[
     (2, Act::Upgrade(3, Mode::X, Err(NOT_HELD))),
     (2, Act::Upgrade(2, Mode::X, Err(NOT_UPGRADABLE))),
     (2, Act::Downgrade(1, Mode::SR, Err(NOT_UPGRADABLE))),
-    // A settled wait is a wait, until it is ended.
+    // A settled wait is still a wait until it is ended.
     (2, Act::TimeOut(Ok(TimedOut::ByThisCall))),
     (2, Act::Upgrade(1, Mode::X, Err(HAS_WAIT))),
     (2, Act::Merge(2, 1, Err(HAS_WAIT))),
@@ -178,7 +177,7 @@ pub(crate) const LIVES: &[Story] = &[
     ("who waits gets no stronger mode", WHILE_WAITING),
 ];
 
-// A held mode, a call for another one, and the mode of the ticket then.
+// A held mode, a call for another mode, and the ticket's mode afterwards.
 const CHANGES: &[(Mode, Act, Mode)] = &[
     (
         Mode::SU,
@@ -359,7 +358,7 @@ fn holds(room: &Room, mode: Mode) -> bool {
     }
 }
 
-// Whether the ticket that it gains in a new room comes to the mode that it should.
+// Whether a ticket of the first session in a new room has the wanted mode after a call.
 fn is_right(alloc: Global, held: Mode, act: Act, mode: Mode) -> bool {
     let Some(mut room) = Room::new(alloc) else {
         return false;

@@ -1,7 +1,7 @@
-//! Each refusal of each call, alone and beside those that come later in the order.
+//! Each refusal of each call, alone and together with those that are checked later.
 //!
-//! Two refusals are in no row. A session has used up its numbers only after 2 to the 60 tickets or waits, and no test lives
-//! so long. A lock takes 65,535 tickets: that is a test of its own.
+//! Two refusals are in no row. A session runs out of numbers only after 2 to the 60 tickets or waits, which no test can reach. A lock takes 65,535
+//! tickets: that has a test of its own.
 use crate::acts::{Act, Row};
 use crate::room::{GLOBAL, SCHEMA, Story, TABLE};
 use mdl_key::Mode;
@@ -20,7 +20,7 @@ const NO_WAIT: SpaceError = SpaceError::NoWait;
 const REQUESTS: &[Row] = &[
     (1, Act::TryNow(0, Mode::S, Err(NO_PLACE))),
     (1, Act::BeginWait(6, Mode::S, Err(NO_PLACE))),
-    // No mode is one of no place.
+    // Without a place, no mode is checked.
     (1, Act::TryNow(6, Mode::SR, Err(NO_PLACE))),
     (1, Act::BeginWait(0, Mode::IX, Err(NO_PLACE))),
     (1, Act::TryNow(TABLE, Mode::IX, Err(BAD_MODE))),
@@ -28,7 +28,7 @@ const REQUESTS: &[Row] = &[
     (1, Act::TryNow(SCHEMA, Mode::SR, Err(BAD_MODE))),
     (1, Act::BeginWait(GLOBAL, Mode::SNRW, Err(BAD_MODE))),
 
-    // None of them has changed a thing.
+    // No refused call has changed anything.
     (1, Act::TryNow(TABLE, Mode::X, Ok(Attempt::Granted(1)))),
     (1, Act::WaitOf(1, None)),
 ];
@@ -40,14 +40,14 @@ const WHILE_WAITING: &[Row] = &[
     (2, Act::TryNow(SCHEMA, Mode::IX, Err(HAS_WAIT))),
     (2, Act::BeginWait(SCHEMA, Mode::IX, Err(HAS_WAIT))),
     (2, Act::Clone(1, Mode::IX, Err(HAS_WAIT))),
-    // Beside a place that has no key, and a mode that isn't one of the lock.
+    // Also with a place that has no key, and with a mode that the lock doesn't have.
     (2, Act::TryNow(9, Mode::IX, Err(NO_PLACE))),
     (2, Act::BeginWait(9, Mode::SR, Err(NO_PLACE))),
     (2, Act::TryNow(TABLE, Mode::IX, Err(HAS_WAIT))),
     (2, Act::BeginWait(SCHEMA, Mode::SR, Err(HAS_WAIT))),
     (2, Act::Clone(1, Mode::X, Err(HAS_WAIT))),
     (2, Act::Clone(9, Mode::IX, Err(SpaceError::NotHeld))),
-    // A settled wait is a wait, until it is ended.
+    // A settled wait is still a wait until it is ended.
     (2, Act::TimeOut(Ok(TimedOut::ByThisCall))),
     (2, Act::TryNow(SCHEMA, Mode::IX, Err(HAS_WAIT))),
     (2, Act::BeginWait(SCHEMA, Mode::IX, Err(HAS_WAIT))),
@@ -62,13 +62,13 @@ const CLONES_AND_RELEASES: &[Row] = &[
     (1, Act::TryNow(TABLE, Mode::SU, Ok(Attempt::Granted(1)))),
     (1, Act::TryNow(SCHEMA, Mode::X, Ok(Attempt::Granted(2)))),
     (2, Act::TryNow(GLOBAL, Mode::S, Ok(Attempt::Granted(1)))),
-    // Not as strong, and in a mode of other locks.
+    // Not strong enough, or in a mode that the lock doesn't have.
     (1, Act::Clone(1, Mode::SW, Err(BAD_MODE))),
     (1, Act::Clone(1, Mode::X, Err(BAD_MODE))),
     (1, Act::Clone(1, Mode::IX, Err(BAD_MODE))),
     (1, Act::Clone(2, Mode::SR, Err(BAD_MODE))),
     (2, Act::Clone(1, Mode::IX, Err(BAD_MODE))),
-    // Of another session, or of none.
+    // Tickets of another session, or of no session.
     (2, Act::Clone(2, Mode::S, Err(NOT_HELD))),
     (2, Act::Release(2, Err(NOT_HELD))),
     (1, Act::Release(0, Err(NOT_HELD))),
@@ -96,7 +96,7 @@ const WAITS: &[Row] = &[
     (1, Act::Poll(Err(NO_WAIT))),
     (1, Act::TimeOut(Err(NO_WAIT))),
     (1, Act::WaitOf(1, None)),
-    // Of sessions that there aren't.
+    // Sessions that don't exist.
     (1, Act::WaitOf(0, None)),
     (1, Act::WaitOf(6, None)),
     (1, Act::Kill(0, 1, false)),

@@ -21,7 +21,7 @@ pub(crate) const COMMIT: Place = 4;
 
 pub(crate) const OTHER_TABLE: Place = 5;
 
-/// What a key is of: a table of a schema, a schema, or what has no name.
+/// What a key names: a table of a schema, a schema, or a lock without a name.
 #[derive(Clone, Copy)]
 pub(crate) enum Of {
     Table(&'static str, &'static str),
@@ -51,7 +51,7 @@ fn new_key(alloc: Global, of: Of) -> Result<Key, KeyError> {
     }
 }
 
-/// The space speaks for each of so many sessions, numbered from 1.
+/// A space with sessions numbered from 1. The space speaks for each of them.
 #[derive(Drop)]
 pub(crate) struct Room {
     alloc: Global,
@@ -71,7 +71,7 @@ impl Model for Room {
 }
 
 impl Room {
-    /// Each of these keys has a place, in this order, and there are no more places. Nobody has anything.
+    /// Creates a space whose places have these keys, in this order. There are no more places, and no session has anything.
     pub(crate) fn of_keys(alloc: Global, keys: &[Of], sessions: u16) -> Option<Room> {
         let Ok(places) = u16::try_from(keys.len()) else {
             return None;
@@ -91,12 +91,12 @@ impl Room {
         }
     }
 
-    /// A table, a schema, the global lock, the commit lock and another table have the places 1 to 5.
+    /// Creates a room in which a table, a schema, the global lock, the commit lock and another table have the places 1 to 5.
     pub(crate) fn new(alloc: Global) -> Option<Room> {
         Room::of_keys(alloc, ORDINARY, 5)
     }
 
-    // Whether these keys come to have places.
+    // Whether each of these keys gets a place.
     fn has_places(&mut self, keys: &[Of]) -> bool {
         for of in keys {
             if self.place_of(*of).is_err() {
@@ -106,7 +106,7 @@ impl Room {
         true
     }
 
-    /// The place of a key, for the first session.
+    /// Returns the place of a key, asked by the first session.
     pub(crate) fn place_of(&mut self, of: Of) -> Result<Place, SpaceError> {
         match new_key(self.alloc, of) {
             Ok(key) => self.resolve(&key),
@@ -114,7 +114,7 @@ impl Room {
         }
     }
 
-    // The same.
+    // The same for a finished key.
     fn resolve(&mut self, key: &Key) -> Result<Place, SpaceError> {
         if self.sessions == 0 {
             return Err(SpaceError::NoPlace);
@@ -122,7 +122,7 @@ impl Room {
         self.space.resolve(1, key)
     }
 
-    /// The key of a place, for the first session.
+    /// Returns the key of a place, asked by the first session.
     pub(crate) fn key_of(&mut self, place: Place) -> Result<Key, SpaceError> {
         if self.sessions == 0 {
             return Err(SpaceError::NoPlace);
@@ -130,7 +130,7 @@ impl Room {
         self.space.key_of(1, place)
     }
 
-    /// The places of a schema's tables, for the first session.
+    /// Returns the places of a schema's tables, asked by the first session.
     pub(crate) fn tables_of(&mut self, schema: &str) -> Result<Vec<Place>, SpaceError> {
         if self.sessions == 0 {
             return Err(SpaceError::NoPlace);
@@ -138,7 +138,7 @@ impl Room {
         self.space.tables_of(1, schema)
     }
 
-    /// What a session holds.
+    /// Returns what a session holds.
     pub(crate) fn held(&self, who: u16) -> Result<Vec<Held>, SpaceError> {
         if who == 0 || who > self.sessions {
             return Err(SpaceError::NotHeld);
@@ -151,7 +151,7 @@ impl Room {
         self.space.books()
     }
 
-    /// Makes a call: whether it answers as it should, unless no memory is found.
+    /// Makes a call. Whether the answer is the wanted one, or None if memory ran out.
     pub(crate) fn make(&mut self, who: u16, act: Act) -> Option<bool> {
         if who == 0 || who > self.sessions {
             return Some(false);
@@ -159,7 +159,7 @@ impl Room {
         call(&mut self.space, self.alloc, who, act)
     }
 
-    /// Makes calls one after another, and gives the place of the first that answers something else than it should.
+    /// Makes calls one after another, and returns the index of the first whose answer is not the wanted one.
     pub(crate) fn first_wrong(&mut self, rows: &[Row]) -> Option<usize> {
         for (place, (who, act)) in rows.iter().enumerate() {
             if self.make(*who, *act) != Some(true) {

@@ -1,4 +1,4 @@
-//! The tables of a schema, told in the order of their keys.
+//! The tables of a schema, listed in the order of their keys.
 use crate::acts::{Act, Row};
 use crate::room::{Of, Room};
 use crate::wishes::Wish;
@@ -25,7 +25,7 @@ pub(crate) const KEYS: &[Of] = &[
     Of::Table("test", "c"),
 ];
 
-// Whether just these are the places of a schema's tables.
+// Whether exactly these are the places of a schema's tables, in this order.
 fn tells(room: &mut Room, schema: &str, places: &[Place]) -> bool {
     match room.tables_of(schema) {
         Ok(told) => told.as_slice() == places,
@@ -56,7 +56,7 @@ const TOLD: &[(&[Row], &str, &[Place])] = &[
     (DROPPED, "test", &[A]),
 ];
 
-/// Whether the tables are told as they come and go.
+/// Whether the lists are right as tables are created and dropped.
 pub(crate) fn tells_what_is_defined(room: &mut Room) -> bool {
     for (rows, schema, places) in TOLD {
         if room.first_wrong(rows).is_some() || !tells(room, schema, places) {

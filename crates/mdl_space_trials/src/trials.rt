@@ -1,9 +1,9 @@
-//! Trials of a room by more than rows of calls.
+//! Trials of a room that take more than rows of calls.
 use crate::room::Room;
 use crate::{books, full, limits, tables};
 use std::alloc::Global;
 
-/// What a room is tried for.
+/// What is tried in a room.
 #[derive(Clone, Copy)]
 enum Trial {
     Books,
@@ -14,7 +14,7 @@ enum Trial {
 }
 
 impl Trial {
-    // A new room for it.
+    // Creates a room for the trial.
     fn room(self, alloc: Global) -> Option<Room> {
         match self {
             Trial::Tables => Room::of_keys(alloc, tables::KEYS, 2),
@@ -22,7 +22,7 @@ impl Trial {
         }
     }
 
-    // Whether the room does as it should.
+    // Whether the trial succeeds in this room.
     fn succeeds(self, room: &mut Room) -> bool {
         match self {
             Trial::Books => books::list_what_stands(room),
@@ -34,7 +34,7 @@ impl Trial {
     }
 }
 
-// Whether a new room does.
+// Whether a trial succeeds in a new room.
 fn succeeds(alloc: Global, trial: Trial) -> bool {
     match trial.room(alloc) {
         Some(mut room) => trial.succeeds(&mut room),

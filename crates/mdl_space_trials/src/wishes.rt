@@ -1,8 +1,8 @@
-//! Changes that tests ask for, and what they look for under a key.
+//! Changes that tests ask for (wishes), and the definitions that they look for.
 use mdl_defs::{Change, Column, Columns, Definition, Standing};
 use std::alloc::Global;
 
-/// A change, of tables with a column `x` at first.
+/// A requested change. A table that it makes has the one column `x`.
 #[derive(Clone, Copy)]
 pub(crate) enum Wish {
     CreateSchema,
@@ -16,7 +16,7 @@ pub(crate) enum Wish {
     DropY,
 }
 
-/// What stands under a key: none, a schema, or a table with so many columns.
+/// What a key defines: nothing, a schema, or a table with that number of columns.
 #[derive(Clone, Copy, PartialEq, Eq)]
 pub(crate) enum Shown {
     Nothing,
@@ -24,7 +24,7 @@ pub(crate) enum Shown {
     Table(usize),
 }
 
-/// What stands.
+/// Returns what is defined.
 pub(crate) fn what_stands(standing: &Standing) -> Shown {
     match &standing.definition {
         None => Shown::Nothing,
@@ -33,7 +33,7 @@ pub(crate) fn what_stands(standing: &Standing) -> Shown {
     }
 }
 
-/// The change that is asked for, if there is memory for it.
+/// Returns the requested change, unless memory runs out.
 pub(crate) fn change_of(alloc: Global, wish: Wish) -> Option<Change> {
     match wish {
         Wish::CreateSchema => Some(Change::Create(Definition::Schema)),
@@ -54,7 +54,7 @@ pub(crate) fn change_of(alloc: Global, wish: Wish) -> Option<Change> {
     }
 }
 
-// A column more, or one less.
+// Returns a change that adds a column, or drops one.
 fn with_column(alloc: Global, name: &str, more: bool) -> Option<Change> {
     match Column::new(alloc, name) {
         Ok(column) => Some(if more {
@@ -73,7 +73,7 @@ fn push_x(alloc: Global, columns: &mut Columns) -> bool {
     }
 }
 
-// A table with the one column.
+// Returns a table with the one column `x`.
 fn table(alloc: Global) -> Option<Definition> {
     let mut columns = Columns::new(alloc);
     if push_x(alloc, &mut columns) {

@@ -1,4 +1,4 @@
-//! Small tables of locks, with all that is found of them worked out by hand.
+//! Small tables of locks, with everything that is found of them worked out by hand.
 use mdl_book::{Sessions, Ticket};
 use mdl_graph::{Cycle, victim};
 use mdl_key::{Mode, Namespace};
@@ -12,7 +12,7 @@ use std::test::Fail;
 // A session with a mode.
 type Of = (u16, Mode);
 
-// A lock: who holds it, and who waits for it, in order.
+// A lock: its holders, and its waiters in order.
 type Row = (Namespace, &'static [Of], &'static [Of]);
 
 // Some locks, and what is found of them.
@@ -21,16 +21,16 @@ struct Case {
     locks: &'static [Row],
     // The session whose wait is settled, or 0.
     settled: u16,
-    // Each waiter, with who is in its way, and why.
+    // Each waiter, a session that blocks it, and the reason.
     in_the_way: &'static [(u16, u16, Reason)],
-    // The members of each deadlock, and its victim behind them all.
+    // The members of each deadlock, and after them its victim.
     deadlocks: &'static [&'static [u16]],
-    // The roots by their rank, each with how many waits are granted if it ends.
+    // The roots in the order of their ranks, each with how many waits are granted if it ends.
     roots: &'static [(u16, usize)],
-    // A session that ends, and who then gets a lock.
+    // A session that ends, and the sessions that get a lock then.
     ends: u16,
     gets: &'static [u16],
-    // Who goes on waiting then, for whom first, or 0 for nobody, and how many tickets are in its way.
+    // The sessions that still wait then, the first session that each waits for, or 0 if there is none, and how many tickets block it.
     waits: &'static [(u16, u16, usize)],
 }
 
@@ -48,7 +48,7 @@ const CASES: &[Case] = &[
         gets: &[],
         waits: &[],
     },
-    // One with high priority could be granted by itself.
+    // The reader with high priority could be granted by itself.
     Case {
         name: "a change behind two readers, and two readers behind the change",
         locks: &[(
@@ -68,7 +68,7 @@ const CASES: &[Case] = &[
         gets: &[1, 5],
         waits: &[],
     },
-    // The ticket of the change still stops who comes later, but nobody waits for it.
+    // The ticket of the change still blocks later requests, but no session waits for it.
     Case {
         name: "a change that is settled",
         locks: &[(TABLE, &[(4, Mode::SR)], &[(3, Mode::X), (1, Mode::SR)])],
@@ -80,7 +80,7 @@ const CASES: &[Case] = &[
         gets: &[],
         waits: &[(1, 0, 0)],
     },
-    // The reader behind it also waits for the later change, and that for both who read.
+    // The reader behind it also waits for the later change, and that for both sessions that read.
     Case {
         name: "a change that is settled, and a later one",
         locks: &[(
@@ -100,7 +100,7 @@ const CASES: &[Case] = &[
         gets: &[],
         waits: &[(3, 5, 1), (5, 4, 1)],
     },
-    // One's own ticket is in nobody's way.
+    // A session's own ticket doesn't block its requests.
     Case {
         name: "the global read lock behind a write, and a write behind that",
         locks: &[
@@ -196,7 +196,7 @@ const CASES: &[Case] = &[
     },
 ];
 
-// The lock of a row.
+// Returns the lock of a row.
 fn lock_of(alloc: Global, row: &Row) -> Result<Lock, AllocError> {
     let mut lock = Lock::new(alloc, row.0);
     for (session, mode) in row.1 {
@@ -216,7 +216,7 @@ fn lock_of(alloc: Global, row: &Row) -> Result<Lock, AllocError> {
     Ok(lock)
 }
 
-// Whether these tell who is in whose way.
+// Whether these are the wanted pairs of a waiter and a session that blocks it, with their reasons.
 fn are_pairs(found: &[Blocking], wanted: &[(u16, u16, Reason)]) -> bool {
     for (pair, told) in found.iter().zip(wanted) {
         if (pair.waiter.session, pair.other.session) != (told.0, told.1) || pair.reason != told.2 {
@@ -226,7 +226,7 @@ fn are_pairs(found: &[Blocking], wanted: &[(u16, u16, Reason)]) -> bool {
     found.len() == wanted.len()
 }
 
-// Whether these are the roots, in order of their numbers and by their rank.
+// Whether the roots are the wanted ones, and are ranked in the wanted order.
 fn are_roots(found: &[u16], ranks: &[RootRank], wanted: &[(u16, usize)]) -> bool {
     for (rank, told) in ranks.iter().zip(wanted) {
         if rank.session != told.0 || rank.gets != told.1 || !found.contains(&told.0) {
@@ -236,7 +236,7 @@ fn are_roots(found: &[u16], ranks: &[RootRank], wanted: &[(u16, usize)]) -> bool
     ranks.len() == wanted.len() && found.len() == wanted.len()
 }
 
-// Whether it is found who is in whose way, and who is at the root.
+// Whether the right blocked and blocking sessions are found, and the right roots.
 fn are_waits_found(alloc: Global, case: &Case, scene: Scene<'_>) -> Result<bool, AllocError> {
     let found = blockings(alloc, scene.settled, scene.locks)?;
     let at_root = roots(alloc, &found)?;
@@ -248,7 +248,7 @@ fn are_waits_found(alloc: Global, case: &Case, scene: Scene<'_>) -> Result<bool,
     )
 }
 
-// Whether this deadlock has these members, and the last of them as its victim.
+// Whether a deadlock has these members, and as its victim the session after them.
 fn is_deadlock(cycle: &Cycle, wanted: &[u16]) -> bool {
     for (member, session) in cycle.members().iter().zip(wanted) {
         if member.session != *session {
@@ -261,7 +261,7 @@ fn is_deadlock(cycle: &Cycle, wanted: &[u16]) -> bool {
     }
 }
 
-// Whether these are the deadlocks.
+// Whether these are the wanted deadlocks.
 fn are_deadlocks(found: &[Cycle], wanted: &[&[u16]]) -> bool {
     for (cycle, sessions) in found.iter().zip(wanted) {
         if !is_deadlock(cycle, sessions) {
@@ -271,7 +271,7 @@ fn are_deadlocks(found: &[Cycle], wanted: &[&[u16]]) -> bool {
     found.len() == wanted.len()
 }
 
-// Whether these go on waiting: for whom first, and for how many.
+// Whether exactly these sessions still wait, each for this session first and for this number of tickets.
 fn are_left(found: &[StillWaiting], wanted: &[(u16, u16, usize)]) -> bool {
     for (waiting, told) in found.iter().zip(wanted) {
         let first = match waiting.first {
@@ -285,7 +285,7 @@ fn are_left(found: &[StillWaiting], wanted: &[(u16, u16, usize)]) -> bool {
     found.len() == wanted.len()
 }
 
-// Whether these get a lock.
+// Whether exactly these sessions get a lock.
 fn are_granted(found: &[AtLock], wanted: &[u16]) -> bool {
     for (got, session) in found.iter().zip(wanted) {
         if got.ticket.session != *session {
@@ -295,7 +295,7 @@ fn are_granted(found: &[AtLock], wanted: &[u16]) -> bool {
     found.len() == wanted.len()
 }
 
-// Whether the deadlocks are found, and what follows if the session of the case ends.
+// Whether the right deadlocks are found, and the right outcome if the session of the case ends.
 fn is_end_found(alloc: Global, case: &Case, scene: Scene<'_>) -> Result<bool, AllocError> {
     let cycles = deadlocks(alloc, scene)?;
     let ending = ending_of(alloc, scene, case.ends)?;
@@ -306,7 +306,7 @@ fn is_end_found(alloc: Global, case: &Case, scene: Scene<'_>) -> Result<bool, Al
     )
 }
 
-// Whether all that a case says is found of its locks.
+// Whether everything that a case says is found of its locks.
 fn is_all_found(alloc: Global, case: &Case, locks: &[Lock]) -> Result<bool, AllocError> {
     let mut settled = Sessions::new();
     let mut unsettled = Sessions::all();
@@ -322,7 +322,7 @@ fn is_all_found(alloc: Global, case: &Case, locks: &[Lock]) -> Result<bool, Allo
     Ok(are_waits_found(alloc, case, scene)? && is_end_found(alloc, case, scene)?)
 }
 
-// The same, of locks as the case has them.
+// The same, for locks made from the case.
 fn holds(alloc: Global, case: &Case) -> Result<bool, AllocError> {
     let mut locks = Vec::new(alloc);
     for row in case.locks {

@@ -1,4 +1,4 @@
-//! A picture of a statement that no script can have, since it isn't made of names: it has signs of markup, and bytes that aren't printed.
+//! A picture of a statement that no script can have, since it isn't made of names: it has characters of markup, and bytes that can't be printed.
 use mdl_picture::{Event, Fate, Moment, picture};
 use std::alloc::{AllocError, Global};
 use std::test::Fail;
@@ -9,7 +9,7 @@ const TITLE: &str =
 
 const WORDS: &str = ">a&lt;b &amp; &quot;c&quot;&gt;d??</text>";
 
-// Whether the picture of a statement that ends shows it so.
+// Whether the picture of a statement that ends shows these texts.
 fn is_shown(alloc: Global, statement: &[u8]) -> Result<bool, AllocError> {
     let mut events = Vec::new(alloc);
     events.push(Event {

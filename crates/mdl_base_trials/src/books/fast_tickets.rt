@@ -1,4 +1,4 @@
-//! Fast tickets, which the word counts and no list has, and what those who take them are told.
+//! Fast tickets, which the word counts and no list has, and what the word's flags have to say of the lists.
 use super::steps::{Answer, CONFLICT, Life, NO, NO_FAST, Step, Steps, YES};
 use mdl_key::{Kind, Mode};
 use mdl_word::Word;
@@ -10,7 +10,7 @@ const FAST_SR: Word = Word(0x10_0000);
 
 const FAST_SW: Word = Word(0x100_0000_0000);
 
-// Where nobody has locked the table, a fast ticket in SR clashes with some modes, in all that looks at it.
+// The table's book is empty at first. Fast tickets clash with some modes, in each call that is given the word.
 const FAST_AT_A_TABLE: Steps = &[
     (Step::CanGrant(1, Mode::X, FAST_SR), NO),
     (Step::CanGrant(1, Mode::SNW, FAST_SR), YES),
@@ -51,7 +51,7 @@ const NEEDS: Steps = &[
     (Step::Needs, Answer::Needs(false, true)),
 ];
 
-// The modes that are obtrusive at a table.
+// The obtrusive modes of a table.
 const OBTRUSIVE_AT_A_TABLE: Steps = &[
     (Step::Grant(1, 1, Mode::SR, NO_FAST), Answer::Done),
     (Step::Grant(2, 1, Mode::SH, NO_FAST), Answer::Done),
@@ -63,7 +63,7 @@ const OBTRUSIVE_AT_A_TABLE: Steps = &[
     (Step::Needs, Answer::Needs(false, true)),
 ];
 
-// The same modes at a schema, where they are none of its kind.
+// The same modes on a schema, whose kind doesn't have them.
 const OBTRUSIVE_AT_A_SCHEMA: Steps = &[
     (Step::Grant(1, 1, Mode::SR, NO_FAST), Answer::Done),
     (Step::Grant(2, 1, Mode::SH, NO_FAST), Answer::Done),

@@ -1,4 +1,4 @@
-//! Books of very many tickets, and books that find no memory.
+//! Books with very many tickets, and books that run out of memory.
 use super::steps::{
     Answer, CONFLICT, FULL, NO_FAST, Step, Steps, first_wrong_of, make, new_book, ticket,
 };
@@ -17,7 +17,7 @@ const FULL_UP: Steps = &[
     (Step::Enqueue(3, 2, Mode::X), FULL),
 ];
 
-// How many of so many calls are made, one for each number from 1, before the first is refused.
+// Enqueues tickets with the numbers from 1 up to below `most`. Returns the number of the first that is refused, or `most` if none is.
 fn enqueued(book: &mut Book, most: u64) -> u64 {
     for number in 1..most {
         if book.enqueue(ticket(2, number, Mode::S)).is_err() {
@@ -27,7 +27,7 @@ fn enqueued(book: &mut Book, most: u64) -> u64 {
     most
 }
 
-// Whether a book comes to be full with so many tickets, and goes on.
+// Whether a book is full at `most` tickets, and can still be used.
 fn fills_up(book: &mut Book, most: u64) -> bool {
     make(book, Step::Grant(1, 0, Mode::X, NO_FAST)) == Answer::Done
         && enqueued(book, most) == most
@@ -36,7 +36,7 @@ fn fills_up(book: &mut Book, most: u64) -> bool {
         && book.waiting().len() == 65_533
 }
 
-// The same of a new one.
+// The same for a new book.
 fn new_one_fills_up(alloc: Global, most: u64) -> bool {
     match new_book(alloc, Kind::Object) {
         Some(mut book) => fills_up(&mut book, most),
@@ -49,7 +49,7 @@ fn is_full_at_65535_tickets(rt: HostRuntime) {
     assert!(rt; new_one_fills_up(rt.alloc(), 65_535));
 }
 
-// Whether a call is done, at the second try where memory was refused to the first, which changed nothing.
+// Whether a call succeeds, on a second try if the first ran out of memory and changed nothing.
 fn outlives(book: &mut Book, step: Step) -> bool {
     let (granted, waiting) = (book.granted().len(), book.waiting().len());
     match make(book, step) {
@@ -63,7 +63,7 @@ fn outlives(book: &mut Book, step: Step) -> bool {
     }
 }
 
-// Whether tickets are granted in the end, half of which waited.
+// Whether all tickets are granted in the end, half of which waited.
 fn all_outlive(book: &mut Book) -> bool {
     for number in 1..40 {
         if !outlives(book, Step::Enqueue(1, number, Mode::S))
@@ -80,7 +80,7 @@ fn all_outlive(book: &mut Book) -> bool {
     book.granted().len() == 78
 }
 
-// The same of a new book, at the second try where memory was refused to the first.
+// The same for a new book, on a second try if the first one ran out of memory.
 fn all_of_a_new_one_outlive(alloc: Global) -> bool {
     for _try in 0..2 {
         if let Some(mut book) = new_book(alloc, Kind::Object) {
@@ -90,7 +90,7 @@ fn all_of_a_new_one_outlive(alloc: Global) -> bool {
     false
 }
 
-// One refusal of memory in the whole life of the book changes nothing but the answer of the call that met it.
+// If memory is refused once in the life of a book, nothing changes except the answer of that call.
 #[test]
 fn outlives_want_of_memory(rt: HostRuntime) {
     assert!(rt; all_of_a_new_one_outlive(rt.alloc()));

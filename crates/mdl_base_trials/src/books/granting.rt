@@ -1,4 +1,4 @@
-//! Books of locks that are granted and waited for.
+//! Books of locks that are granted and that sessions wait for.
 use super::steps::{Answer, CONFLICT, Life, NO, NO_FAST, Step, Steps, YES};
 use mdl_key::{Kind, Mode};
 
@@ -27,7 +27,7 @@ const IN_TURN: Steps = &[
     (Step::Enqueue(3, 1, Mode::IX), Answer::Done),
     (Step::Enqueue(4, 1, Mode::X), Answer::Done),
     (Step::Next(NO_FAST, &[]), Answer::FindsNobody),
-    // Each leaves, and the next comes.
+    // Each ticket is removed, and the next is granted.
     (Step::Remove(1, 1), Answer::Gives(1, 1, Mode::IX)),
     (Step::Next(NO_FAST, &[]), Answer::Finds(4, 1)),
     (Step::Admit(4, 1), Answer::Gives(4, 1, Mode::X)),
@@ -77,10 +77,10 @@ const LATER_AND_SETTLED: Steps = &[
     (Step::Enqueue(2, 1, Mode::X), Answer::Done),
     (Step::Enqueue(3, 1, Mode::X), Answer::Done),
     (Step::Remove(9, 1), Answer::Gives(9, 1, Mode::SNRW)),
-    // The SW that came first stands behind the two X.
+    // The SW, which came first, is behind the two X.
     (Step::Next(NO_FAST, &[]), Answer::Finds(2, 1)),
     (Step::Next(NO_FAST, &[2]), Answer::Finds(3, 1)),
-    // A settled wait still stands there.
+    // A ticket whose wait is settled still blocks.
     (Step::Next(NO_FAST, &[2, 3]), Answer::FindsNobody),
     (Step::Cancel(2, 1), Answer::Gives(2, 1, Mode::X)),
     (Step::Next(NO_FAST, &[2, 3]), Answer::FindsNobody),

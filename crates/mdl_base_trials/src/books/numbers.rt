@@ -1,4 +1,4 @@
-//! Books whose tickets are found by session and number, and change their modes.
+//! Tickets that are found by session and number, and change their modes.
 use super::steps::{Answer, CONFLICT, Life, NO_FAST, NOT_HERE, Step, Steps, YES};
 use mdl_key::{Kind, Mode};
 use mdl_word::Word;
@@ -8,7 +8,7 @@ const FAST_S: Word = Word(0x1);
 
 const FAST_SW: Word = Word(0x100_0000_0000);
 
-// Three granted tickets, two of which have one number, and three waiting ones, likewise.
+// Three granted tickets, two of which have the same number, and three waiting ones, likewise.
 const TWINS: Steps = &[
     (Step::Grant(1, 1, Mode::S, NO_FAST), Answer::Done),
     (Step::Grant(1, 2, Mode::SH, NO_FAST), Answer::Done),
@@ -16,7 +16,7 @@ const TWINS: Steps = &[
     (Step::Enqueue(2, 1, Mode::X), Answer::Done),
     (Step::Enqueue(2, 2, Mode::SU), Answer::Done),
     (Step::Enqueue(2, 2, Mode::SW), Answer::Done),
-    // Tickets that aren't there.
+    // Tickets that don't exist.
     (Step::Admit(1, 1), NOT_HERE),
     (Step::Admit(2, 3), NOT_HERE),
     (Step::Cancel(1, 1), NOT_HERE),
@@ -32,7 +32,7 @@ const TWINS: Steps = &[
         ),
         YES,
     ),
-    // Of twins the first is taken.
+    // Of two tickets with one number the first is taken.
     (Step::Remove(1, 2), Answer::Gives(1, 2, Mode::SH)),
     (Step::Admit(2, 2), Answer::Gives(2, 2, Mode::SU)),
     (Step::Cancel(2, 1), Answer::Gives(2, 1, Mode::X)),
@@ -45,7 +45,7 @@ const TWINS: Steps = &[
     ),
 ];
 
-// Of twins each has a mode of its own.
+// Two tickets with one number have their own modes.
 const TWINS_CHANGED: Steps = &[
     (Step::Grant(1, 1, Mode::S, NO_FAST), Answer::Done),
     (Step::Grant(1, 1, Mode::X, NO_FAST), Answer::Done),
@@ -55,7 +55,7 @@ const TWINS_CHANGED: Steps = &[
     (Step::Needs, Answer::Needs(false, false)),
 ];
 
-// Tickets go from the middle, from the front and from the end.
+// Tickets are removed from the middle, from the front and from the end.
 const FROM_EACH_PLACE: Steps = &[
     (Step::Needs, Answer::Needs(false, false)),
     (Step::Enqueue(1, 7, Mode::SR), Answer::Done),
@@ -85,7 +85,7 @@ const CHANGED: Steps = &[
     (Step::Grant(1, 2, Mode::SU, NO_FAST), Answer::Done),
     (Step::Grant(3, 1, Mode::SH, NO_FAST), Answer::Done),
     (Step::Enqueue(4, 1, Mode::X), Answer::Done),
-    // What is refused changes nothing.
+    // A refused call changes nothing.
     (Step::SetMode(4, 1, Mode::SR, NO_FAST), NOT_HERE),
     (Step::SetMode(3, 2, Mode::X, NO_FAST), NOT_HERE),
     (Step::SetMode(2, 2, Mode::X, FAST_S), NOT_HERE),
@@ -104,7 +104,7 @@ const CHANGED: Steps = &[
         ),
         YES,
     ),
-    // Neither the session's own SR nor the waiting X stands in the way.
+    // Neither the session's own SR nor the waiting X blocks it.
     (Step::SetMode(1, 2, Mode::SNRW, FAST_S), Answer::Done),
     (
         Step::BookView(

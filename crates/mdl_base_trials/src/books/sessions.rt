@@ -1,7 +1,7 @@
 //! Sets of sessions.
 use mdl_book::Sessions;
 
-// Sessions, and whether each is in the set of 1, 64, 65 and 1,024 when session 64 has been taken out.
+// Sessions, and whether each is in a set of 1, 64, 65 and 1,024 after session 64 was removed.
 const OF_THREE: &[(u16, bool)] = &[
     (1, true),
     (64, false),
@@ -15,10 +15,10 @@ const OF_THREE: &[(u16, bool)] = &[
     (1025, false),
 ];
 
-// Sessions, and whether each is in the set of all.
+// Sessions, and whether each is in the set of all sessions.
 const OF_ALL: &[(u16, bool)] = &[(0, false), (1, true), (1024, true), (1025, false)];
 
-// Whether a set has of these sessions just those that it is to have.
+// Whether a set contains exactly the wanted ones of these sessions.
 fn has(sessions: &Sessions, rows: &[(u16, bool)]) -> bool {
     for (session, want) in rows {
         if sessions.contains(*session) != *want {

@@ -1,4 +1,4 @@
-//! Calls of a book, and what they answer.
+//! Calls of a book, and their answers.
 use mdl_book::{Book, BookError, Sessions, Ticket};
 use mdl_key::{Key, Kind, Mode};
 use mdl_word::Word;
@@ -10,7 +10,7 @@ pub(crate) const NO_FAST: Word = Word(0);
 /// A ticket's session, number and mode.
 pub(crate) type Row = (u16, u64, Mode);
 
-/// A call of a book, or a look at it.
+/// A call of a book, or a comparison of its content.
 #[derive(Clone, Copy)]
 pub(crate) enum Step {
     Grant(u16, u64, Mode, Word),
@@ -20,13 +20,13 @@ pub(crate) enum Step {
     Remove(u16, u64),
     SetMode(u16, u64, Mode, Word),
     CanGrant(u16, Mode, Word),
-    // With the waits of these sessions settled.
+    // Of the waits, those of these sessions are settled.
     Next(Word, &'static [u16]),
     Needs,
     BookView(&'static [Row], &'static [Row]),
 }
 
-/// What it answers.
+/// The answer of a call.
 #[derive(Clone, Copy, PartialEq, Eq)]
 pub(crate) enum Answer {
     Done,
@@ -35,7 +35,7 @@ pub(crate) enum Answer {
     Is(bool),
     Finds(u16, u64),
     FindsNobody,
-    // Whether something is obtrusive, and whether there is anything at all.
+    // Whether a ticket is obtrusive, and whether there is a ticket at all.
     Needs(bool, bool),
 }
 
@@ -49,10 +49,10 @@ pub(crate) const CONFLICT: Answer = Answer::Refuses(BookError::WouldConflict);
 
 pub(crate) const FULL: Answer = Answer::Refuses(BookError::Full);
 
-/// What one book is asked, step by step.
+/// The calls of one book with their answers, one after another.
 pub(crate) type Steps = &'static [(Step, Answer)];
 
-/// What a book's steps show, the kind of its lock, and the steps.
+/// What the calls show, the kind of the book's lock, and the calls.
 pub(crate) type Life = (&'static str, Kind, Steps);
 
 pub(crate) fn ticket(session: u16, number: u64, mode: Mode) -> Ticket {
@@ -63,7 +63,7 @@ pub(crate) fn ticket(session: u16, number: u64, mode: Mode) -> Ticket {
     }
 }
 
-// Whether a list has these tickets.
+// Whether a list has exactly these tickets.
 fn are_listed(tickets: &[Ticket], rows: &[Row]) -> bool {
     tickets.len() == rows.len()
         && tickets
@@ -72,7 +72,7 @@ fn are_listed(tickets: &[Ticket], rows: &[Row]) -> bool {
             .all(|(held, row)| *held == ticket(row.0, row.1, row.2))
 }
 
-/// The book of a table or of a schema, which nobody has locked.
+/// Creates the book of a table or of a schema, without tickets.
 pub(crate) fn new_book(alloc: Global, kind: Kind) -> Option<Book> {
     let key = match kind {
         Kind::Object => Key::table(alloc, "test", "t"),
@@ -98,7 +98,7 @@ fn given(outcome: Result<Ticket, BookError>) -> Answer {
     }
 }
 
-// The next ticket that can be granted, where the waits of these sessions are settled.
+// Returns the next ticket that can be granted, if the waits of these sessions are settled.
 fn next(book: &Book, word: Word, settled: &[u16]) -> Answer {
     let mut unsettled = Sessions::all();
     for session in settled {
@@ -137,7 +137,7 @@ pub(crate) fn make(book: &mut Book, step: Step) -> Answer {
     }
 }
 
-/// Makes calls of a book one after another, and gives the place of the first that answers something else than it should.
+/// Makes calls of a book one after another, and returns the index of the first with a wrong answer.
 pub(crate) fn first_wrong_of(book: &mut Book, steps: &[(Step, Answer)]) -> Option<usize> {
     for (place, (step, answer)) in steps.iter().enumerate() {
         if make(book, *step) != *answer {
@@ -147,7 +147,7 @@ pub(crate) fn first_wrong_of(book: &mut Book, steps: &[(Step, Answer)]) -> Optio
     None
 }
 
-/// The same of the book of a table or of a schema, which nobody has locked.
+/// The same for a new book of a table or of a schema.
 pub(crate) fn first_wrong(alloc: Global, kind: Kind, steps: &[(Step, Answer)]) -> Option<usize> {
     match new_book(alloc, kind) {
         Some(mut book) => first_wrong_of(&mut book, steps),

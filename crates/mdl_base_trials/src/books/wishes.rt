@@ -1,4 +1,4 @@
-//! Wishes beside tickets of the same session and of others, granted or waiting. Whatever waits can be admitted.
+//! Requests beside tickets of the same session and of others, granted or waiting. A waiting ticket can be admitted at any time.
 use super::steps::{Answer, Life, NO, NO_FAST, Step, Steps, YES};
 use mdl_key::{Kind, Mode};
 

@@ -1,4 +1,4 @@
-//! Deadlocks of a few locks, and of many that are plain to see.
+//! Deadlocks of a few locks, and of many locks whose cycles are easy to see.
 use mdl_book::{Book, Sessions, Ticket};
 use mdl_graph::{Cycle, Member, WaitGraph, victim};
 use mdl_key::{Key, Mode};
@@ -7,26 +7,26 @@ use std::alloc::Global;
 
 const NO_FAST: Word = Word(0);
 
-// The sessions of a large graph.
+// The number of sessions in a large graph.
 const MOST: u16 = 1024;
 
-// Who stands at a lock.
+// A session at a lock: it holds the lock or waits for it.
 #[derive(Clone, Copy)]
 enum At {
     Holds(u16, Mode),
     Waits(u16, Mode),
 }
 
-// The session that is asked for, the sessions of the cycle that is found, and its victim, 0 where none is found.
+// The session where the search begins, the sessions of the cycle that is found, and its victim. The victim is 0 if there is no cycle.
 type Found = (u16, &'static [u16], u16);
 
-// Who stands at some tables, one session that is settled, or 0, and what is found.
+// Holders and waiters of some tables, one session whose wait is settled, or 0, and what searches find.
 type Case = (&'static [&'static [At]], u16, &'static [Found]);
 
-// Who waits for whom in pairs, each at a table of its own, and what is found.
+// Pairs of a waiter and the session that it waits for, each at a table of its own, and what a search finds.
 type Tied = (&'static [(u16, u16)], Found);
 
-// The last one waits for the others, who don't wait for it.
+// Session 4 waits for session 3, and no session waits for session 4.
 const TWO_CYCLES: &[&[At]] = &[
     &[
         At::Holds(2, Mode::SR),
@@ -44,7 +44,7 @@ const THREE_IN_TURN: &[&[At]] = &[
     &[At::Holds(1, Mode::SR), At::Waits(3, Mode::X)],
 ];
 
-// The first waits for the second, which holds a ticket against it and waits ahead of it. The wish for SW weighs less.
+// The first session waits for the second, which holds a clashing ticket and has a pending X that goes first. The request for SW weighs less.
 const AT_ONE_TABLE: &[&[At]] = &[&[
     At::Holds(1, Mode::SR),
     At::Holds(2, Mode::SNW),
@@ -58,7 +58,7 @@ const EQUALS: &[&[At]] = &[
     &[At::Holds(5, Mode::X), At::Waits(6, Mode::SR)],
 ];
 
-// The greatest number that a session can have, and the least.
+// The greatest session number, and the least.
 const FAR_APART: &[&[At]] = &[
     &[At::Holds(65_535, Mode::SR), At::Waits(0, Mode::X)],
     &[At::Holds(0, Mode::SR), At::Waits(65_535, Mode::X)],
@@ -88,7 +88,7 @@ const CASES: &[Case] = &[
     ),
 ];
 
-// Puts a ticket into a book: whether that went well.
+// Puts a ticket into a book. Whether it succeeded.
 fn put(book: &mut Book, at: At) -> bool {
     match at {
         At::Holds(session, mode) => {
@@ -119,7 +119,7 @@ fn put_all(book: &mut Book, rows: &[At]) -> bool {
     true
 }
 
-// Adds a table at which these stand: whether there was memory for it.
+// Adds a table with these holders and waiters. Whether there was memory for it.
 fn add_table(graph: &mut WaitGraph, alloc: Global, rows: &[At]) -> bool {
     let Ok(key) = Key::table(alloc, "test", "t") else {
         return false;
@@ -137,7 +137,7 @@ fn add_tables(graph: &mut WaitGraph, alloc: Global, tables: &[&[At]]) -> bool {
     true
 }
 
-/// A graph of nothing yet, in which this session is settled, if it is one.
+/// Creates an empty graph in which the wait of this session is settled, if it is a valid one.
 pub(super) fn empty_graph(alloc: Global, settled: u16) -> WaitGraph {
     let mut sessions = Sessions::new();
     if 0 < settled && settled <= MOST {
@@ -146,7 +146,7 @@ pub(super) fn empty_graph(alloc: Global, settled: u16) -> WaitGraph {
     WaitGraph::new(alloc, sessions)
 }
 
-// Whether the cycle that is found has these sessions, and this victim.
+// Whether the cycle that is found has these sessions and this victim.
 fn is_cycle_of(found: &Option<Cycle>, sessions: &[u16], falls: u16) -> bool {
     match found {
         Some(cycle) => are_of(cycle.members(), sessions) && victim(cycle) == falls,
@@ -154,7 +154,7 @@ fn is_cycle_of(found: &Option<Cycle>, sessions: &[u16], falls: u16) -> bool {
     }
 }
 
-/// Whether members are these sessions.
+/// Whether the members are exactly these sessions, in order.
 pub(super) fn are_of(members: &[Member], sessions: &[u16]) -> bool {
     for (member, session) in members.iter().zip(sessions) {
         if member.session != *session {
@@ -164,7 +164,7 @@ pub(super) fn are_of(members: &[Member], sessions: &[u16]) -> bool {
     members.len() == sessions.len()
 }
 
-// Whether this is found.
+// Whether a search finds this.
 fn finds(graph: &WaitGraph, (from, sessions, falls): Found) -> bool {
     match graph.find_cycle(from) {
         Ok(found) => is_cycle_of(&found, sessions, falls),
@@ -172,7 +172,7 @@ fn finds(graph: &WaitGraph, (from, sessions, falls): Found) -> bool {
     }
 }
 
-// Whether each of these is found.
+// Whether the searches find all of these.
 fn finds_all(graph: &WaitGraph, rows: &[Found]) -> bool {
     for row in rows {
         if !finds(graph, *row) {
@@ -182,7 +182,7 @@ fn finds_all(graph: &WaitGraph, rows: &[Found]) -> bool {
     true
 }
 
-// Whether all that a case names is found.
+// Whether all searches of a case find what it says.
 fn goes_so(alloc: Global, (tables, settled, found): Case) -> bool {
     let mut graph = empty_graph(alloc, settled);
     add_tables(&mut graph, alloc, tables) && finds_all(&graph, found)
@@ -198,7 +198,7 @@ fn finds_deadlocks_of_a_few(rt: HostRuntime) {
 const TIED: &[Tied] = &[
     (&[(1, 2), (2, 1)], (1, &[1, 2], 2)),
     (&[(1, 2), (2, 3), (3, 1)], (3, &[3, 1, 2], 3)),
-    // Of two as short the first, and the shorter one.
+    // The first of two cycles of equal length, and the shorter of two.
     (&[(1, 3), (3, 1), (1, 2), (2, 1)], (1, &[1, 2], 2)),
     (&[(1, 2), (2, 3), (3, 1), (1, 4), (4, 1)], (1, &[1, 4], 4)),
     (
@@ -214,7 +214,7 @@ const TIED: &[Tied] = &[
         &[(1024, 1023), (1023, 65), (65, 1024)],
         (1024, &[1024, 1023, 65], 1024),
     ),
-    // A deadlock of others, and none at all.
+    // A deadlock of other sessions, and none at all.
     (&[(1, 2), (2, 3), (3, 2)], (1, &[], 0)),
     (&[(1, 2), (2, 3)], (1, &[], 0)),
 ];
@@ -234,7 +234,7 @@ fn add_ties(graph: &mut WaitGraph, alloc: Global, ties: &[(u16, u16)]) -> bool {
     true
 }
 
-// Whether this is found in the graph of some pairs.
+// Whether a search finds this in the graph of some pairs.
 fn finds_tied(alloc: Global, (ties, found): Tied) -> bool {
     let mut graph = empty_graph(alloc, 0);
     add_ties(&mut graph, alloc, ties) && finds(&graph, found)
@@ -247,7 +247,7 @@ fn finds_the_shortest_and_of_those_the_first(rt: HostRuntime) {
     }
 }
 
-// Adds tables at each of which one session waits for the next, and the last for the first.
+// Adds tables at which each session waits for the next, and the last for the first.
 fn add_ring(graph: &mut WaitGraph, alloc: Global) -> bool {
     for session in 1..=MOST {
         if !add_tie(graph, alloc, session, session % MOST + 1) {
@@ -257,7 +257,7 @@ fn add_ring(graph: &mut WaitGraph, alloc: Global) -> bool {
     true
 }
 
-// Whether members follow one another from this one on, and the first stands behind the last.
+// Whether each member is the next session after the one before, from `from` on, and `from` comes after the last.
 fn are_in_turn(members: &[Member], from: u16) -> bool {
     let mut next = from;
     for member in members {
@@ -269,7 +269,7 @@ fn are_in_turn(members: &[Member], from: u16) -> bool {
     members.len() == usize::from(MOST)
 }
 
-// Whether the ring is found from a session on.
+// Whether a search from a session finds the ring.
 fn finds_ring(graph: &WaitGraph, from: u16) -> bool {
     match graph.find_cycle(from) {
         Ok(Some(cycle)) => are_in_turn(cycle.members(), from) && victim(&cycle) == MOST,
@@ -284,7 +284,7 @@ fn goes_round_a_ring(rt: HostRuntime) {
     assert!(rt; finds_ring(&graph, 1) && finds_ring(&graph, 65) && finds_ring(&graph, MOST));
 }
 
-// All sessions of a crowd, each of which holds the lock and waits for it.
+// Adds rows for all sessions, each of which holds the lock and waits for it.
 fn crowd(rows: &mut Vec<At>) -> bool {
     for session in 1..=MOST {
         if rows.push(At::Holds(session, Mode::SR)).is_err()
@@ -296,7 +296,7 @@ fn crowd(rows: &mut Vec<At>) -> bool {
     true
 }
 
-// Adds three tables at which all sessions wait for all others: whether there was memory for it.
+// Adds three tables at which all sessions wait for all others. Whether there was memory for it.
 fn add_crowds(graph: &mut WaitGraph, alloc: Global) -> bool {
     let mut rows = Vec::new(alloc);
     crowd(&mut rows) && add_tables(graph, alloc, &[&rows, &rows, &rows])

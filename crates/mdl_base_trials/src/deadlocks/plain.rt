@@ -1,4 +1,4 @@
-//! The chosen cycle by trying every path, to compare the search with. It is for a few sessions.
+//! Finds the chosen cycle by trying every path, to compare the search with. It is meant for a few sessions.
 ghost use Rattle.std.specs.Prelude.{◌≡◌, ◌<◌, ◌++◌, [], ◌∷◌, length, IfOk};
 ghost use Rattle.std.specs.Option.{option_map};
 ghost use Rattle.mdl_graph.specs.Cycles.{in_order, is_chosen_before, chosen_cycle};
@@ -6,7 +6,7 @@ ghost use Rattle.mdl_base_trials.specs.deadlocks.Ways.{waits_by, search_of, bett
 
 use std::alloc::{AllocError, Global};
 
-/// The chosen cycle through a session, of these sessions, where each pair says that one session waits for another.
+/// Returns the chosen cycle through a session, among these sessions. Each pair says that its first session waits for its second.
 pub fn plain_cycle(
     alloc: Global,
     ties: &[(u16, u16)],
@@ -25,7 +25,7 @@ pub fn plain_cycle(
     Ok(Some(way))
 }
 
-// The chosen way on from the last session of a path, back to its first one, over at most so many other sessions.
+// Returns the chosen way from the last session of a path back to its first one, over at most `most` other sessions.
 fn plain_way(
     alloc: Global,
     ties: &[(u16, u16)],
@@ -54,14 +54,14 @@ fn plain_way(
     Ok(best)
 }
 
-// Whether the one waits for the other.
+// Whether one session waits for another.
 fn waits(ties: &[(u16, u16)], waiter: u16, other: u16) -> bool
     ensures { result ≡ waits_by ties.now waiter other }
 {
     ties.iter().any(|&(one, two)| one == waiter && two == other)
 }
 
-// The path with one session more.
+// Returns the path with one more session at the end.
 fn with(alloc: Global, path: &[u16], next: u16) -> Result<Vec<u16>, AllocError>
     ensures { IfOk result (λ longer. longer.items ≡ path.now ++ next ∷ []) }
 {
@@ -70,7 +70,7 @@ fn with(alloc: Global, path: &[u16], next: u16) -> Result<Vec<u16>, AllocError>
     Ok(longer)
 }
 
-// The chosen one of the best way so far and of a way over a next session.
+// Returns the chosen one of the best way so far and of a way that begins with the session `next`.
 fn better(
     best: Option<Vec<u16>>,
     next: u16,
@@ -89,14 +89,14 @@ fn better(
     }
 }
 
-// Whether a list is chosen before another one, or is it.
+// Whether a list is chosen before another one, or is equal to it.
 fn is_before(one: &[u16], other: &[u16]) -> bool
     ensures { result ≡ is_chosen_before one.now other.now }
 {
     one.len() < other.len() || (one.len() == other.len() && is_in_order(one, other))
 }
 
-// Whether a list comes first in the order of dictionaries, or is the other one.
+// Whether a list comes before another one in lexicographic order, or is equal to it.
 fn is_in_order(one: &[u16], other: &[u16]) -> bool
     ensures { result ≡ in_order one.now other.now }
 {

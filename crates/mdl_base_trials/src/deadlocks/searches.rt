@@ -1,4 +1,4 @@
-//! The search beside the plain program, on waits that look drawn by lot.
+//! Compares the search with the plain program, on random waits.
 ghost use Rattle.std.specs.Prelude.{◌<◌};
 
 use super::by_hand::{add_tie, are_of, empty_graph};
@@ -8,12 +8,12 @@ use std::alloc::{AllocError, Global};
 
 const SESSIONS: &[u16] = &[1, 2, 3, 4, 5, 6];
 
-// Numbers that look like chance, and are the same in each run.
+// Pseudo-random numbers, the same in each run.
 #[derive(Clone, Copy)]
 struct Chance(u64);
 
 impl Chance {
-    // A number below this one.
+    // Draws a number below this one.
     fn draw(&mut self, below: u16) -> u16
         requires { 0 < below }
         ensures { result < below }
@@ -26,7 +26,7 @@ impl Chance {
     }
 }
 
-// Lets one session wait for another, in the graph and in a list: whether there was memory for it.
+// Makes a random session wait for another, in the graph and in a list. Whether there was memory for it.
 fn add_drawn(
     graph: &mut WaitGraph,
     alloc: Global,
@@ -38,7 +38,7 @@ fn add_drawn(
     ties.push((waiter, other)).is_ok() && add_tie(graph, alloc, waiter, other)
 }
 
-// Does so this many times.
+// Makes `many` random waits.
 fn add_many_drawn(
     graph: &mut WaitGraph,
     alloc: Global,
@@ -54,7 +54,7 @@ fn add_many_drawn(
     true
 }
 
-// How many sessions the cycle has that both found, 0 where there is none, and nothing where they differ.
+// Returns the length of the cycle that both found, 0 if both found none, or None if they differ.
 fn length_of_both(found: &Option<Cycle>, plain: &Option<Vec<u16>>) -> Option<usize> {
     match (found, plain) {
         (Some(cycle), Some(sessions)) => {
@@ -69,7 +69,7 @@ fn length_of_both(found: &Option<Cycle>, plain: &Option<Vec<u16>>) -> Option<usi
     }
 }
 
-// The same of what both find from a session on.
+// The same for searches from one session.
 fn length_found(
     alloc: Global,
     graph: &WaitGraph,
@@ -81,7 +81,7 @@ fn length_found(
     Ok(length_of_both(&found, &plain))
 }
 
-// Counts the lengths of what both find, from each session on: whether they find the same.
+// Counts the lengths of the cycles that both find, from each session. Whether they find the same.
 fn count_lengths(
     alloc: Global,
     graph: &WaitGraph,
@@ -99,7 +99,7 @@ fn count_lengths(
     true
 }
 
-// The same where so many waits are drawn by lot.
+// The same for a graph of `many` random waits.
 fn count_drawn(alloc: Global, chance: &mut Chance, many: u16, lengths: &mut [u32; 7]) -> bool {
     let mut graph = empty_graph(alloc, 0);
     let mut ties = Vec::new(alloc);

@@ -3,14 +3,14 @@ use super::{What, X, X_Y, Y, definition, standing};
 use mdl_defs::{CacheError, DefCache};
 use std::alloc::Global;
 
-// What is done with a cache: a definition is kept, or looked for and found so.
+// A call of a cache: to keep a definition, or to look for one, with what is found.
 #[derive(Clone, Copy)]
 enum Call {
     Keep(u16, u64, What),
     Look(u16, u64, Option<What>),
 }
 
-// A call, and how many definitions are kept then.
+// A call, and how many definitions are kept afterwards.
 type Step = (Call, usize);
 
 const OF_TWO: &[Step] = &[
@@ -25,7 +25,7 @@ const OF_TWO: &[Step] = &[
     (Call::Look(1, 2, None), 2),
     (Call::Look(1, 1, Some(X)), 2),
     (Call::Look(2, 1, Some(Y)), 2),
-    // What is kept of a version that was kept takes its place, and comes first.
+    // A definition of a version that is kept already replaces the kept one, and comes first.
     (Call::Keep(1, 1, What::Schema), 2),
     (Call::Look(2, 1, Some(Y)), 2),
     (Call::Look(1, 1, Some(What::Schema)), 2),
@@ -36,7 +36,7 @@ const OF_TWO: &[Step] = &[
     (Call::Look(3, 7, Some(X)), 2),
 ];
 
-// A look saves what is kept of one place from what is kept of others.
+// A look makes a definition the most recently used one, so that of another place is dropped first.
 const OF_TWO_PLACES: &[Step] = &[
     (Call::Keep(1, 1, X), 1),
     (Call::Keep(2, 1, Y), 2),
@@ -47,7 +47,7 @@ const OF_TWO_PLACES: &[Step] = &[
     (Call::Look(3, 1, Some(X_Y)), 2),
 ];
 
-// The next version of a place drops the one before.
+// The next version of a place replaces the one before.
 const OF_ONE_PLACE: &[Step] = &[
     (Call::Keep(1, 1, X), 1),
     (Call::Keep(1, 2, X_Y), 1),
@@ -64,7 +64,7 @@ const OF_ONE: &[Step] = &[
     (Call::Look(256, u64::MAX, Some(X_Y)), 1),
 ];
 
-// Whether just this is found.
+// Whether exactly this is found.
 fn finds(
     alloc: Global,
     cache: &mut DefCache,
@@ -79,7 +79,7 @@ fn finds(
     }
 }
 
-// Keeps a definition: whether there was memory for it.
+// Keeps a definition. Whether there was memory for it.
 fn keeps(alloc: Global, cache: &mut DefCache, place: u16, version: u64, what: What) -> bool {
     match definition(alloc, what) {
         Some(definition) => cache.keep(place, version, definition).is_ok(),
@@ -87,7 +87,7 @@ fn keeps(alloc: Global, cache: &mut DefCache, place: u16, version: u64, what: Wh
     }
 }
 
-// Whether a call goes as its row says.
+// Whether a call gives what its row says.
 fn goes_so(alloc: Global, cache: &mut DefCache, (call, kept): Step) -> bool {
     let is_so = match call {
         Call::Keep(place, version, what) => keeps(alloc, cache, place, version, what),
@@ -96,7 +96,7 @@ fn goes_so(alloc: Global, cache: &mut DefCache, (call, kept): Step) -> bool {
     is_so && cache.len() == kept
 }
 
-// The first call that goes wrong in a cache of so many.
+// Returns the index of the first wrong call in a cache of this capacity.
 fn first_wrong(alloc: Global, capacity: u16, steps: &[Step]) -> Option<usize> {
     let Ok(mut cache) = DefCache::new(alloc, capacity) else {
         return Some(steps.len());
@@ -109,7 +109,7 @@ fn first_wrong(alloc: Global, capacity: u16, steps: &[Step]) -> Option<usize> {
     None
 }
 
-// What is kept, of how many definitions at most, and what is done.
+// The name of a story, the capacity of its cache, and its calls.
 const CACHES: &[(&str, u16, &[Step])] = &[
     ("of two", 2, OF_TWO),
     ("of two places", 2, OF_TWO_PLACES),
@@ -125,7 +125,7 @@ fn caches_keep_what_was_used_last(rt: HostRuntime) {
     }
 }
 
-// Why there is no cache of so many.
+// Returns why there is no cache of this capacity.
 fn refusal(alloc: Global, capacity: u16) -> Option<CacheError> {
     match DefCache::new(alloc, capacity) {
         Ok(cache) => {
@@ -139,7 +139,7 @@ fn refusal(alloc: Global, capacity: u16) -> Option<CacheError> {
     }
 }
 
-// How many definitions a cache is to keep, and why there is none that does.
+// The capacity of a cache, and why there is no such cache.
 const CAPACITIES: &[(u16, Option<CacheError>)] = &[
     (1, None),
     (2, None),

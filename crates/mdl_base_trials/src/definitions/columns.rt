@@ -5,13 +5,13 @@ use std::alloc::Global;
 /// Names of columns.
 #[derive(Clone, Copy)]
 pub(crate) enum Names {
-    /// These.
+    /// Exactly these names.
     These(&'static [&'static str]),
     /// The names c1, c2, .. up to a number, and then these.
     Numbered(u32, &'static [&'static str]),
 }
 
-// Puts a column of this name last: whether that went well.
+// Adds a column with this name at the end. Whether it succeeded.
 fn add(alloc: Global, columns: &mut Columns, name: &str) -> bool {
     match Column::new(alloc, name) {
         Ok(column) => columns.push(column).is_ok(),
@@ -44,7 +44,7 @@ fn add_numbered(alloc: Global, columns: &mut Columns, last: u32) -> bool {
     true
 }
 
-/// Columns of these names, in order, if there was memory for them.
+/// Returns columns with these names, in order, if there was memory for them.
 pub(crate) fn columns(alloc: Global, names: Names) -> Option<Columns> {
     let mut columns = Columns::new(alloc);
     let well = match names {

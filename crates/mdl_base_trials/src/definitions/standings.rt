@@ -1,4 +1,4 @@
-//! What stands under a key, in its book, change by change.
+//! The definition in a book, change by change.
 use super::{Act, What, X, X_Y, change, definition};
 use crate::keys::names::{Name, key_of};
 use mdl_book::Book;
@@ -6,7 +6,7 @@ use mdl_defs::{ChangeError, DefError, Definition, Standing};
 use mdl_key::Namespace;
 use std::alloc::Global;
 
-// A change, the version after it or why it is refused, and what stands then.
+// A change, the version after it or the refusal, and the definition afterwards.
 type Step = (Act, Result<u64, ChangeError>, Option<What>);
 
 const UNDER_A_TABLE: &[Step] = &[
@@ -66,7 +66,7 @@ fn is_copied(standing: &Standing) -> bool {
     }
 }
 
-// Whether this is read in a book, and copied.
+// Whether a book has this version and definition, and a copy of them is equal.
 fn is_read(book: &Book, version: u64, wanted: &Option<Definition>) -> bool {
     match book.read() {
         Ok(standing) => {
@@ -76,7 +76,7 @@ fn is_read(book: &Book, version: u64, wanted: &Option<Definition>) -> bool {
     }
 }
 
-// Whether what stands in a book is this, with this version, and is read so.
+// Whether a book has this definition and this version, and reads them.
 fn stands(alloc: Global, book: &Book, version: u64, what: Option<What>) -> bool {
     let wanted = super::standing(alloc, what);
     is_read(book, version, &wanted)
@@ -84,7 +84,7 @@ fn stands(alloc: Global, book: &Book, version: u64, what: Option<What>) -> bool 
         && book.version() == version
 }
 
-// Makes a change: whether it was answered as its row says, and left what that says.
+// Makes a change. Whether its answer, and the definition afterwards, are those of its row.
 fn goes_so(alloc: Global, book: &mut Book, (act, want, what): Step) -> bool {
     let before = book.version();
     let answer = match change(alloc, act) {
@@ -94,7 +94,7 @@ fn goes_so(alloc: Global, book: &mut Book, (act, want, what): Step) -> bool {
     answer == want && stands(alloc, book, want.unwrap_or(before), what)
 }
 
-// The first step that goes wrong.
+// Returns the index of the first wrong step.
 fn first_wrong_of(alloc: Global, book: &mut Book, steps: &[Step]) -> Option<usize> {
     for (place, step) in steps.iter().enumerate() {
         if !goes_so(alloc, book, *step) {
@@ -104,7 +104,7 @@ fn first_wrong_of(alloc: Global, book: &mut Book, steps: &[Step]) -> Option<usiz
     None
 }
 
-// The same of the book of a key of this name.
+// The same for a new book of the key with this name.
 fn first_wrong(alloc: Global, name: Name, steps: &[Step]) -> Option<usize> {
     match key_of(alloc, name) {
         Ok(key) => first_wrong_of(alloc, &mut Book::new(alloc, key), steps),
@@ -112,7 +112,7 @@ fn first_wrong(alloc: Global, name: Name, steps: &[Step]) -> Option<usize> {
     }
 }
 
-// What a lock is named, and what its book is asked.
+// The name of a lock, and the calls of its book.
 const BOOKS: &[(Name, &[Step])] = &[
     ((Namespace::Table, "test", "t"), UNDER_A_TABLE),
     ((Namespace::Schema, "test", ""), UNDER_A_SCHEMA),
@@ -128,7 +128,7 @@ fn books_keep_what_stands(rt: HostRuntime) {
     }
 }
 
-// The last change there can be, and changes that come too late.
+// The last possible change, and changes that come too late.
 const LATE: &[(Act, Result<u64, ChangeError>)] = &[
     (Act::Lose("x"), Ok(1_000_000)),
     (Act::Drop, Err(ChangeError::VersionFull)),
@@ -137,7 +137,7 @@ const LATE: &[(Act, Result<u64, ChangeError>)] = &[
     (Act::Lose("z"), Err(ChangeError::VersionFull)),
 ];
 
-// Whether a change of a table is answered so.
+// Whether a change of a table gives this answer.
 fn answers(
     alloc: Global,
     standing: &mut Standing,

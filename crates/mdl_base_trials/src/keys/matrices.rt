@@ -4,8 +4,7 @@ use mdl_key::{
     waiting_row,
 };
 
-// The matrices of MySQL 5.7, sql/mdl.cc: a kind, the mode asked for, the modes that clash with it where they are granted,
-// and those that it waits behind.
+// The matrices of MySQL 5.7, sql/mdl.cc: a kind, the requested mode, the granted modes that clash with it, and the pending modes that it is behind.
 type Row = (Kind, Mode, &'static [Mode], &'static [Mode]);
 
 const ROWS: &[Row] = &[

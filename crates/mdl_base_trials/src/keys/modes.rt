@@ -1,10 +1,10 @@
-//! Modes: their names, and what they are to each kind.
+//! Modes: their names, and their properties for each kind.
 use crate::texts::is_printed;
 use mdl_key::{Kind, Mode, ModeError, Namespace, is_obtrusive, weight};
 use std::alloc::Global;
 
-// A mode and its name; whether scopes and objects have it, and whether it is obtrusive there; and what a wish for it
-// weighs elsewhere than at the global lock and at user-level locks.
+// A mode and its name; whether scoped locks and object locks have it, and whether it is obtrusive there; and the weight of a request for it, except
+// on the global lock and on user-level locks.
 type Row = (Mode, &'static str, [bool; 2], [bool; 2], u8);
 
 const ROWS: &[Row] = &[
@@ -21,12 +21,12 @@ const ROWS: &[Row] = &[
     (Mode::X, "X", [true, true], [true, true], 100),
 ];
 
-// Whether a mode has this name, and is read by it.
+// Whether a mode has this name, and the name is parsed as the mode.
 fn is_named(alloc: Global, mode: Mode, name: &str) -> bool {
     mode.as_str() == name && is_printed(alloc, &mode, name) && name.parse::<Mode>() == Ok(mode)
 }
 
-// Whether a mode is to both kinds as its row says.
+// Whether a mode has the properties in its row, for both kinds.
 fn is_as_told((mode, _, had, obtrusive, _): Row) -> bool {
     [Kind::Scoped.has_mode(mode), Kind::Object.has_mode(mode)] == had
         && [
@@ -35,7 +35,7 @@ fn is_as_told((mode, _, had, obtrusive, _): Row) -> bool {
         ] == obtrusive
 }
 
-// Whether a wish for a mode weighs so, 100 at the global lock, and 50 at user-level locks.
+// Whether a request for a mode has this weight, but 100 on the global lock and 50 on user-level locks.
 fn weighs(mode: Mode, elsewhere: u8) -> bool {
     weight(Namespace::Global, mode) == 100
         && weight(Namespace::Schema, mode) == elsewhere
@@ -48,7 +48,7 @@ fn is_told(alloc: Global, row: Row) -> bool {
     is_named(alloc, row.0, row.1) && is_as_told(row) && weighs(row.0, row.4)
 }
 
-// All modes stand in the order of these rows.
+// The rows are in the order of all modes.
 #[test]
 fn modes_are_as_told(rt: HostRuntime) {
     for (place, row) in ROWS.iter().enumerate() {

@@ -1,22 +1,22 @@
-//! Keys: what they are made of, and how they are refused, compared and printed.
+//! Keys: how they are made, refused, compared and printed.
 use crate::texts::is_printed;
 use mdl_defs::Column;
 use mdl_key::{Key, KeyError, Kind, Namespace, check_name};
 use std::alloc::Global;
 use std::cmp::Ordering;
 
-/// The longest name.
+/// A name of the greatest length.
 pub(crate) const LONGEST: &str = "0123456789_abcdefghijklmnopqrstuvwxyz_0123456789_abcdefghijklmno";
 
-// Two that are longer, the second of which has a bad byte as well.
+// Two names that are longer. The second has a bad byte as well.
 const TOO_LONG: &str = "0123456789_abcdefghijklmnopqrstuvwxyz_0123456789_abcdefghijklmnoz";
 
 const TOO_LONG_AND_BAD: &str = "0123456789_abcdefghijklmnopqrstuvwxyz_0123456789_abcdefghijklmnoZ";
 
-/// A lock's namespace and the names that its key has there.
+/// A namespace, and the names that a key has there.
 pub(crate) type Name = (Namespace, &'static str, &'static str);
 
-/// A key of a namespace, of those names that it takes there.
+/// Returns a key of a namespace, with those names that it has there.
 pub(crate) fn key_of(alloc: Global, (namespace, schema, table): Name) -> Result<Key, KeyError> {
     match namespace {
         Namespace::Global => Ok(Key::global(alloc)),
@@ -35,7 +35,7 @@ fn has_names(key: &Key, (namespace, schema, table): Name) -> bool {
         && key.table_name() == table
 }
 
-// Whether a copy of a key has these names, is of this kind, and is printed so.
+// Whether a copy of a key has these names and this kind, and is printed as this text.
 fn is_copied_so(alloc: Global, key: &Key, name: Name, kind: Kind, text: &str) -> bool {
     match key.clone() {
         Ok(copy) => has_names(&copy, name) && copy.kind() == kind && is_printed(alloc, &copy, text),
@@ -43,7 +43,7 @@ fn is_copied_so(alloc: Global, key: &Key, name: Name, kind: Kind, text: &str) ->
     }
 }
 
-// The same of the key of these names.
+// The same for the key with these names.
 fn is_named(alloc: Global, name: Name, kind: Kind, text: &str) -> bool {
     match key_of(alloc, name) {
         Ok(key) => is_copied_so(alloc, &key, name, kind, text),
@@ -51,7 +51,7 @@ fn is_named(alloc: Global, name: Name, kind: Kind, text: &str) -> bool {
     }
 }
 
-// What a lock is named, the kind of its key, and how that is printed.
+// The name of a lock, the kind of its key, and the text that is printed.
 const NAMED: &[(Name, Kind, &str)] = &[
     ((Namespace::Global, "", ""), Kind::Scoped, "GLOBAL"),
     ((Namespace::Schema, "test", ""), Kind::Scoped, "SCHEMA test"),
@@ -75,12 +75,12 @@ fn names_locks(rt: HostRuntime) {
     }
 }
 
-// Why there is no key of these names, or None where there is one.
+// Returns why there is no key with these names, or None if there is one.
 fn refusal(alloc: Global, name: Name) -> Option<KeyError> {
     key_of(alloc, name).err()
 }
 
-// Whether a name is refused so, wherever it stands.
+// Whether a name is refused for this reason, or accepted if there is none, wherever it can be used.
 fn is_refused(alloc: Global, name: &'static str, want: Option<KeyError>) -> bool {
     check_name(name).err() == want
         && Column::new(alloc, name).err() == want
@@ -132,7 +132,7 @@ fn looks_at_the_schema_first(rt: HostRuntime) {
     }
 }
 
-// Keys in their order.
+// Keys in rising order.
 const RISING: &[Name] = &[
     (Namespace::Global, "", ""),
     (Namespace::Schema, "a", ""),
@@ -149,7 +149,7 @@ const RISING: &[Name] = &[
     (Namespace::UserLevelLock, "b", ""),
 ];
 
-// Whether a key stands in this order to the one of these names.
+// Whether a key compares in this way with the key of these names.
 fn is_ordered_to(alloc: Global, a: &Key, b: Name, want: Ordering) -> bool {
     match key_of(alloc, b) {
         Ok(b) => a.cmp(&b) == want && a.partial_cmp(&b) == Some(want),

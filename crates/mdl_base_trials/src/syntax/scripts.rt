@@ -1,11 +1,11 @@
-//! Scripts, and what is read of them or refuses them.
+//! Scripts, and what the parser reads of them or why it refuses them.
 use super::written::is_read_so;
 use crate::keys::names::LONGEST;
 use mdl_key::Key;
 use mdl_syntax::{Name, Tables};
 use std::alloc::Global;
 
-// A script, and what is read of it: lines with their number and session, or the refusal.
+// A script, and what is read: lines with their number and session, or the refusal.
 const READ: &[(&str, &str)] = &[
     (
         "1 BEGIN\n2 START TRANSACTION\n3 COMMIT\n64 ROLLBACK",
@@ -103,7 +103,7 @@ const READ: &[(&str, &str)] = &[
     ),
     ("1 BEGIN\n# 1\n2 INSERT low_priority t", "line 3: BadWord"),
     ("1 BEGIN\n1 CREATE TAB", "line 2: BadWord"),
-    // Ends of lines.
+    // How lines end.
     ("", ""),
     ("\n", ""),
     ("\r", ""),
@@ -127,7 +127,7 @@ fn scripts_are_read(rt: HostRuntime) {
     }
 }
 
-// Lines with a bad name, or one that is named twice.
+// Lines with a bad name, or with one that is repeated.
 const BAD_NAMES: &str = "\
 1 ROLLBACK TO SAVEPOINT p
 1 INSERT LOW_PRIORITY LOW_PRIORITY
@@ -182,7 +182,7 @@ const BAD_NAMES: &str = "\
 1 RELEASE_LOCK A
 1 RELEASE_LOCK a.b";
 
-// Lines that have a bad word, or lack one.
+// Lines with a bad word, or with a word missing.
 const BAD_WORDS: &str = "\
 1 INSERT LOW_PRIORITY
 1 INSERT low_priority t
@@ -297,7 +297,7 @@ BEGIN
 1 KILL QUERY 65
 1 KILL QUERY 0 3";
 
-// Lines that are no ASCII.
+// Lines that aren't ASCII.
 const NO_ASCII: &str = "\
 1 SELECT t\u{e9}
 #\u{e9}";
@@ -321,7 +321,7 @@ fn lines_are_refused(rt: HostRuntime) {
     }
 }
 
-// A script of parts, each of which stands there so often, and what is read of it, or, behind two dots, the end of that.
+// A script as parts, each repeated a number of times, and what is read. After two dots only the end of that is given.
 type Long = (&'static [(&'static str, u16)], &'static str);
 
 const LONG: &[Long] = &[
@@ -331,7 +331,7 @@ const LONG: &[Long] = &[
     (&[("\u{80}", 1), ("x", 4094)], "line 1: NotAscii"),
     (&[("1 COMMIT", 1), (" ", 4088)], "1 1 commit"),
     (&[("1 COMMIT", 1), (" ", 4089)], "line 1: LongLine"),
-    // The longest names, and some that are longer.
+    // The longest names, and longer ones.
     (&[("1 SELECT ", 1), ("x", 64)], "..xxxx"),
     (&[("1 INSERT ", 1), ("x", 64)], "..xxxx"),
     (&[("1 SELECT s.", 1), ("x", 64)], "..xxxx"),
@@ -343,7 +343,7 @@ const LONG: &[Long] = &[
     (&[("1 SAVEPOINT ", 1), ("x", 65)], "line 1: BadName"),
     (&[("1 GET_LOCK ", 1), ("x", 65)], "line 1: BadName"),
     (&[("1 CREATE TABLE t ", 1), ("x", 65)], "line 1: BadName"),
-    // A 65th column is a word too many.
+    // A 65th column is one word too many.
     (
         &[("1 CREATE TABLE t", 1), (" c", 63), (" x", 1)],
         ".. c c x",
@@ -357,7 +357,7 @@ const LONG: &[Long] = &[
         &[("1 CREATE TABLE t", 1), (" c", 63), (" C", 1)],
         "line 1: BadName",
     ),
-    // However many lines there are, all are read.
+    // All lines are read, however many there are.
     (&[("1 SELECT t\n", 3_000)], ".. / 3000 1 read TABLE test.t"),
 ];
 
@@ -422,7 +422,7 @@ fn longest_is_copied(alloc: Global) -> bool {
     }
 }
 
-// However many tables there are, and however long a name is, there is memory for a copy.
+// There is memory for a copy, however many tables there are and however long a name is.
 #[test]
 fn there_is_memory_for_copies(rt: HostRuntime) {
     let mut tables = Tables::new(rt.alloc());

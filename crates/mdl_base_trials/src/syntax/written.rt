@@ -1,12 +1,12 @@
-//! What was read of a script, in words.
+//! Puts what was read of a script into words.
 use mdl_defs::Change;
 use mdl_key::Key;
 use mdl_syntax::{Algorithm, Alteration, Line, LockType, Priority, Statement, TableLock, parse};
 use std::alloc::{AllocError, Global};
 use std::fmt::Write;
 
-/// Whether this is read of a script: a line for each statement, each parted from the next by ` / `, or the fault that refuses it.
-/// What is wanted behind two dots is only the end of that.
+/// Whether this is what is read of a script: a text for each statement, separated by ` / `, or the fault that refuses the script. A wanted text that
+/// begins with two dots is only the end of that.
 pub(crate) fn is_read_so(alloc: Global, script: &[u8], want: &str) -> bool {
     let mut text = String::new(alloc);
     push_read(alloc, &mut text, script).is_ok() && fits(text.as_str(), want)
@@ -42,7 +42,7 @@ fn push_lines(text: &mut String, lines: &[Line]) -> Result<(), AllocError> {
     Ok(())
 }
 
-// What a statement does.
+// Returns what a statement does.
 fn what(statement: &Statement) -> &'static str {
     match statement {
         Statement::Begin => "begin",
@@ -71,7 +71,7 @@ fn what(statement: &Statement) -> &'static str {
     }
 }
 
-// Adds what a statement does it to.
+// Adds what a statement works on.
 fn push_whereof(text: &mut String, statement: &Statement) -> Result<(), AllocError> {
     match statement {
         Statement::Savepoint(name)
@@ -119,7 +119,7 @@ fn push_keys(text: &mut String, keys: &[Key]) -> Result<(), AllocError> {
     Ok(())
 }
 
-// Adds a table to alter, what becomes of which column, and how.
+// Adds the table to alter, the change of its column, and the algorithm.
 fn push_alteration(text: &mut String, alteration: &Alteration) -> Result<(), AllocError> {
     push_key(text, &alteration.table)?;
     match &alteration.change {
@@ -139,7 +139,7 @@ fn push_alteration(text: &mut String, alteration: &Alteration) -> Result<(), All
     }
 }
 
-// Adds tables to lock, and what for.
+// Adds the tables to lock, and for what.
 fn push_locks(text: &mut String, locks: &[TableLock]) -> Result<(), AllocError> {
     for lock in locks {
         push_key(text, &lock.table)?;

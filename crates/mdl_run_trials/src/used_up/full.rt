@@ -1,5 +1,5 @@
-//! Locks that have as many tickets as a lock can have: 9005. The other session has all of them, which the sessions of a script never come
-//! to, since none of them has more than a few of one lock. As soon as one of them goes, the statement is done.
+//! Locks with as many tickets as a lock can have: 9005. The other session has all of them. The sessions of a script never get there, since none of
+//! them has more than a few of one lock. Once one ticket is released, the statement succeeds.
 use crate::outcomes::Outcome;
 use crate::used_up::room::Lock;
 use crate::used_up::rows::Row::{Crowds, Leaves, Says};
@@ -12,12 +12,12 @@ const FULL: Outcome = Outcome::Fails(9005);
 
 const FIRST: Outcome = Outcome::Reads(1);
 
-// Places for the keys of the rows.
+// The number of places for the keys of the rows.
 const PLACES: u16 = 8;
 
 const MOST_TICKETS: u32 = 65_535;
 
-// Others read a table.
+// The other session reads a table.
 const OF_A_TABLE: &[Row] = &[
     Says("CREATE SCHEMA test", DONE, 0),
     Says("CREATE TABLE a x", DONE, 0),
@@ -45,19 +45,19 @@ const OF_A_TABLE: &[Row] = &[
     Says("COMMIT", DONE, 0),
     Leaves,
     Says("SELECT b a", FIRST, 0),
-    // There is room for a ticket, and none for the second one by which a stronger lock is waited for.
+    // There is room for one ticket, but none for the second one that waits for the stronger lock.
     Says("ALTER TABLE a ADD y COPY", FULL, 0),
     Says("ALTER TABLE a ADD y INPLACE", FULL, 0),
     Says("SELECT a", FIRST, 0),
 ];
 
-// Others look at a table, which is locked to be written.
+// The other session looks at a table, which is locked for writing.
 const OF_A_LOCKED_TABLE: &[Row] = &[
     Says("CREATE SCHEMA test", DONE, 0),
     Says("CREATE TABLE a x", DONE, 0),
     Crowds(Lock::Table("a"), Mode::SH, MOST_TICKETS - 1),
     Says("LOCK TABLES a WRITE", DONE, 3),
-    // Its lock can't be cloned, and once it can, the clone can't become stronger.
+    // The table's ticket can't be cloned. Once it can, the clone can't be upgraded.
     Says("ALTER TABLE a ADD y COPY", FULL, 3),
     Leaves,
     Says("ALTER TABLE a ADD y COPY", FULL, 3),
@@ -67,7 +67,7 @@ const OF_A_LOCKED_TABLE: &[Row] = &[
     Says("UNLOCK TABLES", DONE, 0),
 ];
 
-// Others change what is in a schema.
+// The other session changes what is in a schema.
 const OF_THE_SCHEMA: &[Row] = &[
     Says("CREATE SCHEMA test", DONE, 0),
     Says("CREATE TABLE a x", DONE, 0),
@@ -79,7 +79,7 @@ const OF_THE_SCHEMA: &[Row] = &[
     Says("RENAME TABLE a TO b", FULL, 0),
     Says("ALTER TABLE a ADD y COPY", FULL, 0),
     Says("LOCK TABLES a WRITE", FULL, 0),
-    // What changes nothing in it doesn't ask for its lock.
+    // What changes nothing in the schema doesn't ask for its lock.
     Says("LOCK TABLES a READ", DONE, 1),
     Says("BEGIN", DONE, 0),
     Says("SELECT a", FIRST, 1),
@@ -90,7 +90,7 @@ const OF_THE_SCHEMA: &[Row] = &[
     Says("DROP TABLE a", DONE, 0),
 ];
 
-// Others write.
+// The other session writes.
 const OF_ALL_WRITES: &[Row] = &[
     Says("CREATE SCHEMA test", DONE, 0),
     Says("CREATE TABLE a x", DONE, 0),
@@ -104,7 +104,7 @@ const OF_ALL_WRITES: &[Row] = &[
     Says("ALTER TABLE a ADD y COPY", FULL, 0),
     Says("LOCK TABLES a WRITE", FULL, 0),
     Says("FLUSH TABLES WITH READ LOCK", FULL, 0),
-    // A transaction is committed before.
+    // A transaction is committed first.
     Says("BEGIN", DONE, 0),
     Says("SELECT a", FIRST, 1),
     Says("INSERT a", FULL, 1),
@@ -116,13 +116,13 @@ const OF_ALL_WRITES: &[Row] = &[
     Says("DROP TABLE a", DONE, 0),
 ];
 
-// Others commit.
+// The other session commits.
 const OF_COMMITS: &[Row] = &[
     Says("CREATE SCHEMA test", DONE, 0),
     Says("CREATE TABLE a x", DONE, 0),
     Crowds(Lock::Commit, Mode::IX, MOST_TICKETS),
     Says("INSERT a", FULL, 0),
-    // The global read lock is had whole or not at all.
+    // The global read lock is two locks: the session gets both or none.
     Says("FLUSH TABLES WITH READ LOCK", FULL, 0),
     Says("CREATE TABLE b x", DONE, 0),
     Says("LOCK TABLES a WRITE", DONE, 3),
@@ -148,7 +148,8 @@ const OF_COMMITS: &[Row] = &[
     Says("INSERT a", DONE, 0),
 ];
 
-// Another session has a user-level lock as often as can be. That it has the lock is told before there is no room for a wait.
+// The other session has a user-level lock as often as it can. RELEASE_LOCK answers that another session has the lock, although there is no
+// room for a ticket.
 const OF_A_USER_LOCK: &[Row] = &[
     Crowds(Lock::User("a"), Mode::X, MOST_TICKETS),
     Says("BEGIN", DONE, 0),
@@ -161,7 +162,7 @@ const OF_A_USER_LOCK: &[Row] = &[
     Says("GET_LOCK a", Outcome::Waits, 1),
 ];
 
-/// All of them.
+/// All stories of this file.
 pub(crate) const STORIES: &[Story] = &[
     ("the lock of a table is full", PLACES, OF_A_TABLE),
     (

@@ -1,5 +1,5 @@
-//! Spaces that have no place for one more key: 9004, at each lock that a statement asks for first of its key. The locks that it had before
-//! are given up again, and an open transaction keeps what it had.
+//! Spaces without a place for one more key: 9004, at each lock of a statement that is the first of its key. The locks that the statement had before
+//! are released again, and an open transaction keeps what it had.
 use crate::outcomes::Outcome;
 use crate::used_up::rows::Row::Says;
 use crate::used_up::rows::{Row, Story};
@@ -12,7 +12,7 @@ const NO_SUCH_TABLE: Outcome = Outcome::Fails(1146);
 
 const FIRST: Outcome = Outcome::Reads(1);
 
-// Two tables have the places. The lock of all writes has none, which is the first of all that changes anything.
+// Two tables have the places. The global lock has none; it is the first lock of every statement that changes something.
 const OF_ALL_WRITES: &[Row] = &[
     Says("SELECT a", NO_SUCH_TABLE, 0),
     Says("SELECT b", NO_SUCH_TABLE, 0),
@@ -28,7 +28,7 @@ const OF_ALL_WRITES: &[Row] = &[
     Says("ALTER TABLE a DROP x INPLACE", NO_PLACE, 0),
     Says("LOCK TABLES a WRITE", NO_PLACE, 0),
     Says("FLUSH TABLES WITH READ LOCK", NO_PLACE, 0),
-    // Locks of keys that have a place are had, and nothing else needs one.
+    // Locks of keys that have a place are granted, and nothing else needs a place.
     Says("LOCK TABLES a READ", NO_SUCH_TABLE, 0),
     Says("UNLOCK TABLES", DONE, 0),
     Says("BEGIN", DONE, 0),
@@ -44,7 +44,7 @@ const OF_ALL_WRITES: &[Row] = &[
     Says("ROLLBACK", DONE, 0),
 ];
 
-// All writes and a table have the places, and the schema none.
+// The global lock and a table have the places, and the schema has none.
 const OF_THE_SCHEMA: &[Row] = &[
     Says("INSERT a", NO_SUCH_TABLE, 0),
     Says("CREATE TABLE a x", NO_PLACE, 0),
@@ -57,7 +57,7 @@ const OF_THE_SCHEMA: &[Row] = &[
     Says("INSERT a", NO_SUCH_TABLE, 0),
 ];
 
-// All writes and the schema have the places, and no table has one.
+// The global lock and the schema have the places, and no table has one.
 const OF_A_TABLE: &[Row] = &[
     Says("CREATE SCHEMA test", DONE, 0),
     Says("SELECT a", NO_PLACE, 0),
@@ -76,7 +76,7 @@ const OF_A_TABLE: &[Row] = &[
     Says("CREATE SCHEMA test", DONE, 0),
 ];
 
-// All writes, a schema and a table have the places. What names another one besides gets neither.
+// The global lock, a schema and a table have the places. A statement that also names another table gets neither.
 const OF_ANOTHER: &[Row] = &[
     Says("CREATE SCHEMA test", DONE, 0),
     Says("CREATE TABLE a x", DONE, 0),
@@ -86,15 +86,15 @@ const OF_ANOTHER: &[Row] = &[
     Says("RENAME TABLE b TO a", NO_PLACE, 0),
     Says("LOCK TABLES a READ b READ", NO_PLACE, 0),
     Says("LOCK TABLES b READ a WRITE", NO_PLACE, 0),
-    // Nor what names one in another schema.
+    // Nor does a statement that names a table in another schema.
     Says("CREATE TABLE s.a x", NO_PLACE, 0),
     Says("DROP TABLE a s.a", NO_PLACE, 0),
     Says("RENAME TABLE a TO s.a", NO_PLACE, 0),
     Says("LOCK TABLES a WRITE s.a WRITE", NO_PLACE, 0),
-    // Tables that were locked before are given up first, and stay given up.
+    // Tables that were locked before are unlocked first, and stay unlocked.
     Says("LOCK TABLES a WRITE", DONE, 3),
     Says("LOCK TABLES b READ", NO_PLACE, 0),
-    // The table stands, and its transaction keeps it.
+    // The table is still defined, and its transaction keeps its lock.
     Says("BEGIN", DONE, 0),
     Says("SELECT a", FIRST, 1),
     Says("SELECT a b", NO_PLACE, 1),
@@ -104,7 +104,7 @@ const OF_ANOTHER: &[Row] = &[
     Says("DROP SCHEMA test", DONE, 0),
 ];
 
-// All writes, a schema and a table have the places, and the lock of commits has none.
+// The global lock, a schema and a table have the places, and the commit lock has none.
 const OF_COMMITS: &[Row] = &[
     Says("CREATE SCHEMA test", DONE, 0),
     Says("CREATE TABLE a x", DONE, 0),
@@ -114,7 +114,7 @@ const OF_COMMITS: &[Row] = &[
     Says("INSERT a", NO_PLACE, 3),
     Says("ALTER TABLE a ADD y COPY", DONE, 3),
     Says("UNLOCK TABLES", DONE, 0),
-    // A transaction that wrote can't be committed, also not by what commits it first, and stays open.
+    // A transaction that wrote can't be committed, not even by a statement that commits it first, and stays open.
     Says("BEGIN", DONE, 0),
     Says("INSERT a", DONE, 1),
     Says("SAVEPOINT p", DONE, 1),
@@ -131,13 +131,13 @@ const OF_COMMITS: &[Row] = &[
     Says("SELECT a", Outcome::Reads(2), 1),
     Says("ROLLBACK TO p", DONE, 1),
     Says("ROLLBACK", DONE, 0),
-    // One that only read needs no such lock.
+    // A transaction that only read needs no commit lock.
     Says("BEGIN", DONE, 0),
     Says("SELECT a", Outcome::Reads(2), 1),
     Says("COMMIT", DONE, 0),
 ];
 
-// With one place more a commit has it, and keeps it. Nor is that of a dropped table given to another one.
+// With one more place the commit lock gets it, and keeps it. The place of a dropped table isn't given to another table either.
 const OF_ALL_BUT_ONE: &[Row] = &[
     Says("CREATE SCHEMA test", DONE, 0),
     Says("CREATE TABLE a x", DONE, 0),
@@ -151,7 +151,7 @@ const OF_ALL_BUT_ONE: &[Row] = &[
     Says("SELECT a", Outcome::Reads(3), 0),
 ];
 
-// A table and a user-level lock have the places. The lock keeps its place when nobody has it.
+// A table and a user-level lock have the places. The lock keeps its place when no session has it.
 const OF_A_USER_LOCK: &[Row] = &[
     Says("RELEASE_LOCK a", Outcome::Null, 0),
     Says("BEGIN", DONE, 0),
@@ -170,7 +170,7 @@ const OF_A_USER_LOCK: &[Row] = &[
     Says("GET_LOCK t", NO_PLACE, 0),
 ];
 
-/// All of them.
+/// All stories of this file.
 pub(crate) const STORIES: &[Story] = &[
     ("the lock of all writes has no place", 2, OF_ALL_WRITES),
     ("the schema has no place", 2, OF_THE_SCHEMA),

@@ -1,4 +1,4 @@
-//! A lock space with a session whose statements are tried, and another one that has locks.
+//! A lock space with a session whose statements are tried, and a second session that has locks.
 ghost use Rattle.std.specs.Prelude.{◌≡◌};
 ghost use Rattle.mdl_space.specs.CoreMembers.{core_space};
 ghost use Rattle.mdl_context.specs.Contexts.{LeavesOthers};
@@ -13,7 +13,7 @@ use std::alloc::Global;
 use std::marker::Model;
 use std::mem::drop;
 
-/// What the other session locks.
+/// What the second session locks.
 #[derive(Clone, Copy)]
 pub(crate) enum Lock {
     Global,
@@ -26,7 +26,7 @@ pub(crate) enum Lock {
 }
 
 impl Lock {
-    // Its key.
+    // The key of the lock.
     fn key(self, alloc: Global) -> Result<Key, KeyError> {
         match self {
             Lock::Global => Ok(Key::global(alloc)),
@@ -41,10 +41,10 @@ impl Lock {
 // How many definitions a session's cache keeps.
 const CACHE: u16 = 64;
 
-// The session that has locks.
+// The second session.
 const OTHER: u16 = 2;
 
-/// A space and the statements of its session 1, none of which is kept. Its session 2 has locks.
+/// A space, and the statements of its session 1, none of which is kept. Session 2 has locks.
 #[derive(Drop)]
 pub(crate) struct Room {
     pub(crate) alloc: Global,
@@ -63,7 +63,7 @@ impl Model for Room {
 }
 
 impl Room {
-    /// Nobody has asked for anything.
+    /// Creates a space of `places` places in which no session has asked for anything.
     pub(crate) fn new(alloc: Global, places: u16) -> Result<Room, NewError> {
         let space = CoreSpace::new(alloc, places, OTHER)?;
         match OwnedRunner::new(alloc, 1, CACHE) {
@@ -79,22 +79,22 @@ impl Room {
         }
     }
 
-    /// What comes of a statement.
+    /// Starts a statement of session 1 and returns its outcome.
     pub(crate) fn start(&mut self, statement: &Statement) -> Outcome {
         start(&mut self.space, &mut self.runner, statement)
     }
 
-    /// What comes of the statement that waits, if one does.
+    /// Continues the statement that waits, if there is one, and returns its outcome.
     pub(crate) fn go_on(&mut self) -> Option<Outcome> {
         go_on(&mut self.space, &mut self.runner)
     }
 
-    /// How many tickets the session has whose statements these are.
+    /// Returns how many tickets session 1 has.
     pub(crate) fn held(&self) -> Option<usize> {
         held(&self.space, 1)
     }
 
-    /// How many it has once it has ended.
+    /// Ends session 1, and returns how many tickets it has then.
     pub(crate) fn held_after_the_end(self) -> Option<usize> {
         let Room {
             mut space,
@@ -107,28 +107,28 @@ impl Room {
         tickets
     }
 
-    /// The place of a lock.
+    /// Returns the place of a lock.
     pub(crate) fn place(&mut self, lock: Lock) -> Option<Place> {
         let key = lock.key(self.alloc).ok()?;
         place(&mut self.space, OTHER, &key)
     }
 
-    /// The ticket of the other session, where it can have the lock of a place now.
+    /// Returns a ticket of session 2 for the lock of a place, if it can be granted now.
     pub(crate) fn take(&mut self, place: Place, mode: Mode) -> Option<TicketId> {
         take(&mut self.space, OTHER, place, mode)
     }
 
-    /// A clone of a ticket that it has.
+    /// Returns a clone of a ticket of session 2.
     pub(crate) fn copy(&mut self, ticket: TicketId, mode: Mode) -> Option<TicketId> {
         copy(&mut self.space, OTHER, ticket, mode)
     }
 
-    /// The version that comes of a change under its exclusive ticket.
+    /// Changes a definition under an exclusive ticket of session 2, and returns the new version.
     pub(crate) fn change(&mut self, ticket: TicketId, change: &Change) -> Option<u64> {
         changed(&mut self.space, OTHER, ticket, change)
     }
 
-    /// Whether it gives a ticket up.
+    /// Releases a ticket of session 2. Whether it succeeds.
     pub(crate) fn leave(&mut self, ticket: TicketId) -> bool {
         leave(&mut self.space, OTHER, ticket)
     }

@@ -1,4 +1,4 @@
-//! Statements one after another, and what has to come of them.
+//! Statements one after another, and what they have to give.
 use crate::outcomes::Outcome;
 use crate::used_up::room::{Lock, Room};
 use mdl_defs::{Change, Column, Columns, Definition};
@@ -8,25 +8,25 @@ use mdl_syntax::{Line, Script, parse};
 use std::alloc::Global;
 use std::mem::drop;
 
-/// What is done next.
+/// One step of a story.
 #[derive(Clone, Copy)]
 pub(crate) enum Row {
-    /// A statement, what comes of it, and how many tickets its session holds then.
+    /// A statement, its outcome, and how many tickets its session holds then.
     Says(&'static str, Outcome, usize),
-    /// The other session has a lock, for which a statement waits, until it gives it up: what comes of the statement then.
+    /// The second session has a lock, for which a statement waits until it is released, and then the outcome of the statement.
     Waits(&'static str, Lock, Mode, Outcome),
-    /// The other session lets a schema, or a table with a column `x`, come and go, until it has had so many versions and stands.
+    /// The second session creates and drops a schema, or a table with a column `x`, until its key has had that many versions and is defined.
     Renews(Lock, u32),
-    /// It comes by so many tickets of a lock, and keeps them.
+    /// The second session gets that many tickets of a lock, and keeps them.
     Crowds(Lock, Mode, u32),
-    /// It gives up the one of these that it gained last.
+    /// The second session releases the ticket that it got last.
     Leaves,
 }
 
-/// A name, how many places there are, and what is done, where nobody has asked for anything before.
+/// A name, how many places there are, and the rows, which begin with a new space.
 pub(crate) type Story = (&'static str, u16, &'static [Row]);
 
-/// The first row of a story that goes otherwise, counted from 0. The one behind the last is that its session leaves nothing as it ends.
+/// Returns the index of the first row of a story that goes wrong. The index after the last row means that the session leaves something at its end.
 pub(crate) fn first_wrong(alloc: Global, (_, places, rows): Story) -> Option<usize> {
     let Ok(room) = Room::new(alloc, places) else {
         return Some(rows.len());
@@ -45,7 +45,7 @@ pub(crate) fn first_wrong(alloc: Global, (_, places, rows): Story) -> Option<usi
     }
 }
 
-// A room, and the ticket that the other session gained last.
+// A room, and the ticket that the second session got last.
 #[derive(Drop)]
 struct Play {
     room: Room,
@@ -53,7 +53,7 @@ struct Play {
 }
 
 impl Play {
-    // Whether all goes as a row says.
+    // Whether the row goes as it says.
     fn goes_so(&mut self, row: Row) -> bool {
         match row {
             Row::Says(text, want, held) => {
@@ -66,7 +66,7 @@ impl Play {
         }
     }
 
-    // What comes of a statement, which is dropped as soon as it has started.
+    // Returns the outcome of a statement, which is dropped as soon as it has started.
     fn says(&mut self, text: &str) -> Option<Outcome> {
         let script = script_of(self.room.alloc, text)?;
         let outcome = self.starts(script.lines());
@@ -74,13 +74,13 @@ impl Play {
         outcome
     }
 
-    // What comes of the first of these lines.
+    // Returns the outcome of the first of these lines.
     fn starts(&mut self, lines: &[Line]) -> Option<Outcome> {
         let line = lines.first()?;
         Some(self.room.start(&line.statement))
     }
 
-    // What comes of a statement that waits, once the other session has given its lock up.
+    // Returns the outcome of a statement that waits until the second session releases a lock.
     fn waits(&mut self, text: &str, lock: Lock, mode: Mode) -> Option<Outcome> {
         let ticket = self.crowds(lock, mode, 1)?;
         let waits = self.says(text) == Some(Outcome::Waits)
@@ -94,7 +94,7 @@ impl Play {
         }
     }
 
-    // Whether the other session gives up the lock under which it made so many versions.
+    // Makes `count` versions of what a lock's key defines. Whether the second session has released the lock afterwards.
     fn renews(&mut self, lock: Lock, count: u32) -> Option<bool> {
         let put = Change::Put(definition_of(self.room.alloc, lock)?);
         let left = self.changes(lock, count, &put);
@@ -102,7 +102,7 @@ impl Play {
         left
     }
 
-    // The same by changes that put this there, and others that drop it.
+    // The same, where every second change puts this definition and the others drop it.
     fn changes(&mut self, lock: Lock, count: u32, put: &Change) -> Option<bool> {
         let place = self.room.place(lock)?;
         let ticket = self.room.take(place, Mode::X)?;
@@ -117,7 +117,7 @@ impl Play {
         Some(self.room.leave(ticket))
     }
 
-    // The last of so many tickets of the other session.
+    // Gives the second session `count` tickets of a lock, and returns the last of them.
     fn crowds(&mut self, lock: Lock, mode: Mode, count: u32) -> Option<TicketId> {
         let place = self.room.place(lock)?;
         let first = self.room.take(place, mode)?;
@@ -129,13 +129,13 @@ impl Play {
     }
 }
 
-// A statement, as a script of session 1.
+// Returns a statement as a script of session 1.
 fn script_of(alloc: Global, text: &str) -> Option<Script> {
     let line = format!(in alloc; "1 {text}").ok()?;
     parse(alloc, line.as_bytes()).ok()
 }
 
-// What can stand under the key of a lock, if anything can.
+// Returns a valid definition for the key of a lock, if there is one.
 fn definition_of(alloc: Global, lock: Lock) -> Option<Definition> {
     match lock {
         Lock::Schema(_) => Some(Definition::Schema),
@@ -144,7 +144,7 @@ fn definition_of(alloc: Global, lock: Lock) -> Option<Definition> {
     }
 }
 
-// A table of the one column `x`.
+// Returns a table with the one column `x`.
 fn one_column(alloc: Global) -> Option<Definition> {
     let column = Column::new(alloc, "x").ok()?;
     let mut columns = Columns::new(alloc);

@@ -1,4 +1,4 @@
-//! Tables and schemas that have had all their versions: 9003. It is told before the first change, so whoever fails has changed nothing.
+//! Tables and schemas that have had their last version: 9003. The check comes before the first change, so a statement that fails has changed nothing.
 use crate::outcomes::Outcome;
 use crate::used_up::room::Lock;
 use crate::used_up::rows::Row::{Renews, Says};
@@ -12,12 +12,12 @@ const NO_SUCH_TABLE: Outcome = Outcome::Fails(1146);
 
 const LAST: Outcome = Outcome::Reads(1_000_000);
 
-// Places for the keys of the rows.
+// The number of places for the keys of the rows.
 const PLACES: u16 = 8;
 
 const MOST_VERSIONS: u32 = 1_000_000;
 
-// A table that is dropped with its last version never comes to stand again.
+// A table that is dropped with its last version can't be created again.
 const OF_A_DROPPED_TABLE: &[Row] = &[
     Says("CREATE SCHEMA test", DONE, 0),
     Renews(Lock::Table("a"), MOST_VERSIONS - 1),
@@ -28,7 +28,7 @@ const OF_A_DROPPED_TABLE: &[Row] = &[
     Says("DROP TABLE a", NO_SUCH_TABLE, 0),
     Says("ALTER TABLE a ADD y COPY", NO_SUCH_TABLE, 0),
     Says("SELECT a", NO_SUCH_TABLE, 0),
-    // Nor does another one by its name.
+    // Nor can another table be renamed to its name.
     Says("CREATE TABLE c x", DONE, 0),
     Says("RENAME TABLE c TO a", NO_VERSION, 0),
     Says("RENAME TABLE a TO c", Outcome::Fails(1050), 0),
@@ -37,7 +37,7 @@ const OF_A_DROPPED_TABLE: &[Row] = &[
     Says("DROP SCHEMA test", DONE, 0),
 ];
 
-// One that stands with its last version stands for good.
+// A table that has its last version stays as it is for good.
 const OF_A_TABLE: &[Row] = &[
     Says("CREATE SCHEMA test", DONE, 0),
     Renews(Lock::Table("b"), MOST_VERSIONS),
@@ -52,14 +52,14 @@ const OF_A_TABLE: &[Row] = &[
     Says("CREATE TABLE b x", Outcome::Fails(1050), 0),
     Says("SELECT c", NO_SUCH_TABLE, 0),
     Says("SELECT b", LAST, 0),
-    // It is read and written, and locked, as before.
+    // It can be read, written and locked as before.
     Says("INSERT b", DONE, 0),
     Says("LOCK TABLES b WRITE", DONE, 3),
     Says("ALTER TABLE b ADD y COPY", NO_VERSION, 3),
     Says("ALTER TABLE b ADD y INPLACE", NO_VERSION, 3),
     Says("INSERT b", DONE, 3),
     Says("UNLOCK TABLES", DONE, 0),
-    // Nothing becomes of a table that would be dropped or renamed with one that can't be changed once more.
+    // If a statement would drop or rename this table with others, no table is changed.
     Says("CREATE TABLE c x", DONE, 0),
     Says("DROP TABLE c b", NO_VERSION, 0),
     Says("DROP TABLE b d", NO_SUCH_TABLE, 0),
@@ -67,7 +67,7 @@ const OF_A_TABLE: &[Row] = &[
     Says("DROP SCHEMA test", NO_VERSION, 0),
     Says("CREATE SCHEMA test", Outcome::Fails(1007), 0),
     Says("SELECT c", Outcome::Reads(1), 0),
-    // An open transaction is committed before.
+    // An open transaction is committed first.
     Says("BEGIN", DONE, 0),
     Says("INSERT c", DONE, 1),
     Says("DROP TABLE b", NO_VERSION, 0),
@@ -77,7 +77,7 @@ const OF_A_TABLE: &[Row] = &[
     Says("DROP TABLE c", DONE, 0),
 ];
 
-// Likewise of schemas. By statements alone none ever stands with its last version, which is an even one.
+// The same for schemas. By statements alone no schema is defined with its last version, since that version is an even number.
 const OF_SCHEMAS: &[Row] = &[
     Renews(Lock::Schema("r"), MOST_VERSIONS - 1),
     Renews(Lock::Schema("s"), MOST_VERSIONS),
@@ -86,7 +86,7 @@ const OF_SCHEMAS: &[Row] = &[
     Says("CREATE SCHEMA r", NO_VERSION, 0),
     Says("DROP SCHEMA r", Outcome::Fails(1049), 0),
     Says("CREATE TABLE r.t x", Outcome::Fails(1049), 0),
-    // No table goes with a schema that can't.
+    // A schema that can't be dropped keeps its tables.
     Says("CREATE TABLE s.t x", DONE, 0),
     Says("DROP SCHEMA s", NO_VERSION, 0),
     Says("CREATE SCHEMA s", Outcome::Fails(1007), 0),
@@ -99,7 +99,7 @@ const OF_SCHEMAS: &[Row] = &[
     Says("DROP TABLE s.t", DONE, 0),
 ];
 
-/// All of them.
+/// All stories of this file.
 pub(crate) const STORIES: &[Story] = &[
     (
         "a dropped table had its last version",

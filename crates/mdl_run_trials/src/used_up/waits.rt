@@ -1,5 +1,5 @@
-//! Statements that wait for a lock that the other session has, once at each of their stages, and are done after that session has released
-//! it. None of them is kept while it waits. A session that ends leaves nothing behind, also where its statement waits.
+//! Statements that wait for a lock of the second session, once at each of their stages, and finish after it is released. None of them is kept while
+//! it waits. A session that ends leaves nothing behind, even if its statement still waits.
 use crate::outcomes::Outcome;
 use crate::used_up::room::Lock;
 use crate::used_up::rows::Row::{Crowds, Says, Waits};
@@ -8,7 +8,7 @@ use mdl_key::Mode;
 
 const DONE: Outcome = Outcome::Done;
 
-// Places for the keys of the rows.
+// The number of places for the keys of the rows.
 const PLACES: u16 = 8;
 
 const OF_ONE_TABLE: &[Row] = &[
@@ -56,7 +56,7 @@ const OF_ONE_TABLE: &[Row] = &[
 const OF_DEFINITIONS: &[Row] = &[
     Says("CREATE SCHEMA test", DONE, 0),
     Says("CREATE TABLE a x", DONE, 0),
-    // A transaction is committed before.
+    // A transaction is committed first.
     Says("BEGIN", DONE, 0),
     Says("INSERT a", DONE, 1),
     Waits("CREATE TABLE b x y", Lock::Commit, Mode::S, DONE),
@@ -79,7 +79,7 @@ const OF_DEFINITIONS: &[Row] = &[
     Waits("DROP SCHEMA test", Lock::Table("a"), Mode::SR, DONE),
 ];
 
-// The last statement still waits as its session ends.
+// The last statement still waits when its session ends.
 const OF_A_TRANSACTION: &[Row] = &[
     Says("GET_LOCK b", Outcome::Says(true), 1),
     Says("GET_LOCK b", Outcome::Says(true), 2),
@@ -96,7 +96,7 @@ const OF_A_DROP: &[Row] = &[
     Says("DROP TABLE b a", Outcome::Waits, 3),
 ];
 
-/// All of them.
+/// All stories of this file.
 pub(crate) const STORIES: &[Story] = &[
     ("what reads, writes and locks waits", PLACES, OF_ONE_TABLE),
     ("what changes definitions waits", PLACES, OF_DEFINITIONS),

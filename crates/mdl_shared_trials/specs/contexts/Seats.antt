@@ -5,7 +5,7 @@ use Rattle.mdl_calls.specs.declared.lock_space.LockSpace.{Ghosts}
 use Rattle.mdl_shared.specs.SessionViews.{SessionView, space_of}
 use Rattle.mdl_shared.specs.Showings.{Shows}
 
--- what a session gives the trait
+-- the definitions that a session gives the trait `LockSpace`
 abbrev pub session_space : Ghosts SessionView
 session_space = record {
   speaks_for = λ s. SpeaksFor (space_of s);

@@ -17,7 +17,7 @@ pub(crate) struct Desk<'s, R: Wait> {
     runner: Runner<'s, Session<R>>,
 }
 
-// The session attends to the runner's context, which is what the calls of the runner ask for.
+// The session attends to the runner's context, as the calls of the runner require.
 impl<'s, R: Wait> Model for Desk<'s, R> {
     ghost use Rattle.mdl_stmt.specs.Attendance.{AttendsWith};
     ghost use Rattle.mdl_shared_trials.specs.contexts.Seats.{session_space};
@@ -30,7 +30,7 @@ impl<'s, R: Wait> Model for Desk<'s, R> {
 }
 
 impl<'s, R: Wait> Desk<'s, R> {
-    /// The session of a pass, which has done nothing.
+    /// Opens the session of a pass, which has done nothing.
     pub(crate) fn open(
         rt: &impl Abort,
         alloc: Global,
@@ -52,14 +52,14 @@ impl<'s, R: Wait> Desk<'s, R> {
         say(&mut self.session, &mut self.runner, statement)
     }
 
-    /// Goes on with the statement that waits.
+    /// Continues the statement that waits.
     pub(crate) fn go_on(&mut self) -> Outcome {
         go_on(&mut self.session, &mut self.runner)
     }
 }
 
 impl<'s, R: Wait + Drop> Desk<'s, R> {
-    /// Ends the session, wherever it stands.
+    /// Ends the session, whatever it holds and waits for.
     pub(crate) fn close(self, rt: &impl Abort) {
         let Desk {
             mut session,

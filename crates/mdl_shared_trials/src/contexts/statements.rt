@@ -1,4 +1,4 @@
-//! What comes of the statements of a session, in any lock space.
+//! Outcomes of the statements of a session, in any lock space.
 ghost use Rattle.mdl_stmt.specs.Attendance.{AttendsWith};
 
 use mdl_calls::LockSpace;
@@ -7,7 +7,7 @@ use mdl_stmt::{OutOfMemory, Progress, Reply, Runner, Statement};
 /// How many definitions the cache of a session keeps.
 pub(crate) const CACHE: u16 = 64;
 
-/// What comes of a statement, or of going on with one.
+/// The outcome of a statement, or of continuing one.
 #[derive(Clone, Copy, PartialEq)]
 pub(crate) enum Outcome {
     Done,
@@ -20,9 +20,9 @@ pub(crate) enum Outcome {
     Fails(u16),
     /// It begins to wait.
     Waits,
-    /// It waits still.
+    /// It still waits.
     Pending,
-    /// A session that waits starts nothing, and one that doesn't has nothing to go on with.
+    /// A session that waits starts nothing, and one that doesn't wait has nothing to continue.
     OutOfTurn,
     NoMemory,
 }
@@ -42,7 +42,7 @@ pub(crate) fn say<'s, S: LockSpace>(
     outcome_of(runner.start(space, statement))
 }
 
-/// Goes on with the statement that waits.
+/// Continues the statement that waits.
 pub(crate) fn go_on<'s, S: LockSpace>(space: &mut S, runner: &mut Runner<'s, S>) -> Outcome
     requires { AttendsWith S.LockSpace space.old runner.old.context runner.old.cache }
     ensures { AttendsWith S.LockSpace space.new runner.new.context runner.new.cache }

@@ -10,16 +10,16 @@ use mdl_syntax::{Line, parse};
 use std::process::Abort;
 use std::sync::Wait;
 
-// The session's number, 1 or 2, its next statement, and what is to come of that.
+// The session's number, 1 or 2, its next statement, and the right outcome.
 type Turn = (u16, &'static str, Outcome);
 
-// It goes on with the statement that waits.
+// It continues the statement that waits.
 const GOES_ON: &str = "";
 
-// Places for the keys of the turns.
+// The number of places, enough for the keys of the turns.
 const PLACES: u16 = 8;
 
-// Two sessions of one space, and the statements that are still to be said.
+// Two sessions of one space, and the statements that are still to be started.
 struct Two<'s, R: Wait> {
     one: Desk<'s, R>,
     two: Desk<'s, R>,
@@ -27,7 +27,7 @@ struct Two<'s, R: Wait> {
 }
 
 impl<'s, R: Wait> Two<'s, R> {
-    // What comes of a turn, unless no statement is left.
+    // Takes a turn. Returns its outcome, unless no statement is left.
     fn take(&mut self, number: u16, statement: &str) -> Option<Outcome> {
         if statement == GOES_ON {
             return Some(self.desk(number).go_on());
@@ -37,7 +37,7 @@ impl<'s, R: Wait> Two<'s, R> {
         Some(self.desk(number).say(&line.statement))
     }
 
-    // The session of a number.
+    // Returns the session of a number.
     fn desk(&mut self, number: u16) -> &mut Desk<'s, R> {
         match number {
             2 => &mut self.two,
@@ -45,7 +45,7 @@ impl<'s, R: Wait> Two<'s, R> {
         }
     }
 
-    // Which turn comes to something else, if there is one.
+    // Returns the index of the first turn with a wrong outcome, if there is one.
     fn first_wrong(&mut self, turns: &[Turn]) -> Option<usize> {
         for (at, (number, statement, wanted)) in turns.iter().enumerate() {
             if self.take(*number, statement) != Some(*wanted) {
@@ -64,7 +64,7 @@ impl<'s, R: Wait + Drop> Two<'s, R> {
     }
 }
 
-// Adds the statements of turns, as lines of a script: whether there was memory for them.
+// Adds the statements of turns, as lines of a script. Whether there was memory for them.
 fn add_lines(text: &mut String, turns: &[Turn]) -> bool {
     for (number, statement, _) in turns {
         if *statement != GOES_ON && writeln!(text, "{number} {statement}").is_err() {
@@ -74,7 +74,7 @@ fn add_lines(text: &mut String, turns: &[Turn]) -> bool {
     true
 }
 
-// Which turn of the two sessions of a space comes to something else, if one does.
+// Returns the index of the first turn with a wrong outcome, by the two sessions of a new space, if there is one.
 fn first_wrong<R: Wait + Abort + AllocGlobal>(rt: &R, turns: &[Turn]) -> Option<usize> {
     let mut text = String::new(rt.alloc());
     if add_lines(&mut text, turns) {
@@ -84,7 +84,7 @@ fn first_wrong<R: Wait + Abort + AllocGlobal>(rt: &R, turns: &[Turn]) -> Option<
     }
 }
 
-// The same, of a script.
+// The same for a script.
 fn first_wrong_of_text<R: Wait + Abort + AllocGlobal>(
     rt: &R,
     text: &[u8],
@@ -96,7 +96,7 @@ fn first_wrong_of_text<R: Wait + Abort + AllocGlobal>(
     }
 }
 
-// The same, of lines that are read.
+// The same for lines that are parsed.
 fn first_wrong_of_lines<R: Wait + Abort + AllocGlobal>(
     rt: &R,
     lines: &[Line],
@@ -114,7 +114,7 @@ fn first_wrong_of_lines<R: Wait + Abort + AllocGlobal>(
     wrong
 }
 
-// Tables come, change and go.
+// Tables are created, changed and dropped.
 const TABLES: &[Turn] = &[
     (1, "SELECT a", Fails(1146)),
     (1, "CREATE TABLE a x", Fails(1049)),
@@ -141,7 +141,7 @@ const TABLES: &[Turn] = &[
     (1, "SELECT a", Fails(1146)),
 ];
 
-// Tables are locked, and all writes are.
+// Tables are locked, and then all writes are blocked.
 const LOCKS: &[Turn] = &[
     (1, "CREATE SCHEMA test", Done),
     (1, "CREATE TABLE a x", Done),
@@ -160,7 +160,7 @@ const LOCKS: &[Turn] = &[
     (1, "INSERT a", Done),
 ];
 
-// Transactions begin, go back and end. The last one is open as the session ends.
+// Transactions begin, roll back and end. The last one is open when the session ends.
 const TRANSACTIONS: &[Turn] = &[
     (1, "CREATE SCHEMA test", Done),
     (1, "CREATE TABLE a x", Done),
@@ -177,14 +177,14 @@ const TRANSACTIONS: &[Turn] = &[
     (1, "ROLLBACK", Done),
     (1, "BEGIN", Done),
     (1, "SELECT a b", Reads(1, 1)),
-    // It commits before.
+    // It commits first.
     (1, "DROP TABLE a b", Done),
     (1, "SELECT b", Fails(1146)),
     (1, "BEGIN", Done),
     (1, "SELECT b", Fails(1146)),
 ];
 
-// User-level locks are got and released. One of them is held as the session ends.
+// User-level locks are got and released. One of them is held when the session ends.
 const USER_LOCKS: &[Turn] = &[
     (1, "RELEASE_LOCK a", Null),
     (1, "GET_LOCK a", Says(true)),
@@ -203,7 +203,7 @@ const USER_LOCKS: &[Turn] = &[
     (1, "GET_LOCK a", Says(true)),
 ];
 
-// A change of a table waits for the transaction that reads it, and goes on once that ends.
+// A change of a table waits for the transaction that reads it, and continues once that ends.
 const ALTERED: &[Turn] = &[
     (1, "CREATE SCHEMA test", Done),
     (1, "CREATE TABLE t x", Done),
@@ -211,7 +211,7 @@ const ALTERED: &[Turn] = &[
     (1, "SELECT t", Reads(1, 1)),
     (2, "ALTER TABLE t ADD y COPY", Waits),
     (2, GOES_ON, Pending),
-    // Who waits says nothing else, and who doesn't has nothing to go on with.
+    // A session that waits starts nothing else, and one that doesn't has nothing to continue.
     (1, GOES_ON, OutOfTurn),
     (2, "COMMIT", OutOfTurn),
     (1, "SELECT t", Reads(1, 1)),
@@ -226,7 +226,7 @@ const ALTERED: &[Turn] = &[
     (1, "SELECT t", Reads(3, 1)),
 ];
 
-// Each waits for the other, and reading weighs less than dropping. The victim's transaction is gone, and the drop goes on.
+// Each waits for the other, and reading weighs less than dropping. The victim's transaction is ended, and the drop continues.
 const CROSSED: &[Turn] = &[
     (1, "CREATE SCHEMA test", Done),
     (1, "CREATE TABLE a x", Done),
@@ -240,7 +240,7 @@ const CROSSED: &[Turn] = &[
     (1, "SELECT a", Fails(1146)),
 ];
 
-// A statement is killed as it waits, and does nothing.
+// A statement is killed while it waits, and does nothing.
 const KILLED: &[Turn] = &[
     (1, "CREATE SCHEMA test", Done),
     (1, "CREATE TABLE t x", Done),
@@ -256,7 +256,7 @@ const KILLED: &[Turn] = &[
     (2, "DROP TABLE t", Done),
 ];
 
-// Both sessions are ended, one in a transaction and one as it waits. All that they have is given up.
+// Both sessions are closed, one in a transaction and one while it waits. All that they have is released.
 const LEFT: &[Turn] = &[
     (1, "CREATE SCHEMA test", Done),
     (1, "CREATE TABLE t x", Done),

@@ -8,7 +8,7 @@ const FREE: Answer = Answer::Lock(Word(0));
 
 const OBTRUDED: Answer = Answer::Obtruded(Word(0x3000_0000_0000_0000));
 
-// A wait for X keeps new fast tickets away, and is granted once the session that released the last one looks at the place.
+// A wait for X keeps new fast tickets away, and is granted once the session that released the last one reschedules the place.
 const WAITED_FOR: &[Row] = &[
     (1, Deed::TryFast(Mode::SR), Answer::Granted),
     (1, Deed::LockWord, Answer::Lock(Word(0x0000_0000_0010_0000))),
@@ -50,7 +50,7 @@ const KILLED: &[Row] = &[
     (1, Deed::LockWord, FREE),
 ];
 
-// Where no ticket is listed, nobody can wait for the one that goes.
+// If no ticket is listed, no session can wait for the one that is released.
 const ALONE: &[Row] = &[
     (1, Deed::TryFast(Mode::SW), Answer::Granted),
     (1, Deed::LockWord, Answer::Lock(Word(0x0000_0100_0000_0000))),
@@ -59,7 +59,8 @@ const ALONE: &[Row] = &[
     (1, Deed::ReleaseFast, Answer::Refused),
 ];
 
-// A listed ticket in a mode that isn't obtrusive leaves the fast path open. Whoever releases a fast ticket beside it can't know that nobody waits.
+// A listed ticket in a mode that isn't obtrusive leaves the fast path open. A session that releases a fast ticket beside it can't know that none
+// waits.
 const BESIDE_LISTED: &[Row] = &[
     (2, Deed::TryNow(Mode::SW), Answer::Granted),
     (1, Deed::LockWord, Answer::Lock(Word(0x1000_0000_0000_0000))),

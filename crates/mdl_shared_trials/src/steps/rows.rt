@@ -1,4 +1,4 @@
-//! Rows of what sessions do at the place of one key, and what comes of it.
+//! Rows of what sessions do at the place of one key, and the answers.
 use crate::rows::none_is_wrong;
 use crate::steps::visitors::Visitor;
 use crate::steps::{fast_tickets, words};
@@ -27,7 +27,7 @@ pub(crate) enum Deed {
     Settle(u16, u64, Loss),
 }
 
-/// What comes of it.
+/// The answer to a deed.
 #[derive(Clone, Copy, PartialEq)]
 pub(crate) enum Answer {
     Granted,
@@ -35,12 +35,12 @@ pub(crate) enum Answer {
     /// It waits, and its wait has this number.
     Waiting(u64),
     Done,
-    /// Its wait was lost so.
+    /// Its wait was lost, and had this state.
     Lost(u64),
-    /// A fast ticket isn't granted beside what the lock's word tells.
+    /// A fast ticket isn't granted beside what the lock's word shows.
     Obtruded(Word),
     Contended(Word),
-    /// Its fast ticket is given up. Whether it owes the place a reschedule.
+    /// Its fast ticket is released. Whether it owes the place a reschedule.
     Owes(bool),
     /// The word of the lock.
     Lock(Word),
@@ -50,7 +50,7 @@ pub(crate) enum Answer {
     Refused,
 }
 
-/// A session's number, 1 to 3, what it does, and what is to come of it.
+/// A session's number, 1 to 3, what it does, and the right answer.
 pub(crate) type Row = (u16, Deed, Answer);
 
 /// What rows show, and the rows.
@@ -65,7 +65,7 @@ struct Visitors {
 }
 
 impl Visitors {
-    // The one of a number.
+    // Returns the session of a number.
     fn visitor(&mut self, number: u16) -> &mut Visitor {
         match number {
             3 => &mut self.three,
@@ -74,7 +74,7 @@ impl Visitors {
         }
     }
 
-    // Which row comes to something else, if there is one.
+    // Returns the index of the first row with a wrong answer, if there is one.
     fn first_wrong<R: Wait>(&mut self, rt: &R, rows: &[Row]) -> Option<usize> {
         for (at, (number, deed, wanted)) in rows.iter().enumerate() {
             if self.visitor(*number).act(rt, *deed) != *wanted {
@@ -85,7 +85,7 @@ impl Visitors {
     }
 }
 
-// They come there, and have done nothing else.
+// Returns three sessions at the place of one key, which have done nothing else.
 fn come<R: Wait + Abort + AllocGlobal>(rt: &R) -> Result<Visitors, Fail> {
     let alloc = rt.alloc();
     let sales = Key::table(alloc, "shop", "sales")?;
@@ -100,7 +100,7 @@ fn come<R: Wait + Abort + AllocGlobal>(rt: &R) -> Result<Visitors, Fail> {
     }
 }
 
-// The rows of each case are right of three sessions.
+// Makes the rows of each case, by three new sessions, and fails the test if an answer is wrong.
 fn are_right<R: Wait + Abort + AllocGlobal>(rt: &R, cases: &[Case]) -> Result<(), Fail> {
     for (shown, rows) in cases {
         let mut visitors = come(rt)?;
@@ -117,7 +117,7 @@ fn words_tell_of_tickets_and_waits(rt: HostRuntime) -> Result<(), Fail> {
     are_right(&rt, fast_tickets::CASES)
 }
 
-// A fast ticket comes and goes while another session holds the latch of the place, so it takes none.
+// A fast ticket is gained and released while another session holds the latch of the place, so it takes no latch.
 #[test]
 fn a_fast_ticket_needs_no_latch(rt: HostRuntime) -> Result<(), Fail> {
     let Visitors {

@@ -8,7 +8,7 @@ use std::sync::Arc;
 use std::test::Fail;
 use std::thread;
 
-// Whether a session saw nobody at a place each time that it came in, of so many visits.
+// Whether a session found no ticket at a place each time that it got the latch, in `visits` visits.
 fn saw_nobody(mut seat: TableSeat, place: usize, visits: u32) -> bool
     requires place { IsPlace seat.table place }
     requires idle { seat.me.0.latches ≡ [] }
@@ -20,7 +20,7 @@ fn saw_nobody(mut seat: TableSeat, place: usize, visits: u32) -> bool
     nobody
 }
 
-// Flags that one raises under the latch are down again before the other comes in.
+// Flags that one session raises under the latch are down again before the other gets the latch.
 #[test]
 fn two_threads_take_one_latch(rt: HostRuntime) -> Result<(), Fail> {
     let (table, mut maker) = Maker::of_places(rt.alloc(), 1, 2)?;

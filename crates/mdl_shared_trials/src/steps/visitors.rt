@@ -45,7 +45,7 @@ pub(crate) struct Visitor {
 }
 
 impl Visitor {
-    /// The session of the next seat, once it has looked the key up. It has done nothing else yet.
+    /// Returns the session of the next seat, which has looked up the key and done nothing else yet.
     pub(crate) fn come<R: Wait>(
         rt: &R,
         alloc: Global,
@@ -71,7 +71,7 @@ impl Visitor {
         })
     }
 
-    /// Does something there, and tells what comes of it.
+    /// Does something there, and returns the answer.
     pub(crate) fn act<R: Wait>(&mut self, rt: &R, deed: Deed) -> Answer {
         match deed {
             Deed::TryNow(mode) => self.try_now(rt, mode),
@@ -87,7 +87,7 @@ impl Visitor {
         }
     }
 
-    // The word of a session's wait.
+    // Reads the word of a session's wait.
     fn wait_word(&mut self, session: u16) -> Answer {
         if !self.seat.has_session(session) {
             return Answer::Refused;
@@ -95,7 +95,7 @@ impl Visitor {
         Answer::Wait(self.seat.read_wait(session))
     }
 
-    // Settles a wait as lost so, where it is unsettled, and tells the word that it met.
+    // Settles a wait as lost so, if it is unsettled, and returns the word that it met.
     fn settle(&mut self, session: u16, wait: u64, how: Loss) -> Answer {
         if !self.seat.has_session(session) || wait > MOST_NUMBERS {
             return Answer::Refused;
@@ -103,7 +103,7 @@ impl Visitor {
         Answer::Wait(self.seat.settle_wait(session, wait, how))
     }
 
-    // Whether it may ask for a ticket in a mode: it has none, waits for none, and has a number for it.
+    // Whether it may request a ticket in a mode: the key has the mode, and the session has no ticket, waits for none, and has numbers left.
     fn may_ask(&self, mode: Mode) -> bool
         ensures { result ≡ true → (self.now.asks ≡ None) × (self.now.slow ≡ None) × (self.now.fast ≡ None) × (self.now.next < 2 ^ 60)
             × (self.now.waits + 1 < 2 ^ 60) × (is_mode_of self.now.kind mode ≡ true) }
@@ -116,7 +116,7 @@ impl Visitor {
             && self.kind.has_mode(mode)
     }
 
-    // Asks for a ticket, without waiting.
+    // Requests a ticket, without waiting.
     fn try_now<R: Wait>(&mut self, rt: &R, mode: Mode) -> Answer {
         if !self.may_ask(mode) {
             return Answer::Refused;
@@ -138,7 +138,7 @@ impl Visitor {
         }
     }
 
-    // Asks for a ticket, and begins to wait for it where it can't be had now.
+    // Requests a ticket, and begins to wait for it if it can't be granted now.
     fn begin_wait<R: Wait>(&mut self, rt: &R, mode: Mode) -> Answer {
         if !self.may_ask(mode) {
             return Answer::Refused;
@@ -169,7 +169,7 @@ impl Visitor {
         }
     }
 
-    // Gives its slow ticket up, while it waits for none.
+    // Releases its slow ticket, unless it waits for one.
     fn release<R: Wait>(&mut self, rt: &R) -> Answer {
         let Some(ticket) = self.slow else {
             return Answer::Refused;
@@ -190,7 +190,7 @@ impl Visitor {
         self.slow = None;
     }
 
-    // Ends its wait, where it is settled.
+    // Ends its wait, if it is settled.
     fn end_wait<R: Wait>(&mut self, rt: &R) -> Answer {
         let Some(ask) = self.asks else {
             return Answer::Refused;
@@ -232,7 +232,7 @@ impl Visitor {
         self.asks = None;
     }
 
-    // Gives its lost wait up.
+    // Ends its lost wait.
     fn give_up<R: Wait>(&mut self, rt: &R, ask: Ask)
         requires asks { self.old.asks ≡ Some ask }
         requires lost { (state : ℕ) × (self.old.seat.me.0.told ≡ Some state) × IsLost state }
@@ -243,7 +243,7 @@ impl Visitor {
         self.asks = None;
     }
 
-    // Tries for a fast ticket. Nothing is done where tickets in this mode aren't counted.
+    // Tries for a fast ticket. Does nothing if tickets in this mode aren't counted.
     fn try_fast(&mut self, mode: Mode) -> Answer {
         if !self.may_ask(mode) {
             return Answer::Refused;
@@ -268,7 +268,7 @@ impl Visitor {
         }
     }
 
-    // Gives its fast ticket up, and tells whether waits there may have become grantable.
+    // Releases its fast ticket, and returns whether waits there may have become grantable.
     fn release_fast(&mut self) -> Answer {
         let Some(ticket) = self.fast else {
             return Answer::Refused;
@@ -290,7 +290,8 @@ impl Visitor {
         Answer::Done
     }
 
-    /// Whether another session's fast ticket comes and goes while this one holds the latch of the place, if it gets that.
+    /// Whether another session gains and releases a fast ticket while this one holds the latch of the place, or `None` if it doesn't get the
+    /// latch.
     pub(crate) fn lets_by(self, other: &mut Visitor) -> Option<bool> {
         let Visitor {
             mut seat,

@@ -6,7 +6,7 @@ use mdl_book::Needs;
 use mdl_steps::TableSeat;
 use mdl_word::Word;
 
-// Whether nobody has a ticket: the book's lists ask for no flag, and the word has both while they are raised and nothing after that.
+// Whether no session has a ticket: the book's lists need no flag, and the word has both flags while they are raised and is 0 after that.
 fn is_empty(needs: Needs, raised: Word, lowered: Word) -> bool {
     !needs.obtrusive
         && !needs.slow
@@ -14,8 +14,8 @@ fn is_empty(needs: Needs, raised: Word, lowered: Word) -> bool {
         && lowered == Word(0)
 }
 
-/// Takes the latch of a place, looks round there with all flags raised, and gives the latch back: whether nobody has a ticket. Nothing, where the latch
-/// is taken.
+/// Takes the latch of a place, reads the word there with all flags raised and with those that are needed, and gives the latch back. Whether no
+/// session has a ticket, or `None` if the latch is taken.
 pub(crate) fn visit(seat: &mut TableSeat, place: usize) -> Option<bool>
     requires place { IsPlace seat.old.table place }
     requires idle { seat.old.me.0.latches ≡ [] }

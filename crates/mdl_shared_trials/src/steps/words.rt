@@ -25,7 +25,7 @@ const GRANTED: &[Row] = &[
     (2, Deed::LockWord, FREE),
 ];
 
-// A kill is seen in the word of the wait that it hits, and a late one leaves the word of the next wait as it is.
+// A kill is seen in the word of the wait that it hits, and a late one leaves the word of the next wait unchanged.
 const KILLED: &[Row] = &[
     (1, Deed::TryNow(Mode::X), Answer::Granted),
     (2, Deed::BeginWait(Mode::SR), Answer::Waiting(1)),
@@ -71,7 +71,7 @@ const KILLED: &[Row] = &[
     (2, Deed::WaitWord(2), Answer::Wait(WaitWord(16))),
 ];
 
-// The ticket of a lost wait still stands against others, with its flags, until the wait is ended.
+// The ticket of a lost wait still blocks others, with its flags, until the wait is ended.
 const LOST: &[Row] = &[
     (1, Deed::TryNow(Mode::SR), Answer::Granted),
     (2, Deed::BeginWait(Mode::X), Answer::Waiting(1)),

@@ -1,4 +1,4 @@
-//! Numbers that look like chance, and are the same in each run.
+//! Pseudo-random numbers, the same in each run.
 ghost use Rattle.std.specs.Prelude.{◌<◌};
 
 use crate::by_chance::plain::Plain;
@@ -7,7 +7,7 @@ use crate::hall::SESSIONS;
 use mdl_key::{Duration, Kind, Mode};
 use mdl_space::TicketId;
 
-// What is asked for, some of it more often than others.
+// What is drawn, some of it more often than the rest.
 const OBJECT_MODES: [Mode; 16] = [
     Mode::S,
     Mode::SH,
@@ -49,12 +49,12 @@ const DURATIONS: [Duration; 8] = [
     Duration::Explicit,
 ];
 
-/// The next of them follows from the last.
+/// A sequence in which each number follows from the last.
 #[derive(Clone, Copy)]
 pub(crate) struct Chance(pub(crate) u64);
 
 impl Chance {
-    /// A number below this one.
+    /// Draws a number below this one.
     pub(crate) fn draw(&mut self, below: u16) -> u16
         requires { 0 < below }
         ensures { result < below }
@@ -66,7 +66,7 @@ impl Chance {
         ((self.0 >> 33) % u64::from(below)) as u16
     }
 
-    /// Some lock.
+    /// Draws a lock.
     pub(crate) fn draw_lock(&mut self) -> Lock {
         match self.draw(10) {
             0..=3 => Lock::A,
@@ -78,7 +78,7 @@ impl Chance {
         }
     }
 
-    /// A wish for some lock, mostly in one of its modes.
+    /// Draws a request for a lock, mostly in one of its modes.
     pub(crate) fn draw_acquire(&mut self) -> Act {
         let lock = self.draw_lock();
         let mode = match lock.kind() {
@@ -88,7 +88,7 @@ impl Chance {
         Act::Acquire(lock, mode, DURATIONS[usize::from(self.draw(8))])
     }
 
-    /// The number of some ticket that the session holds, or at times any number.
+    /// Draws the number of a ticket that the session holds, or at times any number.
     pub(crate) fn draw_id(&mut self, plain: &Plain, who: u16) -> TicketId {
         let at = self.draw(6);
         if self.draw(8) == 0 {
@@ -100,7 +100,7 @@ impl Chance {
         }
     }
 
-    /// A kill of some session's wait, or at times of the one before.
+    /// Draws a kill of some session's wait, or at times of the wait before.
     pub(crate) fn draw_kill(&mut self, plain: &Plain) -> Act {
         let target = self.draw(SESSIONS) + 1;
         let number = match plain.wait(target) {
@@ -114,7 +114,7 @@ impl Chance {
         }
     }
 
-    /// Up to so many, or at times one more.
+    /// Draws a number up to `most`, or at times one more.
     pub(crate) fn draw_up_to(&mut self, most: usize) -> usize {
         let some = usize::from(self.draw(8));
         if self.draw(16) == 0 {

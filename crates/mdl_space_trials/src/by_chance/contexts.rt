@@ -1,4 +1,4 @@
-//! Ten thousand calls by chance, after each of which contexts stand where the plain program does.
+//! Ten thousand random calls, after each of which the contexts keep what the plain program does.
 use crate::by_chance::chance::Chance;
 use crate::by_chance::plain::{Plain, Seen};
 use crate::contexts::acts::Act;
@@ -8,14 +8,14 @@ use std::alloc::Global;
 // One fewer than there are locks.
 const PLACES: u16 = 5;
 
-// The plain program beside which contexts are tried, and what is drawn for them.
+// The plain program that contexts are compared with, and the source of random calls.
 #[derive(Drop)]
 struct Trial {
     plain: Plain,
     chance: Chance,
 }
 
-// The number of some call. Whoever waits mostly sees to its wait.
+// Draws the number of a call. A session that waits mostly gets a call for its wait.
 fn draw_call(trial: &mut Trial, who: u16) -> u16 {
     if trial.plain.wait(who).is_some() {
         match trial.chance.draw(8) {
@@ -27,7 +27,7 @@ fn draw_call(trial: &mut Trial, who: u16) -> u16 {
     trial.chance.draw(63)
 }
 
-// Some call.
+// Draws a call.
 fn draw_act(trial: &mut Trial, who: u16) -> Act {
     match draw_call(trial, who) {
         0..=33 => trial.chance.draw_acquire(),
@@ -48,7 +48,7 @@ fn draw_act(trial: &mut Trial, who: u16) -> Act {
     }
 }
 
-// Some context makes some call: whether it answers as the plain one, and then all stand alike.
+// A random context makes a random call. Whether it answers as the plain program does, and then all sessions hold the same.
 fn acts_alike(hall: &mut Hall, trial: &mut Trial) -> bool {
     let who = trial.chance.draw(SESSIONS) + 1;
     let act = draw_act(trial, who);
@@ -56,8 +56,8 @@ fn acts_alike(hall: &mut Hall, trial: &mut Trial) -> bool {
     wanted.is_some() && hall.make(who, act) == wanted && hall.stands_as(&trial.plain)
 }
 
-// Whether it came in earnest to waits that were granted, given up, killed and lost by victims, to marks that were stale, and to
-// tickets that were used again and cloned.
+// Whether the calls led often enough to waits that were granted, given up, killed and lost by victims, to stale marks, and to tickets that were
+// reused and cloned.
 fn are_met(seen: Seen) -> bool {
     seen.granted >= 100
         && seen.timed_out >= 100
@@ -70,8 +70,8 @@ fn are_met(seen: Seen) -> bool {
 
 const CALLS: u32 = 10_000;
 
-// The first call that contexts and the plain program answer apart, or after which they don't stand alike. It is the one behind the
-// last where too little was met.
+// Returns the index of the first call after which contexts and the plain program differ, in the answer or in what sessions hold. It is the index
+// after the last call if too little was met.
 fn first_apart(hall: &mut Hall, trial: &mut Trial) -> Option<u32> {
     for call in 0..CALLS {
         if !acts_alike(hall, trial) {
@@ -85,7 +85,7 @@ fn first_apart(hall: &mut Hall, trial: &mut Trial) -> Option<u32> {
     }
 }
 
-// The same of new contexts beside a new plain program.
+// The same for new contexts and a new plain program.
 fn first_apart_of_new(alloc: Global) -> Option<u32> {
     let mut trial = Trial {
         plain: Plain::new(alloc, usize::from(PLACES)),

@@ -1,5 +1,5 @@
-//! A lock space once more, with the contexts of its sessions, as slow and as plain as can be: one list of all tickets, in the order
-//! in which they came, and one of the sessions with their waits. Whatever is asked, the lists are read from end to end.
+//! A second lock space with the contexts of its sessions, as slow and as plain as can be: one list of all tickets, in order of arrival, and one of
+//! the sessions with their waits. Each call reads the lists from end to end.
 mod contexts;
 mod deadlocks;
 mod granting;
@@ -10,8 +10,7 @@ use mdl_key::{Duration, Mode};
 use mdl_space::{Settled, TicketId};
 use std::alloc::Global;
 
-/// A ticket, granted or waiting, or a wish for one, which has no number yet. A granted ticket is held, unless the wait for it isn't
-/// ended.
+/// A granted or waiting ticket, or a request, which has no number yet. A granted ticket is held, unless its wait isn't ended.
 #[derive(Clone, Copy)]
 struct Ticket {
     session: u16,
@@ -22,7 +21,7 @@ struct Ticket {
     is_granted: bool,
 }
 
-/// A wait that isn't ended, and the number of the ticket that it is for.
+/// A wait that isn't ended, with the number of its ticket.
 #[derive(Clone, Copy)]
 pub(crate) struct Wait {
     pub(crate) number: u64,
@@ -30,7 +29,7 @@ pub(crate) struct Wait {
     settled: Option<Settled>,
 }
 
-// A session: the numbers that it has used, and its wait.
+// A session: how many numbers of tickets and of waits it has used, and its wait.
 #[derive(Clone, Copy)]
 struct Seat {
     session: u16,
@@ -39,7 +38,7 @@ struct Seat {
     wait: Option<Wait>,
 }
 
-/// How often it came to what only some calls come to.
+/// How often each of the rarer outcomes came.
 #[derive(Clone, Copy)]
 pub(crate) struct Seen {
     pub(crate) granted: u64,
@@ -51,7 +50,7 @@ pub(crate) struct Seen {
     pub(crate) stale: u64,
 }
 
-/// A space of so many places. Locks have them in the order in which they were first asked for.
+/// A space with a number of places. Locks get them in the order in which they are first requested.
 #[derive(Drop)]
 pub(crate) struct Plain {
     alloc: Global,
@@ -63,7 +62,7 @@ pub(crate) struct Plain {
 }
 
 impl Plain {
-    /// Nobody has asked for anything.
+    /// Creates a space in which no session has asked for anything.
     pub(crate) fn new(alloc: Global, places: usize) -> Plain {
         let first = Seat {
             session: 1,

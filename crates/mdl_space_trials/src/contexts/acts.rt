@@ -1,4 +1,4 @@
-//! Acts and replies: by these all tests call a context.
+//! Acts and replies, by which all tests call a context.
 ghost use Rattle.std.specs.Prelude.{◌≡◌};
 ghost use Rattle.mdl_context.specs.Contexts.{Attends, LeavesOthers};
 
@@ -7,7 +7,7 @@ use mdl_key::{Duration, Key, KeyError, Kind, Mode};
 use mdl_space::{LockSpace, SpaceError, TicketId};
 use std::alloc::Global;
 
-/// What may be locked.
+/// What can be locked.
 #[derive(Clone, Copy, PartialEq, Eq)]
 pub(crate) enum Lock {
     A,
@@ -16,12 +16,12 @@ pub(crate) enum Lock {
     Global,
     Commit,
     User,
-    // A table that is named by its number.
+    // A table named by its number.
     Numbered(u16),
 }
 
 impl Lock {
-    /// Its kind.
+    /// The lock's kind.
     pub(crate) fn kind(self) -> Kind {
         match self {
             Lock::A | Lock::B | Lock::User | Lock::Numbered(_) => Kind::Object,
@@ -29,7 +29,7 @@ impl Lock {
         }
     }
 
-    /// Its key.
+    /// The lock's key.
     pub(crate) fn key(self, alloc: Global) -> Result<Key, KeyError> {
         match self {
             Lock::A => Key::table(alloc, "test", "a"),
@@ -50,7 +50,7 @@ fn numbered_key(alloc: Global, number: u16) -> Result<Key, KeyError> {
     }
 }
 
-/// What a session may do, or anyone to the wait of a session.
+/// A call of a session's context, or a kill of a session's wait.
 #[derive(Clone, Copy)]
 pub(crate) enum Act {
     Acquire(Lock, Mode, Duration),
@@ -62,7 +62,7 @@ pub(crate) enum Act {
     Release(TicketId),
     ReleaseName(Lock),
     Mark,
-    // To a mark of so many tickets of the statement and of the transaction.
+    // Goes back to a mark with these numbers of tickets of the statement and of the transaction.
     GoBack(usize, usize),
     EndStatement,
     EndTransaction,
@@ -73,7 +73,7 @@ pub(crate) enum Act {
     Kill(u16, u64),
 }
 
-/// What comes of it.
+/// The outcome of an act.
 #[derive(Clone, Copy, PartialEq, Eq)]
 pub(crate) enum Reply {
     Acquired(TicketId),
@@ -88,7 +88,7 @@ pub(crate) enum Reply {
     Refused(ContextError),
 }
 
-/// What an answer without a value says.
+/// Returns the reply for an answer without a value.
 pub(crate) fn done(answer: Result<(), ContextError>) -> Reply {
     match answer {
         Ok(()) => Reply::Done,
@@ -96,7 +96,7 @@ pub(crate) fn done(answer: Result<(), ContextError>) -> Reply {
     }
 }
 
-/// What the answer to a wish says, unless no memory was found.
+/// Returns the reply for the answer to a request. None if memory ran out.
 pub(crate) fn acquired(answer: Result<Acquire, ContextError>) -> Option<Reply> {
     match answer {
         Ok(Acquire::Acquired(id)) => Some(Reply::Acquired(id)),
@@ -106,7 +106,7 @@ pub(crate) fn acquired(answer: Result<Acquire, ContextError>) -> Option<Reply> {
     }
 }
 
-// What the answer to a wish says that isn't waited for, unless no memory was found.
+// Returns the reply for the answer to a request that doesn't wait. None if memory ran out.
 fn tried(answer: Result<Tried, ContextError>) -> Option<Reply> {
     match answer {
         Ok(Tried::Acquired(id)) => Some(Reply::Acquired(id)),
@@ -116,7 +116,7 @@ fn tried(answer: Result<Tried, ContextError>) -> Option<Reply> {
     }
 }
 
-/// What the answer of a wait says, unless no memory was found.
+/// Returns the reply for the answer of a wait. None if memory ran out.
 pub(crate) fn resumed(answer: Result<Resume, ContextError>) -> Option<Reply> {
     match answer {
         Ok(how) => Some(Reply::Resumed(how)),
@@ -125,7 +125,7 @@ pub(crate) fn resumed(answer: Result<Resume, ContextError>) -> Option<Reply> {
     }
 }
 
-// What the session finds in its context, unless no memory is found.
+// Returns what the session reads in its context. None if memory ran out.
 fn look<S: LockSpace>(alloc: Global, context: &Context<S>, act: Act) -> Option<Reply> {
     match act {
         Act::Last(lock) => match lock.key(alloc) {
@@ -144,7 +144,7 @@ fn look<S: LockSpace>(alloc: Global, context: &Context<S>, act: Act) -> Option<R
     }
 }
 
-// Asks for a lock by its key, or gives it up by its key.
+// Requests a lock by its key, or releases it by its key.
 fn ask<S: LockSpace>(space: &mut S, context: &mut Context<S>, key: &Key, act: Act) -> Option<Reply>
     requires { Attends S.LockSpace space.old context.old }
     ensures attends { Attends S.LockSpace space.new context.new }
@@ -172,7 +172,7 @@ fn ask<S: LockSpace>(space: &mut S, context: &mut Context<S>, key: &Key, act: Ac
     }
 }
 
-// Gives tickets up, or gives them a weaker mode or another duration.
+// Releases tickets, or gives them a weaker mode or another duration.
 fn give_up<S: LockSpace>(
     space: &mut S,
     context: &mut Context<S>,
@@ -200,7 +200,7 @@ fn give_up<S: LockSpace>(
     }
 }
 
-/// Does it, unless no memory is found.
+/// Performs an act. None if memory ran out.
 pub(crate) fn make<S: LockSpace>(
     alloc: Global,
     space: &mut S,

@@ -1,4 +1,4 @@
-//! Deadlocks, and who is the victim.
+//! Deadlocks and their victims.
 use crate::contexts::acts::{Act, Lock, Reply};
 use crate::contexts::rows::{Row, Story};
 use mdl_context::Resume;
@@ -26,7 +26,7 @@ const EQUALS: &[Row] = &[
     (1, Act::Resume, STILL_WAITING),
     (2, LOCK_A, Reply::MustWait(1)),
     (2, Act::Resume, VICTIM),
-    // It keeps what it has.
+    // The victim keeps its tickets.
     (2, READ_B, Reply::Acquired(1)),
     (1, Act::Resume, STILL_WAITING),
     (2, Act::EndTransaction, Reply::Done),
@@ -45,7 +45,7 @@ const LIGHTER: &[Row] = &[
     (2, Act::Resume, HAS_SECOND),
 ];
 
-// The first is the victim only where the second wishes in GLOBAL.
+// The first session is the victim only if the second one's request is for GLOBAL.
 const WEAK_IN_GLOBAL: &[Row] = &[
     (
         1,
@@ -111,7 +111,7 @@ const TWO_CIRCLES: &[Row] = &[
     (1, READ_B, Reply::MustWait(1)),
     (2, READ_B, Reply::MustWait(1)),
     (3, LOCK_A, Reply::MustWait(1)),
-    // Each has its victim, and neither is the third session.
+    // Each cycle has its victim, and neither is the third session.
     (1, Act::Resume, VICTIM),
     (2, Act::Resume, VICTIM),
     (3, Act::Resume, STILL_WAITING),
@@ -121,7 +121,7 @@ const TWO_CIRCLES: &[Row] = &[
     (3, Act::Resume, HAS_SECOND),
 ];
 
-/// Memory may be refused once to these.
+/// Memory may be refused once in these stories.
 pub(super) const STORIES_OF_TWO: &[Story] = &[
     ("of equals the greater number is the victim", EQUALS),
     ("whoever weighs less is the victim", LIGHTER),

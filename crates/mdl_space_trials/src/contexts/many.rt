@@ -1,14 +1,14 @@
-//! Many tickets at many places: a context that is asked for more than a few still finds room.
+//! Many tickets at many places: a context has room for more than a few.
 use crate::contexts::acts::{Act, Lock, Reply};
 use crate::contexts::rows::{Row, first_wrong_in};
 use crate::hall::Hall;
 use mdl_key::{Duration, Mode};
 use mdl_space::TicketId;
 
-// How many tables are locked: as many as a space has places.
+// How many tables are locked: the number of places in the space.
 const TABLES: u16 = 256;
 
-// Whether a wish of the second session for each table gains the next ticket, beginning with this one.
+// Whether a request of the second session for each table gets the next ticket, beginning with this one.
 fn gains_all(hall: &mut Hall, duration: Duration, first: TicketId) -> bool {
     for number in 0..TABLES {
         let wish = Act::Acquire(Lock::Numbered(number), Mode::SR, duration);
@@ -20,7 +20,7 @@ fn gains_all(hall: &mut Hall, duration: Duration, first: TicketId) -> bool {
     true
 }
 
-// The end of the transaction leaves the explicit ones.
+// The end of the transaction leaves the explicit tickets.
 const ENDED: &[Row] = &[
     (2, Act::Mark, Reply::Stands(256, 256)),
     (2, Act::EndTransaction, Reply::Done),
@@ -29,7 +29,7 @@ const ENDED: &[Row] = &[
     (2, Act::Mark, Reply::Stands(0, 512)),
 ];
 
-// New tickets, tickets used again, and clones: how long they last, and the first of them.
+// New tickets, reused tickets, and clones: their duration, and the number of the first.
 const GAINS: &[(Duration, TicketId)] = &[
     (Duration::Statement, 1),
     (Duration::Statement, 1),

@@ -20,7 +20,7 @@ const WANTED: &[Row] = &[
         Act::Acquire(Lock::A, Mode::SR, Duration::Transaction),
         Reply::Acquired(1),
     ),
-    // No explicit ticket is used again.
+    // Explicit tickets aren't reused.
     (
         1,
         Act::Acquire(Lock::A, Mode::SR, Duration::Explicit),
@@ -62,7 +62,7 @@ const CHANGED: &[Row] = &[
         Act::Acquire(Lock::B, Mode::SR, Duration::Transaction),
         Reply::Acquired(2),
     ),
-    // What is made explicit before its statement ends outlives it, and its transaction.
+    // A ticket made explicit before its statement ends outlives the statement and the transaction.
     (1, Act::MakeExplicit, Reply::Done),
     (1, Act::EndStatement, Reply::Done),
     (1, Act::EndTransaction, Reply::Done),
@@ -78,7 +78,7 @@ const CHANGED: &[Row] = &[
     (1, Act::Release(1), Reply::Done),
     (1, Act::EndTransaction, Reply::Done),
     (1, Act::Release(2), NOT_HELD),
-    // Tickets of the statement stay so.
+    // Tickets of the statement keep their duration.
     (
         1,
         Act::Acquire(Lock::B, Mode::SR, Duration::Statement),
@@ -100,7 +100,7 @@ const TWO_NUMBERS: &[Row] = &[
         Reply::Acquired(2),
     ),
     (1, Act::Mark, Reply::Stands(0, 2)),
-    // What was gained later moves up where an earlier one goes.
+    // Later tickets move up when an earlier one is released.
     (
         1,
         Act::Acquire(Lock::B, Mode::SW, Duration::Transaction),
@@ -115,13 +115,13 @@ const TWO_NUMBERS: &[Row] = &[
     (1, Act::GoBack(0, 2), Reply::Done),
     (1, Act::Release(4), NOT_HELD),
     (1, Act::Mark, Reply::Stands(0, 2)),
-    // To go back to where the session stands gives up nothing.
+    // Going back to the session's current mark releases nothing.
     (1, Act::GoBack(0, 2), Reply::Done),
     (1, Act::Release(3), Reply::Done),
     (1, Act::Release(2), Reply::Done),
 ];
 
-// A mark is stale where either number is too great.
+// A mark is stale if either number is too great.
 const TOO_GREAT: &[Row] = &[
     (
         1,

@@ -1,5 +1,4 @@
-//! Growths refused in turn: where an allocation fails once, neither the context nor the space has lost anything, and both go on.
-//! What gives up takes no memory.
+//! Refused growths: if an allocation fails once, neither the context nor the space loses anything, and both go on. Calls that release tickets take no memory.
 use crate::contexts::acts::{Act, Lock, Reply};
 use crate::contexts::rows::{Row, Story};
 use mdl_context::Resume;
@@ -26,7 +25,7 @@ const WRITE_B: Act = Act::Acquire(Lock::B, Mode::X, Duration::Transaction);
 
 const TRY_USER: Act = Act::TryAcquire(Lock::User, Mode::X, Duration::Explicit);
 
-// Tickets that are gained at once, waits that are given up, and what gives up, of each kind.
+// Tickets granted at once, waits that are given up, and releases of each kind.
 const GAINS_AND_WAITS: &[Row] = &[
     (2, READ_A, Reply::Acquired(1)),
     (
@@ -75,7 +74,7 @@ const GAINS_AND_WAITS: &[Row] = &[
     (2, Act::Mark, Reply::Stands(0, 0)),
 ];
 
-// First with another session in the way, and then without.
+// First with another session that blocks the upgrade, and then without.
 const UPGRADES: &[Row] = &[
     (
         2,
@@ -123,7 +122,7 @@ const TRIES: &[Row] = &[
     (2, Act::Mark, Reply::Stands(1, 1)),
 ];
 
-/// Memory may be refused once to these.
+/// Memory may be refused once in these stories.
 pub(super) const STORIES: &[Story] = &[
     ("gains and waits outlive it", GAINS_AND_WAITS),
     ("upgrades outlive it", UPGRADES),

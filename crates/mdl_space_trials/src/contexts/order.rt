@@ -1,7 +1,6 @@
-//! In which order tickets go, which shows in who is granted a lock.
+//! The order in which tickets are released, which shows in which waiter is granted.
 //!
-//! A session holds S and X, and others wait for X and then for SH. Where X goes first, SH is granted beside S; where S goes
-//! first, X is.
+//! A session holds S and X, and others wait for X and then for SH. If X is released first, SH is granted beside S. If S is released first, X is granted.
 use crate::contexts::acts::{Act, Lock, Reply};
 use crate::contexts::rows::{Row, Story};
 use mdl_context::Resume;
@@ -67,7 +66,7 @@ const X_IS_EXPLICIT: Row = (
     Reply::Acquired(2),
 );
 
-// Tickets of the statement go before those of the transaction.
+// Tickets of the statement are released before those of the transaction.
 const X_OF_ENDED_STATEMENT: &[Row] = &[
     S_OF_TRANSACTION,
     X_OF_STATEMENT,
@@ -108,7 +107,7 @@ const S_OF_STATEMENT_BACK: &[Row] = &[
     SH_WAITS,
 ];
 
-// Those of one duration go as they came.
+// Tickets of one duration are released in the order in which the session got them.
 const STATEMENT: &[Row] = &[
     S_OF_STATEMENT,
     X_OF_STATEMENT,
@@ -159,7 +158,7 @@ const EXPLICIT_NAME: &[Row] = &[
     SH_WAITS,
 ];
 
-// Whatever their durations are.
+// The same for tickets of one name, whatever their durations are.
 const OF_A_NAME: &[Row] = &[
     (
         1,

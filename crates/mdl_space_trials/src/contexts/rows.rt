@@ -25,8 +25,7 @@ pub(crate) const NOT_UPGRADABLE: Reply = Reply::Refused(ContextError::Space(
 
 pub(crate) const BAD_MODE: Reply = Reply::Refused(ContextError::Space(SpaceError::BadMode));
 
-// Whether a reply is the wanted one. Where memory was refused to a search, the wait was given up and began again: its numbers are
-// the wanted ones or the next.
+// Whether a reply is the wanted one. If a search ran out of memory, the wait was given up and began again: its numbers are the wanted ones or the next.
 fn is_wanted(reply: Option<Reply>, wanted: Reply, lacks_memory: bool) -> bool {
     match (reply, wanted) {
         (Some(Reply::MustWait(number)), Reply::MustWait(least)) if lacks_memory =>
@@ -37,14 +36,14 @@ fn is_wanted(reply: Option<Reply>, wanted: Reply, lacks_memory: bool) -> bool {
     }
 }
 
-/// What a session does, and what comes of it.
+/// What a session does, and the wanted reply.
 pub(crate) type Row = (u16, Act, Reply);
 
 /// What rows show, and the rows.
 pub(crate) type Story = (&'static str, &'static [Row]);
 
-/// Sessions do this one after another: the first row whose reply isn't the wanted one. Where memory may be refused once, the act
-/// that needed it is done again.
+/// Performs acts one after another, and returns the index of the first whose reply isn't the wanted one. If memory may be refused once, the act that
+/// ran out is performed again.
 pub(crate) fn first_wrong_in(hall: &mut Hall, rows: &[Row], lacks_memory: bool) -> Option<usize> {
     for (index, (who, act, wanted)) in rows.iter().enumerate() {
         let mut reply = hall.make(*who, *act);
@@ -58,7 +57,7 @@ pub(crate) fn first_wrong_in(hall: &mut Hall, rows: &[Row], lacks_memory: bool) 
     None
 }
 
-// The same where nobody has asked for anything before.
+// The same in a new hall.
 fn first_wrong(alloc: Global, rows: &[Row], lacks_memory: bool) -> Option<usize> {
     match Hall::new(alloc, PLACES) {
         Ok(mut hall) => first_wrong_in(&mut hall, rows, lacks_memory),

@@ -23,7 +23,7 @@ const SHARE_A: Act = Act::Acquire(Lock::A, Mode::SU, Duration::Transaction);
 
 const SHARE_B: Act = Act::Acquire(Lock::B, Mode::SU, Duration::Transaction);
 
-// Two upgrades stand in each other's way. The victim keeps both its tickets, in their modes.
+// Two upgrades block each other. The victim keeps both its tickets, in their modes.
 const CROSSED: &[Row] = &[
     (1, SHARE_A, Reply::Acquired(1)),
     (1, READ_B, Reply::Acquired(2)),
@@ -44,7 +44,7 @@ const CROSSED: &[Row] = &[
     (1, Act::EndTransaction, Reply::Done),
 ];
 
-// A session's own ticket of the table doesn't stand against the upgrade. Whoever waits behind it is granted by the downgrade.
+// A session's own ticket of the table doesn't block its upgrade. The downgrade grants the session that waits behind it.
 const AT_ONCE: &[Row] = &[
     (1, READ_A, Reply::Acquired(1)),
     (1, SHARE_A, Reply::Acquired(2)),
@@ -55,7 +55,7 @@ const AT_ONCE: &[Row] = &[
         Reply::Acquired(2),
     ),
     (2, READ_A, Reply::MustWait(1)),
-    // It is as strong already.
+    // The ticket is as strong already.
     (1, Act::Upgrade(2, Mode::SNRW), Reply::Acquired(2)),
     (2, Act::Resume, STILL_WAITING),
     (1, Act::Downgrade(2, Mode::SU), Reply::Done),
@@ -66,7 +66,7 @@ const AT_ONCE: &[Row] = &[
     (1, Act::EndTransaction, Reply::Done),
 ];
 
-// The upgraded ticket keeps its number and its duration; the number of the second one is used up.
+// The upgraded ticket keeps its number and its duration. The number of the second ticket is used up.
 const MERGED: &[Row] = &[
     (
         1,
@@ -91,7 +91,7 @@ const MERGED: &[Row] = &[
     (2, Act::Resume, Reply::Resumed(Resume::Acquired(2))),
 ];
 
-// However the wait is lost, the ticket stays in its mode and for its duration. Meanwhile all else is refused.
+// However the wait is lost, the ticket keeps its mode and its duration. Until then all else is refused.
 const LOST: &[Row] = &[
     (
         1,
@@ -130,7 +130,7 @@ const LATE: &[Row] = &[
     (1, Act::Upgrade(1, Mode::X), Reply::Acquired(1)),
 ];
 
-// Not each mode may become each other one.
+// Some changes of a mode are refused.
 const REFUSED: &[Row] = &[
     (1, READ_A, Reply::Acquired(1)),
     (1, Act::Upgrade(1, Mode::X), NOT_UPGRADABLE),
@@ -153,7 +153,7 @@ pub(super) const STORIES: &[Story] = &[
     ("not each mode becomes each other", REFUSED),
 ];
 
-/// Memory may be refused once to these.
+/// Memory may be refused once in these stories.
 pub(super) const STORIES_OF_TWO: &[Story] = &[
     ("of two upgrades one is the victim", CROSSED),
     ("own tickets do not block an upgrade", AT_ONCE),

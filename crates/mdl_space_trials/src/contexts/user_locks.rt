@@ -1,4 +1,4 @@
-//! User-level locks, and locks that aren't waited for.
+//! User-level locks, and requests that don't wait.
 use crate::contexts::acts::{Act, Lock, Reply};
 use crate::contexts::rows::{BAD_MODE, NO_PLACE, NO_WAIT, NOT_HELD, Row, Story, WAITS};
 use mdl_context::Resume;
@@ -21,7 +21,7 @@ const VICTIM: Reply = Reply::Resumed(Resume::Lost(Settled::Victim));
 
 const TRIED: &[Row] = &[
     (1, TRY, Reply::Acquired(1)),
-    // Another session hasn't got it, doesn't wait and keeps nothing.
+    // Another session doesn't get the lock, doesn't wait, and keeps nothing.
     (2, TRY, Reply::WouldWait),
     (2, Act::Resume, NO_WAIT),
     (2, Act::Release(1), NOT_HELD),
@@ -31,7 +31,7 @@ const TRIED: &[Row] = &[
     (2, TRY, Reply::WouldWait),
     (1, Act::Release(2), Reply::Done),
     (2, TRY, Reply::Acquired(1)),
-    // A ticket that can be used again is.
+    // A ticket that can be reused is reused.
     (2, READ_A, Reply::Acquired(2)),
     (
         2,
@@ -43,7 +43,7 @@ const TRIED: &[Row] = &[
         Act::TryAcquire(Lock::A, Mode::SR, Duration::Statement),
         Reply::Acquired(3),
     ),
-    // Nobody was held up by those who didn't wait.
+    // The requests that didn't wait held up no session.
     (2, Act::Release(1), Reply::Done),
     (3, GET, Reply::Acquired(1)),
 ];
@@ -94,7 +94,7 @@ const GAINED_LAST: &[Row] = &[
     (1, GET, Reply::Acquired(3)),
     (1, LAST, Reply::Last(Some(3))),
     (1, Act::Last(Lock::A), Reply::Last(Some(2))),
-    // That another session holds one is nothing to it.
+    // A session doesn't see a ticket that another session holds.
     (2, LAST, Reply::Last(None)),
     (2, TRY, Reply::WouldWait),
     (2, LAST, Reply::Last(None)),
@@ -141,8 +141,8 @@ const LASTING: &[Row] = &[
     (2, TRY, Reply::Acquired(1)),
 ];
 
-// A wait for a user-level lock weighs more than a weak one, and less than a strong one: the second session waits for a user-level
-// lock, and the first closes the circle.
+// A wait for a user-level lock weighs more than a weak request, and less than a strong one. The second session waits for a user-level lock, and the
+// first closes the cycle.
 const BESIDE_A_READ: &[Row] = &[
     (1, GET, Reply::Acquired(1)),
     (2, WRITE_A, Reply::Acquired(1)),

@@ -1,4 +1,4 @@
-//! Waits, and what is refused meanwhile.
+//! Waits, and what is refused during them.
 use crate::contexts::acts::{Act, Lock, Reply};
 use crate::contexts::rows::{BAD_MODE, NO_PLACE, NO_WAIT, NOT_HELD, Row, STALE, Story, WAITS};
 use mdl_context::Resume;
@@ -13,7 +13,7 @@ const VICTIM: Reply = Reply::Resumed(Resume::Lost(Settled::Victim));
 
 const KILLED: Reply = Reply::Resumed(Resume::Lost(Settled::Killed));
 
-// The first session holds a ticket of the statement, and waits behind the second. Whatever it asks for is refused.
+// The first session holds a ticket of the statement, and waits for the second. All its requests are refused.
 const MEANWHILE: &[Row] = &[
     (
         1,
@@ -48,12 +48,12 @@ const MEANWHILE: &[Row] = &[
     (1, Act::EndTransaction, WAITS),
     (1, Act::MakeExplicit, WAITS),
     (1, Act::MakeTransactional, WAITS),
-    // These come before. The ticket that is waited for isn't held, and not counted.
+    // These refusals are checked first. The ticket of the wait isn't held, and isn't counted.
     (1, Act::GoBack(2, 0), STALE),
     (1, Act::GoBack(0, 1), STALE),
     (1, Act::Release(2), NOT_HELD),
     (1, Act::Mark, Reply::Stands(1, 0)),
-    // Nothing of it has changed a thing.
+    // None of these calls has changed anything.
     (1, Act::Resume, STILL_WAITING),
     (1, Act::GiveUp, TIMED_OUT),
     (1, Act::GiveUp, NO_WAIT),
@@ -67,7 +67,7 @@ const MEANWHILE: &[Row] = &[
     ),
 ];
 
-// A settled wait is one as well, until it is ended.
+// A settled wait is still a wait until it is ended.
 const SETTLED: &[Row] = &[
     (
         1,
@@ -118,13 +118,13 @@ const ENDS: &[Row] = &[
         Reply::MustWait(1),
     ),
     (2, Act::Kill(2, 2), Reply::Killed(false)),
-    // What is granted lasts as long as it was wanted.
+    // A granted ticket has the duration that the request names.
     (1, Act::EndStatement, Reply::Done),
     (2, Act::Kill(2, 1), Reply::Killed(false)),
     (2, Act::Mark, Reply::Stands(0, 0)),
     (2, Act::Resume, Reply::Resumed(Resume::Acquired(1))),
     (2, Act::Mark, Reply::Stands(1, 0)),
-    // Patience that is lost too late loses nothing.
+    // Giving up too late loses nothing.
     (
         1,
         Act::Acquire(Lock::A, Mode::SW, Duration::Transaction),
@@ -145,7 +145,7 @@ const ENDS: &[Row] = &[
     (2, Act::Resume, NO_WAIT),
 ];
 
-// A lost one, until it is ended.
+// A lost wait blocks others until it is ended.
 const LOST_IN_THE_WAY: &[Row] = &[
     (
         1,
@@ -168,7 +168,7 @@ const LOST_IN_THE_WAY: &[Row] = &[
     (3, Act::Resume, Reply::Resumed(Resume::Acquired(1))),
 ];
 
-// A granted one, as a held ticket does.
+// A granted wait blocks others as a held ticket does.
 const GRANTED_IN_THE_WAY: &[Row] = &[
     (
         3,
@@ -210,7 +210,7 @@ const STRONG: &[Row] = &[
         Act::Acquire(Lock::A, Mode::X, Duration::Transaction),
         Reply::MustWait(1),
     ),
-    // Used again by strength, and cloned for another duration.
+    // Reused if it is strong enough, and cloned for another duration.
     (
         1,
         Act::Acquire(Lock::A, Mode::SR, Duration::Transaction),
@@ -231,7 +231,7 @@ const STRONG: &[Row] = &[
         Act::Acquire(Lock::A, Mode::SH, Duration::Statement),
         Reply::Acquired(3),
     ),
-    // The clone has the mode that was asked for: it isn't as strong as the first.
+    // The clone has the requested mode, which isn't as strong as that of the first ticket.
     (1, Act::Release(1), Reply::Done),
     (
         1,
@@ -240,14 +240,14 @@ const STRONG: &[Row] = &[
     ),
     // It waits behind the second session, which waits for it.
     (1, Act::GiveUp, VICTIM),
-    // Each ticket is one lock.
+    // Each ticket counts as a lock of its own.
     (1, Act::EndTransaction, Reply::Done),
     (2, Act::Resume, STILL_WAITING),
     (1, Act::Release(2), Reply::Done),
     (2, Act::Resume, Reply::Resumed(Resume::Acquired(1))),
 ];
 
-// A weaker ticket doesn't serve.
+// A weaker ticket isn't enough.
 const WEAK: &[Row] = &[
     (
         1,
@@ -277,7 +277,7 @@ const REFUSED_BY_THE_SPACE: &[Row] = &[
         Act::Acquire(Lock::A, Mode::X, Duration::Transaction),
         Reply::Acquired(1),
     ),
-    // A mode of other locks, which no ticket serves for.
+    // A mode that the lock doesn't have, for which no ticket serves.
     (
         1,
         Act::Acquire(Lock::A, Mode::IX, Duration::Transaction),
@@ -293,7 +293,7 @@ const REFUSED_BY_THE_SPACE: &[Row] = &[
         Act::Acquire(Lock::Global, Mode::SR, Duration::Statement),
         BAD_MODE,
     ),
-    // There are four places, and the fifth lock finds none, in whatever mode.
+    // There are four places, so the fifth lock is refused, in whatever mode.
     (
         1,
         Act::Acquire(Lock::Schema, Mode::SNW, Duration::Statement),

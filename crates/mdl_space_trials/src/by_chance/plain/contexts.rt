@@ -1,4 +1,4 @@
-//! What the contexts of the plain program's sessions do, each told by the number of its session.
+//! The contexts of the plain program. Each call gives the number of its session.
 use super::{Plain, Ticket};
 use crate::contexts::acts::{Act, Lock, Reply, acquired, done, resumed};
 use mdl_context::{Acquire, ContextError, Mark, Resume};
@@ -13,7 +13,7 @@ enum Which {
 }
 
 impl Plain {
-    /// What an act of a session comes to, unless no memory is found. It has those acts that are drawn.
+    /// Performs an act of a session and returns its reply. None if memory ran out. It supports the acts that are drawn.
     pub(crate) fn make(&mut self, who: u16, act: Act) -> Option<Reply> {
         match act {
             Act::Acquire(lock, mode, duration) => acquired(self.acquire(who, lock, mode, duration)),
@@ -24,7 +24,7 @@ impl Plain {
         }
     }
 
-    // Gives tickets up, or gives them another duration.
+    // Releases tickets, or gives them another duration.
     fn lose(&mut self, who: u16, act: Act) -> Result<(), ContextError> {
         match act {
             Act::Release(id) => self.give_back(who, id),
@@ -40,7 +40,7 @@ impl Plain {
         }
     }
 
-    // A lock is had by a ticket that is used again, by a clone, by a new ticket, or not yet.
+    // Requests a lock: the answer is a reused ticket, a clone, a new ticket, or a wait.
     fn acquire(
         &mut self,
         who: u16,
@@ -70,7 +70,7 @@ impl Plain {
         self.ask(wish)
     }
 
-    // The first held ticket that is strong enough for a wish, and, if it is to be used again, isn't explicit and lasts as long.
+    // Returns the first held ticket that is strong enough for a request. To be reused it must also have the same duration, and not be explicit.
     fn first_that_serves(&self, wish: &Ticket, again: bool) -> Option<TicketId> {
         let kind = wish.lock.kind();
         for ticket in &self.tickets {
@@ -88,7 +88,7 @@ impl Plain {
         None
     }
 
-    // A new ticket, or a wait for one.
+    // Adds a new ticket, or begins a wait for one.
     fn ask(&mut self, wish: Ticket) -> Result<Acquire, ContextError> {
         self.find_place(wish.lock)?;
         if !wish.lock.kind().has_mode(wish.mode) {
@@ -103,7 +103,7 @@ impl Plain {
         Ok(Acquire::MustWait(number))
     }
 
-    // A ticket is given up.
+    // Releases a ticket.
     fn give_back(&mut self, who: u16, id: TicketId) -> Result<(), ContextError> {
         let is_held = match self.ticket(who, id) {
             Some(ticket) => self.is_held(&ticket, who),
@@ -119,7 +119,7 @@ impl Plain {
         Ok(())
     }
 
-    // All tickets of a lock are.
+    // Releases all tickets of a lock.
     fn give_back_name(&mut self, who: u16, lock: Lock) -> Result<(), ContextError> {
         if self.wait(who).is_some() {
             return Err(ContextError::Waiting);
@@ -128,8 +128,8 @@ impl Plain {
         Ok(())
     }
 
-    // Those beyond a mark are: those of the statement, and then those of the transaction. The end of either goes back to a mark
-    // of none.
+    // Releases the tickets beyond a mark: those of the statement, and then those of the transaction. The end of a statement goes back to a
+    // mark without its tickets, and the end of a transaction to a mark of none.
     fn go_back(
         &mut self,
         who: u16,
@@ -149,7 +149,7 @@ impl Plain {
         Ok(())
     }
 
-    // Gives up these tickets of a session but for so many from the front.
+    // Releases these tickets of a session, except the first `most` of them.
     fn give_up_all(&mut self, who: u16, which: Which, most: usize) {
         for _ticket in 0..self.tickets.len() {
             match self.first_beyond(who, which, most) {
@@ -159,7 +159,7 @@ impl Plain {
         }
     }
 
-    // The first of these.
+    // Returns the first ticket to release.
     fn first_beyond(&self, who: u16, which: Which, most: usize) -> Option<TicketId> {
         let mut left = most;
         for ticket in &self.tickets {
@@ -177,8 +177,7 @@ impl Plain {
         None
     }
 
-    // All tickets of a session are explicit from now on, or its explicit ones end with the transaction, but for those of user-level
-    // locks.
+    // Makes all tickets of a session explicit, or gives its explicit ones, except those of user-level locks, the transaction's duration.
     fn make_last(&mut self, who: u16, duration: Duration) -> Result<(), ContextError> {
         if self.wait(who).is_some() {
             return Err(ContextError::Waiting);
@@ -193,7 +192,7 @@ impl Plain {
         Ok(())
     }
 
-    // How the session's wait stands. A settled one is ended. If it is lost, its ticket goes.
+    // Returns the state of the session's wait. A settled wait is ended. If it is lost, its ticket is removed.
     fn resume(&mut self, who: u16) -> Result<Resume, ContextError> {
         let Some(wait) = self.wait(who) else {
             return Err(ContextError::Space(SpaceError::NoWait));
@@ -223,7 +222,7 @@ impl Plain {
         self.resume(who)
     }
 
-    // Whether a wait of this number is there, and is killed now.
+    // Kills the wait with this number. Whether there is one that wasn't settled before.
     fn kill(&mut self, target: u16, number: u64) -> bool {
         match self.wait(target) {
             Some(wait) if wait.number == number && wait.settled.is_none() => {
@@ -234,7 +233,7 @@ impl Plain {
         }
     }
 
-    /// How many tickets a session has of the statement and of the transaction.
+    /// Returns how many tickets a session has of the statement and of the transaction.
     pub(crate) fn mark_of(&self, who: u16) -> Mark {
         let mut mark = Mark {
             statement: 0,

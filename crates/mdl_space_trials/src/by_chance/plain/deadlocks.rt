@@ -1,18 +1,17 @@
-//! Deadlocks of the plain program, by trying all paths.
+//! Deadlocks of the plain program, found by trying all paths.
 use super::Plain;
 use crate::contexts::acts::Lock;
 use mdl_key::Mode;
 use mdl_space::Settled;
 
-// Distinct sessions each of which waits for the one before it in this list. The one that the path begins with comes last, and has
-// the rest of the places too.
+// Distinct sessions, each of which waits for the one before it in this list. The session that the path begins with is last, and also fills the unused places.
 type Path = [u16; 5];
 
-// More than there are.
+// More paths than there are.
 const MOST_PATHS: usize = 100;
 
 impl Plain {
-    // Settles the waits of victims, until the session waits in no deadlock any more.
+    // Settles the waits of victims until the session is in no deadlock.
     pub(super) fn end_deadlocks(&mut self, who: u16) {
         for _search in 0..self.seats.len() {
             let mut paths = Vec::new(self.alloc);
@@ -28,8 +27,8 @@ impl Plain {
         }
     }
 
-    // The victim of the deadlock that a session waits in, if one is found. All paths that begin with it are gone through, the shorter
-    // ones first, and those of one length in the order of dictionaries.
+    // Returns the victim of the deadlock that a session is in, if there is one. All paths from the session are tried, the shorter ones first, and
+    // those of one length in lexicographic order.
     fn victim(&self, paths: &mut Vec<Path>, who: u16) -> Option<u16> {
         if paths.push([who; 5]).is_err() {
             return None;
@@ -49,7 +48,7 @@ impl Plain {
         None
     }
 
-    // Adds all paths that are one longer than this one: whether memory was found.
+    // Adds all paths that are one longer than this one. Whether there was memory for them.
     fn lengthen(&self, paths: &mut Vec<Path>, path: Path) -> bool {
         for seat in &self.seats {
             let next = seat.session;
@@ -63,7 +62,7 @@ impl Plain {
         true
     }
 
-    // The member of a cycle whose wish weighs least, and of equal weights that of the greatest number.
+    // Returns the member of a cycle whose request weighs least, and at equal weights the one with the greatest number.
     fn lightest(&self, cycle: Path) -> u16 {
         let mut victim = 0;
         let mut least = u8::MAX;
@@ -77,7 +76,7 @@ impl Plain {
         victim
     }
 
-    // What a session's wish weighs.
+    // Returns the weight of a session's request.
     fn weight(&self, who: u16) -> u8 {
         let Some(wish) = self.wish(who) else {
             return 0;
@@ -90,7 +89,7 @@ impl Plain {
         }
     }
 
-    // Whether one session waits for another. A waiting ticket stands in nobody's way once its wait is settled.
+    // Whether one session waits for another. A waiting ticket blocks no session once its wait is settled.
     fn waits_for(&self, waiter: u16, other: u16) -> bool {
         let Some(wish) = self.wish(waiter) else {
             return false;

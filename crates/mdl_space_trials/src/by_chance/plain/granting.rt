@@ -1,11 +1,11 @@
-//! Who is granted what, in the plain program.
+//! Which waiters are granted, in the plain program.
 use super::{Plain, Ticket};
 use crate::contexts::acts::Lock;
 use mdl_key::{conflicts_granted, conflicts_waiting};
 use mdl_space::{Settled, TicketId};
 
 impl Plain {
-    // Lets a session's ticket go, and grants waiters of its lock.
+    // Releases a session's ticket, and grants waiters of its lock.
     pub(super) fn let_go(&mut self, who: u16, number: TicketId) {
         let index = self.index_of(who, number);
         if index < self.tickets.len() {
@@ -14,8 +14,7 @@ impl Plain {
         }
     }
 
-    // Grants waiters of a lock: again and again the first in order of arrival whose wait isn't settled and whose wish can be
-    // granted, until there is none.
+    // Grants waiters of a lock: again and again the first in order of arrival whose wait isn't settled and whose request can be granted, until there is none.
     fn serve(&mut self, lock: Lock) {
         for _grant in 0..self.tickets.len() {
             let index = self.next_waiter(lock);
@@ -28,8 +27,8 @@ impl Plain {
         }
     }
 
-    // Where the first of a lock is in order of arrival whose wait isn't settled and whose wish can be granted. Where there is none,
-    // behind the last.
+    // Returns the index of the first waiter of a lock, in order of arrival, whose wait isn't settled and whose request can be granted. If there is
+    // none, it is the number of all tickets.
     fn next_waiter(&self, lock: Lock) -> usize {
         for (index, ticket) in self.tickets.iter().enumerate() {
             if ticket.lock == lock
@@ -43,7 +42,7 @@ impl Plain {
         self.tickets.len()
     }
 
-    // Whether a wish can be granted: it clashes with no granted ticket of another session, and stands behind no waiting one.
+    // Whether a request can be granted: it clashes with no granted ticket of another session, and is behind no waiting one.
     pub(super) fn is_grantable(&self, wish: &Ticket) -> bool {
         for other in &self.tickets {
             if other.session != wish.session && other.is_in_the_way_of(wish) {
@@ -55,7 +54,7 @@ impl Plain {
 }
 
 impl Ticket {
-    // Whether the ticket stands in the way of another session's wish.
+    // Whether the ticket blocks another session's request.
     pub(super) fn is_in_the_way_of(&self, wish: &Ticket) -> bool {
         let kind = wish.lock.kind();
         if self.lock != wish.lock {

@@ -1,4 +1,4 @@
-//! What the plain program finds in its lists, and puts there.
+//! What the plain program reads in its lists, and puts there.
 use super::{Plain, Ticket, Wait};
 use crate::contexts::acts::Lock;
 use mdl_context::ContextError;
@@ -7,8 +7,7 @@ use mdl_space::{Held, Place, Settled, SpaceError, TicketId};
 const NO_MEMORY: ContextError = ContextError::Space(SpaceError::OutOfMemory);
 
 impl Plain {
-    /// Whether these are the tickets that a session holds: its granted ones, without that of a wait that isn't ended, in rising
-    /// number.
+    /// Whether exactly these are the tickets that a session holds, by rising number: its granted ones, except that of a wait that isn't ended.
     pub(crate) fn holds(&self, who: u16, tickets: &[Held]) -> bool {
         let mut count: usize = 0;
         for ticket in &self.tickets {
@@ -27,7 +26,7 @@ impl Plain {
         count == tickets.len()
     }
 
-    /// The number of the ticket of this index among those that a session holds. Behind the last it's that of the last.
+    /// Returns the number of the ticket at this index among those that a session holds. Past the end it is that of the last.
     pub(crate) fn held_at(&self, who: u16, index: usize) -> Option<TicketId> {
         let mut left = index;
         let mut last = None;
@@ -43,7 +42,7 @@ impl Plain {
         last
     }
 
-    // The place of a lock, from 1, or 0.
+    // Returns the place of a lock, from 1, or 0 if it has none.
     fn place_of(&self, lock: Lock) -> Place {
         let mut place: Place = 1;
         for other in &self.locks {
@@ -69,7 +68,7 @@ impl Plain {
         }
     }
 
-    /// A session's wait that isn't ended.
+    /// Returns a session's wait, if it has one that isn't ended.
     pub(crate) fn wait(&self, who: u16) -> Option<Wait> {
         for seat in &self.seats {
             if seat.session == who {
@@ -79,7 +78,7 @@ impl Plain {
         None
     }
 
-    // A session has this wait now.
+    // Replaces a session's wait.
     pub(super) fn put_wait(&mut self, who: u16, wait: Option<Wait>) {
         for seat in &mut self.seats {
             if seat.session == who {
@@ -96,7 +95,7 @@ impl Plain {
         }
     }
 
-    // The ticket that a session waits for, unsettled.
+    // Returns the ticket that a session waits for, if its wait isn't settled.
     pub(super) fn wish(&self, who: u16) -> Option<Ticket> {
         match self.wait(who) {
             Some(wait) if wait.settled.is_none() => self.ticket(who, wait.ticket),
@@ -104,7 +103,7 @@ impl Plain {
         }
     }
 
-    // Where a session's ticket of this number is. Where there is none, behind the last.
+    // Returns the index of a session's ticket with this number. If there is none, it is the number of all tickets.
     pub(super) fn index_of(&self, who: u16, number: TicketId) -> usize {
         for (index, ticket) in self.tickets.iter().enumerate() {
             if ticket.session == who && ticket.number == number {
@@ -114,7 +113,7 @@ impl Plain {
         self.tickets.len()
     }
 
-    // That ticket.
+    // Returns that ticket.
     pub(super) fn ticket(&self, who: u16, number: TicketId) -> Option<Ticket> {
         match self.tickets.get(self.index_of(who, number)) {
             Some(ticket) => Some(*ticket),
@@ -131,7 +130,7 @@ impl Plain {
         ticket.session == who && ticket.is_granted && !is_awaited
     }
 
-    // Puts a new ticket last, as it was wished for, and gives its number, which is used with this.
+    // Adds a new ticket of this request, in the last place, and returns its number, which is used up.
     pub(super) fn add(&mut self, wish: Ticket, is_granted: bool) -> Result<TicketId, ContextError> {
         let mut number = 0;
         for seat in &mut self.seats {
@@ -151,7 +150,7 @@ impl Plain {
         }
     }
 
-    // A session waits for a ticket, and the wait gets the next number.
+    // Begins a session's wait for a ticket, and returns the wait's number, which is the next one.
     pub(super) fn add_wait(&mut self, who: u16, ticket: TicketId) -> u64 {
         let mut number = 0;
         for seat in &mut self.seats {
