@@ -39,7 +39,7 @@ help:
 	@echo 'make layout                says which files are not in the layout, and which wrong bodies fit no file'
 	@echo 'make docs                  says what is stale in the docs'
 	@echo 'make examples              compares the answers to each example with those that lie beside it'
-	@echo 'make commands              compares what the programs, proved, do by their words with what they ought to do'
+	@echo 'make commands              checks what the proved programs do by their command lines'
 	@echo 'make c                     builds programs of C, Rust and Python over the libraries for C, proved, and compares what they print'
 	@echo 'make fuzz [SECONDS=60]     plays random scripts with the mdlsim that was built last, and checks each run'
 	@echo 'make growths               refuses each growth of some short lives in turn'

@@ -113,8 +113,7 @@ def main(words):
     for given, found in wrong:
         print(f"mdlsim {given}: {found}".replace("mdlsim mdlsim", "mdlsim"), file=sys.stderr)
     if not wrong:
-        print("mdlsim does what its words ask for, answers each worked script, tells what it can't do, by bad lines and bad streams too, and has its words")
-        print("in the completions")
+        print("mdlsim does what its command lines ask, answers each worked script, and reports bad lines and streams; its completions are complete")
     return 1 if wrong else 0
 
 

@@ -319,7 +319,7 @@ def main(words):
     for what, found in wrong:
         print(f"mdlview {what}: {found}", file=sys.stderr)
     if not wrong:
-        print("mdlview does as its words ask")
+        print("mdlview does what its command lines ask")
     return 1 if wrong else 0
 
 

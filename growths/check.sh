@@ -79,4 +79,4 @@ play $refused_on_threads "$made/plays"
 if ! nothing_else_is_told >&2; then
     exit 1
 fi
-echo "$(ls "$made/plays" | grep -c '^[1-9].*args') growths were refused to mdlsim on threads, and nothing was told but that"
+echo "$(ls "$made/plays" | grep -c '^[1-9].*args') growths of mdlsim on threads were refused, one in each run, and each run reported just that"

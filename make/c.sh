@@ -17,7 +17,7 @@ compare() {
     answers=$1
     shift
     if ! timeout 300 "$@" > "$made/answers"; then
-        echo "$answers: its program ended otherwise than well" >&2
+        echo "$answers: its program failed" >&2
         return 1
     fi
     if ! diff "$answers" "$made/answers" >&2; then

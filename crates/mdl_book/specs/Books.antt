@@ -77,8 +77,8 @@ changing session number mode book = record book { granted = with_mode session nu
 abbrev pub redefining : Change → BookView → BookView
 redefining change book = record book { standing = standing_after change book.standing }
 
--- whether a waiting ticket is of an unsettled session and can be granted; it may also have to wait behind tickets that
--- arrived later
+-- whether a waiting ticket is of an unsettled session and can be granted; waiting tickets that arrived later can block it,
+-- too
 abbrev pub is_ready : ℕ → set.FinSet nat_cmp → BookView → Ticket → Bool
 is_ready word unsettled book ticket =
     set.contains unsettled ticket.session && can_be_granted (lock_kind book) book.granted book.waiting word ticket.session ticket.mode

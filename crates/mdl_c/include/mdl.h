@@ -195,9 +195,9 @@ uint32_t mdl_context_begin(struct mdl_space *space, uint16_t who);
 uint32_t mdl_context_end(struct mdl_space *space, uint16_t who);
 
 /* Acquires a lock of a key, for this duration: DONE and its ticket, or WAITING and the wait's number, after deadlocks were searched for. A
-   ticket of the key that is strong enough and has the same duration is used again, unless it is explicit, and one of another duration is cloned.
+   ticket of the key that is strong enough is used again if it has the same duration, and that isn't explicit. Otherwise it is cloned.
    Only the names that keys of the namespace have are read: MDL_GLOBAL and MDL_COMMIT have none, MDL_SCHEMA has a schema's, and the name
-   of a MDL_USER_LEVEL_LOCK is passed as the schema's. If the call is refused, the session's tickets are unchanged and it has no wait, but a
+   of an MDL_USER_LEVEL_LOCK is passed as the schema's. If the call is refused, the session's tickets are unchanged and it has no wait, but a
    new key may have got its place, and if memory ran out the waits of victims that were found stay settled. */
 uint32_t mdl_acquire(struct mdl_space *space, uint16_t who, uint8_t namespace_, const uint8_t *schema, size_t schema_length,
                      const uint8_t *table, size_t table_length, uint8_t mode, uint8_t duration, uint64_t *number);

@@ -25,7 +25,7 @@ Nothing _ = Unit {0}
 abbrev pub Number : ℕ → ℕ → Beside
 Number old new answer = new ≡ told_at answer old
 
--- the manager makes a call, which changes it so, and the code and the writes are those of the answer
+-- the manager makes a call, `joins` relates the answer to the manager before and after it, and the code and the writes are those of the answer
 abbrev pub Answers : (Answer → Managed → Managed → Type 0) → Managed → ℕ → Option Managed → Beside → Type 0
 Answers joins before code after beside =
     (answer : Answer) × (next : Managed) × (after ≡ Some next) × joins answer before next × (code ≡ code_of answer) × beside (Some answer)

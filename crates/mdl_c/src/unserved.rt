@@ -1,4 +1,4 @@
-//! Why a session isn't served.
+//! Why a manager refuses a session's call.
 
 /// Why the manager itself, and not its space or a context, refuses a session's call.
 #[derive(Clone, Copy)]

@@ -79,8 +79,8 @@ abbrev pub change_takes_memory : Change → Bool
 change_takes_memory change.Drop = false
 change_takes_memory _ = true
 
--- whether a call may need memory. Releasing or downgrading a ticket, dropping a definition, ending a pin, and polling, timing out,
--- ending, killing or asking for a wait need none.
+-- whether a call may need memory. Releasing or downgrading a ticket, dropping a definition, giving up a pin, polling, timing out,
+-- ending or killing a wait, and asking for a wait's number need none.
 abbrev pub takes_memory : Call → Bool
 takes_memory (Release _ _) = false
 takes_memory (Downgrade _ _ _) = false

@@ -317,7 +317,8 @@ pub trait LockSpace {
         → (definition : Option Definition)
         × has_read b who ticket.place (record { version = version; definition = definition }) };
 
-    // If the session had read the definition, the change is applied to that, or it is refused because of that or for lack of memory.
+    // If the session had read the definition, a change under a ticket in mode X is applied to that, or is refused because of that or for
+    // lack of memory.
     ghost redefines_so: { (a b : Self) (who id : ℕ) (change : Change) (answer : Answer) (ticket : Held) (key : KeyName) (standing : Standing)
         → ticket_held id (own a who) ≡ Some ticket → same_mode ticket.mode X ≡ true → knows a who ticket.place key
         → has_read a who ticket.place standing → joins a (Change_definition who id change) answer b

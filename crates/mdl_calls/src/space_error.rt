@@ -51,7 +51,7 @@ pub enum SpaceError {
     /// The change can't be made to the key's definition.
     #[error("{0}")]
     Def(DefError),
-    /// A key of this kind can't have such a definition.
+    /// The key can't have a definition of this kind.
     #[error("no definition for such a key")]
     WrongKind,
     /// Memory ran out.

@@ -19,7 +19,7 @@ pub enum Got {
     Waits(u64, bool),
 }
 
-/// Gets a lock at a place, or begins to wait for it. If there is a ticket to clone, the lock is a clone of it.
+/// Gets a lock at a place, or begins to wait for it. If a ticket to clone is given, the session gets a clone of it.
 pub(crate) fn gain<S: LockSpace>(
     space: &mut S,
     who: u16,
@@ -44,7 +44,7 @@ pub(crate) fn gain<S: LockSpace>(
     }
 }
 
-/// Gets a lock at a place if that needs no wait. If there is a ticket to clone, the lock is a clone of it.
+/// Gets a lock at a place if that needs no wait. If a ticket to clone is given, the session gets a clone of it.
 pub(crate) fn try_gain<S: LockSpace>(
     space: &mut S,
     who: u16,

@@ -18,9 +18,9 @@ holding_of who ticket core = record { session = who; number = ticket.id; key = k
 abbrev pub waiting_ticket : ℕ → Pending → Ticket
 waiting_ticket who wait = record { session = who; number = wait.id; mode = wait.mode }
 
--- the event that a change is, and what the event requires beyond what the change requires: the request for a new ticket is grantable,
--- or the ticket is a clone of a held one that is at least as strong; a wait that ends is settled; and a held ticket gets a weaker mode,
--- or a stronger one, for which the request is grantable while the session has no wait
+-- the event that a change is, and what the event requires beyond what the change requires: the request for a ticket that is granted is
+-- grantable, or the ticket is new and a clone of a held one that is at least as strong; a wait that ends is settled; and a held ticket
+-- gets a weaker mode, or a stronger one, for which the request is grantable while the session has no wait
 abbrev pub IsChangeEvent : ℕ → ℕ → Change → Core → Event Redefinition → Type 0
 IsChangeEvent who place (Gain mode) core event =
     ((event ≡ Grant (record { session = who; number = (seat_at who core).last_ticket + 1; key = key_at place core; mode = mode }))

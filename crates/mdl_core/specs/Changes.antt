@@ -174,7 +174,7 @@ is_unsettled who core = has_session who core && is_open (seat_at who core).wait
 abbrev pub is_ready : ℕ → Core → Ticket → Bool
 is_ready place core ticket = is_unsettled ticket.session core && is_free ticket.session place ticket.mode core
 
--- the first waiting ticket, in order of arrival, that is unsettled and can be granted
+-- the first waiting ticket, in order of arrival, whose wait is unsettled and that can be granted
 abbrev pub next_ready : ℕ → Core → Option Ticket
 next_ready place core = find (is_ready place core) (book_at place core).waiting
 

@@ -93,7 +93,7 @@ CallsAreEvents =
     × Happens applies event (system_of a) between × GrantsInOrder applies key grants between (system_of b))
 
 -- each call keeps the space sound: the books and the seats agree, each key's version and definition are valid for it, the system is
--- lawful, and nobody is forgotten
+-- lawful, and no waiter is forgotten
 abbrev pub CallsKeepSound : Type 0
 CallsKeepSound = (a b : Core) (call : Call) (answer : Answer) → IsSound a → Joins a call answer b → IsSound b
 
@@ -120,7 +120,7 @@ Joined [] a b = a ≡ b
 Joined ((call, answer) ∷ calls) a b = (between : Core) × Joins a call answer between × Joined calls between b
 
 -- whatever calls are made on an empty space, a run of events leads from the empty system to the system that it is in the end, which is
--- lawful, and in which nobody is forgotten
+-- lawful, and in which no waiter is forgotten
 abbrev pub CallsLeadByEvents : Type 0
 CallsLeadByEvents =
     (places sessions : ℕ) (calls : List (Call × Answer)) (b : Core) → Joined calls (empty_core places sessions) b →

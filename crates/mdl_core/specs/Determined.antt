@@ -86,7 +86,7 @@ ToTellTables system places schema answer =
 
 -- ---- locks
 
--- the lock of a key has room for a ticket: its granted tickets, each counted once, and its waiting ones are fewer than 65,535
+-- the lock of a key has room for a ticket: its granted tickets, each counted once, and its waiting ones are together fewer than 65,535
 abbrev pub HasRoom : {D : Type 0} → System D → KeyName → Type 0
 HasRoom system key =
     (tickets : List Holding) → AllPairs (λ one other. one ≢ other) tickets
@@ -257,7 +257,7 @@ AnswersAreDetermined =
     (a b : Core) (call : Call) (answer other : Answer) → IsSound a → Joins a call answer b → finds_no_memory answer ≡ false →
     Determines (system_of a) (places_of a) (numbers_at a) call other ↔ (other ≡ answer)
 
--- the places after a call with this answer: a key that was resolved had a place before, or has now got the last one. No other call
+-- the places after a call with this answer: a key that was resolved had a place before, or has now got the next one. No other call
 -- changes the places.
 abbrev pub PlacesAfter : Call → Answer → Places → Places → Type 0
 PlacesAfter (Resolve who key) (At_place place) before after =

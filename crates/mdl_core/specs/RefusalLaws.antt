@@ -94,7 +94,7 @@ RefusesMergesInOrder =
 abbrev pub MayChangeThere : Core → Held → Type 0
 MayChangeThere core ticket = (ticket.mode ≡ X) × (HasNoVersion core ticket.place → ⊥)
 
--- whether a change suits the kind of a place's key
+-- whether a change suits the key of a place
 abbrev pub suits_place : ℕ → Change → Core → Bool
 suits_place place change core = suits (key_at place core).namespace change
 

@@ -23,8 +23,8 @@ FrugalRuns A =
 abbrev pub IsMadeFor : ℕ → Call → Type 0
 IsMadeFor who call = (has_call call ≡ true) × IfSome (caller call) (λ maker. maker ≡ who)
 
--- the outcome of a program is a run of it, if the space speaks for a session and each call's caller is that session, or it has no
--- caller. Afterwards the space still speaks for each session that it spoke for.
+-- the outcome of a program is a run of it, if the space speaks for a session and has each call of the program, and each call's caller
+-- is that session, or it has no caller. Afterwards the space still speaks for each session that it spoke for.
 abbrev pub OutcomesAreRuns : Type 0 → Type 0
 OutcomesAreRuns A =
     (program : Program A) (a : Core) (who : ℕ) → SpeaksFor a who → EachCall (IsMadeFor who) program →

@@ -1,5 +1,5 @@
 -- What always holds in the lock space of one thread: the books and the seats agree on the tickets and waits, each key's version and
--- definition are valid for it, the space's system of locks is lawful, and nobody is forgotten in it.
+-- definition are valid for it, the space's system of locks is lawful, and no waiter is forgotten in it.
 use Rattle.std.specs.Prelude.{◌≡◌, ◌≢◌, ◌⊎◌, ◌↔◌, ℕ, ◌<◌, ◌≤◌, true, Some, MatchOption, Contains, AllPairs, IsTrue}
 use Rattle.mdl_key.specs.Modes.{is_mode_of}
 use Rattle.mdl_book.specs.declared.ticket.Ticket.{Ticket}

@@ -38,7 +38,7 @@ pub fn upgrades_what_is_grantable()
 {}
 
 /// Whatever calls are made on an empty space, events lead from the empty system to the system that it is in the end. That system
-/// is lawful, and nobody is forgotten in it.
+/// is lawful, and no waiter is forgotten in it.
 pub fn calls_lead_by_events()
     ensures { CallsLeadByEvents }
 {}

@@ -27,7 +27,8 @@ pub fn changes_tell_the_version()
     ensures { ChangesTellTheVersion }
 {}
 
-/// A call is refused because no place, no version, no room in the lock or no number is left only if that limit is reached.
+/// A call is refused with `NoPlace` only if its place has no key, or no place is left for a new key. It is refused because no version,
+/// no room in the lock or no number is left only if that limit is reached.
 pub fn refuses_for_cause()
     ensures { RefusesForCause }
 {}

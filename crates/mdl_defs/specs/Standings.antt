@@ -18,7 +18,7 @@ use Rattle.mdl_defs.specs.Definitions.{IsWellFormed}
 abbrev pub nothing_yet : Standing
 nothing_yet = record { version = 0; definition = None }
 
--- whether a definition is valid for a key of this namespace
+-- whether a definition is of the kind that a key of this namespace can have
 abbrev pub fits : Namespace → Definition → Bool
 fits of.Schema Schema = true
 fits of.Table (Table _) = true

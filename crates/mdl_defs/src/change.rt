@@ -12,7 +12,7 @@ use std::alloc::{AllocError, Global};
 /// A change of the definition of a schema or a table.
 #[derive(Drop, PartialEq, Eq)]
 pub enum Change {
-    /// Adds a definition if there is none.
+    /// Adds a definition. It is refused if there is one already.
     Create(Definition),
     /// Removes the definition.
     Drop,

@@ -85,7 +85,7 @@ fn suits(namespace: Namespace, change: &Change) -> bool
     }
 }
 
-// Whether a definition is valid for a key of this namespace.
+// Whether a definition is of the kind that a key of this namespace can have.
 fn fits(namespace: Namespace, definition: &Definition) -> bool
     ensures { result ≡ fits namespace definition.now }
 {

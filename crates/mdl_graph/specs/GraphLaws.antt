@@ -1,4 +1,4 @@
--- What the definitions of deadlocks mean, stated without them.
+-- What the definitions of deadlocks mean, in other words.
 use Rattle.std.specs.Prelude.{◌≡◌, ◌≢◌, ◌↔◌, ◌⊎◌, ℕ, Bool, ◌+◌, ◌<◌, ◌≤◌, ◌%◌, List, [], map, length, take, IsTrue, IsFalse, All, Any, AllPairs, MatchOption, get_or}
 use Rattle.std.specs.FinSet as set
 use Rattle.std.specs.Ordering.{nat_cmp}

@@ -44,7 +44,7 @@ pub record AreWished (wishes : List Member) (rows : ℕ) (waits stands : Pairs) 
 abbrev pub stands_against : SessionTest → BookView → Mode → ℕ → Bool
 stands_against settled book mode session = holds_against book mode session || waits_ahead settled book mode session
 
--- the rows of a lock, from the first one on, have exactly the sessions that block a request for their mode
+-- each row of a lock, from the first one on, is blocked by exactly the sessions that block a request for its mode
 abbrev pub AreOfModes : SessionTest → BookView → ℕ → List ℕ → Pairs → Type 0
 AreOfModes settled book first ranks stands =
     (row : ℕ) → first ≤ row → row < length ranks → (mode : Mode) → mode_rank mode ≡ slice_index ranks row → (session : ℕ)
@@ -54,7 +54,7 @@ AreOfModes settled book first ranks stands =
 abbrev pub AreSeen : set.FinSet nat_cmp → ℕ → Pairs → Type 0
 AreSeen seen row stands = (session : ℕ) → set.contains seen session ≡ true → holds stands session row ≡ true
 
--- ---- pairs with the place of the one before under the same key
+-- ---- pairs, each with a link to the previous one of the same key
 
 -- the key of the pair at an index
 abbrev pub key_at : Pairs → ℕ → ℕ

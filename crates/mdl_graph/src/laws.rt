@@ -1,7 +1,8 @@
 //! Laws of deadlocks. Each is proved as the contract of a function that does nothing.
 ghost use Rattle.mdl_graph.specs.GraphLaws.{WaitingIsBeingBlocked, CyclesAreRounds, DeadlocksAreChosenCycles, MembersOfCyclesWait, FewerSettledKeepCycles, MembersOfDeadlocksWait, ShorterCyclesComeFirst, VictimsWeighLeast, GraphsBeginEmpty, GraphsFindDeadlocks};
 
-/// One session waits for another exactly if it is unsettled and a ticket of the other blocks its request.
+/// One session waits for another exactly if it is unsettled and the other blocks its request: by a granted ticket, or, if the
+/// other is unsettled, too, by a waiting one.
 pub fn waiting_is_being_blocked()
     ensures { WaitingIsBeingBlocked }
 {}
@@ -17,7 +18,7 @@ pub fn shorter_cycles_come_first()
     ensures { ShorterCyclesComeFirst }
 {}
 
-/// A deadlock that is found is the cycle chosen before all others, of at least two sessions. If none is found, there is none.
+/// A deadlock that is found is the cycle chosen before all others, of at least two sessions. If none is found, there is no cycle.
 pub fn deadlocks_are_chosen_cycles()
     ensures { DeadlocksAreChosenCycles }
 {}

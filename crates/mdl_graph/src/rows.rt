@@ -135,7 +135,7 @@ fn known_row(ranks: &[usize], first: usize, mode: Mode) -> Option<usize>
     None
 }
 
-// Adds to a mode's row the sessions that hold a ticket which clashes with a request for the mode.
+// Adds which sessions block a mode's row by a granted ticket: it clashes with a request for the mode.
 fn stand_holders(
     stands: &mut Vec<(u16, usize)>,
     seen: &mut Sessions,
@@ -159,7 +159,7 @@ fn stand_holders(
     Ok(())
 }
 
-// Adds to a mode's row the unsettled sessions with a waiting ticket that a request for the mode waits behind.
+// Adds which unsettled sessions block a mode's row by a waiting ticket: a request for the mode waits behind it.
 fn stand_waiters(
     stands: &mut Vec<(u16, usize)>,
     seen: &mut Sessions,
@@ -183,7 +183,7 @@ fn stand_waiters(
     Ok(())
 }
 
-// Adds a session to a row, unless it is known to be there: a session that holds many tickets is there once.
+// Adds that a session blocks a row, unless that is known: a session that holds many tickets is added once.
 fn stand_once(
     stands: &mut Vec<(u16, usize)>,
     seen: &mut Sessions,

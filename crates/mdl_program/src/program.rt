@@ -28,8 +28,8 @@ pub enum Run {
     Matrix,
     /// Play a script of statements.
     Replay,
-    /// Play a script of statements, each session on a thread of its own, with this patience, and with a cache of its own for at
-    /// most that number of definitions.
+    /// Play a script of statements, each session on a thread of its own. The numbers are the patience, and how many definitions
+    /// each session's own cache keeps at most.
     Threads(u32, u16),
 }
 

@@ -537,7 +537,7 @@ read_lock_under commit = do
   set (with_commits_locked commit)
   Give reply.Ok
 
--- gets the COMMIT lock in mode S, under the GLOBAL lock. If it can't be granted, the GLOBAL lock is released when the statement ends
+-- gets the COMMIT lock in mode S, under the GLOBAL lock. If the statement ends without the COMMIT lock, the GLOBAL lock is released
 abbrev pub lock_commits : ℕ → Row Reply
 lock_commits global = do
   set (with_writes_locked global)

@@ -31,7 +31,7 @@ abbrev pub StaysLawful : Result (List Line) (ℕ × LineError) → Type 0
 StaysLawful (Ok lines) = IsLawfulThroughout lines
 StaysLawful (Err refusal) = ⊤
 
--- no session is left waiting that could be granted, after any line
+-- no session is left waiting for a lock that could be granted, after any line
 abbrev pub ForgetsNobodyThroughout : List Line → Type 0
 ForgetsNobodyThroughout lines = (n : ℕ) → NoneForgotten (system_of (script_played (take n lines)).world.core)
 

@@ -41,7 +41,7 @@ pub fn replay<R: Read, W: Write>(alloc: Global, reader: &mut R, writer: &mut W) 
     // While that output is made, no two sessions ever hold locks that clash.
     ensures lawful { IfSome (R.remaining reader.old) (λ input. StaysLawful (parsed input)) }
 
-    // No session is ever left waiting that could be granted.
+    // No session is ever left waiting for a lock that could be granted.
     ensures none_forgotten { IfSome (R.remaining reader.old) (λ input. NeverForgets (parsed input)) }
 {
     let input = read_all(alloc, reader)?;
@@ -75,7 +75,7 @@ fn play_all(alloc: Global, lines: &[Line]) -> Result<String, AllocError>
     Ok(out)
 }
 
-// Plays lines over a new space, and after each line appends what becomes of it to a text.
+// Plays lines over a new space. After each line, appends to a text what becomes of it, and of the lines of the sessions that continue.
 fn play_lines<'s>(
     alloc: Global,
     lines: &'s [Line],

@@ -19,7 +19,7 @@ pub enum News {
     Ends(Reply),
     /// Its statement begins to wait for a lock on this key in this mode.
     Waits(Key, Mode),
-    /// Its session is busy: it waits for another line's statement.
+    /// Its session is busy: the statement of another line still waits.
     Busy,
 }
 

@@ -23,7 +23,8 @@ use std::thread::{Promise, PromisedHandle, Scope, Threads};
 /// The answers to a session's lines, or that memory ran out.
 pub(crate) type Answered = Result<Vec<(u64, Reply)>, AllocError>;
 
-/// What a session's thread promises: its result is answers that session `who` of the table can have given to its lines of the script.
+/// What a session's thread promises: unless memory ran out, its result is answers that session `who` of the table can have given to its lines of
+/// the script.
 #[derive(Clone, Copy)]
 pub(crate) struct AnswersOf<'s> {
     pub(crate) who: u16,

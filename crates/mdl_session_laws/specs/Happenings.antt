@@ -24,13 +24,13 @@ KeysAreFound =
     (a : Space) (place : ℕ) (key : KeyName) → IsSound a → place_known key a.known ≡ None → is_known place a.known ≡ false →
     CanJoin a (Resolve a.number key) (At_place place)
 
--- a lock can be granted at a place that the session knows
+-- a lock can be granted at a place that the session knows, in a mode of the key's kind, if the session has no wait
 abbrev pub LocksAreHad : Type 0
 LocksAreHad =
     (a : Space) (place : ℕ) (mode : Mode) → IsSound a → is_waiting a.own ≡ false → is_known place a.known ≡ true → IsFit (Knows a a.number) place mode →
     CanJoin a (Try_now a.number place mode) (Granted (a.numbers.last_ticket + 1))
 
--- a wait can begin at a place that the session knows
+-- a wait can begin at a place that the session knows, for a mode of the key's kind, if the session has no wait
 abbrev pub WaitsAreBegun : Type 0
 WaitsAreBegun =
     (a : Space) (place : ℕ) (mode : Mode) → IsSound a → is_waiting a.own ≡ false → is_known place a.known ≡ true → IsFit (Knows a a.number) place mode →

@@ -87,7 +87,8 @@ KeepsSettled false a b = ((how : Settled) → a.settled ≡ Some how → b.settl
 -- ---- what is read
 
 -- the version and definition that a session may meet at a place where it holds a ticket: they are valid for the key that it knows there, and the version
--- is the one that it noted there. The session has read nothing newer there, and if it read the same version last, it read the same definition.
+-- is the one that it noted there, if it noted one. The session has read nothing newer there, and if it read the same version last, it read the same
+-- definition.
 pub record Meets (place : ℕ) (standing : Standing) (a : Space) : Type 0 where
   pub fits : (key : KeyName) → key_known place a.known ≡ Some key → MayStand key.namespace standing
   pub noted : (version : ℕ) → noted_at place a.notes ≡ Some version → version ≡ standing.version

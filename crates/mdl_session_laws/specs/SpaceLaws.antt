@@ -85,7 +85,7 @@ WhatIsReadStands =
     (caller call ≡ Some who → redefined_place call answer (own_of a who) ≡ Some place → ⊥) → HoldsAt place (own_of b who) → Joins a call answer b →
     HasRead a who place standing → HasRead b who place standing
 
--- a change is applied to what was read, or is refused because of that or for lack of memory
+-- a change under a ticket in mode X is applied to what was read, or is refused because of that or for lack of memory
 abbrev pub ChangesAreOfWhatWasRead : Type 0
 ChangesAreOfWhatWasRead =
     (a b : Space) (who id : ℕ) (change : Change) (answer : Answer) (ticket : Held) (key : KeyName) (standing : Standing) →

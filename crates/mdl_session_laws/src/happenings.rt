@@ -1,7 +1,7 @@
 //! The relation of calls to sessions isn't empty: such calls can happen. Each law is proved as the contract of a function that does nothing.
 ghost use Rattle.mdl_session_laws.specs.Happenings.{KeysAreFound, LocksAreHad, WaitsAreBegun, WaitsAreLost, StandingsAreRead, StandingsAreChanged, MemoryRunsOut};
 
-/// A new key can get any place of which the session knows no key.
+/// A key whose place the session doesn't know can get any place of which it knows no key.
 pub fn keys_are_found()
     ensures { KeysAreFound }
 {}
@@ -26,7 +26,7 @@ pub fn standings_are_read()
     ensures { StandingsAreRead }
 {}
 
-/// Under a ticket that is held in mode X they can be changed, if they allow the change.
+/// The version and definition that a session may meet under a ticket that it holds in mode X can be changed, if they allow the change.
 pub fn standings_are_changed()
     ensures { StandingsAreChanged }
 {}

@@ -6,7 +6,8 @@ pub fn what_is_read_stands()
     ensures { WhatIsReadStands }
 {}
 
-/// If a session has read a place's definition, a change is applied to that, or is refused because of that or for lack of memory.
+/// If a session has read a place's definition, a change under a ticket in mode X is applied to that, or is refused because of that or for
+/// lack of memory.
 pub fn changes_are_of_what_was_read()
     ensures { ChangesAreOfWhatWasRead }
 {}

@@ -16,7 +16,7 @@ use Rattle.mdl_system.specs.Strength.{covers, may_downgrade}
 abbrev pub is_fit : ℕ → Mode → List Known → Bool
 is_fit place mode known = option_map_or (λ kind. is_mode_of kind mode) (kind_known place known) false
 
--- the tickets after the one with this number at a place got this mode
+-- the tickets, with this mode for the one with this number at a place
 abbrev pub in_mode_at : ℕ → ℕ → Mode → List Own → List Own
 in_mode_at place number mode tickets = map (λ t. if is_own place number t then record t { mode = mode } else t) tickets
 

@@ -13,8 +13,8 @@ use mdl_visits::{ResolveError, resolve};
 use std::sync::Wait;
 
 impl<R: Wait> Session<R> {
-    /// Returns the place of a key, which never changes. A new key gets the next free place. The session looks in the directory once for each
-    /// key.
+    /// Returns the place of a key, which never changes. A new key gets the next free place. The session looks in the directory once in
+    /// a call at most, and only for a key that it doesn't know.
     pub fn resolve(&mut self, key: &Key) -> Result<Place, SpaceError>
         ensures joined { Joins (space_of self.old) (Resolve self.old.me.0.number key.now) (placed result) (space_of self.new) }
         ensures shown { Shows (Resolve self.old.me.0.number key.now) (placed result) self.old self.new }

@@ -28,8 +28,9 @@ use std::sync::Wait;
 
 impl<R: Wait> Session<R> {
     /// Requests a stronger mode for a ticket, without waiting: from SU to SNW, SNRW or X, from SNW to SNRW or X, from SNRW to X. The
-    /// session's other tickets don't block it. If the ticket's mode covers the requested one, nothing changes. Otherwise the session's fast
-    /// tickets, if it has any, become slow first: that takes memory, and the call is refused if there is no room for them.
+    /// session's other tickets don't block it. If the ticket's mode covers the requested one, it counts as upgraded, and nothing changes.
+    /// Otherwise the session's fast tickets, if it has any, become slow first: that takes memory, and the call is refused if there is no room
+    /// for them.
     pub fn upgrade_now(&mut self, id: TicketId, mode: Mode) -> Result<Upgrade, SpaceError>
         ensures joined { Joins (space_of self.old) (Upgrade_now self.old.me.0.number id mode) (upgrade_tried result) (space_of self.new) }
         ensures shown { Shows (Upgrade_now self.old.me.0.number id mode) (upgrade_tried result) self.old self.new }

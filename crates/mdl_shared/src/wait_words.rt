@@ -20,7 +20,7 @@ pub(crate) fn settled_in(state: u64) -> Option<Settled>
     }
 }
 
-/// Whether a word shows an unsettled wait with a number.
+/// Whether a word shows the unsettled wait with this number.
 pub(crate) fn is_open(word: WaitWord, number: u64) -> bool
     ensures open { result ≡ true → word.0 ≡ wait_in number unsettled_state }
     ensures other { result ≡ false → word.0 ≢ wait_in number unsettled_state }

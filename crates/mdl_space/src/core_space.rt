@@ -372,7 +372,7 @@ impl CoreSpace {
         Ok(())
     }
 
-    /// Grants a session a lock that clashes with no granted ticket.
+    /// Grants a session a lock that clashes with no granted ticket of another session.
     fn grant_at(&mut self, who: u16, place: Place, mode: Mode) -> Result<TicketId, SpaceError>
         requires session { has_session who self.old ≡ true }
         requires key { has_key place self.old ≡ true }

@@ -10,7 +10,7 @@
 //! has is its held tickets and its wait. One call in the laws of the trait has no method yet: to give up a pin.
 //!
 //! [`CoreSpace`] is the space of one thread. Each of its calls is an event of the system of locks that is the model for readers.
-//! The system stays lawful, and nobody is forgotten in it. The laws are in `mdl_system` and `mdl_core`, and re-exported here.
+//! The system stays lawful, and no waiter is forgotten in it. The laws are in `mdl_system` and `mdl_core`, and re-exported here.
 //!
 //! # Example
 //!

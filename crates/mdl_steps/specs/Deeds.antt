@@ -73,8 +73,9 @@ abbrev pub HasAtLeast : ℕ → BookView → Mode → Type 0
 HasAtLeast session book mode =
     (t : Ticket) × Contains book.granted t × (t.session ≡ session) × IsAtLeast (lock_kind book) t.mode mode
 
--- a session's request for a mode is compatible with all that other sessions hold. Either the mode is unobtrusive, so that no fast ticket clashes with
--- it, and no ticket in the granted list does. Or neither does, by a noted word. Or the session has a granted ticket there that is at least as strong
+-- a session's request for a mode is compatible with all that other sessions hold. Either no ticket of another session in the granted list clashes with
+-- the mode, and no fast ticket does, because the mode is unobtrusive or by a noted word. Or the session has a granted ticket there that is at least as
+-- strong
 abbrev pub MayJoin : ℕ → BookView → Option ℕ → Mode → Type 0
 MayJoin session book noted mode =
     ((is_obtrusive (lock_kind book) mode ≡ false) × (is_compatible (lock_kind book) book.granted session mode ≡ true))

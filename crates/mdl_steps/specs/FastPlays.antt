@@ -101,8 +101,8 @@ abbrev pub IsCounted : View → ℕ → Mode → ℕ → Type 0
 IsCounted v place mode one =
     (i : ℕ) × (k : Known) × (get_elem? v.known i ≡ some k) × (k.place ≡ place) × (increment_of (kind_of k.key.namespace) mode ≡ Some one)
 
--- a fast ticket may be granted, if the flag OBTRUSIVE is down: the session waits for nothing, and has fewer than `most_fast` fast tickets there. If
--- it noted a version there, that is noted under the new ticket, too
+-- a fast ticket may be granted, if the flag OBTRUSIVE is down: the session waits for nothing, the word counts the mode by `one`, and the session has
+-- fewer than `most_fast` fast tickets there. If it noted a version there, that is noted under the new ticket, too
 pub record MayGrantFast (place : ℕ) (mode : Mode) (noted : Option ℕ) (one : ℕ) (m : Mine) : Type 0 where
   pub idle : m.0.asks ≡ None
   pub counted_so : IsCounted m.0 place mode one

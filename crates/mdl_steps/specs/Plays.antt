@@ -55,7 +55,7 @@ logged kind ds word found held v =
 --   directory has for the place, or unused if the directory has none.
 -- * Each session waits at most once, for a mode of the lock's kind. If the session waits here and met its wait lost, its ticket is in the waiting list.
 -- * The definition is valid for the key and its version. No version that the session read here is newer, what it read of this version is this
---   definition, and this is the version noted under its tickets here.
+--   definition, and each version noted under its tickets here is this one.
 -- * Its fast tickets here are at most `most_fast`, in unobtrusive modes, and compatible with the granted tickets of other sessions.
 -- * No slow ticket has the number of a fast ticket at the same place.
 pub record IsFresh (place : ℕ) (h : LatchRecord) (m : Mine) : Type 0 where
@@ -232,7 +232,7 @@ puts_key st m found m′ =
     × ((place : ℕ) (book : BookView) → st.word ≡ latch_word place → m.1 ≡ (place, slot.Place book) ∷ rest m.1 →
     m′ ≡ named place book.key m)
 
--- flags of a place's word are raised, by `|` with the number that has just their bits
+-- flags of a place's word are raised, by `|` with the number that has only their bits
 abbrev pub raises_flags : Step Slot → Mine → ℕ → Mine → Type 0
 raises_flags st m found m′ =
     (m′.0.number ≡ m.0.number)

@@ -188,7 +188,7 @@ pub record WaitsAgree (slots most : ℕ) (waits : ℕ → ℕ) (waiters : List W
   pub each : (j : ℕ) (x : Waiter) → get_elem? waiters j ≡ some x → WaitOk slots (waits x.number) x
   pub unused : (n : ℕ) → n ≤ most → ((j : ℕ) (x : Waiter) → get_elem? waiters j ≡ some x → x.number ≢ n) → waits n ≡ 0
 
--- two tickets at one place have different numbers
+-- two tickets have different numbers if they are at the same place
 abbrev pub IsUnlike : Own → Own → Type 0
 IsUnlike t u = u.place ≡ t.place → u.number ≢ t.number
 

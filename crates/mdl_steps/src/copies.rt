@@ -1,4 +1,4 @@
-//! Copies of books, which a session keeps after it has given their latches back.
+//! Copies of books, which a session keeps after it has given the latches of their places back.
 ghost use Rattle.std.specs.Prelude.{◌≡◌, [], ◌∷◌, ◌++◌, IfOk, OnOk, OnErr};
 ghost use Rattle.mdl_book.specs.declared.book_view.BookView.{BookView};
 ghost use Rattle.mdl_steps.specs.declared.slot.Slot.TheVariants as slot;

@@ -1,15 +1,15 @@
-//! The shared lock table as a sequence of atomic steps. The table has words that change one at a time and a slot for each place, each
-//! session has a view of what it knows, and one rule holds between any two steps.
+//! The shared lock table, which sessions change by atomic steps. The table has words that change one at a time and a slot for each place,
+//! each session has a view of what it knows, and one rule holds between any two steps.
 //!
-//! A [`TableSeat`] is a session's seat, with a method for each kind of step. Its other methods read and write the book or the directory in
+//! A [`TableSeat`] is a session's seat, with a method for each kind of step. Other methods read and write the book or the directory in
 //! hand, that is, the one whose latch the session took last. They are no steps. [`TableSeat::take_latch`] takes the latch of a place. Its
 //! value, [`Latched`], has to be given back ([`TableSeat::put_latch`]). While the session holds the latch, it may raise flags of the lock's
 //! word ([`TableSeat::raise_flags`]), read the word ([`TableSeat::read_word`]), and lower flags ([`TableSeat::lower_flags`]). Each step
 //! keeps the rule ([`Order`]) in every interleaving of all sessions' steps, and is listed in the session's [`View`].
 //!
-//! A session that waits has a word of its own, [`WaitWord`], and a ticket in a book's waiting list. [`TableSeat::open_wait`] opens the
-//! wait, another session grants it ([`TableSeat::grant_wait`]) or any session settles it as lost ([`TableSeat::settle_wait`]), and the
-//! session that waited ends it.
+//! Each session has a word for its waits, [`WaitWord`]. The ticket of a wait that isn't granted is in a book's waiting list.
+//! [`TableSeat::open_wait`] opens the wait, a session that holds the latch of its place grants it ([`TableSeat::grant_wait`]) or any session
+//! settles it as lost ([`TableSeat::settle_wait`]), and the session that waited ends it.
 //!
 //! What a session does to its own tickets under a latch is a list of [`Deed`]s. After MySQL 5.7, `MDL_lock` and `MDL_context` of
 //! `sql/mdl.cc`; the latch, the words and the views are this project's own.

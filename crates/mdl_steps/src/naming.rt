@@ -1,9 +1,9 @@
 //! How a new key gets a place: the first place that has no key.
 //!
 //! The session takes the directory's latch and looks the key up ([`TableSeat::place_of`]). If the key isn't there, the session adds it to
-//! the directory in hand ([`TableSeat::list_key`]). It takes the latch of the next place ([`TableSeat::key_count`] plus one), whose book is
-//! unused, writes the key's empty book there ([`TableSeat::name_book`]), and gives that latch back, which gives the place to the key
-//! ([`TableSeat::put_latch_naming`]). Then it gives the directory's latch back.
+//! the directory in hand ([`TableSeat::list_key`]). It takes the latch of the next place (what [`TableSeat::key_count`] returned before the
+//! key was added, plus one), whose book is unused, writes the key's empty book there ([`TableSeat::name_book`]), and gives that latch back,
+//! which gives the place to the key ([`TableSeat::put_latch_naming`]). Then it gives the directory's latch back.
 ghost use Rattle.std.specs.Prelude.{◌≡◌, ◌∷◌, length, None, OnOk, OnErr};
 ghost use Rattle.mdl_book.specs.declared.book_view.BookView.{BookView};
 ghost use Rattle.mdl_book.specs.Books.{empty_book};

@@ -118,7 +118,7 @@ impl Play<Slot, View> for TakeDirectory {
     ghost then = { takes_directory };
 }
 
-/// The keys that a session knows from a step on.
+/// The keys that a session gets to know by a step.
 pub(crate) trait Learning {
     ghost learnt: { List Known };
 }

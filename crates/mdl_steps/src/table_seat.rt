@@ -30,7 +30,7 @@ use std::sync::Arc;
 /// | `8 * place + 1`       | `lock_word`    | the word of the lock at the place: a [`Word`](mdl_word::Word) |
 /// | `8 * place + 2`       | `version_word` | the version of the key of the place |
 /// | `8 * n`               | `enrol_word`   | the number that the next session gets |
-/// | `8 * n + 8 + 8 * s`   | [`wait_word`]  | the number and state of the last wait of session `s`, which is at least 1: a [`WaitWord`](crate::WaitWord) |
+/// | `8 * n + 8 + 8 * s`   | [`wait_word`]  | the number and state of the last wait of session `s`, from 1 on: a [`WaitWord`](crate::WaitWord) |
 ///
 /// No step touches any other word.
 pub type LockTable = Shared<Slot, View, usize, Order>;
@@ -203,8 +203,8 @@ impl TableSeat {
         );
     }
 
-    /// Gives the latch back. `deeds` says what the session has done to its tickets in the book in hand. Exactly the flags that the book needs
-    /// must be up.
+    /// Gives the latch back. `deeds` says what the session has done to its tickets in the book in hand, except deeds that
+    /// [`TableSeat::lower_flags`] got before. Exactly the flags that the book needs must be up.
     pub fn put_latch(&mut self, latch: Latched, deeds: &[Deed])
         requires place { IsPlace self.old.table latch.place }
         requires put { MayPut latch.place deeds.now self.old.me }

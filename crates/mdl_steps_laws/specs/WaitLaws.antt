@@ -1,5 +1,5 @@
--- The steps on wait words are events of the table's system. Each step changes the word, and with it the record of a latch if it is made under one.
--- What the session writes into the book in hand before or after the step is no part of the system.
+-- The steps on wait words are events of the table's system. A step changes the word, or only reads it. Opening a wait, granting one, and ending a lost
+-- one change the record of the place's latch, too. What the session writes into the book in hand before or after the step is no part of the system.
 use Rattle.std.specs.Prelude.{◌≡◌, ℕ, suc, ◌+◌, ◌<◌, true, length, List, Some, slice_set}
 use Rattle.std.specs.FinSet as set
 use Rattle.std.specs.Ordering.{nat_cmp}
@@ -106,7 +106,7 @@ EndingHolds =
     × Brings (EndGrantedWait (record { session = me.0.number; wait = me.0.waits; ticket = a.number }))
     s (after_wait s me.0.number (wait_in me.0.waits idle_state) id (ended_granted (length s.homes) me))
 
--- ending a wait that was met lost, under the latch of its place, ends a wait in the system that was lost in this way: its ticket is removed
+-- ending a wait that was met lost, under the latch of its place, ends a wait in the system that was lost in the same way: its ticket is removed
 abbrev pub EndingLeaves : Type 0
 EndingLeaves =
     (s : State Slot View) → Rule s → (keys : List KeyName) → AreKeysOf s keys → (i : ℕ) (key : KeyName) → get_elem? keys i ≡ some key →

@@ -39,7 +39,7 @@ abbrev pub no_more : {A : Type 0} → A → List (List ℕ) → Result A LineErr
 no_more value [] = Ok value
 no_more value (word ∷ words) = Err BadWord
 
--- the meaning of the one word that there is: a word without one is refused with this error
+-- the meaning of the only word. If the word means nothing, it is refused with this error
 abbrev pub one_word : {A : Type 0} → LineError → (List ℕ → Option A) → List (List ℕ) → Result A LineError
 one_word error meaning [] = Err BadWord
 one_word error meaning (word ∷ words) = and_then (or_refuse error (meaning word)) (λ value. no_more value words)

@@ -17,8 +17,8 @@ begins_wait _ session = false
 abbrev pub begins_to_wait : {C : Type 0} → List (Event C) → ℕ → Bool
 begins_to_wait events session = list_any (λ event. begins_wait event session) events
 
--- a deadlock arises only by a wait that begins: if all deadlocks went through some sessions before an event, they go through
--- these or through the one that began to wait, if one did
+-- a deadlock arises only by a wait that begins: if all deadlocks of a well-numbered system go through some sessions, then after
+-- an event they go through these or through the one that began to wait by it, if one did
 abbrev pub EventsMakeDeadlocksByWaiting : Type 0 → Type 0 → Type 0
 EventsMakeDeadlocksByWaiting C D =
     (apply : KeyName → C → Option D → Option (Option D)) (event : Event C) (a b : System D) (sessions : ℕ → Bool) →

@@ -10,7 +10,7 @@ abbrev pub Wishes : {D : Type 0} → System D → ℕ → KeyName → Waiter →
 Wishes system session key wish =
     Contains (system.waiting key) wish × (wish.ticket.session ≡ session) × (wish.state ≡ Unsettled)
 
--- a session holds a ticket of the key that clashes with a request
+-- a session has a granted ticket of the key that clashes with a request
 abbrev pub HoldsAgainst : {D : Type 0} → System D → KeyName → Waiter → ℕ → Type 0
 HoldsAgainst system key wish session =
     (held : Holding) × Contains system.granted held × (held.key ≡ key) × (held.session ≡ session)
@@ -21,8 +21,8 @@ abbrev pub WaitsAhead : {D : Type 0} → System D → KeyName → Waiter → ℕ
 WaitsAhead system key wish session =
     (pending : Waiter) × Wishes system session key pending × WaitsBehind (lock_kind key) wish.ticket.mode pending.ticket.mode
 
--- one session waits for another: it requests a lock of which the other holds a clashing ticket, or for which the other waits
--- in a mode that the request waits behind
+-- one session waits for another: it requests a lock of which the other has a clashing granted ticket, or for which the other
+-- waits, unsettled, in a mode that the request waits behind
 abbrev pub WaitsFor : {D : Type 0} → System D → ℕ → ℕ → Type 0
 WaitsFor system waiter other =
     (waiter ≢ other) × ((key : KeyName) × (wish : Waiter) × Wishes system waiter key wish

@@ -41,7 +41,7 @@ IsHeldAfter (Merge old new) a ticket =
 IsHeldAfter (Downgrade changed mode) a ticket = (Held a changed.session ticket × (ticket ≢ changed)) ⊎ (ticket ≡ in_mode mode changed)
 IsHeldAfter event a ticket = Held a (session_of event) ticket
 
--- after an event, its session holds exactly these tickets
+-- after an event of a well-numbered system, its session holds exactly these tickets
 abbrev pub EventsChangeHeld : Type 0 → Type 0 → Type 0
 EventsChangeHeld C D =
     (apply : KeyName → C → Option D → Option (Option D)) (event : Event C) (a b : System D) →
@@ -57,7 +57,8 @@ LeavesHeld (EndLostWait key waiter) = Unit {0}
 LeavesHeld (ChangeDefinition ticket change) = Unit {0}
 LeavesHeld _ = ⊥
 
--- such an event changes nothing that any session holds, so neither do others who grant a session's waiter or settle its wait
+-- such an event of a well-numbered system changes nothing that any session holds, so neither do others who grant a session's
+-- waiter or settle its wait
 abbrev pub WaitsLeaveHeld : Type 0 → Type 0 → Type 0
 WaitsLeaveHeld C D =
     (apply : KeyName → C → Option D → Option (Option D)) (event : Event C) (a b : System D) →

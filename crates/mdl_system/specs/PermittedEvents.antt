@@ -51,7 +51,7 @@ IsPlausible apply (Downgrade ticket mode) = Contains (downgrades ticket.mode) mo
 IsPlausible apply (ChangeDefinition ticket change) = (ticket.mode ≡ X) × IsSome (apply ticket.key change None)
 IsPlausible apply event = Unit {0}
 
--- for each such event there is a lawful system in which it happens
+-- for each event that meets these there is a lawful system in which it happens
 abbrev pub PlausibleEventsHappen : Type 0 → Type 0 → Type 0
 PlausibleEventsHappen C D =
     (apply : KeyName → C → Option D → Option (Option D)) (event : Event C) → IsPlausible apply event →

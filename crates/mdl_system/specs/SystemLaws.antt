@@ -32,8 +32,8 @@ DefinitionsChangeExclusively C D =
     ⊎ ((ticket : Holding) × Held a (session_of event) ticket × (ticket.key ≡ key) × (ticket.mode ≡ X)
     × ((b.definitions key).version ≡ (a.definitions key).version + 1))
 
--- so if a session has a granted ticket of a key, of any mode that its lock uses, no event of another session changes the key's
--- definition
+-- so if a session of a lawful system has a granted ticket of a key, in any mode that its lock uses, no event of another session
+-- changes the key's definition
 abbrev pub DefinitionsStandStill : Type 0 → Type 0 → Type 0
 DefinitionsStandStill C D =
     (apply : KeyName → C → Option D → Option (Option D)) (event : Event C) (a b : System D) →

@@ -17,23 +17,24 @@ pub fn plausible_events_happen<C, D>()
     ensures { PlausibleEventsHappen C D }
 {}
 
-/// A lawful system stays lawful after any events: no two sessions hold clashing tickets of one key. The system in which no
-/// session holds or waits is lawful.
+/// A lawful system stays lawful after any events: no two sessions have clashing granted tickets of one key. The system in which
+/// no session holds or waits is lawful.
 pub fn steps_keep_lawful<C, D>()
     ensures { StepsKeepLawful C D }
 {}
 
-/// After any events, tickets and waits can be told apart by their numbers, and no session waits twice.
+/// A well-numbered system stays so after any events: tickets can be told apart by session and number, and no session waits
+/// twice. The system in which no session holds or waits is well-numbered.
 pub fn steps_keep_well_numbered<C, D>()
     ensures { StepsKeepWellNumbered C D }
 {}
 
-/// After an event, its session holds what `specs/NumberingLaws` says for each kind of event.
+/// After an event of a well-numbered system, its session holds what `specs/NumberingLaws` says for each kind of event.
 pub fn events_change_held<C, D>()
     ensures { EventsChangeHeld C D }
 {}
 
-/// Granting a waiter, or settling its wait as lost, changes nothing that any session holds.
+/// In a well-numbered system, granting a waiter, or settling its wait as lost, changes nothing that any session holds.
 pub fn waits_leave_held<C, D>()
     ensures { WaitsLeaveHeld C D }
 {}
@@ -48,7 +49,8 @@ pub fn definitions_change_exclusively<C, D>()
     ensures { DefinitionsChangeExclusively C D }
 {}
 
-/// While a session has a ticket of a key, no other session changes the key's definition.
+/// While a session of a lawful system has a granted ticket of a key, in a mode that its lock uses, no other session changes the
+/// key's definition.
 pub fn definitions_stand_still<C, D>()
     ensures { DefinitionsStandStill C D }
 {}
@@ -84,12 +86,12 @@ pub fn granting_there_is_enough<C, D>()
     ensures { GrantingThereIsEnough C D }
 {}
 
-/// An event makes deadlocks only through the session that begins to wait by it, if one does.
+/// An event of a well-numbered system makes deadlocks only through the session that begins to wait by it, if one does.
 pub fn events_make_deadlocks_by_waiting<C, D>()
     ensures { EventsMakeDeadlocksByWaiting C D }
 {}
 
-/// A run of events makes deadlocks only through sessions that begin to wait in it.
+/// A run of events from a well-numbered system makes deadlocks only through sessions that begin to wait in it.
 pub fn runs_make_deadlocks_by_waiting<C, D>()
     ensures { RunsMakeDeadlocksByWaiting C D }
 {}

@@ -37,7 +37,7 @@ note_of other = []
 abbrev pub answer_of : News → List ℕ
 answer_of news = news_text news ++ note_of news
 
--- how a statement continues after an answer
+-- the state in which an answer leaves its statement
 abbrev pub fate_of : News → Fate
 fate_of (news.Waits key mode) = fate.Waits
 fate_of news.Busy = fate.Busy

@@ -76,7 +76,7 @@ fn error_note(error: ErrorNumber) -> &'static str
     }
 }
 
-// How a statement continues after an answer.
+// The state in which an answer leaves its statement.
 fn fate_of(news: &News) -> Fate
     ensures { result ≡ fate_of news.now }
 {

@@ -53,7 +53,7 @@ fn play_line<'s>(
     })
 }
 
-// Runs the statement of a line in its session, and adds the events.
+// Asks the session of a line for its statement, and adds the events of the line.
 fn ask<'s>(
     alloc: Global,
     play: &mut Play<'s>,

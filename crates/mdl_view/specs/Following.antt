@@ -52,7 +52,7 @@ still_waiting settled place book wish = waiting_for place wish (blockings_of set
 abbrev pub still_waiting_at : SessionTest → ℕ → BookView → List StillWaiting
 still_waiting_at settled place book = map (still_waiting settled place book) (filter (has_open_wait settled) book.waiting)
 
--- the tickets that wait at these locks after the session has ended
+-- the tickets of unsettled sessions that wait at these locks after the session has ended
 abbrev pub still_waiting_from : SessionTest → set.FinSet nat_cmp → ℕ → ℕ → List BookView → List StillWaiting
 still_waiting_from settled unsettled session place [] = []
 still_waiting_from settled unsettled session place (book ∷ books) =

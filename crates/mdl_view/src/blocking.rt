@@ -47,7 +47,7 @@ pub fn blockings(
     Ok(found)
 }
 
-/// Whether any ticket blocks another. It lists nothing, and takes no memory.
+/// Whether any ticket blocks a waiting one of an unsettled session. It lists nothing, and takes no memory.
 pub fn has_blockings(settled: &Sessions, locks: &[Lock]) -> bool
     ensures { result ≡ not (length (blockings_in (set.contains settled.now) 0 locks.now) == 0) }
 {

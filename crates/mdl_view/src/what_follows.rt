@@ -75,7 +75,8 @@ impl Ending {
         self.gets.as_slice()
     }
 
-    /// Returns the tickets that would go on waiting, lock by lock, and for each lock in order of arrival, with what would block them.
+    /// Returns the tickets of unsettled sessions that would go on waiting, lock by lock, and for each lock in order of arrival, with what would
+    /// block them.
     pub fn waits(&self) -> &[StillWaiting]
         ensures { result.now ≡ self.now.waits }
     {

@@ -35,6 +35,6 @@ line_of text = cut most_columns text ++ 10 ∷ []
 abbrev pub line_with : List ℕ → List ℕ → List ℕ → List ℕ
 line_with start name rest = line_of (start ++ cut (most_columns - length start - length rest) name ++ rest)
 
--- no line is longer than that
+-- no text is longer than `most_columns` once it is cut to that
 abbrev pub LinesFit : Type 0
 LinesFit = (text : List ℕ) → length (cut most_columns text) ≤ most_columns

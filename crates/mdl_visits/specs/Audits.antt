@@ -23,8 +23,8 @@ abbrev pub AreRecorded : ℕ → List LatchRecord → List Audited → Type 0
 AreRecorded place latches [] = Unit {0}
 AreRecorded place latches (a ∷ more) = IsRecorded place latches a × AreRecorded (place + 1) latches more
 
--- the session had just these latches when it began, or at a step that it made between the two, at which it had the record of the directory's latch that it
--- had before, or none
+-- the session had just these latches when it began, or at a step that it made between the two, at which it had the same record of the directory's
+-- latch as before, or still none
 abbrev pub HadLatches : List LatchRecord → Mine → Mine → Type 0
 HadLatches latches m m′ = (latches ≡ m.0.latches) ⊎ ((e : Met) × IsStepOf m m′ e × (e.held ≡ latches) × (e.directory ≡ m.0.directory))
 

@@ -117,7 +117,7 @@ pub record Misses (id : TableId) (who : ℕ) (latches : List LatchRecord) (audit
   pub found : victim_in (settled_by words) (books_of audited) who ≡ Some victim
   pub other : IfSome (read_of victim words) (WasOther id.slots m m′)
 
--- a list of a place's book if a ticket waits there, otherwise an empty list
+-- this place's book alone, if a ticket waits there, otherwise no book
 abbrev pub if_waited : Audited → List Audited
 if_waited a = if nat_lt 0 (length a.book.waiting) then a ∷ [] else []
 
@@ -155,7 +155,7 @@ pub record ReadsWaits (m m′ : Mine) : Type 0 where
   pub did : deeds_of made ≡ []
   pub stays : StaysTold m.0.told told
 
--- likewise, and at each step the session had the record of the directory's latch that it had before, or none, and raised no flag
+-- likewise, and at each step the session had the same record of the directory's latch as before, or still none, and raised no flag
 pub record ReadsWaitsQuietly (m m′ : Mine) : Type 0 where
   pub reads : ReadsWaits m m′
   pub had : AllQuiet m.0.directory reads.made

@@ -73,8 +73,8 @@ IsQuiet directory e = (e.directory ≡ directory) × (raises_flags e.kind ≡ fa
 abbrev pub AllQuiet : Option Keys → List Met → Type 0
 AllQuiet directory made = Each (IsQuiet directory) made
 
--- steps without deeds were made between the two, and nothing else changed. At each the session had the record of the directory's latch that it had before,
--- or none, and raised no flag
+-- steps without deeds were made between the two, and nothing else changed. At each the session had the same record of the directory's latch as before, or
+-- still none, and raised no flag
 abbrev pub MakesQuietSteps : Mine → Mine → Type 0
 MakesQuietSteps m m′ = (made : List Met) × (m′ ≡ and_made made m) × (deeds_of made ≡ []) × AllQuiet m.0.directory made
 
@@ -82,7 +82,7 @@ MakesQuietSteps m m′ = (made : List Met) × (m′ ≡ and_made made m) × (dee
 abbrev pub StaysThere : Met → Type 0
 StaysThere e = (gives_back e.kind ≡ false) × (raises_flags e.kind ≡ false)
 
--- at each step that was made between the two the session had the record of the directory's latch that it had before, or none, and it raised no flag
+-- at each step that was made between the two the session had the same record of the directory's latch as before, or still none, and it raised no flag
 abbrev pub StaysQuiet : Mine → Mine → Type 0
 StaysQuiet m m′ = (made : List Met) × (m′.0.log ≡ m.0.log ++ made) × AllQuiet m.0.directory made
 

@@ -1,5 +1,5 @@
 //! Visits of a session to the places of the lock table that threads share. In a visit the session takes the latch of a place, does its
-//! work there, and gives the latch back. Some visits grant the waits there that can be granted before that.
+//! work there, and gives the latch back. Before that, some visits grant the waits there that can be granted.
 //!
 //! Each call here is made on a session's seat, a [`TableSeat`]. Its contract says what the seat's view is afterwards and which steps were
 //! made ([`mdl_steps`]). A request for a lock, a wish, is granted at once or not at all ([`try_now`]), or is waited for ([`begin_wait`]).

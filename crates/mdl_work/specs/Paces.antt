@@ -15,7 +15,7 @@ abbrev pub worked_as : {E Z : Type 0} → Result (Vec (ℕ × Reply) Z) E → Se
 worked_as (Ok answers) session = record { answers = Some answers.items; session = session }
 worked_as (Err _) session = starved session
 
--- something is left of a statement exactly if it waits
+-- something is left of a statement exactly if it waits, unless memory ran out
 abbrev pub LeftWhileWaiting : Pause → Type 0
 LeftWhileWaiting (Ends reply session) = session.left ≡ None
 LeftWhileWaiting (Begins_to_wait key mode session) = IsSome session.left

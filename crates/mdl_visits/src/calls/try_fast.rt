@@ -23,10 +23,10 @@ pub enum FastTried {
     Contended(Word),
 }
 
-// How many exchanges of the word are tried.
+// The most exchanges of the word that are tried.
 const TRIES: u32 = 8;
 
-/// Tries to grant the session a fast ticket with its next number in this mode, which needs the flag OBTRUSIVE of the lock's word down. If
+/// Tries to grant the session a fast ticket with its next number in this mode. That needs the flag OBTRUSIVE of the lock's word down. If
 /// it isn't granted, nothing changes. The session has no wait. It makes nine steps at most, needs no latch and takes no memory.
 ///
 /// `one` is what [`Word::increment`] returns for the mode. `noted` is the version that the session noted under a ticket of the place, if it noted
