@@ -20,7 +20,8 @@ VIEW = crates/mdlview/out/mdlview
 # The libraries for C. `make install` and `make dist` include them.
 ARCHIVES = crates/mdl_c/out/libmdl_c.a crates/mdl_text/out/libmdl_text.a
 
-# How many seconds `make fuzz` runs. SEED=N sets the seed of its scripts, which is random otherwise. MDLSIM=PATH names another program to test.
+# How many seconds each part of `make fuzz` runs. SEED=N sets the seed of its scripts, which is random otherwise. MDLSIM=PATH and MDLVIEW=PATH name other
+# programs to test.
 SECONDS = 60
 
 # This file exists once `make run` has printed answers.
@@ -41,7 +42,7 @@ help:
 	@echo 'make examples              compares the answers to each example with those that lie beside it'
 	@echo 'make commands              checks what the proved programs do by their command lines'
 	@echo 'make c                     builds programs of C, Rust and Python over the libraries for C, proved, and compares what they print'
-	@echo 'make fuzz [SECONDS=60]     plays random scripts with the mdlsim that was built last, and checks each run'
+	@echo 'make fuzz [SECONDS=60]     gives random scripts, rows and noise to the programs that were built last, and checks each run'
 	@echo 'make growths               refuses each growth of some short lives in turn'
 	@echo 'make wrong [CRATE=NAME]    has the prover refuse the wrong bodies, of all crates or of one'
 	@echo 'make bench                 times scripts and calls'
@@ -110,10 +111,14 @@ commands: build view
 c: kit
 	@sh make/c.sh
 
-# Plays random scripts with the program that was built last, and checks each run. Scripts that fail are kept in fuzz/out/.
+# Gives random scripts, rows and noise to the programs that were built last, and checks each run. Scripts and rows that fail are kept in fuzz/out/.
 fuzz:
 	@sh make/needs.sh python3
 	@python3 fuzz/fuzz.py --seconds $(SECONDS) $(if $(SEED),--seed $(SEED)) $(or $(MDLSIM),$(PROGRAM))
+	@test -x $(or $(MDLVIEW),$(VIEW)) || { echo "$(or $(MDLVIEW),$(VIEW)) isn't there: make view, or MDLVIEW=PATH" >&2; exit 1; }
+	@python3 fuzz/views.py --seconds $(SECONDS) $(if $(SEED),--seed $(SEED)) $(or $(MDLVIEW),$(VIEW))
+	@python3 fuzz/timelines.py --seconds $(SECONDS) $(if $(SEED),--seed $(SEED)) --mdlsim $(or $(MDLSIM),$(PROGRAM)) $(or $(MDLVIEW),$(VIEW))
+	@python3 fuzz/noise.py --seconds $(SECONDS) $(if $(SEED),--seed $(SEED)) --mdlsim $(or $(MDLSIM),$(PROGRAM)) $(or $(MDLVIEW),$(VIEW))
 
 # Refuses each allocation of some short sequences of calls in turn: they have to succeed all the same. Runs on threads have to report a refused one.
 growths: kit

@@ -10,7 +10,7 @@ import re
 import subprocess
 import sys
 
-from devices import wrong_devices
+from devices import cases_of_mdlsim, wrong_devices
 from limits import wrong_limits
 from lines import wrong_lines
 from worked import wrong_scripts
@@ -108,8 +108,8 @@ def wrong_completions(program):
 def main(words):
     """Runs all checks, prints what is wrong, and returns the exit status."""
     program = words[0] if words else PROGRAM
-    parts = (wrong_rows, wrong_completions, wrong_scripts, wrong_limits, wrong_lines, wrong_devices)
-    wrong = [found for part in parts for found in part(program)]
+    parts = (wrong_rows, wrong_completions, wrong_scripts, wrong_limits, wrong_lines)
+    wrong = [*(found for part in parts for found in part(program)), *wrong_devices(program, cases_of_mdlsim)]
     for given, found in wrong:
         print(f"mdlsim {given}: {found}".replace("mdlsim mdlsim", "mdlsim"), file=sys.stderr)
     if not wrong:

@@ -1,5 +1,5 @@
-"""Rows of a server's metadata locks that mdlview has to read or to refuse: the groups of the files `view/rows` and `view/headers`, with each kind of line
-end, and as many threads, locks, types of other rows and bytes of a name as may be, and more."""
+"""Rows of a server's metadata locks that mdlview has to read or to refuse: the groups of the files `view/rows` and `view/headers`, with each kind of
+line end; the rows of `view/forms`, in each form in which clients print them; and many threads, locks, types of other rows and bytes of a name."""
 
 import json
 import pathlib
@@ -13,27 +13,50 @@ WAITS = {"PENDING": "waits for", "SETTLED": "waited for"}
 # What ends a line, and whether it ends the last one, too.
 ENDS = [("\n", True), ("\r\n", True), ("\n", False), ("\r\n", False)]
 
-# Texts without the header: empty, and with a mark of Unicode before it.
-NO_HEADERS = ["", "\n", "\ufeff" + HEADER + "\n"]
+# Texts without rows: without the header, and with a mark of Unicode before it.
+NO_ROWS = ["", "\n", HEADER, HEADER + "\n", "\ufeff" + HEADER + "\n"]
 
-MOST_THREADS = 1024
-MOST_LOCKS = 256
+# What is reported if there are no rows.
+NO_ROWS_TOLD = """no rows. Either no session holds a lock, or the server keeps no rows. MySQL 5.7 keeps none until this is run:
+  UPDATE performance_schema.setup_instruments SET ENABLED='YES', TIMED='YES' WHERE NAME='wait/lock/metadata/sql/mdl';
+Locks that were taken before have no rows. MariaDB also needs performance_schema=ON in my.cnf, and a restart.
+"""
+
+# Forms in which clients print rows: with tabs, in boxes, a line for each field, and with commas (NULL as nothing, or as a word).
+FORMS = ("table", "vertical", "csv", "csv_null")
+
+# More than any number of 16 bits.
+MANY = 65_540
 
 
 def found(program, text):
-    """Returns the locks that the program finds in a text, a line for each, and what it leaves out; or what it reports."""
+    """Returns the locks that the program finds in a text, a line for each, and what it leaves out; or what it reports. The status has to say whether
+    some wait can't be explained."""
     ran = subprocess.run([program, "locks", "--json"], input=text.encode(), capture_output=True)
-    if ran.returncode:
-        return [f"{ran.returncode} {ran.stderr.decode()}{ran.stdout.decode()}"]
+    if ran.returncode not in (0, 4):
+        return [f"{ran.returncode} {ran.stderr.decode()}{ran.stdout.decode()}".replace(NO_ROWS_TOLD, "no rows\n")]
     answer = json.loads(ran.stdout.decode())
     locks = [f"{lock['lock']}: {', '.join(tickets_of(lock)) or 'nobody'}" for lock in answer["locks"]]
-    return locks + [f"left out: {it['object_type']} {it['lock_type']} {it['rows']}" for it in answer["left_out"]]
+    left_out = [f"left out: {it['object_type']} {it['lock_type']} {it['rows']}{waiting_words(it['waiting'])}" for it in answer["left_out"]]
+    lacks_reason = answer["unexplained"] or any(it["waiting"] for it in answer["left_out"])
+    return locks + left_out + ([] if ran.returncode == (4 if lacks_reason else 0) else [f"status {ran.returncode}"])
+
+
+def waiting_words(waiting):
+    """Returns how many of the rows that are left out wait."""
+    return f", {waiting} of them waiting" if waiting else ""
 
 
 def tickets_of(lock):
-    """Returns who holds a lock, and who waits for it."""
-    holds = [f"{it['session']} holds {it['mode']}" for it in lock["granted"]]
-    return holds + [f"{it['session']} {WAITS[it['status']]} {it['mode']}" for it in lock["waiting"]]
+    """Returns who holds a lock, who waits for it, and whose wait is over."""
+    holds = [f"{who(it)} holds {it['mode']}" for it in lock["granted"]]
+    return holds + [f"{who(it)} {WAITS[it['status']]} {it['mode']}" for it in lock["waiting"] + lock["settled"]]
+
+
+def who(ticket):
+    """Returns the thread of a ticket, and its connection if that is known."""
+    thread, connection = ticket["session"]["thread"], ticket["session"]["connection"]
+    return f"{thread}" if connection is None else f"{thread} of {connection}"
 
 
 def groups(name):
@@ -61,12 +84,12 @@ def wrong_groups(program):
     for name, above in (("rows", [HEADER]), ("headers", [])):
         for given, wanted in groups(name):
             lines = above + ["\t".join(field(word) for word in line.split(" ")) for line in given]
-            told = [f"1 {line}\n" if line.startswith("line ") else line for line in wanted if line != "nothing"]
+            told = [f"1 {line}\n" if line.startswith(("line ", "no ")) else line for line in wanted]
             for end in ENDS:
                 if (read := found(program, text_of(lines, end))) != told:
                     yield f"view/{name}, {given}, {end}", read
-    for text in NO_HEADERS:
-        if (read := found(program, text)) != ["1 line 1: no column OBJECT_TYPE\n"]:
+    for text in NO_ROWS:
+        if (read := found(program, text)) != ["1 no rows\n"]:
             yield repr(text), read
 
 
@@ -76,27 +99,24 @@ def readers(threads, tables):
     return [HEADER, *rows]
 
 
-# How many threads read how many tables, and what is reported: the threads, if there are too many of both.
-LIMITS = [
-    (MOST_THREADS + 3, 1, "1027 owners: at most 1024 can be looked at"),
-    (2, MOST_LOCKS + 5, "261 locks: at most 256 can be looked at"),
-    (MOST_THREADS + 1, MOST_LOCKS + 1, "1025 owners: at most 1024 can be looked at"),
-    (MOST_THREADS, MOST_LOCKS + 1, "257 locks: at most 256 can be looked at"),
-]
+def wrong_forms(program):
+    """Returns the forms in which rows are read in another way than with tabs. Both files of a name were printed at the same time."""
+    for name in ("plain", "odd"):
+        wanted = found(program, (FOLDER / f"forms/{name}.batch").read_text(encoding="utf-8"))
+        for form in FORMS:
+            if (read := found(program, (FOLDER / f"forms/{name}.{form}").read_bytes().decode())) != wanted:
+                yield f"view/forms/{name}.{form}", read
 
 
 def wrong_limits(program):
-    """Returns the rows with too many of something, or as many as may be, that are read wrongly."""
-    most = found(program, text_of(readers(MOST_THREADS, MOST_LOCKS), ENDS[0]))
-    if most != [f"TABLE s.t{table}: " + ", ".join(f"{it} holds SR" for it in range(table, MOST_THREADS, MOST_LOCKS)) for table in range(MOST_LOCKS)]:
-        yield "as many threads and locks as may be", most
-    for threads, tables, told in LIMITS:
-        if (read := found(program, text_of(readers(threads, tables), ENDS[0]))) != [f"1 {told}\n"]:
-            yield f"{threads} threads and {tables} tables", read
-    # If a bad line comes after too many threads, the line is what is reported.
-    lines = [*readers(MOST_THREADS + 1, 1), "TABLE\ts\tt\tSHARED\tEXPLICIT\tWAITS\t7"]
-    if (read := found(program, text_of(lines, ENDS[0]))) != ["1 line 1027: unknown LOCK_STATUS\n"]:
-        yield "a bad line behind too many threads", read
+    """Returns the rows with many of something that are read wrongly."""
+    many = found(program, text_of(readers(MANY, MANY), ENDS[0]))
+    if many != [f"TABLE s.t{table}: {table} holds SR" for table in range(MANY)]:
+        yield "many threads and locks", many[:3]
+    # A bad line behind them is what is reported.
+    lines = [*readers(MANY, 1), "TABLE\ts\tt\tSHARED\tEXPLICIT\tWAITS\t7"]
+    if (read := found(program, text_of(lines, ENDS[0]))) != [f"1 line {MANY + 2}, column LOCK_STATUS: unknown status\n"]:
+        yield "a bad line behind many threads", read
     # Thousands of other lock types, each once and then once more.
     lines = [HEADER, *(f"BACKUP\tNULL\tNULL\tB{row % 10000}\tEXPLICIT\tGRANTED\t7" for row in range(20000))]
     if (read := found(program, text_of(lines, ENDS[0]))) != [f"left out: BACKUP B{it} 2" for it in range(10000)]:
@@ -109,4 +129,4 @@ def wrong_limits(program):
 
 def wrong_rows(program):
     """Returns what is read wrongly, with what was found."""
-    return [*wrong_groups(program), *wrong_limits(program)]
+    return [*wrong_groups(program), *wrong_forms(program), *wrong_limits(program)]

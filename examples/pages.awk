@@ -23,7 +23,7 @@ indent > 20 {
     next
 }
 # A line of a script, with or without an answer beside it. The first one begins an example.
-indent >= 4 && /^[0-9]/ {
+indent >= 4 && /^[0-9]+ [A-Z]/ {
     if (!inside) {
         count += 1
         inside = 1

@@ -1,258 +1,143 @@
 """Gives mdlview random rows of a server's metadata locks, and looks whether it prints what a plain program finds in them.
 
-Usage, at the top of the repository: python3 fuzz/views.py [--seconds 60] [--seed N] [PROGRAM]     crates/mdlview/out/mdlview, or another program
+Each answer has to be that of the plain program (jams.py, answers.py) byte for byte, and the status has to be the same: the text of `why`, `waits` and
+`locks`, the JSON of `why`, and now and then the other answers. The rows are of all kinds of locks, some that aren't read among them, with and
+without the columns of sessions, and now and then in one of the other forms in which a client prints rows.
 
-The plain program goes by the matrices of MySQL 5.7 (sql/mdl.cc), looks at every pair of tickets, and tries each session's end. It shares nothing with
-the library. The rows that were answered otherwise are kept in fuzz/out/.
+The same seed gives the same rows. Rows that were answered otherwise are kept in fuzz/out/, named by the seed and their number; `--only NUMBER` tries
+them again. With `--scripts COUNT` that number of tables of rows is tried, however long that takes, and each kind of answer has to occur. The gate
+does that.
+
+Usage, at the top of the repository: python3 fuzz/views.py [--seconds 60 | --scripts COUNT] [--seed N] [--only NUMBER] [PROGRAM]
+The program is the one that was built last, MDLVIEW, or the one that is named.
 """
 
 import argparse
+import dataclasses
+import itertools
+import os
 import pathlib
 import random
 import subprocess
 import sys
 import time
 
+from answers import Answers
+from jams import Rows
+from tables import random_table
+
 PROGRAM = "crates/mdlview/out/mdlview"
-KEPT = pathlib.Path(__file__).resolve().parent / "out"
-HEADER = "OBJECT_TYPE\tOBJECT_SCHEMA\tOBJECT_NAME\tLOCK_TYPE\tLOCK_DURATION\tLOCK_STATUS\tOWNER_THREAD_ID\n"
+OUT = pathlib.Path(__file__).resolve().parent / "out"
 
-# The modes in their order, by the server's names.
-MODES = {
-    "IX": "INTENTION_EXCLUSIVE", "S": "SHARED", "SH": "SHARED_HIGH_PRIO", "SR": "SHARED_READ", "SW": "SHARED_WRITE", "SWLP": "SHARED_WRITE_LOW_PRIO",
-    "SU": "SHARED_UPGRADABLE", "SRO": "SHARED_READ_ONLY", "SNW": "SHARED_NO_WRITE", "SNRW": "SHARED_NO_READ_WRITE", "X": "EXCLUSIVE",
+# What is asked of all rows, what is asked of some, and how many seconds an answer may take.
+QUESTIONS = [("why", False), ("why", True), ("waits", False), ("locks", False)]
+OTHERS = [("waits", True), ("locks", True), ("graph", False)]
+MOST_SECONDS = 20
+
+# The kinds of answers of `why`: with many tables of rows each of them has to occur.
+KINDS = {
+    "a way by KILL": lambda found, text: any(not way.is_query for way in found.jam.ways),
+    "a way by KILL QUERY": lambda found, text: any(way.is_query for way in found.jam.ways),
+    "more ways than are printed": lambda found, text: b"More ways" in text,
+    "waits that end in turn": lambda found, text: b" when those have ended" in text,
+    "acts together": lambda found, text: bool(found.jam.joint),
+    "a deadlock": lambda found, text: bool(found.jam.stuck),
+    "a wait behind one that is over": lambda found, text: found.jam.passing() > 0,
+    "a wait that can't be explained": lambda found, text: bool(found.jam.unexplained),
+    "a row that waits and isn't read": lambda found, text: found.rows.left_out_waits() > 0,
+    "a ticket that was upgraded": lambda found, text: bool(found.upgrades),
+    "an unknown connection": lambda found, text: b" takes the number that this returns" in text,
+    "a thread of the server's own": lambda found, text: b" is the server's own" in text,
+    "no wait": lambda found, text: text.startswith(b"No session waits.\n"),
 }
-OBJECT_MODES = [mode for mode in MODES if mode != "IX"]
-SCOPED_MODES = ["IX", "S", "X"]
-SCOPES = ("GLOBAL", "SCHEMA", "COMMIT")
-OBJECTS = ("TABLE", "USER LEVEL LOCK")
-READING = {"SH", "SR", "SRO"}
-
-# With which granted modes a requested mode clashes, and behind which waiting ones it waits.
-OBJECT_GRANTED = {
-    "S": "X", "SH": "X", "SR": "SNRW X", "SW": "SRO SNW SNRW X", "SWLP": "SRO SNW SNRW X", "SU": "SU SNW SNRW X", "SRO": "SW SWLP SNRW X",
-    "SNW": "SW SWLP SU SNW SNRW X", "SNRW": "SR SW SWLP SU SRO SNW SNRW X", "X": " ".join(OBJECT_MODES),
-}
-OBJECT_WAITING = {
-    "S": "X", "SH": "", "SR": "SNRW X", "SW": "SNW SNRW X", "SWLP": "SRO SNW SNRW X", "SU": "X", "SRO": "SW SNRW X", "SNW": "X", "SNRW": "X", "X": "",
-}
-SCOPED_GRANTED = {"IX": "S X", "S": "IX X", "X": "IX S X"}
-SCOPED_WAITING = {"IX": "S X", "S": "X", "X": ""}
-
-SETTLED = {"VICTIM", "TIMEOUT", "KILLED"}
-WAITS = {"PENDING", "PRE_ACQUIRE_NOTIFY", *SETTLED}
-MOST_LINES = 8
-COLUMNS = 100
 
 
-class Lock:
-    """A lock, with what is granted and what waits: pairs of a session and a mode."""
+@dataclasses.dataclass
+class Tally:
+    """How many tables of rows were tried, how many of them failed, and which kinds of answers were seen."""
 
-    def __init__(self, kind, name, granted=(), waiting=()):
-        self.kind, self.name, self.granted, self.waiting = kind, name, list(granted), list(waiting)
-
-    def is_scoped(self):
-        """Whether it is a scoped lock."""
-        return self.kind in SCOPES
-
-    def weight(self, mode):
-        """Returns the weight of a request for a mode."""
-        if self.kind in ("GLOBAL", "USER LEVEL LOCK"):
-            return 100 if self.kind == "GLOBAL" else 50
-        return 100 if list(MODES).index(mode) >= list(MODES).index("SU") else 0
-
-    def blockers(self, settled, wish):
-        """Returns what blocks a waiting ticket: sessions, each with the reason, granted tickets first."""
-        session, mode = wish
-        clashes = (SCOPED_GRANTED if self.is_scoped() else OBJECT_GRANTED)[mode].split()
-        behind = (SCOPED_WAITING if self.is_scoped() else OBJECT_WAITING)[mode].split()
-        holds = [(other, f"holds {held}") for other, held in self.granted if other != session and held in clashes]
-        waits = [(other, f"waits before it for {pending}") for other, pending in self.waiting
-                 if other != session and other not in settled and pending in behind]
-        return holds + waits
-
-    def after(self, settled, session):
-        """Returns the tickets that are granted if a session ends, in order, and the lock as it is then."""
-        left = Lock(self.kind, self.name, *([ticket for ticket in tickets if ticket[0] != session] for tickets in (self.granted, self.waiting)))
-        granted = []
-        while True:
-            # A settled wait isn't granted, but it stops those behind it.
-            free = [wish for wish in left.waiting if wish[0] not in settled and not left.blockers(set(), wish)]
-            if not free:
-                return granted, left
-            left.waiting.remove(free[0])
-            left.granted.append(free[0])
-            granted.append(free[0])
+    count: int = 0
+    failures: int = 0
+    seen: set = dataclasses.field(default_factory=set)
 
 
-class Rows:
-    """What mdlview has to find in rows."""
-
-    def __init__(self, text):
-        head, *lines = [line.split("\t") for line in text.splitlines()]
-        place = {name: column for column, name in enumerate(head)}
-        locks, self.threads, self.settled, self.left_out = {}, [], set(), {}
-        names = {name: mode for mode, name in MODES.items()}
-        for line in lines:
-            key = tuple(line[place[column]] for column in ("OBJECT_TYPE", "OBJECT_SCHEMA", "OBJECT_NAME"))
-            mode = names.get(line[place["LOCK_TYPE"]].removeprefix("MDL_"))
-            if mode not in (SCOPED_MODES if key[0] in SCOPES else OBJECT_MODES if key[0] in OBJECTS else []):
-                kind = f"{key[0]} {line[place['LOCK_TYPE']]}"
-                self.left_out[kind] = self.left_out.get(kind, 0) + 1
-                continue
-            lock = locks.setdefault(key, Lock(key[0], name_of(*key)))
-            thread, status = line[place["OWNER_THREAD_ID"]], line[place["LOCK_STATUS"]]
-            self.threads += [] if thread in self.threads else [thread]
-            session = self.threads.index(thread) + 1
-            if status == "GRANTED":
-                lock.granted.append((session, mode))
-            elif status in WAITS:
-                lock.waiting.append((session, mode))
-            self.settled |= {session} if status in SETTLED else set()
-        self.locks = list(locks.values())
-
-    def thread(self, session):
-        """Returns the thread of a session."""
-        return self.threads[session - 1]
-
-    def left_out_line(self):
-        """Returns what is printed for rows that are left out."""
-        count, kinds = sum(self.left_out.values()), [f"{kind} {rows}" for kind, rows in self.left_out.items()]
-        more = f", and of {len(kinds) - MOST_LINES} more types" if len(kinds) > MOST_LINES else ""
-        return cut(COLUMNS, f"{count} row{'' if count == 1 else 's'} left out: " + ", ".join(kinds[:MOST_LINES]) + more) + "\n" if count else ""
-
-    def pairs(self):
-        """Returns each waiting ticket that isn't settled with each ticket that blocks it."""
-        return [(lock, wish, *blocker) for lock in self.locks for wish in lock.waiting if wish[0] not in self.settled
-                for blocker in lock.blockers(self.settled, wish)]
-
-    def waits(self):
-        """Returns what `mdlview waits` prints."""
-        rows = [f"{lock.name}\t{self.thread(wish[0])}\t{wish[1]}\t{self.thread(other)}\t{why}\n" for lock, wish, other, why in self.pairs()]
-        return "LOCK\tWAITING\tFOR\tBLOCKING\tREASON\n" + "".join(rows) + self.left_out_line()
-
-    def why(self):
-        """Returns what `mdlview why` prints."""
-        pairs = self.pairs()
-        edges = {(wish[0], other) for _, wish, other, _ in pairs}
-        blocked, in_a_way = {waiter for waiter, _ in edges}, {other for _, other in edges}
-        deadlocks = [self.deadlock_line(cycle) for cycle in self.cycles(edges)]
-        endings = [self.ending(session) for session in sorted(in_a_way - blocked)]
-        endings.sort(key=lambda ending: -ending[0])
-        none = "Each session that is in the way of another one waits: there is a deadlock.\n" if edges else "No session is in the way of another one.\n"
-        return "".join(deadlocks) + ("".join(text for _, text in endings) if endings else none) + self.left_out_line()
-
-    def cycles(self, edges):
-        """Returns for each session that is in no cycle before it the shortest cycle through it, and of these the first by session numbers."""
-        found = []
-        for start in range(1, len(self.threads) + 1):
-            if not any(start in cycle for cycle in found):
-                paths = [[start]]
-                for _ in self.threads:
-                    closed = [path for path in paths if (path[-1], start) in edges]
-                    if closed:
-                        found.append(min(closed))
-                        break
-                    paths = [[*path, other] for path in paths for waiter, other in sorted(edges) if waiter == path[-1] and other not in path]
-        return found
-
-    def deadlock_line(self, cycle):
-        """Returns the line of a cycle."""
-        weights = {}
-        for lock in self.locks:
-            for session, mode in lock.waiting:
-                weights.setdefault(session, lock.weight(mode))
-        victim = min(cycle, key=lambda session: (weights[session], -session))
-        links = ", ".join(f"{self.thread(one)} waits for {self.thread(other)}" for one, other in zip(cycle, [*cycle[1:], cycle[0]]))
-        return line_with("deadlock: ", links, f"; victim {self.thread(victim)}")
-
-    def ending(self, session):
-        """Returns how many waits are granted if a session ends, and what is printed of it."""
-        holds, gets, waits = [], [], []
-        for lock in self.locks:
-            holds += [line_with(f"  holds {mode} of ", lock.name, "") for holder, mode in lock.granted if holder == session]
-            granted, left = lock.after(self.settled, session)
-            gets += [(mode, line_with(f"  then {self.thread(waiter)} gets {mode} of ", lock.name, "")) for waiter, mode in granted]
-            waits += [self.wait_line(left, wish) for wish in left.waiting if wish[0] not in self.settled]
-        more = " more readers" if all(mode in READING for mode, _ in gets[MOST_LINES:]) else " more"
-        head = f"If {self.thread(session)} ended, waits granted: {len(gets)}\n"
-        kill = f"  KILL: SELECT processlist_id FROM performance_schema.threads WHERE thread_id = {self.thread(session)}\n"
-        return len(gets), head + kill + first_lines(holds, " more") + first_lines([line for _, line in gets], more) + first_lines(waits, " more")
-
-    def wait_line(self, lock, wish):
-        """Returns the line of a waiting ticket that goes on waiting."""
-        blockers = lock.blockers(self.settled, wish)
-        rest = f": {self.thread(blockers[0][0])} {blockers[0][1]}" if blockers else ": behind a settled wait"
-        more = f", and {len(blockers) - 1} more" if len(blockers) > 1 else ""
-        return line_with(f"  then {self.thread(wish[0])} waits for {wish[1]} of ", lock.name, rest + more)
+def table_of(seed, number):
+    """Returns the text of some rows, and the right answers."""
+    text, columns, rows = random_table(random.Random(f"{seed} {number}"))
+    return text.encode("latin-1"), Answers(Rows(columns, rows))
 
 
-def random_rows(dice):
-    """Returns random rows, as the client prints them."""
-    kinds = [("TABLE", "shop", f"t{place}") for place in range(dice.randint(1, 4))] + [
-        ("SCHEMA", "shop", "NULL"), ("GLOBAL", "NULL", "NULL"), ("COMMIT", "NULL", "NULL"), ("USER LEVEL LOCK", "NULL", "n"), ("BACKUP", "NULL", "NULL"),
-    ][: dice.choice([0, 0, 1, 5])]
-    threads = dice.sample(range(1, 100000), dice.randint(1, 9))
-    shares = dice.choice([(6, 3, 0), (4, 4, 1), (2, 6, 0), (8, 1, 0)])
-    text = HEADER
-    for _ in range(dice.choice([3, 6, 12, 30])):
-        key, modes = dice.choice(kinds), dice.choice([OBJECT_MODES, ["SR", "SW", "X"], ["SR", "X"]])
-        mode = MODES[dice.choice(SCOPED_MODES if key[0] in SCOPES else modes)]
-        status = dice.choices(["GRANTED", "PENDING", dice.choice([*sorted(SETTLED), "PRE_ACQUIRE_NOTIFY", "POST_RELEASE_NOTIFY"])], shares)[0]
-        text += "\t".join([*key, dice.choice(["", "MDL_"]) + mode, "TRANSACTION", status, str(dice.choice(threads))]) + "\n"
-    return text
+def difference(ran, status, wanted):
+    """Returns what is wrong with an answer, or None."""
+    if (ran.returncode, ran.stderr) != (status, b""):
+        return f"has status {ran.returncode} in place of {status}, and tells {ran.stderr[:200]}"
+    if ran.stdout == wanted:
+        return None
+    same = len(os.path.commonprefix([ran.stdout, wanted]))
+    begin = max(same - 40, wanted.rfind(b"\n", 0, same) + 1)
+    return f"ought to print {wanted[begin : same + 60]}, and prints {ran.stdout[begin : same + 60]}"
 
 
-def name_of(kind, schema, name):
-    """Returns what a lock is called."""
-    schema, name = ("" if part == "NULL" else part for part in (schema, name))
-    return {"TABLE": f"TABLE {schema}.{name}", "SCHEMA": f"SCHEMA {schema}", "USER LEVEL LOCK": f"USER {name}"}.get(kind, kind)
+def wrong(program, number, text, answers):
+    """Yields what the program answers otherwise to the rows of a number."""
+    for question, is_json in [*QUESTIONS, OTHERS[number % len(OTHERS)]]:
+        words = [*program, question, *(["--json"] if is_json else [])]
+        try:
+            ran = subprocess.run(words, input=text, capture_output=True, timeout=MOST_SECONDS, check=False)
+            told = difference(ran, answers.status(), answers.answer(question, is_json))
+        except subprocess.TimeoutExpired:
+            told = f"takes more than {MOST_SECONDS} seconds"
+        if told:
+            yield f"mdlview {' '.join(words[len(program):])} {told}"
 
 
-def cut(room, text):
-    """Returns a text, cut if it is too long for this room."""
-    return text if len(text) <= room else text[: room - 2] + ".."
+def keep(seed, number, text):
+    """Keeps rows, and returns the file."""
+    OUT.mkdir(exist_ok=True)
+    file = OUT / f"{seed}_{number}.rows"
+    file.write_bytes(text)
+    return file.relative_to(OUT.parent.parent)
 
 
-def line_with(start, name, rest):
-    """Returns a line with a name, which is cut first."""
-    return cut(COLUMNS, start + cut(COLUMNS - len(start) - len(rest), name) + rest) + "\n"
+def look_at(program, seed, numbers, most_seconds):
+    """Tries tables of rows until the time is over. Keeps and reports those that are answered otherwise."""
+    until, tally = time.monotonic() + most_seconds, Tally()
+    for number in numbers:
+        if time.monotonic() > until:
+            break
+        text, answers = table_of(seed, number)
+        why = answers.answer("why")
+        tally.count += 1
+        tally.seen.update(kind for kind, is_there in KINDS.items() if is_there(answers, why))
+        told = list(wrong(program, number, text, answers))
+        tally.failures += bool(told)
+        for line in told:
+            print(f"{keep(seed, number, text)}: {line}", file=sys.stderr, flush=True)
+    return tally
 
 
-def first_lines(lines, more):
-    """Returns the first lines, and how many more there are."""
-    return "".join(lines[:MOST_LINES]) + (f"  and {len(lines) - MOST_LINES}{more}\n" if len(lines) > MOST_LINES else "")
-
-
-def wrong(program, seed):
-    """Returns what is printed wrongly for the rows of a seed, or None."""
-    text = random_rows(random.Random(seed))
-    rows = Rows(text)
-    for question, wanted in (("waits", rows.waits()), ("why", rows.why())):
-        ran = subprocess.run([*program, question], input=text, capture_output=True, text=True, check=False)
-        if (ran.returncode, ran.stdout, ran.stderr) != (0, wanted, ""):
-            KEPT.mkdir(exist_ok=True)
-            (KEPT / f"views.{seed}.rows").write_text(text, encoding="utf-8")
-            return f"seed {seed}, {question}: wanted\n{wanted}and found\n{ran.stdout}{ran.stderr}"
-    return None
+def read_words():
+    """Returns what the command line asks for."""
+    parser = argparse.ArgumentParser(description=__doc__, formatter_class=argparse.RawDescriptionHelpFormatter)
+    parser.add_argument("--seconds", type=float, default=60)
+    parser.add_argument("--scripts", type=int)
+    parser.add_argument("--seed", type=int, default=random.randrange(10**6))
+    parser.add_argument("--only", type=int)
+    parser.add_argument("program", nargs="?", default=os.environ.get("MDLVIEW") or PROGRAM)
+    return parser.parse_args()
 
 
 def main():
-    """Checks random rows for the seconds that are asked for, and returns the exit status."""
-    words = argparse.ArgumentParser(description=__doc__, formatter_class=argparse.RawDescriptionHelpFormatter)
-    words.add_argument("program", nargs="?", default=PROGRAM)
-    words.add_argument("--seconds", type=float, default=60)
-    words.add_argument("--seed", type=int, default=random.randrange(10**9))
-    asked = words.parse_args()
-    print(f"seed {asked.seed}")
-    end, seed = time.monotonic() + asked.seconds, asked.seed
-    while time.monotonic() < end:
-        if found := wrong(asked.program.split(), seed):
-            print(found, file=sys.stderr)
-            return 1
-        seed += 1
-    print(f"{seed - asked.seed} rows of locks: all as the plain program has them")
-    return 0
+    """Tries the rows that are asked for, and returns the exit status."""
+    asked = read_words()
+    print(f"seed {asked.seed}", flush=True)
+    numbers = [asked.only] if asked.only is not None else range(asked.scripts) if asked.scripts else itertools.count()
+    tally = look_at(asked.program.split(), asked.seed, numbers, float("inf") if asked.scripts else asked.seconds)
+    print(f"{tally.count} tables of rows were tried, and {tally.failures} of them failed")
+    missing = sorted(KINDS.keys() - tally.seen) if asked.scripts else []
+    if missing:
+        print(f"no answer has {', '.join(missing)}", file=sys.stderr)
+    return 1 if tally.failures or missing or not tally.count else 0
 
 
 if __name__ == "__main__":

@@ -1,6 +1,7 @@
 #!/bin/sh
 # The gate: proves everything from nothing and runs all tests, tries the wrong bodies with the proved libraries, checks the proved programs' answers to
-# the examples and their command lines, plays 8,000 random scripts, refuses every twenty-third growth, and runs the programs of C.
+# the examples and their command lines, plays 8,000 random scripts, draws 2,000, compares the answers
+# to 2,000 rows of locks, refuses every twenty-third growth, and runs the programs of C.
 # At the end it prints how much processor time that took.
 # Usage: sh make/gate.sh, at the top of the repository.
 spent=$(mktemp)
@@ -12,7 +13,8 @@ RT_JOBS=$(awk -v most="$(nproc)" '/^MemAvailable:/ { fit = int($2 / 4.5e6); prin
 export RT_JOBS
 
 rt ci && python3 make/wrong_bodies.py --gate && MDLSIM=$PWD/crates/mdlsim/out/mdlsim sh examples/check.sh && python3 commands/check.py \
-    && python3 fuzz/fuzz.py --scripts 8000 --seed 1 && python3 commands/check_view.py && sh growths/check.sh 23 && sh make/c.sh
+    && python3 fuzz/fuzz.py --scripts 8000 --seed 1 && python3 commands/check_view.py && python3 fuzz/views.py --scripts 2000 --seed 1 \
+    && python3 fuzz/timelines.py --scripts 2000 --seed 1 && sh growths/check.sh 23 && sh make/c.sh
 status=$?
 # (the second line has the children's time: of the user, and of the system)
 times > "$spent"

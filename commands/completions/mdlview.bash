@@ -2,11 +2,12 @@
 _mdlview() {
     local words=
     if [ "$COMP_CWORD" -eq 1 ]; then
-        words='why locks waits graph timeline help --script --at --json --help --version'
+        words='why locks waits graph timeline query help --script --at --json --help --version'
     else
         case ${COMP_WORDS[1]} in
             graph | timeline) words='--script --at --help' ;;
-            help) words='why locks waits graph timeline' ;;
+            query) words='--server --help mysql mariadb' ;;
+            help) words='why locks waits graph timeline query' ;;
             *) words='--script --at --json --help' ;;
         esac
     fi

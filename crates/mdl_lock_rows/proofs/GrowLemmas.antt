@@ -1,17 +1,20 @@
 -- What belongs to each key of a list, where one more element is of one of them.
-use Rattle.std.proofs.Common.{◌≡◌, ◌∙◌, ℕ, zero, suc, ◌<◌, ◌+◌, not, true, false, cond, Bool, List, [], ◌∷◌, length, get_or, set, map, nat_lt, position, Option, Some, None, refl, sym, ap, arith, rules, Result, Ok, Err, OnOk}
+use Rattle.std.proofs.Common.{◌≡◌, ◌∙◌, ℕ, zero, suc, ◌<◌, ◌+◌, not, true, false, cond, Bool, List, [], ◌∷◌, length, get_or, set, map, nat_eq, nat_lt, position, Option, Some, None, refl, sym, ap, arith, rules, Result, Ok, Err, OnOk}
 use Rattle.std.specs.Prelude.{option_map}
 use Rattle.std.proofs.lemmas.Map.Keys.{IsDistinct-head, IsDistinct-tail}
 use Rattle.std.specs.Cmp.{IsEquivalence}
 use Rattle.std.specs.Cmp.Rules.{comparing}
 use Rattle.std.specs.List.{IsDistinct, AllByRecursion, position_or_len}
 use Rattle.std.proofs.lemmas.Bool.Decides.{nat_tests}
-use Rattle.mdl_key.specs.Words.{key_eq}
+use Rattle.mdl_lock_rows.specs.Keys.{same_key}
 use Rattle.mdl_lock_rows.specs.Classes.{same_class}
 use Rattle.mdl_lock_rows.specs.Tables.{changed_at}
 
-pub key-laws : IsEquivalence key_eq
+pub key-laws : IsEquivalence same_key
 key-laws = search (comparing, rules) depth 9
+
+pub nat-laws : IsEquivalence nat_eq
+nat-laws = search (comparing, rules) depth 9
 
 pub class-laws : IsEquivalence same_class
 class-laws = search (comparing, rules) depth 9

@@ -1,6 +1,5 @@
-pub mod EscapeLemmas
-pub mod FieldLemmas
 pub mod GrowLemmas
+pub mod LawLemmas
 pub mod LineLemmas
 pub mod ListLemmas
 pub mod NumberLemmas

@@ -6,7 +6,8 @@ use Rattle.std.proofs.lemmas.Bool.{and_from}
 use Rattle.std.proofs.lemmas.Bool.Decides.{nat_tests}
 use Rattle.std.proofs.lemmas.Cmp.{nat_list_eq_equiv}
 use Rattle.std.proofs.lemmas.List.Folds.{list_any-append}
-use Rattle.mdl_key.specs.Words.{KeyName, key_eq}
+use Rattle.mdl_lock_rows.specs.Classes.{ClassName, same_class}
+use Rattle.mdl_lock_rows.specs.Keys.{KeyNames, same_key}
 use Rattle.mdl_lock_rows.specs.Numbering.{with_new}
 
 or_true : (a : Bool) → (a || true) ≡ true
@@ -43,6 +44,9 @@ module _ {A : Type 0} (same : A → A → Bool) where
 pub nat-itself : (n : ℕ) → nat_eq n n ≡ true
 nat-itself n = grind (arith, nat_tests)
 
-pub key-itself : (key : KeyName) → key_eq key key ≡ true
+pub class-itself : (class : ClassName) → same_class class class ≡ true
+class-itself class = and_from _ _ (nat_list_eq_equiv.refl class.object_type) (nat_list_eq_equiv.refl class.lock_type)
+
+pub key-itself : (key : KeyNames) → same_key key key ≡ true
 key-itself key =
-    and_from _ _ (nat-itself _) (and_from _ _ (nat_list_eq_equiv.refl key.schema) (nat_list_eq_equiv.refl key.table))
+    and_from _ _ (nat-itself _) (and_from _ _ (nat_list_eq_equiv.refl key.schema) (nat_list_eq_equiv.refl key.name))

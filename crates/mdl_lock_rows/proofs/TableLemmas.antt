@@ -1,83 +1,159 @@
--- Locks that grow row by row, and counts of rows that are left out.
-use Rattle.std.proofs.Common.{◌≡◌, ◌∙◌, ℕ, ◌+◌, ◌<◌, ◌≤◌, true, false, ◌&&◌, Bool, cond, List, [], ◌∷◌, ◌++◌, length, get_or, take, map, filter, position, sym, ap, append-nil, arith}
+-- Locks that grow row by row, what is known of threads, and counts of rows that are left out.
+use Rattle.std.proofs.Common.{◌≡◌, ◌∙◌, ℕ, ◌+◌, ◌<◌, ◌≤◌, true, false, not, ◌&&◌, Bool, cond, List, [], ◌∷◌, ◌++◌, length, get_or, take, map, filter, position, nat_eq, refl, sym, ap, append-nil, arith}
 use Rattle.std.specs.List.{IsDistinct}
 use Rattle.std.proofs.lemmas.List.{get_or-map, length-take-le, take_more, map-append}
 use Rattle.std.proofs.lemmas.List.Elements.{filter-append}
 use Rattle.std.proofs.lemmas.List.Sums.{count_by-le-length, count_by_more_no, count_by_more_yes}
-use Rattle.mdl_book.specs.declared.book_view.BookView.{BookView}
-use Rattle.mdl_graph.specs.Graphs.{lock_of}
-use Rattle.mdl_key.specs.Words.{KeyName, key_eq}
+use Rattle.std.specs.Prelude.{count_by}
+use Rattle.mdl_view.specs.Locks.{LockView}
+use Rattle.mdl_lock_rows.specs.declared.row.OtherRow.{OtherRow}
 use Rattle.mdl_lock_rows.specs.declared.row.Row.{Row}
+use Rattle.mdl_lock_rows.specs.declared.row.Status.{Status}
 use Rattle.mdl_lock_rows.specs.declared.row_class.LeftOut.{LeftOut}
 use Rattle.mdl_lock_rows.specs.Classes.{ClassName, same_class}
-use Rattle.mdl_lock_rows.specs.Numbering.{counted_among}
-use Rattle.mdl_lock_rows.specs.ServerNames.{is_awaited, is_granted}
-use Rattle.mdl_lock_rows.specs.Tables.{awaits, changed_at, holds, lock_at, locks_of, ticket_of, tickets_of, with_ticket}
-use Rattle.mdl_lock_rows.proofs.GrowLemmas.{changed, class-laws, key-laws}
+use Rattle.mdl_lock_rows.specs.Keys.{KeyNames, kind_of_type, same_key}
+use Rattle.mdl_lock_rows.specs.Numbering.{counted_among, is_of_class, owners_among, waits_in_class, with_one}
+use Rattle.mdl_lock_rows.specs.Owners.{OwnerView, bare, described_by, described_too, is_described}
+use Rattle.mdl_lock_rows.specs.ServerNames.{is_granted, is_settled, is_waiting}
+use Rattle.mdl_lock_rows.specs.Tables.{changed_at, is_at, lock_at, locks_among, ticket_of, tickets_at, with_ticket}
+use Rattle.mdl_lock_rows.proofs.GrowLemmas.{changed, class-laws, key-laws, nat-laws}
 
-module _ (threads : List ℕ) (rows : List Row) (i : ℕ) (row : Row) (inside : i < length rows) (this : row ≡ get_or rows i row) where
+module _ (threads changers : List ℕ) (rows : List Row) (i : ℕ) (row : Row) (inside : i < length rows) (this : row ≡ get_or rows i row) where
   -- the rows so far, and this one
   taken : take (i + 1) rows ≡ take i rows ++ row ∷ []
   taken = take_more rows i row inside ∙ ap (λ one. take i rows ++ one ∷ []) (sym this)
 
-  tickets-more : (test : Row → Bool) → tickets_of threads test (take (i + 1) rows) ≡ tickets_of threads test (take i rows) ++ tickets_of threads test (row ∷ [])
-  tickets-more test =
-      ap (λ list. map (ticket_of threads) (filter test list)) taken ∙ ap (map (ticket_of threads)) (filter-append test (take i rows) (row ∷ []))
-      ∙ map-append (ticket_of threads) (filter test (take i rows)) (filter test (row ∷ []))
+  tickets-more : (key : KeyNames) (test : Status → Bool)
+      → tickets_at threads changers key test (take (i + 1) rows) ≡ tickets_at threads changers key test (take i rows) ++ tickets_at threads changers key test (row ∷ [])
+  tickets-more key test =
+      ap (λ list. map (ticket_of threads changers) (filter (is_at key test) list)) taken ∙ ap (map (ticket_of threads changers)) (filter-append (is_at key test) (take i rows) (row ∷ []))
+      ∙ map-append (ticket_of threads changers) (filter (is_at key test) (take i rows)) (filter (is_at key test) (row ∷ []))
 
   -- a row of the key adds its ticket, and another one nothing
-  lock-here : (key : KeyName) → key_eq row.key key ≡ true → lock_at threads (take (i + 1) rows) key ≡ with_ticket threads row (lock_at threads (take i rows) key)
-  lock-here key is =
-      let granted = tickets-more (holds key) ∙ ap (λ b. tickets_of threads (holds key) (take i rows) ++ map (ticket_of threads) (cond (b && is_granted row.status) (row ∷ []) [])) is in
-      let waiting = tickets-more (awaits key) ∙ ap (λ b. tickets_of threads (awaits key) (take i rows) ++ map (ticket_of threads) (cond (b && is_awaited row.status) (row ∷ []) [])) is in
-      λ j. lock_of key.namespace (granted j) (waiting j)
+  tickets-here : (key : KeyNames) (test : Status → Bool) → same_key row.key key ≡ true
+      → tickets_at threads changers key test (take (i + 1) rows)
+      ≡ tickets_at threads changers key test (take i rows) ++ map (ticket_of threads changers) (filter (λ (row : Row). test row.status) (row ∷ []))
+  tickets-here key test is =
+      tickets-more key test ∙ ap (λ b. tickets_at threads changers key test (take i rows) ++ map (ticket_of threads changers) (cond (b && test row.status) (row ∷ []) [])) is
 
-  lock-there : (key : KeyName) → key_eq row.key key ≡ false → lock_at threads (take (i + 1) rows) key ≡ lock_at threads (take i rows) key
+  tickets-there : (key : KeyNames) (test : Status → Bool) → same_key row.key key ≡ false
+      → tickets_at threads changers key test (take (i + 1) rows) ≡ tickets_at threads changers key test (take i rows)
+  tickets-there key test not =
+      tickets-more key test ∙ ap (λ b. tickets_at threads changers key test (take i rows) ++ map (ticket_of threads changers) (cond (b && test row.status) (row ∷ []) [])) not
+      ∙ append-nil (tickets_at threads changers key test (take i rows))
+
+  lock-here : (key : KeyNames) → same_key row.key key ≡ true
+      → lock_at threads changers (take (i + 1) rows) key ≡ with_ticket threads changers row (lock_at threads changers (take i rows) key)
+  lock-here key is =
+      λ j. record {
+        kind = kind_of_type key.object_type;
+        granted = tickets-here key is_granted is j;
+        waiting = tickets-here key is_waiting is j;
+        settled = tickets-here key is_settled is j;
+      }
+
+  lock-there : (key : KeyNames) → same_key row.key key ≡ false → lock_at threads changers (take (i + 1) rows) key ≡ lock_at threads changers (take i rows) key
   lock-there key not =
-      let granted = tickets-more (holds key)
-      ∙ ap (λ b. tickets_of threads (holds key) (take i rows) ++ map (ticket_of threads) (cond (b && is_granted row.status) (row ∷ []) [])) not
-      ∙ append-nil (tickets_of threads (holds key) (take i rows)) in
-      let waiting = tickets-more (awaits key)
-      ∙ ap (λ b. tickets_of threads (awaits key) (take i rows) ++ map (ticket_of threads) (cond (b && is_awaited row.status) (row ∷ []) [])) not
-      ∙ append-nil (tickets_of threads (awaits key) (take i rows)) in
-      λ j. lock_of key.namespace (granted j) (waiting j)
+      λ j. record {
+        kind = kind_of_type key.object_type;
+        granted = tickets-there key is_granted not j;
+        waiting = tickets-there key is_waiting not j;
+        settled = tickets-there key is_settled not j;
+      }
 
   -- the locks of keys that are all different
-  pub locks-more : (keys : List KeyName) (old new : List BookView) → IsDistinct key_eq keys → old ≡ locks_of threads (take i rows) keys
-      → new ≡ changed_at (position (key_eq row.key) keys) (with_ticket threads row) old → new ≡ locks_of threads (take (i + 1) rows) keys
+  pub locks-more : (keys : List KeyNames) (old new : List LockView) → IsDistinct same_key keys → old ≡ locks_among threads changers (take i rows) keys
+      → new ≡ changed_at (position (same_key row.key) keys) (with_ticket threads changers row) old → new ≡ locks_among threads changers (take (i + 1) rows) keys
   locks-more keys old new apart so more =
-      more ∙ ap (changed_at (position (key_eq row.key) keys) (with_ticket threads row)) so
-      ∙ changed key_eq key-laws row.key (lock_at threads (take i rows)) (lock_at threads (take (i + 1) rows)) (with_ticket threads row) lock-here lock-there keys apart
+      more ∙ ap (changed_at (position (same_key row.key) keys) (with_ticket threads changers row)) so
+      ∙ changed same_key key-laws row.key (lock_at threads changers (take i rows)) (lock_at threads changers (take (i + 1) rows)) (with_ticket threads changers row) lock-here lock-there keys apart
 
--- one more of a class
-abbrev pub one-more : LeftOut → LeftOut
-one-more left_out = record left_out { count = left_out.count + 1 }
+-- ---- threads
 
-module _ (classes : List ClassName) (i : ℕ) (class : ClassName) (inside : i < length classes) (this : class ≡ get_or classes i class) where
-  count-here : (key : ClassName) → same_class class key ≡ true → counted_among (take (i + 1) classes) key ≡ one-more (counted_among (take i classes) key)
+described-there : (owners : List OwnerView) (owner : OwnerView) (thread : ℕ) → nat_eq owner.thread thread ≡ false → described_by (owners ++ owner ∷ []) thread ≡ described_by owners thread
+described-there [] owner thread not = ap (λ b. cond (b && is_described owner) owner (bare thread)) not
+described-there (one ∷ owners) owner thread not = ap (cond (nat_eq one.thread thread && is_described one) one) (described-there owners owner thread not)
+
+under : (first more : Bool) (one owner : OwnerView) → is_described one ≡ true → described_too owner one ≡ one
+under first more one owner is = by (is_described owner) (is_described one) is where
+  by : (a b : Bool) → b ≡ true → cond (a && not b) owner one ≡ one
+  by true true e = refl
+  by false true e = refl
+  by true false e = absurd (cc)
+  by false false e = refl
+
+described-here : (owners : List OwnerView) (owner : OwnerView) (thread : ℕ) → nat_eq owner.thread thread ≡ true
+    → described_by (owners ++ owner ∷ []) thread ≡ described_too owner (described_by owners thread)
+described-here [] owner thread is = ap (λ b. cond (b && is_described owner) owner (bare thread)) is ∙ by (is_described owner) where
+  by : (b : Bool) → cond b owner (bare thread) ≡ cond (b && true) owner (bare thread)
+  by true = refl
+  by false = refl
+described-here (one ∷ owners) owner thread is =
+    ap (cond (nat_eq one.thread thread && is_described one) one) (described-here owners owner thread is) ∙ by (nat_eq one.thread thread) (is_described one) refl where
+      by : (a b : Bool) → is_described one ≡ b
+          → cond (a && b) one (described_too owner (described_by owners thread)) ≡ described_too owner (cond (a && b) one (described_by owners thread))
+      by true true e = sym (under true true one owner e)
+      by true false e = refl
+      by false b e = refl
+
+module _ (rows : List Row) (i : ℕ) (row : Row) (inside : i < length rows) (this : row ≡ get_or rows i row) where
+  owners-taken : map (λ (row : Row). row.owner) (take (i + 1) rows) ≡ map (λ (row : Row). row.owner) (take i rows) ++ row.owner ∷ []
+  owners-taken =
+      ap (map (λ (row : Row). row.owner)) (take_more rows i row inside ∙ ap (λ one. take i rows ++ one ∷ []) (sym this))
+      ∙ map-append (λ (row : Row). row.owner) (take i rows) (row ∷ [])
+
+  -- what is known of threads that are all different
+  pub owners-more : (threads : List ℕ) (old new : List OwnerView) → IsDistinct nat_eq threads → old ≡ owners_among (take i rows) threads
+      → new ≡ changed_at (position (nat_eq row.owner.thread) threads) (described_too row.owner) old → new ≡ owners_among (take (i + 1) rows) threads
+  owners-more threads old new apart so more =
+      more ∙ ap (changed_at (position (nat_eq row.owner.thread) threads) (described_too row.owner)) so
+      ∙ changed nat_eq nat-laws row.owner.thread (described_by (map (λ (row : Row). row.owner) (take i rows))) (described_by (map (λ (row : Row). row.owner) (take (i + 1) rows))) (described_too row.owner)
+      (λ thread is. ap (λ owners. described_by owners thread) owners-taken ∙ described-here (map (λ (row : Row). row.owner) (take i rows)) row.owner thread is)
+      (λ thread not. ap (λ owners. described_by owners thread) owners-taken ∙ described-there (map (λ (row : Row). row.owner) (take i rows)) row.owner thread not)
+      threads apart
+
+-- ---- rows that are left out
+
+module _ (rows : List OtherRow) (i : ℕ) (row : OtherRow) (inside : i < length rows) (this : row ≡ get_or rows i row) where
+  waits-more : (key : ClassName) → same_class key row.class ≡ true
+      → count_by (waits_in_class key) (take (i + 1) rows) ≡ count_by (waits_in_class key) (take i rows) + cond row.is_waiting 1 0
+  waits-more key is = by row.is_waiting refl where
+    by : (b : Bool) → row.is_waiting ≡ b → count_by (waits_in_class key) (take (i + 1) rows) ≡ count_by (waits_in_class key) (take i rows) + cond b 1 0
+    by true e =
+        count_by_more_yes (waits_in_class key) rows i row inside (ap (waits_in_class key) (sym this) ∙ ap (λ b. b && row.is_waiting) is ∙ e)
+    by false e =
+        let no = count_by_more_no (waits_in_class key) rows i row inside (ap (waits_in_class key) (sym this) ∙ ap (λ b. b && row.is_waiting) is ∙ e) in
+        omega (arith, no)
+
+  count-here : (key : ClassName) → same_class row.class key ≡ true → counted_among (take (i + 1) rows) key ≡ with_one row.is_waiting (counted_among (take i rows) key)
   count-here key is =
-      let passes : same_class key (get_or classes i class) ≡ true = ap (same_class key) (sym this) ∙ class-laws.symm key class ∙ is in
-      ap (λ n. record { class = key; count = n }) (count_by_more_yes (same_class key) classes i class inside passes)
+      let passes : same_class key row.class ≡ true = class-laws.symm key row.class ∙ is in
+      let count = count_by_more_yes (is_of_class key) rows i row inside (ap (is_of_class key) (sym this) ∙ passes) in
+      λ j. record { class = key; count = count j; waiting = waits-more key passes j }
 
-  count-there : (key : ClassName) → same_class class key ≡ false → counted_among (take (i + 1) classes) key ≡ counted_among (take i classes) key
+  count-there : (key : ClassName) → same_class row.class key ≡ false → counted_among (take (i + 1) rows) key ≡ counted_among (take i rows) key
   count-there key not =
-      let fails : same_class key (get_or classes i class) ≡ false = ap (same_class key) (sym this) ∙ class-laws.symm key class ∙ not in
-      ap (λ n. record { class = key; count = n }) (count_by_more_no (same_class key) classes i class inside fails)
+      let fails : same_class key row.class ≡ false = class-laws.symm key row.class ∙ not in
+      let count = count_by_more_no (is_of_class key) rows i row inside (ap (is_of_class key) (sym this) ∙ fails) in
+      let waiting = count_by_more_no (waits_in_class key) rows i row inside (ap (waits_in_class key) (sym this) ∙ ap (λ b. b && row.is_waiting) fails) in
+      λ j. record { class = key; count = count j; waiting = waiting j }
 
   -- the counts of classes that are all different
-  pub counts-more : (keys : List ClassName) (old new : List LeftOut) → IsDistinct same_class keys → old ≡ map (counted_among (take i classes)) keys
-      → new ≡ changed_at (position (same_class class) keys) one-more old → new ≡ map (counted_among (take (i + 1) classes)) keys
+  pub counts-more : (keys : List ClassName) (old new : List LeftOut) → IsDistinct same_class keys → old ≡ map (counted_among (take i rows)) keys
+      → new ≡ changed_at (position (same_class row.class) keys) (with_one row.is_waiting) old → new ≡ map (counted_among (take (i + 1) rows)) keys
   counts-more keys old new apart so more =
-      more ∙ ap (changed_at (position (same_class class) keys) one-more) so
-      ∙ changed same_class class-laws class (counted_among (take i classes)) (counted_among (take (i + 1) classes)) one-more count-here count-there keys apart
+      more ∙ ap (changed_at (position (same_class row.class) keys) (with_one row.is_waiting)) so
+      ∙ changed same_class class-laws row.class (counted_among (take i rows)) (counted_among (take (i + 1) rows)) (with_one row.is_waiting) count-here count-there keys apart
 
   -- as many as rows at most
-  pub count-few : (keys : List ClassName) (list : List LeftOut) (place : ℕ) (d : LeftOut) → list ≡ map (counted_among (take i classes)) keys → place < length keys
-      → (get_or list place d).count ≤ i
+  pub count-few : (keys : List ClassName) (list : List LeftOut) (place : ℕ) (d : LeftOut) → list ≡ map (counted_among (take i rows)) keys → place < length keys
+      → ((get_or list place d).count ≤ i) × ((get_or list place d).waiting ≤ i)
   count-few keys list place d so within =
       let none : ClassName = record { object_type = []; lock_type = [] } in
       let key = get_or keys place none in
-      let at : get_or list place d ≡ counted_among (take i classes) key =
-      ap (λ (left_out : List LeftOut). get_or left_out place d) so ∙ get_or-map (counted_among (take i classes)) keys place none d within in
-      let is = ap (λ (left_out : LeftOut). left_out.count) at in
-      omega (arith, is, count_by-le-length (same_class key) (take i classes), length-take-le i classes (omega arith))
+      let at : get_or list place d ≡ counted_among (take i rows) key =
+      ap (λ (left_out : List LeftOut). get_or left_out place d) so ∙ get_or-map (counted_among (take i rows)) keys place none d within in
+      let few = length-take-le i rows (omega arith) in (
+        omega (arith, ap (λ (left_out : LeftOut). left_out.count) at, count_by-le-length (is_of_class key) (take i rows), few),
+        omega (arith, ap (λ (left_out : LeftOut). left_out.waiting) at, count_by-le-length (waits_in_class key) (take i rows), few),
+      )

@@ -1,11 +1,13 @@
--- The columns that are read of the table `metadata_locks`, after MySQL 5.7: storage/perfschema/table_md_locks.cc.
-use Rattle.std.specs.Prelude.{ℕ, List, length, codes, Result, Ok, Err, position, ok_or}
-use Rattle.mdl_lines.specs.Words.{same_text}
+-- The columns that are read of `performance_schema.metadata_locks` and of the tables that it is joined with, after MySQL 5.7:
+-- storage/perfschema/table_md_locks.cc, table_threads.cc, and `trx_started` of information_schema.INNODB_TRX. That the first six are needed, and
+-- that the others have a second name, is this project's own choice.
+use Rattle.std.specs.Prelude.{ℕ, Bool, ◌||◌, List, length, codes, Option, Result, Ok, Err, position, ok_or, unwrap_or, slice_get, []}
+use Rattle.std.specs.Option.{option_map_or}
+use Rattle.std.specs.Str.{str_eq_ignore_ascii_case}
+use Rattle.mdl_client_table.specs.Words.{RowText, trimmed}
 use Rattle.mdl_lock_rows.specs.declared.column.Column.{Column}
-use Rattle.mdl_lock_rows.specs.declared.column.Column.TheVariants.{ObjectType, ObjectSchema, ObjectName, LockType, LockDuration, LockStatus, OwnerThreadId}
+use Rattle.mdl_lock_rows.specs.declared.column.Column.TheVariants.{ObjectType, ObjectSchema, ObjectName, LockType, LockDuration, LockStatus, OwnerThreadId, ProcesslistId, User, Host, Command, Time, Info, TrxStarted}
 use Rattle.mdl_lock_rows.specs.declared.columns.Columns.{Columns}
-use Rattle.mdl_lock_rows.specs.declared.row_error.RowError.{RowError}
-use Rattle.mdl_lock_rows.specs.declared.row_error.RowError.TheVariants.{NoColumn}
 
 -- a column's name
 abbrev pub column_name : Column → List ℕ
@@ -16,33 +18,71 @@ column_name LockType = codes "LOCK_TYPE"
 column_name LockDuration = codes "LOCK_DURATION"
 column_name LockStatus = codes "LOCK_STATUS"
 column_name OwnerThreadId = codes "OWNER_THREAD_ID"
+column_name ProcesslistId = codes "PROCESSLIST_ID"
+column_name User = codes "USER"
+column_name Host = codes "HOST"
+column_name Command = codes "COMMAND"
+column_name Time = codes "TIME"
+column_name Info = codes "INFO"
+column_name TrxStarted = codes "TRX_STARTED"
+
+-- the name of a column in the table that it is from, where that is another one
+abbrev pub other_name : Column → List ℕ
+other_name User = codes "PROCESSLIST_USER"
+other_name Host = codes "PROCESSLIST_HOST"
+other_name Command = codes "PROCESSLIST_COMMAND"
+other_name Time = codes "PROCESSLIST_TIME"
+other_name Info = codes "PROCESSLIST_INFO"
+other_name column = column_name column
+
+-- whether a name of the header is that of a column. Neither the case of letters counts nor blanks at the ends
+abbrev pub is_name_of : Column → List ℕ → Bool
+is_name_of column name = str_eq_ignore_ascii_case (trimmed name) (column_name column) || str_eq_ignore_ascii_case (trimmed name) (other_name column)
+
+-- the index of a column: that of the first name that is the column's
+abbrev pub place_of : List (List ℕ) → Column → Option ℕ
+place_of names column = position (is_name_of column) names
+
+-- the index of a column that is needed
+abbrev pub needed : List (List ℕ) → Column → Result ℕ Column
+needed names column = ok_or (place_of names column) column
 
 -- the result of a second step after a first one that may be refused
-abbrev pub and_then : {A B : Type 0} → Result A RowError → (A → Result B RowError) → Result B RowError
+abbrev pub and_then : {A B E : Type 0} → Result A E → (A → Result B E) → Result B E
 and_then (Ok value) next = next value
 and_then (Err error) next = Err error
 
--- the index of a column among the fields of the header: that of the first field with its name
-abbrev pub place_of : List (List ℕ) → Column → Result ℕ RowError
-place_of header column = ok_or (position (same_text (column_name column)) header) (NoColumn column)
-
--- the indices of the columns, or the first column that is missing
-abbrev pub columns_of : List (List ℕ) → Result Columns RowError
-columns_of header =
-    and_then (place_of header ObjectType) (λ object_type.
-    and_then (place_of header ObjectSchema) (λ object_schema.
-    and_then (place_of header ObjectName) (λ object_name.
-    and_then (place_of header LockType) (λ lock_type.
-    and_then (place_of header LockDuration) (λ lock_duration.
-    and_then (place_of header LockStatus) (λ lock_status.
-    and_then (place_of header OwnerThreadId) (λ owner_thread_id.
+-- the indices of the columns, or the first needed one that is missing
+abbrev pub columns_of : List (List ℕ) → Result Columns Column
+columns_of names =
+    and_then (needed names ObjectType) (λ object_type.
+    and_then (needed names ObjectSchema) (λ object_schema.
+    and_then (needed names ObjectName) (λ object_name.
+    and_then (needed names LockType) (λ lock_type.
+    and_then (needed names LockStatus) (λ lock_status.
+    and_then (needed names OwnerThreadId) (λ owner_thread_id.
     Ok (record {
-      count = length header;
+      count = length names;
       object_type = object_type;
       object_schema = object_schema;
       object_name = object_name;
       lock_type = lock_type;
-      lock_duration = lock_duration;
       lock_status = lock_status;
       owner_thread_id = owner_thread_id;
-    }))))))))
+      lock_duration = place_of names LockDuration;
+      processlist_id = place_of names ProcesslistId;
+      user = place_of names User;
+      host = place_of names Host;
+      command = place_of names Command;
+      time = place_of names Time;
+      info = place_of names Info;
+      trx_started = place_of names TrxStarted;
+    })))))))
+
+-- the field of a row at an index
+abbrev pub field_at : RowText → ℕ → List ℕ
+field_at row place = unwrap_or (slice_get row.fields place) []
+
+-- the field of a column that may be missing: it is empty then
+abbrev pub field_in : RowText → Option ℕ → List ℕ
+field_in row place = option_map_or (field_at row) place []

@@ -1,9 +1,10 @@
 pub mod Classes
 pub mod Columns
-pub mod Escapes
-pub mod Fields
+pub mod Keys
 pub mod Lines
 pub mod Numbering
+pub mod Owners
 pub mod Reading
+pub mod RowLaws
 pub mod ServerNames
 pub mod Tables

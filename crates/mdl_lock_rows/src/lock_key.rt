@@ -3,74 +3,65 @@ ghost use Rattle.std.specs.Prelude.{◌≡◌, ◌++◌, IfOk};
 ghost use Rattle.std.proofs.Common.{rules};
 ghost use Rattle.std.specs.Cmp.Rules.{comparing, hashing};
 ghost use Rattle.std.specs.Hash as fed;
-ghost use Rattle.mdl_key.specs.Words.{key_eq};
-ghost use Rattle.mdl_lock_rows.specs.Escapes.{key_of, name_of};
+ghost use Rattle.mdl_lock_rows.specs.Keys.{same_key};
 
-use crate::escapes::name_of;
-use mdl_key::Namespace;
+use crate::object_type::ObjectType;
 use std::alloc::{AllocError, Global};
 use std::hash::{Hash, Hasher};
 use std::marker::Model;
 
-/// A namespace, and within it a schema, a table or a user-level lock. The names may have any bytes, and are empty if there is none.
+/// What is locked: an object type, and the names of the object. A name may have any bytes, and is empty if there is none.
 #[derive(Drop)]
 pub struct LockKey {
-    namespace: Namespace,
+    object_type: ObjectType,
     schema: Vec<u8>,
-    table: Vec<u8>,
+    name: Vec<u8>,
 }
 
 impl Model for LockKey {
-    ghost use Rattle.mdl_key.specs.Words.{KeyName};
+    ghost use Rattle.mdl_lock_rows.specs.Keys.{KeyNames};
 
-    ghost Value = { KeyName };
+    ghost Value = { KeyNames };
 
-    ghost view = { λ key. record { namespace = key.namespace; schema = key.schema.items; table = key.table.items } };
+    ghost view = { λ key. record { object_type = key.object_type; schema = key.schema.items; name = key.name.items } };
 }
 
 impl LockKey {
-    /// Returns the key with the names in two fields.
-    pub(crate) fn read(
+    /// Returns the key of this object type and these names.
+    pub(crate) fn new(
         alloc: Global,
-        namespace: Namespace,
+        object_type: ObjectType,
         schema: &[u8],
-        table: &[u8],
+        name: &[u8],
     ) -> Result<LockKey, AllocError>
-        ensures { IfOk result (λ key. key ≡ key_of namespace schema.now table.now) }
+        ensures { IfOk result (λ key. key ≡ record { object_type = object_type; schema = schema.now; name = name.now }) }
     {
-        if namespace == Namespace::UserLevelLock {
-            return Ok(LockKey {
-                namespace,
-                schema: name_of(alloc, table)?,
-                table: Vec::new(alloc),
-            });
-        }
         Ok(LockKey {
-            namespace,
-            schema: name_of(alloc, schema)?,
-            table: name_of(alloc, table)?,
+            object_type,
+            schema: Vec::from_slice(alloc, schema)?,
+            name: Vec::from_slice(alloc, name)?,
         })
     }
 
-    /// Returns the key's namespace.
-    pub fn namespace(&self) -> Namespace
-        ensures { result ≡ self.now.namespace }
+    /// Returns the object type.
+    pub fn object_type(&self) -> ObjectType
+        ensures { result ≡ self.now.object_type }
     {
-        self.namespace
+        self.object_type
     }
 
-    /// Returns the schema's name, or that of the user-level lock. It is empty if there is none.
-    pub fn schema_name(&self) -> &[u8]
+    /// Returns the schema's name.
+    pub fn schema(&self) -> &[u8]
         ensures { result.now ≡ self.now.schema }
     {
         self.schema.as_slice()
     }
 
-    /// Returns the table's name. It is empty if there is none.
-    pub fn table_name(&self) -> &[u8]
-        ensures { result.now ≡ self.now.table }
+    /// Returns the object's name. That of a user-level lock is here.
+    pub fn name(&self) -> &[u8]
+        ensures { result.now ≡ self.now.name }
     {
-        self.table.as_slice()
+        self.name.as_slice()
     }
 }
 
@@ -79,22 +70,22 @@ impl Clone for LockKey {
 
     fn clone(&self) -> Result<LockKey, AllocError> {
         Ok(LockKey {
-            namespace: self.namespace,
+            object_type: self.object_type,
             schema: self.schema.clone()?,
-            table: self.table.clone()?,
+            name: self.name.clone()?,
         })
     }
 }
 
 impl PartialEq for LockKey {
-    ghost eq = { key_eq };
+    ghost eq = { same_key };
 
     ghost laws = { Prim.search (comparing, rules) depth 9 };
 
     fn eq(&self, other: &LockKey) -> bool {
-        self.namespace == other.namespace
-            && self.schema_name() == other.schema_name()
-            && self.table_name() == other.table_name()
+        self.object_type == other.object_type
+            && self.schema() == other.schema()
+            && self.name() == other.name()
     }
 }
 
@@ -104,12 +95,12 @@ impl Eq for LockKey {
 
 /// A key is hashed by the bytes of its names alone.
 impl Hash for LockKey {
-    ghost hash_input = { λ key. fed.slice fed.u8 key.schema ++ fed.slice fed.u8 key.table };
+    ghost hash_input = { λ key. fed.slice fed.u8 key.schema ++ fed.slice fed.u8 key.name };
 
     ghost respects_eq = { Prim.search (hashing, rules) depth 9 };
 
     fn hash<H: Hasher>(&self, state: &mut H) {
-        self.schema_name().hash(state);
-        self.table_name().hash(state);
+        self.schema().hash(state);
+        self.name().hash(state);
     }
 }

@@ -90,11 +90,13 @@ impl Hash for RowClass {
     }
 }
 
-/// The number of rows of an object type and a lock type that are left out.
+/// The rows of an object type and a lock type that are left out.
 #[derive(Drop)]
 pub struct LeftOut {
     /// The class of the rows.
     pub class: RowClass,
     /// The number of rows.
     pub count: usize,
+    /// How many of them wait.
+    pub waiting: usize,
 }

@@ -5,38 +5,41 @@ use crate::column::Column;
 use std::alloc::AllocError;
 use thiserror::Error;
 
-/// Why a line is refused.
+/// Why a row is refused.
 #[derive(Clone, Copy, Debug, PartialEq, Eq, Error)]
 pub enum RowError {
-    /// The header lacks a column.
-    #[error("no column {0}")]
-    NoColumn(Column),
-    /// The line has fewer fields than the header.
-    #[error("fewer fields than the header")]
-    FewFields,
-    /// LOCK_DURATION is none of STATEMENT, TRANSACTION and EXPLICIT.
-    #[error("unknown LOCK_DURATION")]
-    UnknownDuration,
-    /// LOCK_STATUS is none of those of [`Status`](crate::Status).
-    #[error("unknown LOCK_STATUS")]
+    /// The row has fewer fields than the header has names. The first missing one has this number, counted from 1.
+    #[error("field {0}: missing, since the row has fewer fields than the header")]
+    MissingField(usize),
+    /// The row has more fields than the header has names. The first of them has this number, counted from 1.
+    #[error("field {0}: not in the header")]
+    ExtraField(usize),
+    /// LOCK_STATUS is none of the seven known ones.
+    #[error("column LOCK_STATUS: unknown status")]
     UnknownStatus,
+    /// LOCK_DURATION is none of STATEMENT, TRANSACTION and EXPLICIT.
+    #[error("column LOCK_DURATION: unknown duration")]
+    UnknownDuration,
     /// OWNER_THREAD_ID isn't a number of decimal digits below 2^64.
-    #[error("OWNER_THREAD_ID is no number")]
+    #[error("column OWNER_THREAD_ID: not a number")]
     BadThread,
+    /// PROCESSLIST_ID isn't a number of decimal digits below 2^64.
+    #[error("column PROCESSLIST_ID: not a number")]
+    BadConnection,
 }
 
 /// Why the rows of a server's metadata locks can't be read.
 #[derive(Clone, Copy, Debug, PartialEq, Eq, Error)]
 pub enum LockRowsError {
-    /// The line of this number, counted from 1, is refused.
-    #[error("line {0}: {1}")]
+    /// There are no rows.
+    #[error("no rows. Either no session holds a lock, or the server keeps no rows. MySQL 5.7 keeps none until this is run:\n  UPDATE performance_schema.setup_instruments SET ENABLED='YES', TIMED='YES' WHERE NAME='wait/lock/metadata/sql/mdl';\nLocks that were taken before have no rows. MariaDB also needs performance_schema=ON in my.cnf, and a restart.")]
+    NoRows,
+    /// The header lacks this column.
+    #[error("no column {0}. Give what this prints: mysql -B -e \"$(mdlview query)\"")]
+    NoColumn(Column),
+    /// The row whose first line has this number, counted from 1, is refused.
+    #[error("line {0}, {1}")]
     Refused(u64, RowError),
-    /// This number of threads hold locks or wait for them, more than [`MOST_OWNERS`](crate::MOST_OWNERS).
-    #[error("{0} owners: at most 1024 can be looked at")]
-    TooManyOwners(usize),
-    /// This number of locks are held or waited for, more than [`MOST_LOCKS`](crate::MOST_LOCKS).
-    #[error("{0} locks: at most 256 can be looked at")]
-    TooManyLocks(usize),
     /// Memory ran out.
     #[error("out of memory")]
     OutOfMemory,
@@ -49,5 +52,15 @@ impl From<AllocError> for LockRowsError {
 
     fn from(_: AllocError) -> LockRowsError {
         LockRowsError::OutOfMemory
+    }
+}
+
+impl From<Column> for LockRowsError {
+    ghost use Rattle.mdl_lock_rows.specs.declared.row_error.LockRowsError.TheVariants.{NoColumn};
+
+    ghost from_gives = { λ column error. error ≡ NoColumn column };
+
+    fn from(column: Column) -> LockRowsError {
+        LockRowsError::NoColumn(column)
     }
 }

@@ -1,18 +1,47 @@
-//! The names that the server has for namespaces, modes, durations and statuses.
-ghost use Rattle.std.specs.Prelude.{◌≡◌, find};
-ghost use Rattle.mdl_lines.specs.Words.{same_text};
-ghost use Rattle.mdl_lock_rows.specs.ServerNames.{object_type_name, lock_type_name, duration_name, status_name, namespace_of, mode_of, without_prefix, wish_of, duration_named, duration_of, status_named, status_of};
+//! The names that the server has for object types, modes, durations and statuses.
+ghost use Rattle.std.specs.Prelude.{◌≡◌, option_and_then};
+ghost use Rattle.std.specs.Bool.{then_some};
+ghost use Rattle.mdl_key.specs.Words.{is_mode_of};
+ghost use Rattle.mdl_view.specs.declared.lock_mode.LockMode.TheVariants.{Mdl};
+ghost use Rattle.mdl_lock_rows.specs.ServerNames.{backup_mode_of, lock_mode_of, lock_type_name, duration_name, object_type_of, mode_named, mode_of, without_prefix, request_of, duration_named, duration_of, status_named, status_of};
 
-use crate::row::{Status, Wish};
+use crate::object_type::ObjectType;
+use crate::row::{Request, Status};
 use crate::row_error::RowError;
-use mdl_key::{Duration, Mode, Namespace};
+use mdl_key::{Duration, Kind, Mode};
+use mdl_view::{BackupMode, LockKind, LockMode};
 
-const NAMESPACES: [Namespace; 5] = [
-    Namespace::Global,
-    Namespace::Schema,
-    Namespace::Table,
-    Namespace::Commit,
-    Namespace::UserLevelLock,
+const OBJECT_TYPES: [ObjectType; 13] = [
+    ObjectType::Global,
+    ObjectType::Schema,
+    ObjectType::Table,
+    ObjectType::Commit,
+    ObjectType::UserLevelLock,
+    ObjectType::Function,
+    ObjectType::Procedure,
+    ObjectType::Trigger,
+    ObjectType::Event,
+    ObjectType::Tablespace,
+    ObjectType::LockingService,
+    ObjectType::PackageBody,
+    ObjectType::Backup,
+];
+
+const BACKUP_MODES: [BackupMode; 14] = [
+    BackupMode::Start,
+    BackupMode::Flush,
+    BackupMode::WaitFlush,
+    BackupMode::WaitDdl,
+    BackupMode::WaitCommit,
+    BackupMode::Ftwrl1,
+    BackupMode::Ftwrl2,
+    BackupMode::Dml,
+    BackupMode::TransDml,
+    BackupMode::SysDml,
+    BackupMode::Ddl,
+    BackupMode::BlockDdl,
+    BackupMode::AlterCopy,
+    BackupMode::Commit,
 ];
 
 const DURATIONS: [Duration; 3] = [
@@ -31,34 +60,73 @@ const STATUSES: [Status; 7] = [
     Status::PostReleaseNotify,
 ];
 
-/// Returns the namespace and the mode of a row, unless the object type or the lock type is another one, or the namespace doesn't use the mode.
-pub(crate) fn wish_of(object_type: &[u8], lock_type: &[u8]) -> Option<Wish>
-    ensures { result ≡ wish_of object_type.now lock_type.now }
+/// Returns the object type and the mode of a row, unless either isn't known, or the object type's locks don't use the mode.
+pub(crate) fn request_of(object_type: &[u8], lock_type: &[u8]) -> Option<Request>
+    ensures { result ≡ request_of object_type.now lock_type.now }
 {
-    let namespace = namespace_of(object_type)?;
-    let mode = mode_of(lock_type)?;
-    namespace
-        .kind()
-        .has_mode(mode)
-        .then_some(Wish { namespace, mode })
+    let object_type = object_type_of(object_type)?;
+    let mode = lock_mode_of(object_type.kind(), lock_type)?;
+    Some(Request { object_type, mode })
 }
 
-// The namespace of this OBJECT_TYPE.
-fn namespace_of(name: &[u8]) -> Option<Namespace>
-    ensures { result ≡ namespace_of name.now }
+// The object type of this OBJECT_TYPE.
+fn object_type_of(name: &[u8]) -> Option<ObjectType>
+    ensures { result ≡ object_type_of name.now }
 {
-    NAMESPACES.iter().copied().find(|namespace| object_type_name(*namespace).as_bytes() == name)
+    OBJECT_TYPES
+        .iter()
+        .copied()
+        .find(|object_type| object_type.as_str().as_bytes() == name)
 }
 
-// The mode of this LOCK_TYPE.
+// The mode of this LOCK_TYPE at a lock of this kind.
+fn lock_mode_of(kind: LockKind, name: &[u8]) -> Option<LockMode>
+    ensures { result ≡ lock_mode_of kind name.now }
+{
+    match kind {
+        LockKind::Scoped => mode_at(Kind::Scoped, name),
+        LockKind::Object => mode_at(Kind::Object, name),
+        LockKind::Backup => Some(LockMode::Backup(backup_mode_of(name)?)),
+    }
+}
+
+// The mode of MySQL 5.7 of this LOCK_TYPE, if locks of this kind use it.
+fn mode_at(kind: Kind, name: &[u8]) -> Option<LockMode>
+    ensures { result ≡ option_and_then (λ mode. then_some (is_mode_of kind mode) (Mdl mode)) (mode_of name.now) }
+{
+    let mode = mode_of(name)?;
+    kind.has_mode(mode).then_some(LockMode::Mdl(mode))
+}
+
+// The mode of MySQL 5.7 of this LOCK_TYPE.
 fn mode_of(name: &[u8]) -> Option<Mode>
     ensures { result ≡ mode_of name.now }
 {
-    let name = without_prefix(name);
+    if name.is_empty() {
+        return Some(Mode::SRO);
+    }
+    mode_named(without_prefix(name))
+}
+
+// The mode of this name.
+fn mode_named(name: &[u8]) -> Option<Mode>
+    ensures { result ≡ mode_named name.now }
+{
     Mode::ALL
         .iter()
         .copied()
         .find(|mode| lock_type_name(*mode).as_bytes() == name)
+}
+
+// The mode of the lock of backups of this LOCK_TYPE.
+fn backup_mode_of(name: &[u8]) -> Option<BackupMode>
+    ensures { result ≡ backup_mode_of name.now }
+{
+    let name = without_prefix(name);
+    BACKUP_MODES
+        .iter()
+        .copied()
+        .find(|mode| mode.as_str().as_bytes() == name)
 }
 
 // A name without a leading `MDL_`.
@@ -105,19 +173,6 @@ fn status_named(name: &[u8]) -> Option<Status>
         .find(|status| status.as_str().as_bytes() == name)
 }
 
-/// Returns the server's OBJECT_TYPE of a namespace.
-pub fn object_type_name(namespace: Namespace) -> &'static str
-    ensures { result.now ≡ object_type_name namespace }
-{
-    match namespace {
-        Namespace::Global => "GLOBAL",
-        Namespace::Schema => "SCHEMA",
-        Namespace::Table => "TABLE",
-        Namespace::Commit => "COMMIT",
-        Namespace::UserLevelLock => "USER LEVEL LOCK",
-    }
-}
-
 /// Returns the server's LOCK_TYPE of a mode.
 pub fn lock_type_name(mode: Mode) -> &'static str
     ensures { result.now ≡ lock_type_name mode }
@@ -137,8 +192,8 @@ pub fn lock_type_name(mode: Mode) -> &'static str
     }
 }
 
-/// Returns the server's LOCK_DURATION of a duration.
-pub fn duration_name(duration: Duration) -> &'static str
+// The server's LOCK_DURATION of a duration.
+fn duration_name(duration: Duration) -> &'static str
     ensures { result.now ≡ duration_name duration }
 {
     match duration {

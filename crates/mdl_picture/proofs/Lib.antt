@@ -1,8 +1,11 @@
+pub mod ArrowLaws
 pub mod BoxLaws
 pub mod FoldLemmas
+pub mod HoldLaws
 pub mod Pieces
 pub mod PictureLaws
 pub mod RowLaws
 pub mod TextLemmas
+pub mod TrackLaws
 pub mod WaitLaws
 pub mod XmlLaws

@@ -9,9 +9,9 @@ use Rattle.std.proofs.lemmas.List.Elements.{All-cons}
 use Rattle.std.proofs.lemmas.List.Folds.{list_any-append}
 use Rattle.std.proofs.lemmas.List.Kept.{AllPairs-cons}
 use Rattle.std.proofs.lemmas.List.Sums.{sum_by-cons}
-use Rattle.mdl_picture.specs.Laws.{IsLess, is_in_event, is_in_moment}
-use Rattle.mdl_picture.specs.Moments.{EventView, MomentView}
-use Rattle.mdl_picture.specs.Rows.{has_row, rows_above, rows_of, with_event_rows, with_moment_rows, with_row}
+use Rattle.mdl_picture.specs.Laws.{IsLess, is_holder, is_in_event, is_in_moment}
+use Rattle.mdl_picture.specs.Moments.{EventView, HeldView, MomentView}
+use Rattle.mdl_picture.specs.Rows.{has_row, rows_above, rows_of, with_event_rows, with_holder, with_moment_rows, with_row}
 
 -- neither of two is so
 neither : (one other : Bool) → (one || other) ≡ false → (one ≡ false) × (other ≡ false)
@@ -85,8 +85,13 @@ rise_fold : {X : Type 0} (f : List ℕ → X → List ℕ) → ((rows : List ℕ
 rise_fold f keeps rows [] rise = rise
 rise_fold f keeps rows (x ∷ xs) rise = rise_fold f keeps (f rows x) xs (keeps rows x rise)
 
+rise_holder : (rows : List ℕ) (held : HeldView) → Rise rows → Rise (with_holder rows held)
+rise_holder rows held rise = rise_row rows held.session rise
+
 rise_event : (rows : List ℕ) (event : EventView) → Rise rows → Rise (with_event_rows rows event)
-rise_event rows event rise = rise_fold with_row rise_row (with_row rows event.session) event.in_the_way (rise_row rows event.session rise)
+rise_event rows event rise =
+    rise_fold with_holder rise_holder (fold with_row (with_row rows event.session) event.in_the_way) event.held
+    (rise_fold with_row rise_row (with_row rows event.session) event.in_the_way (rise_row rows event.session rise))
 
 rise_moment : (rows : List ℕ) (moment : MomentView) → Rise rows → Rise (with_moment_rows rows moment)
 rise_moment rows moment rise = rise_fold with_event_rows rise_event (with_row rows moment.session) moment.events (rise_row rows moment.session rise)
@@ -138,11 +143,18 @@ has_fold f test session gives rows (x ∷ xs) =
     has_fold f test session gives (f rows x) xs ∙ ap (λ b. b || list_any test xs) (gives rows x)
     ∙ or_assoc (has_row rows session) (test x) (list_any test xs)
 
+has_holder : (session : ℕ) (rows : List ℕ) (held : HeldView) → has_row (with_holder rows held) session ≡ (has_row rows session || is_holder session held)
+has_holder session rows held = has_with session rows held.session
+
 has_event : (session : ℕ) (rows : List ℕ) (event : EventView) → has_row (with_event_rows rows event) session ≡ (has_row rows session || is_in_event session event)
 has_event session rows event =
-    has_fold with_row (λ row. eqb row session) session (has_with session) (with_row rows event.session) event.in_the_way
-    ∙ ap (λ b. b || has_row event.in_the_way session) (has_with session rows event.session)
-    ∙ or_assoc (has_row rows session) (eqb event.session session) (has_row event.in_the_way session)
+    let blocked : Bool = has_row event.in_the_way session in
+    let held : Bool = list_any (is_holder session) event.held in
+    has_fold with_holder (is_holder session) session (has_holder session) (fold with_row (with_row rows event.session) event.in_the_way) event.held
+    ∙ ap (λ b. b || held) (has_fold with_row (λ row. eqb row session) session (has_with session) (with_row rows event.session) event.in_the_way)
+    ∙ ap (λ b. (b || blocked) || held) (has_with session rows event.session)
+    ∙ or_assoc (has_row rows session || eqb event.session session) blocked held
+    ∙ or_assoc (has_row rows session) (eqb event.session session) (blocked || held)
 
 has_moment : (session : ℕ) (rows : List ℕ) (moment : MomentView)
     → has_row (with_moment_rows rows moment) session ≡ (has_row rows session || is_in_moment session moment)

@@ -1,7 +1,7 @@
 -- How shapes look, by W3C's "Cascading Style Sheets (CSS) 2.2" and "Media Queries Level 5". The colours are this project's own choice.
 use Rattle.std.specs.Prelude.{ℕ, List, [], ◌∷◌, ◌++◌, codes, flat_map}
 use Rattle.mdl_picture.specs.declared.kind.Kind.{Kind}
-use Rattle.mdl_picture.specs.declared.kind.Kind.TheVariants.{Arrow, Bar, Done, Failed, Ground, Guide, Head, Lane, Number, Refused, Said, Stripes, Waiting, Words}
+use Rattle.mdl_picture.specs.declared.kind.Kind.TheVariants.{Arrow, Bar, Done, Failed, Ground, Guide, Head, Held, Lane, Mode, Number, Refused, Said, Stripes, Waiting, Words}
 
 -- the class name of shapes of a kind in a style
 abbrev pub kind_name : Kind → List ℕ
@@ -17,6 +17,8 @@ kind_name Failed = codes "failed"
 kind_name Refused = codes "refused"
 kind_name Bar = codes "bar"
 kind_name Stripes = codes "stripes"
+kind_name Held = codes "held"
+kind_name Mode = codes "mode"
 kind_name Arrow = codes "arrow"
 kind_name Head = codes "head"
 
@@ -34,6 +36,8 @@ day_style Failed = codes "fill:#fff;stroke:#d1242f;stroke-width:3;stroke-dasharr
 day_style Refused = codes "fill:#fff;stroke:#6e7781;stroke-dasharray:2 2"
 day_style Bar = codes "fill:url(#hatch);stroke:#9a6700"
 day_style Stripes = codes "stroke:#9a6700;stroke-width:2"
+day_style Held = codes "fill:#dafbe1;stroke:#1a7f37"
+day_style Mode = codes "fill:#1f2328;font-size:10px"
 day_style Arrow = codes "stroke:#0969da;stroke-width:2;marker-end:url(#head)"
 day_style Head = codes "fill:#0969da"
 
@@ -51,13 +55,16 @@ night_style Failed = codes "fill:#0d1117;stroke:#f85149"
 night_style Refused = codes "fill:#0d1117;stroke:#818b98"
 night_style Bar = codes "stroke:#d29922"
 night_style Stripes = codes "stroke:#d29922"
+night_style Held = codes "fill:#12261e;stroke:#3fb950"
+night_style Mode = codes "fill:#e6edf3"
 night_style Arrow = codes "stroke:#58a6ff"
 night_style Head = codes "fill:#58a6ff"
 
 -- all kinds. A style has a rule for each
 abbrev pub kinds : List Kind
 kinds =
-    Ground ∷ Lane ∷ Guide ∷ Number ∷ Words ∷ Said ∷ Done ∷ Waiting ∷ Failed ∷ Refused ∷ Bar ∷ Stripes ∷ Arrow ∷ Head ∷ []
+    Ground ∷ Lane ∷ Guide ∷ Number ∷ Words ∷ Said ∷ Done ∷ Waiting ∷ Failed ∷ Refused ∷ Bar ∷ Stripes ∷ Held ∷ Mode
+    ∷ Arrow ∷ Head ∷ []
 
 unfoldable pub rule : Kind → List ℕ → List ℕ
 rule kind style = codes "." ++ kind_name kind ++ codes "{" ++ style ++ codes "}"

@@ -1,5 +1,7 @@
+pub mod Arrows
 pub mod Bars
 pub mod Boxes
+pub mod Holds
 pub mod Kinds
 pub mod Laws
 pub mod Layouts

@@ -44,12 +44,12 @@ longer most line = max most (min (length line) most_bytes)
 abbrev pub longest : ℕ → List ℕ → ℕ
 longest room text = fold longer 0 (halves room text)
 
--- the width of a box
+-- the width of a box, as far as its texts need it
 abbrev pub byte_width : ℕ
 byte_width = 7
 
 abbrev pub margin : ℕ
 margin = 14
 
-abbrev pub box_width : EventView → ℕ
-box_width event = byte_width * max (longest statement_room event.statement) (longest answer_room event.answer) + margin
+abbrev pub text_width : EventView → ℕ
+text_width event = byte_width * max (longest statement_room event.statement) (longest answer_room event.answer) + margin

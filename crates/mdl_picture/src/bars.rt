@@ -77,8 +77,8 @@ fn is_of_line(drawn: &EventBox<'_>, line: u64) -> bool
     event.line == line
 }
 
-// The line at which a box is drawn, and its x coordinate.
-fn place_of(drawn: &EventBox<'_>) -> Column
+/// Returns the line at which a box is drawn, and its x coordinate.
+pub(crate) fn place_of(drawn: &EventBox<'_>) -> Column
     ensures { result ≡ place_of drawn.now }
 {
     Column {

@@ -9,12 +9,11 @@ use crate::kind::Kind;
 use crate::layout::EventBox;
 use crate::lines::{ANSWER_ROOM, STATEMENT_ROOM, halves, has_bytes, line_count, push_cut};
 use crate::moment::{Event, Fate};
-use crate::rows::row_top;
+use crate::rows::{BOX_HEIGHT, Row, row_top};
 use crate::shapes::{push_rect, push_titled};
 use crate::sums::sum;
 use crate::svg::{Attribute, Tag, push_end, push_start};
 use crate::text::push;
-use crate::tracks::BOX_HEIGHT;
 use crate::waits::push_statement;
 use std::alloc::{AllocError, Global};
 
@@ -25,7 +24,7 @@ const LINE_STEP: u64 = 14;
 pub(crate) fn push_boxes<'b, 'a>(
     out: &mut Vec<u8>,
     alloc: Global,
-    rows: &[u16],
+    rows: &[Row],
     boxes: &'b [EventBox<'a>],
 ) -> Result<(), AllocError>
     ensures { OnOk result (out.new.items ≡ out.old.items ++ flat_map node_text (map (box_node rows.now) boxes.now)) }
@@ -41,7 +40,7 @@ pub(crate) fn push_boxes<'b, 'a>(
 fn push_box(
     out: &mut Vec<u8>,
     alloc: Global,
-    rows: &[u16],
+    rows: &[Row],
     drawn: &EventBox<'_>,
 ) -> Result<(), AllocError>
     ensures { OnOk result (out.new.items ≡ out.old.items ++ node_text (box_node rows.now drawn.now)) }

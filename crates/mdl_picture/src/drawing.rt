@@ -4,13 +4,16 @@ ghost use Rattle.std.specs.List.{list_any};
 ghost use Rattle.mdl_picture.specs.Pictures.{drawing_text, end_of, ground_of, height_of, is_open, nodes_of, open_room, picture_text, width_of};
 ghost use Rattle.mdl_picture.specs.Svg.{node_text, start_tag, svg_attributes};
 
-use crate::arrows::push_arrows;
+use crate::arrows::{arrows_of, push_arrows};
 use crate::bars::{Bar, bars_of};
 use crate::boxes::push_boxes;
 use crate::frame::{push_frame, push_legend};
+use crate::held::push_holds;
+use crate::holds::holds_of;
 use crate::layout::{EventBox, GAP, LEFT, Layout, layout_of};
 use crate::moment::Moment;
-use crate::rows::{bottom, rows_of};
+use crate::placing::{Placed, placed_of};
+use crate::rows::{Row, bottom, rows_of, sized_rows};
 use crate::sums::sum;
 use crate::svg::{Attribute, Tag, push_end, push_start};
 use crate::tracks::{push_columns, push_lanes};
@@ -30,25 +33,28 @@ const FOOT: u64 = 24;
 pub fn picture(alloc: Global, moments: &[Moment]) -> Result<Vec<u8>, AllocError>
     ensures { IfOk result (λ text. text.items ≡ picture_text moments.now) }
 {
-    let rows = rows_of(alloc, moments)?;
     let layout = layout_of(alloc, moments)?;
     let bars = bars_of(alloc, &layout.boxes)?;
-    drawing(alloc, &rows, &layout, &bars)
+    let holds = holds_of(alloc, &layout.boxes)?;
+    let placed = placed_of(alloc, &holds)?;
+    let rows = sized_rows(alloc, &placed, &rows_of(alloc, moments)?)?;
+    drawing(alloc, &rows, &layout, &bars, &placed)
 }
 
 // Draws a layout.
 fn drawing<'b, 'a>(
     alloc: Global,
-    rows: &[u16],
+    rows: &[Row],
     layout: &'b Layout<'a>,
     bars: &[Bar],
+    placed: &[Placed<'_, '_>],
 ) -> Result<Vec<u8>, AllocError>
-    ensures { IfOk result (λ text. text.items ≡ drawing_text rows.now layout.now bars.now) }
+    ensures { IfOk result (λ text. text.items ≡ drawing_text rows.now layout.now bars.now placed.now) }
 {
     let width = width_of(&layout.boxes, bars)?;
     let mut out = Vec::new(alloc);
     push_svg(&mut out, width, height_of(rows)?)?;
-    push_nodes(&mut out, alloc, width, rows, layout, bars)?;
+    push_nodes(&mut out, alloc, width, rows, layout, bars, placed)?;
     push_end(&mut out, Tag::Svg)?;
     Ok(out)
 }
@@ -72,15 +78,18 @@ fn push_nodes<'b, 'a>(
     out: &mut Vec<u8>,
     alloc: Global,
     width: u64,
-    rows: &[u16],
+    rows: &[Row],
     layout: &'b Layout<'a>,
     bars: &[Bar],
+    placed: &[Placed<'_, '_>],
 ) -> Result<(), AllocError>
-    ensures { OnOk result (out.new.items ≡ out.old.items ++ flat_map node_text (nodes_of width rows.now layout.now bars.now)) }
+    ensures { OnOk result (out.new.items ≡ out.old.items ++ flat_map node_text (nodes_of width rows.now layout.now bars.now placed.now)) }
 {
+    let end = end_of(&layout.boxes)?;
     push_ground(out, alloc, width, rows, layout)?;
-    push_bars(out, alloc, rows, end_of(&layout.boxes)?, bars)?;
-    push_arrows(out, alloc, rows, &layout.boxes)?;
+    push_bars(out, alloc, rows, end, bars)?;
+    push_arrows(out, alloc, rows, &arrows_of(alloc, &layout.boxes)?)?;
+    push_holds(out, alloc, rows, end, placed)?;
     push_boxes(out, alloc, rows, &layout.boxes)?;
     push_legend(out, bottom(rows)?)
 }
@@ -91,7 +100,7 @@ fn push_ground<'b, 'a>(
     out: &mut Vec<u8>,
     alloc: Global,
     width: u64,
-    rows: &[u16],
+    rows: &[Row],
     layout: &'b Layout<'a>,
 ) -> Result<(), AllocError>
     ensures { OnOk result (out.new.items ≡ out.old.items ++ flat_map node_text (ground_of width rows.now layout.now)) }
@@ -102,7 +111,7 @@ fn push_ground<'b, 'a>(
 }
 
 // The height of a picture.
-fn height_of(rows: &[u16]) -> Result<u64, AllocError>
+fn height_of(rows: &[Row]) -> Result<u64, AllocError>
     ensures { IfOk result (λ height. height ≡ height_of rows.now) }
 {
     sum(bottom(rows)?, FOOT)

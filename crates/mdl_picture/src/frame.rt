@@ -1,6 +1,6 @@
 //! The background of a picture, and its legend.
 ghost use Rattle.std.specs.Prelude.{◌≡◌, ◌++◌, flat_map, OnOk};
-ghost use Rattle.mdl_picture.specs.Parts.{defined, frame, head, hatch, legend, legend_arrow, legend_error, legend_wait, style_sheet};
+ghost use Rattle.mdl_picture.specs.Parts.{defined, frame, head, hatch, legend, legend_arrow, legend_error, legend_held, legend_wait, style_sheet};
 ghost use Rattle.mdl_picture.specs.Svg.{node_text, shape_text};
 
 use crate::kind::{Kind, style};
@@ -81,6 +81,7 @@ pub(crate) fn push_legend(out: &mut Vec<u8>, bottom: u64) -> Result<(), AllocErr
     let top = sum(bottom, 1)?;
     let base = sum(bottom, 12)?;
     push_legend_wait(out, top, base)?;
+    push_legend_held(out, sum(bottom, 2)?, base)?;
     push_legend_arrow(out, sum(bottom, 15)?, top, base)?;
     push_legend_error(out, top, base)
 }
@@ -93,17 +94,25 @@ fn push_legend_wait(out: &mut Vec<u8>, top: u64, base: u64) -> Result<(), AllocE
     push_words(out, Kind::Words, 42, base, b"waits")
 }
 
+// Appends the legend of what is held.
+fn push_legend_held(out: &mut Vec<u8>, top: u64, base: u64) -> Result<(), AllocError>
+    ensures { OnOk result (out.new.items ≡ out.old.items ++ flat_map node_text (legend_held top base)) }
+{
+    push_rect(out, Kind::Held, 92, top, 28, 12)?;
+    push_words(out, Kind::Words, 126, base, b"holds")
+}
+
 // Appends the legend of an arrow.
 fn push_legend_arrow(out: &mut Vec<u8>, foot: u64, top: u64, base: u64) -> Result<(), AllocError>
     ensures { OnOk result (out.new.items ≡ out.old.items ++ flat_map node_text (legend_arrow foot top base)) }
 {
-    push_line(out, Kind::Arrow, 100, foot, 100, top)?;
+    push_line(out, Kind::Arrow, 180, foot, 180, top)?;
     push_words(
         out,
         Kind::Words,
-        112,
+        190,
         base,
-        b"to who was in the way when the wait began",
+        b"waits for (when the wait began)",
     )
 }
 

@@ -32,6 +32,10 @@ pub(crate) enum Kind {
     Bar,
     /// The stripes of a wait.
     Stripes,
+    /// What a session holds.
+    Held,
+    /// The mode in which it is held.
+    Mode,
     /// An arrow to a session that blocks a wait.
     Arrow,
     /// The end of an arrow.
@@ -39,7 +43,7 @@ pub(crate) enum Kind {
 }
 
 // All kinds.
-const KINDS: [Kind; 14] = [
+const KINDS: [Kind; 16] = [
     Kind::Ground,
     Kind::Lane,
     Kind::Guide,
@@ -52,6 +56,8 @@ const KINDS: [Kind; 14] = [
     Kind::Refused,
     Kind::Bar,
     Kind::Stripes,
+    Kind::Held,
+    Kind::Mode,
     Kind::Arrow,
     Kind::Head,
 ];
@@ -73,6 +79,8 @@ pub(crate) fn kind_name(kind: Kind) -> &'static [u8]
         Kind::Refused => b"refused",
         Kind::Bar => b"bar",
         Kind::Stripes => b"stripes",
+        Kind::Held => b"held",
+        Kind::Mode => b"mode",
         Kind::Arrow => b"arrow",
         Kind::Head => b"head",
     }
@@ -95,6 +103,8 @@ fn day_style(kind: Kind) -> &'static [u8]
         Kind::Refused => b"fill:#fff;stroke:#6e7781;stroke-dasharray:2 2",
         Kind::Bar => b"fill:url(#hatch);stroke:#9a6700",
         Kind::Stripes => b"stroke:#9a6700;stroke-width:2",
+        Kind::Held => b"fill:#dafbe1;stroke:#1a7f37",
+        Kind::Mode => b"fill:#1f2328;font-size:10px",
         Kind::Arrow => b"stroke:#0969da;stroke-width:2;marker-end:url(#head)",
         Kind::Head => b"fill:#0969da",
     }
@@ -109,11 +119,12 @@ fn night_style(kind: Kind) -> &'static [u8]
         Kind::Lane => b"fill:#1a1f26",
         Kind::Guide => b"stroke:#3d444d",
         Kind::Number => b"fill:#9198a1",
-        Kind::Words | Kind::Said => b"fill:#e6edf3",
+        Kind::Words | Kind::Said | Kind::Mode => b"fill:#e6edf3",
         Kind::Done | Kind::Refused => b"fill:#0d1117;stroke:#818b98",
         Kind::Waiting => b"fill:#0d1117;stroke:#d29922",
         Kind::Failed => b"fill:#0d1117;stroke:#f85149",
         Kind::Bar | Kind::Stripes => b"stroke:#d29922",
+        Kind::Held => b"fill:#12261e;stroke:#3fb950",
         Kind::Arrow => b"stroke:#58a6ff",
         Kind::Head => b"fill:#58a6ff",
     }

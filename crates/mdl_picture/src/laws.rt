@@ -1,5 +1,5 @@
 //! Laws of pictures. Each is proved as the contract of a function that does nothing.
-ghost use Rattle.mdl_picture.specs.Laws.{BoxesAreApart, BoxesAreTheEvents, BoxesGoRight, ColumnsAreApart, PicturesAreWellFormed, RowsAreTheSessions, RowsRise, TextsAreKept, WaitsAreDrawnOnce, WaitsGoRight};
+ghost use Rattle.mdl_picture.specs.Laws.{ArrowsAreSetApart, ArrowsAreThePairs, BoxesAreApart, BoxesAreTheEvents, BoxesGoRight, ColumnsAreApart, PicturesAreWellFormed, RowsAreTheSessions, RowsRise, TextsAreKept, TracksAreApart, WaitsAreDrawnOnce, WaitsGoRight, WhatIsHeldIsDrawn};
 
 /// Each event has one box, in order.
 pub fn boxes_are_the_events()
@@ -16,7 +16,7 @@ pub fn boxes_are_apart()
     ensures { BoxesAreApart }
 {}
 
-/// No box begins left of an earlier one.
+/// Each box begins to the right of the arrows of those before.
 pub fn boxes_go_right()
     ensures { BoxesGoRight }
 {}
@@ -29,6 +29,26 @@ pub fn columns_are_apart()
 /// If each line belongs to one session, a wait that is settled ends to the right of where it begins.
 pub fn waits_go_right()
     ensures { WaitsGoRight }
+{}
+
+/// Each session that blocks a wait when it begins has an arrow, and no other one.
+pub fn arrows_are_the_pairs()
+    ensures { ArrowsAreThePairs }
+{}
+
+/// Each arrow is to the right of those before.
+pub fn arrows_are_set_apart()
+    ensures { ArrowsAreSetApart }
+{}
+
+/// After each event, each lock that is held is drawn by one bar, and no other lock is. Intention locks aren't drawn.
+pub fn what_is_held_is_drawn()
+    ensures { WhatIsHeldIsDrawn }
+{}
+
+/// Two bars in one track of a row don't meet.
+pub fn tracks_are_apart()
+    ensures { TracksAreApart }
 {}
 
 /// The rows are in ascending order of their sessions.

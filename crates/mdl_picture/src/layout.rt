@@ -1,22 +1,28 @@
 //! The layout of the moments of a script.
 ghost use Rattle.std.specs.Prelude.{◌≡◌, find, reverse, IfOk, OnOk};
 ghost use Rattle.std.specs.Option.{option_copied};
-ghost use Rattle.mdl_picture.specs.Layouts.{box_at, column_of, free_of, is_of, layout_of, with_boxes, with_moment};
+ghost use Rattle.mdl_picture.specs.Layouts.{arrow_room, box_at, box_width, column_of, free_of, is_of, layout_of, with_boxes, with_moment};
 
-use crate::lines::box_width;
+use crate::lines::text_width;
 use crate::moment::{Event, Moment};
-use crate::sums::sum;
+use crate::sums::{product, sum};
 use std::alloc::{AllocError, Global};
 use std::marker::Model;
 
 /// The x coordinate of the first column.
 pub(crate) const LEFT: u64 = 88;
 
-// The least distance from the beginning of a box to the next column.
+// The least distance from a column to the next.
 const COLUMN_STEP: u64 = 28;
 
 /// The least distance between two boxes of a row.
 pub(crate) const GAP: u64 = 14;
+
+/// The distance of the first arrow of a box from its left side.
+pub(crate) const FIRST_ARROW: u64 = 8;
+
+/// The distance of an arrow from the one before.
+pub(crate) const ARROW_STEP: u64 = 6;
 
 /// The column of a line.
 #[derive(Clone, Copy)]
@@ -92,8 +98,8 @@ fn add_moment<'a>(layout: &mut Layout<'a>, moment: &'a Moment) -> Result<(), All
     let x = column_of(layout, moment)?;
     let line = moment.line;
     layout.columns.push(Column { line, x })?;
-    let last = add_boxes(&mut layout.boxes, x, moment)?;
-    layout.next = sum(last, COLUMN_STEP)?;
+    let next = add_boxes(&mut layout.boxes, x, moment)?;
+    layout.next = sum(next, COLUMN_STEP)?;
     Ok(())
 }
 
@@ -133,31 +139,47 @@ fn is_of(drawn: &EventBox<'_>, session: u16) -> bool
     event.session == session
 }
 
-// Adds the boxes of a moment, and returns the x coordinate where the last one begins.
+// Adds the boxes of a moment, and returns the least x coordinate of the next one.
 fn add_boxes<'a>(
     boxes: &mut Vec<EventBox<'a>>,
     column: u64,
     moment: &'a Moment,
 ) -> Result<u64, AllocError>
-    ensures { IfOk result (λ x. record { x = x; boxes = boxes.new.items } ≡ with_boxes moment.now column boxes.old.items) }
+    ensures { IfOk result (λ next. record { next = next; boxes = boxes.new.items } ≡ with_boxes moment.now column boxes.old.items) }
 {
-    let mut x = column;
+    let mut next = column;
     for event in &moment.events {
-        x = x.max(free_of(boxes, event.session)?);
+        let x = next.max(free_of(boxes, event.session)?);
         boxes.push(box_at(moment.line, x, event)?)?;
+        next = sum(x, arrow_room(event)?)?;
     }
-    Ok(x)
+    Ok(next)
 }
 
 // The box of an event that happens at a line, with this left side.
 fn box_at<'a>(line: u64, x: u64, event: &'a Event) -> Result<EventBox<'a>, AllocError>
     ensures { IfOk result (λ drawn. drawn ≡ box_at line x event.now) }
 {
-    let right = sum(x, box_width(event))?;
+    let right = sum(x, box_width(event)?)?;
     Ok(EventBox {
         line,
         event,
         x,
         right,
     })
+}
+
+// The width of the box of an event.
+fn box_width(event: &Event) -> Result<u64, AllocError>
+    ensures { IfOk result (λ width. width ≡ box_width event.now) }
+{
+    Ok(text_width(event).max(arrow_room(event)?))
+}
+
+// The width of the room for the arrows of an event.
+fn arrow_room(event: &Event) -> Result<u64, AllocError>
+    ensures { IfOk result (λ width. width ≡ arrow_room event.now) }
+{
+    let steps = product(ARROW_STEP, event.in_the_way.len() as u64)?;
+    sum(FIRST_ARROW, steps)
 }

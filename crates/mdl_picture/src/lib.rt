@@ -1,5 +1,5 @@
 //! Timelines of sessions that wait for each other. [`picture`] draws the [`Moment`]s of a script as SVG: a row for each session, a column for
-//! each line, a box for each [`Event`], a bar for each wait, arrows to the sessions that blocked it, and colours for light and dark schemes.
+//! each line, a box for each [`Event`], a bar for each wait, arrows to the sessions that blocked it, a bar for what is held, and colours for light and dark schemes.
 //!
 //! # Example
 //!
@@ -15,6 +15,7 @@
 //!     answer: Vec::from_slice(alloc, b"WAIT TABLE test.t X")?,
 //!     fate: Fate::Waits,
 //!     in_the_way: Vec::from_slice(alloc, &[1])?,
+//!     held: Vec::new(alloc),
 //! };
 //! let mut events = Vec::new(alloc);
 //! events.push(event)?;
@@ -25,7 +26,7 @@
 //!     events,
 //! })?;
 //! let text = picture(alloc, &moments)?;
-//! let arrow = b"<g><title>session 1 was in the way of session 2 at line 2</title>\n";
+//! let arrow = b"<g><title>session 2 waits for session 1 at line 2</title>\n";
 //! assert!(rt;
 //!     text.windows(arrow.len())
 //!         .any(|bytes| bytes == arrow.as_slice())
@@ -38,11 +39,14 @@ mod bars;
 mod boxes;
 mod drawing;
 mod frame;
+mod held;
+mod holds;
 mod kind;
 mod laws;
 mod layout;
 mod lines;
 mod moment;
+mod placing;
 mod rows;
 mod shapes;
 mod sums;
@@ -53,8 +57,8 @@ mod waits;
 
 pub use drawing::picture;
 pub use laws::{
-    boxes_are_apart, boxes_are_the_events, boxes_go_right, columns_are_apart,
-    pictures_are_well_formed, rows_are_the_sessions, rows_rise, texts_are_kept,
-    waits_are_drawn_once, waits_go_right,
+    arrows_are_set_apart, arrows_are_the_pairs, boxes_are_apart, boxes_are_the_events,
+    boxes_go_right, columns_are_apart, pictures_are_well_formed, rows_are_the_sessions, rows_rise,
+    texts_are_kept, tracks_are_apart, waits_are_drawn_once, waits_go_right, what_is_held_is_drawn,
 };
-pub use moment::{Event, Fate, Moment};
+pub use moment::{Event, Fate, Held, Moment};

@@ -1,7 +1,7 @@
 //! The lines of a box.
 ghost use Rattle.std.specs.Prelude.{◌≡◌, ◌++◌, ◌≤◌, ◌+◌, drop, length, map, OnOk};
 ghost use Rattle.mdl_picture.specs.Svg.{escaped};
-ghost use Rattle.mdl_picture.specs.Texts.{blank_before, box_width, break_of, cut, halves, has_bytes, lines_of, longest, most_bytes};
+ghost use Rattle.mdl_picture.specs.Texts.{blank_before, break_of, cut, halves, has_bytes, lines_of, longest, most_bytes, text_width};
 
 use crate::moment::Event;
 use crate::svg::push_text;
@@ -21,9 +21,9 @@ const BYTE_WIDTH: u64 = 7;
 
 const MARGIN: u64 = 14;
 
-/// Returns the width of the box of an event.
-pub(crate) fn box_width(event: &Event) -> u64
-    ensures { result ≡ box_width event.now }
+/// Returns the width of the box of an event, as far as its texts need it.
+pub(crate) fn text_width(event: &Event) -> u64
+    ensures { result ≡ text_width event.now }
 {
     let said = longest(&event.statement, STATEMENT_ROOM);
     let told = longest(&event.answer, ANSWER_ROOM);

@@ -14,6 +14,29 @@ pub enum Fate {
     Busy,
 }
 
+/// A lock that a session holds.
+#[derive(Drop)]
+pub struct Held {
+    /// The session.
+    pub session: u16,
+    /// The mode, as `SR`.
+    pub mode: Vec<u8>,
+    /// The lock's name, as `TABLE test.orders`.
+    pub lock: Vec<u8>,
+}
+
+impl Model for Held {
+    ghost use Rattle.mdl_picture.specs.Moments.{HeldView};
+
+    ghost Value = { HeldView };
+
+    ghost view = { λ held. record {
+      session = held.session;
+      mode = held.mode.items;
+      lock = held.lock.items;
+    } };
+}
+
 /// What happens to a statement at a moment.
 #[derive(Drop)]
 pub struct Event {
@@ -29,6 +52,8 @@ pub struct Event {
     pub fate: Fate,
     /// The sessions that block the statement if it begins to wait, in order of their numbers. Empty otherwise.
     pub in_the_way: Vec<u16>,
+    /// The locks that sessions hold right after the event.
+    pub held: Vec<Held>,
 }
 
 impl Model for Event {
@@ -43,6 +68,7 @@ impl Model for Event {
       answer = event.answer.items;
       fate = event.fate;
       in_the_way = event.in_the_way.items;
+      held = event.held.items;
     } };
 }
 

@@ -6,15 +6,12 @@ ghost use Rattle.mdl_picture.specs.Svg.{node_text};
 
 use crate::kind::Kind;
 use crate::layout::Column;
-use crate::rows::row_top;
+use crate::rows::{Row, row_height, row_top};
 use crate::shapes::{push_line, push_rect, push_titled, push_words};
 use crate::sums::sum;
 use crate::svg::{Tag, push_end};
 use crate::text::{push, push_number};
 use std::alloc::{AllocError, Global};
-
-/// The height of rows and boxes.
-pub(crate) const BOX_HEIGHT: u64 = 64;
 
 /// The distance of the baseline of words from the top of their row.
 pub(crate) const LABEL_BASE: u64 = 36;
@@ -24,30 +21,31 @@ pub(crate) fn push_lanes(
     out: &mut Vec<u8>,
     alloc: Global,
     width: u64,
-    rows: &[u16],
+    rows: &[Row],
 ) -> Result<(), AllocError>
     ensures { OnOk result (out.new.items ≡ out.old.items ++ flat_map node_text (map (lane width rows.now) rows.now)) }
 {
-    for session in rows {
-        push_lane(out, alloc, width, rows, *session)?;
+    for row in rows {
+        push_lane(out, alloc, width, rows, *row)?;
     }
     Ok(())
 }
 
 // Appends the row of a session.
+#[tactic(auto, unfolding(crate::specs::Parts::lane))]
 fn push_lane(
     out: &mut Vec<u8>,
     alloc: Global,
     width: u64,
-    rows: &[u16],
-    session: u16,
+    rows: &[Row],
+    row: Row,
 ) -> Result<(), AllocError>
-    ensures { OnOk result (out.new.items ≡ out.old.items ++ node_text (lane width rows.now session)) }
+    ensures { OnOk result (out.new.items ≡ out.old.items ++ node_text (lane width rows.now row)) }
 {
-    let y = row_top(rows, session)?;
-    let name = session_name(alloc, session)?;
+    let y = row_top(rows, row.session)?;
+    let name = session_name(alloc, row.session)?;
     push_titled(out, &name)?;
-    push_rect(out, Kind::Lane, 0, y, width, BOX_HEIGHT)?;
+    push_rect(out, Kind::Lane, 0, y, width, row_height(row.tracks)?)?;
     push_words(out, Kind::Words, 8, sum(y, LABEL_BASE)?, &name)?;
     push_end(out, Tag::G)
 }

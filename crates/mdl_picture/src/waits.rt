@@ -6,7 +6,7 @@ ghost use Rattle.mdl_picture.specs.Svg.{node_text, shape_text};
 use crate::bars::Bar;
 use crate::kind::Kind;
 use crate::layout::Column;
-use crate::rows::row_top;
+use crate::rows::{Row, row_top};
 use crate::shapes::{push_rect, push_titled, push_words};
 use crate::sums::sum;
 use crate::svg::{Tag, push_end};
@@ -23,7 +23,7 @@ const BAR_HEIGHT: u64 = 14;
 pub(crate) fn push_bars(
     out: &mut Vec<u8>,
     alloc: Global,
-    rows: &[u16],
+    rows: &[Row],
     end: u64,
     bars: &[Bar],
 ) -> Result<(), AllocError>

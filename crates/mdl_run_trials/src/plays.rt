@@ -51,6 +51,39 @@ fn play_lines<'s>(
     Ok(play)
 }
 
+// Asks the session of a line, and returns the sessions that continue in the next three turns.
+fn three_turns<'s>(
+    alloc: Global,
+    play: &mut Play<'s>,
+    line: &'s Line,
+) -> Result<[Option<u16>; 3], AllocError>
+    requires manned { IsManned play.old }
+    ensures manned { OnOk result (IsManned play.new) }
+{
+    if line.session == 0 || line.session > 64 {
+        return Ok([None, None, None]);
+    }
+    let mut told = Vec::new(alloc);
+    play.ask(line, &mut told)?;
+    let first = play.settle_one(&mut told)?;
+    let second = play.settle_one(&mut told)?;
+    let third = play.settle_one(&mut told)?;
+    Ok([first, second, third])
+}
+
+// Plays all lines of a script but the last in one step each, and returns the turns that follow the last one.
+fn last_turns(alloc: Global, script: &Script) -> Result<[Option<u16>; 3], AllocError> {
+    let [first @ .., last] = script.lines() else {
+        return Ok([None, None, None]);
+    };
+    let mut play = Play::new(alloc)?;
+    for line in first {
+        let mut told = Vec::new(alloc);
+        play_line(&mut play, line, &mut told)?;
+    }
+    three_turns(alloc, &mut play, last)
+}
+
 // Returns what is printed for a script that is played line by line, and for each session that still waits.
 fn played(alloc: Global, script: &Script) -> Result<String, AllocError> {
     let mut told = Vec::new(alloc);
@@ -106,5 +139,22 @@ fn a_play_shows_the_books_that_a_script_leaves(rt: HostRuntime) -> Result<(), Fa
     let script = parse(rt.alloc(), SCRIPT)?;
     let space = space_after(rt.alloc(), SCRIPT, u64::MAX)?;
     assert!(rt; books_left(rt.alloc(), &script)? == space.books().len());
+    Ok(())
+}
+
+// Two sessions wait for one that ends. The one that came later has the lesser number.
+const TWO_WAIT: &[u8] = b"\
+1 CREATE TABLE t x
+1 LOCK TABLES t WRITE
+3 SELECT t
+2 SELECT t
+1 UNLOCK TABLES
+";
+
+#[test]
+fn the_least_settled_session_continues_first(rt: HostRuntime) -> Result<(), Fail> {
+    let script = parse(rt.alloc(), TWO_WAIT)?;
+    let turns = last_turns(rt.alloc(), &script)?;
+    assert!(rt; turns == [Some(2), Some(3), None]);
     Ok(())
 }

@@ -26,7 +26,7 @@ use Rattle.mdl_script.specs.declared.play.Player as kept
 use Rattle.mdl_script.specs.declared.told.Told.{Told}
 use Rattle.mdl_script.specs.Plays.{AreSeated, IsManned, new_player, world_of}
 use Rattle.mdl_script.specs.Texts.{told_line, told_text}
-use Rattle.mdl_script.specs.Worlds.{Scene, World, first_settled, going, is_waiting, line_played, lines_played, settling, silent, waiting_in, ◌and_then◌}
+use Rattle.mdl_script.specs.Worlds.{Scene, World, first_settled, going, is_waiting, line_played, lines_played, settling, silent, turn_of, waiting_in, ◌and_then◌}
 use Rattle.mdl_script.proofs.PlayLemmas.{seated-at, waiting-sessions}
 use Rattle.mdl_script.proofs.ListLemmas.{All-find}
 
@@ -101,20 +101,36 @@ found-among play found manned so = ap (λ ws. find (has_settled play.space) ws) 
 
 -- ---- turns
 
+-- a turn of the session that is found, or of none
+turn-some : (world : World) (who : ℕ) → first_settled world ≡ Some who → turn_of (first_settled world) world ≡ going who world
+turn-some world who some = rw some
+
+turn-none : (world : World) → first_settled world ≡ None → turn_of (first_settled world) world ≡ silent world
+turn-none world none = rw none
+
 -- one session goes on, and then the rest follows
-pub one-turn : (n m : ℕ) (play found after : Play) (who : ℕ) (out next whole : List Told) (end : World) → n ≡ suc m → found ≡ play → first_settled (world_of play) ≡ Some who
-    → out ++ (settling n (world_of play)).told ≡ whole → (settling n (world_of play)).world ≡ end
-    → next ≡ out ++ (going who (world_of found)).told → world_of after ≡ (going who (world_of found)).world
-    → (next ++ (settling m (world_of after)).told ≡ whole) × ((settling m (world_of after)).world ≡ end)
-one-turn n m play found after who out next whole end fewer same some so left now there =
-    let step : Scene = going who (world_of play) in
-    let parts = settling-some n m (world_of play) who fewer some in
-    let told : next ≡ out ++ step.told = subst (λ (h : Play). next ≡ out ++ (going who (world_of h)).told) same now in
-    let world : world_of after ≡ step.world = subst (λ (h : Play). world_of after ≡ (going who (world_of h)).world) same there in
-    subst (λ (w : World). (next ++ (settling m w).told ≡ whole) × ((settling m w).world ≡ end)) (sym world) (
-      told-more (settling n (world_of play)) step (settling m step.world) out next whole (ap (λ (scene : Scene). scene.told) parts) so told,
+pub one-turn : (n m : ℕ) (world after : World) (who : ℕ) (out next whole : List Told) (end : World) → n ≡ suc m → first_settled world ≡ Some who
+    → out ++ (settling n world).told ≡ whole → (settling n world).world ≡ end
+    → next ≡ out ++ (turn_of (first_settled world) world).told → after ≡ (turn_of (first_settled world) world).world
+    → (next ++ (settling m after).told ≡ whole) × ((settling m after).world ≡ end)
+one-turn n m world after who out next whole end fewer some so left now there =
+    let step : Scene = going who world in
+    let parts = settling-some n m world who fewer some in
+    let is = turn-some world who some in
+    let told : next ≡ out ++ step.told = now ∙ ap (λ (scene : Scene). out ++ scene.told) is in
+    let gone : after ≡ step.world = there ∙ ap (λ (scene : Scene). scene.world) is in
+    subst (λ (w : World). (next ++ (settling m w).told ≡ whole) × ((settling m w).world ≡ end)) (sym gone) (
+      told-more (settling n world) step (settling m step.world) out next whole (ap (λ (scene : Scene). scene.told) parts) so told,
       sym (ap (λ (scene : Scene). scene.world) parts) ∙ left,
     )
+
+-- no session goes on: that was all
+pub no-turn : (n : ℕ) (world after : World) (out next whole : List Told) (end : World) → first_settled world ≡ None
+    → out ++ (settling n world).told ≡ whole → (settling n world).world ≡ end
+    → next ≡ out ++ (turn_of (first_settled world) world).told → after ≡ (turn_of (first_settled world) world).world → (next ≡ whole) × (after ≡ end)
+no-turn n world after out next whole end none so left now there =
+    let is : turn_of (first_settled world) world ≡ settling n world = turn-none world none ∙ sym (settling-none n world none) in
+    (now ∙ ap (λ (scene : Scene). out ++ scene.told) is ∙ so, there ∙ ap (λ (scene : Scene). scene.world) is ∙ left)
 
 -- ---- a wait that times out
 

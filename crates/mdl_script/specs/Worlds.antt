@@ -119,6 +119,11 @@ first_settled world = find (has_settled world.core) (waiting_in world)
 abbrev pub going : ℕ → World → Scene
 going who world = let player = player_at who world in played player.line who (going_on player.session) world
 
+-- a turn: the session continues, if there is one
+abbrev pub turn_of : Option ℕ → World → Scene
+turn_of None world = silent world
+turn_of (Some who) world = going who world
+
 -- the session continues, if there is one, and then more follows
 abbrev pub going_first : Option ℕ → (World → Scene) → World → Scene
 going_first None more world = silent world

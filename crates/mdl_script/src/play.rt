@@ -5,7 +5,7 @@ ghost use Rattle.mdl_core.specs.CoreCalls.{has_settled};
 ghost use Rattle.mdl_core.specs.CoreJoins.{SpeaksFor};
 ghost use Rattle.mdl_lines.specs.Sessions.{IsScriptSession};
 ghost use Rattle.mdl_script.specs.Plays.{AreSeated, IsManned, new_player, place_of, world_of};
-ghost use Rattle.mdl_script.specs.Worlds.{asked, asked_waiting, first_settled, first_world, going, is_waiting, line_played, most_turns, sessions, settling, started, timed_out, told_of, waiting_in};
+ghost use Rattle.mdl_script.specs.Worlds.{asked, asked_waiting, first_settled, first_world, going, is_waiting, line_played, most_turns, sessions, settling, started, timed_out, told_of, turn_of, waiting_in};
 ghost use Rattle.mdl_stmt.specs.Gets.{paused};
 ghost use Rattle.mdl_rows.specs.Sessions.{Session};
 
@@ -19,8 +19,8 @@ use mdl_syntax::{Line, Statement};
 use mdl_work::MOST_WAITS;
 use std::alloc::{AllocError, Global};
 
-// The most turns that there can be after a line: 16,704.
-const MOST_TURNS: u16 = MOST_SESSIONS * MOST_WAITS;
+/// The most turns that there can be after a line: 16,704.
+pub const MOST_TURNS: u16 = MOST_SESSIONS * MOST_WAITS;
 
 /// How many definitions a session's cache keeps, unless the command line says otherwise.
 pub const DEFAULT_CACHE: u16 = 64;
@@ -94,12 +94,27 @@ impl<'s> Play<'s> {
         ensures manned { OnOk result (IsManned self.new) }
     {
         for _turn in 0..MOST_TURNS {
-            let Some(who) = self.first_settled() else {
+            let Some(_who) = self.settle_one(told)? else {
                 return Ok(());
             };
-            self.go(who, told)?;
         }
         Ok(())
+    }
+
+    /// Continues the statement of the session with the least number whose wait is settled, adds what becomes of its line to `told`, and returns
+    /// its number. If no wait is settled, nothing changes. There are at most [`MOST_TURNS`] such turns after a line.
+    pub fn settle_one(&mut self, told: &mut Vec<Told>) -> Result<Option<u16>, AllocError>
+        requires manned { IsManned self.old }
+        ensures found { IfOk result (λ found. found ≡ first_settled (world_of self.old)) }
+        ensures told { OnOk result (told.new.items ≡ told.old.items ++ (turn_of (first_settled (world_of self.old)) (world_of self.old)).told) }
+        ensures left { OnOk result (world_of self.new ≡ (turn_of (first_settled (world_of self.old)) (world_of self.old)).world) }
+        ensures manned { OnOk result (IsManned self.new) }
+    {
+        let Some(who) = self.first_settled() else {
+            return Ok(None);
+        };
+        self.go(who, told)?;
+        Ok(Some(who))
     }
 
     /// Returns the books of the lock space, one for each key that has a place.

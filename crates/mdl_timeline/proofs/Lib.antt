@@ -1,3 +1,5 @@
 pub mod LineLemmas
+pub mod TurnLemmas
 pub mod LawLemmas
 pub mod WayLemmas
+pub mod ShownLemmas

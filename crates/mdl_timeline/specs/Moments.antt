@@ -1,12 +1,13 @@
 -- What happens at each line of a script, as a picture shows it. The words after errors are this project's own.
-use Rattle.std.specs.Prelude.{ℕ, Bool, true, false, List, [], ◌∷◌, ◌++◌, codes, filter, map, if◌then◌else◌}
-use Rattle.std.specs.FinSet as set
-use Rattle.std.specs.Ordering.{nat_cmp}
+use Rattle.std.specs.Prelude.{ℕ, zero, suc, Bool, true, false, List, [], ◌∷◌, ◌++◌, Option, Some, None, codes, filter, flat_map, map, if◌then◌else◌}
+use Rattle.mdl_key.specs.Keys.{KeyName, key_text}
+use Rattle.mdl_key.specs.Modes.{mode_name}
 use Rattle.mdl_book.specs.declared.book_view.BookView.{BookView}
-use Rattle.mdl_graph.specs.WaitsFor.{SessionTest, waits_for}
+use Rattle.mdl_book.specs.declared.ticket.Ticket.{Ticket}
+use Rattle.mdl_graph.specs.WaitsFor.{waits_for}
 use Rattle.mdl_picture.specs.declared.moment.Fate.{Fate}
 use Rattle.mdl_picture.specs.declared.moment.Fate.TheVariants as fate
-use Rattle.mdl_picture.specs.Moments.{EventView, MomentView}
+use Rattle.mdl_picture.specs.Moments.{EventView, HeldView, MomentView}
 use Rattle.mdl_rows.specs.declared.error_number.ErrorNumber.{ErrorNumber}
 use Rattle.mdl_rows.specs.declared.error_number.ErrorNumber.TheVariants.{LockWaitTimeout, Deadlock, Interrupted, UserLockDeadlock}
 use Rattle.mdl_rows.specs.declared.reply.Reply.TheVariants as reply
@@ -14,9 +15,9 @@ use Rattle.mdl_script.specs.declared.told.News.{News}
 use Rattle.mdl_script.specs.declared.told.News.TheVariants as news
 use Rattle.mdl_script.specs.declared.told.Told.{Told}
 use Rattle.mdl_script.specs.Texts.{news_text}
-use Rattle.mdl_script.specs.Worlds.{Scene, World, asked, first_world, line_played, most_turns, sessions, settling}
+use Rattle.mdl_script.specs.Worlds.{Scene, World, asked, first_settled, first_world, going, line_played, most_turns, sessions}
 use Rattle.mdl_syntax.specs.declared.script.Line.{Line}
-use Rattle.mdl_view.specs.BookLocks.{lock_of_book}
+use Rattle.mdl_view.specs.ViewLaws.{nobody}
 use Rattle.mdl_timeline.specs.Statements.{statement_at}
 
 -- ---- what becomes of a statement
@@ -46,13 +47,10 @@ fate_of (news.Ends reply) = fate.Ends
 
 -- ---- blockers
 
--- no session, as a test
-abbrev pub nobody : SessionTest
-nobody = set.contains (set.empty {R = nat_cmp})
-
--- the sessions that one waits for at these books, in order of their numbers
+-- the sessions that one waits for at these books, in order of their numbers. A session blocks others with its request until it continues, also if its
+-- wait is settled
 abbrev pub waited_for : ℕ → List BookView → List ℕ
-waited_for who books = filter (waits_for nobody (map lock_of_book books) who) sessions
+waited_for who books = filter (waits_for nobody books who) sessions
 
 -- whether an answer is the beginning of a wait
 abbrev pub is_wait : News → Bool
@@ -63,7 +61,21 @@ is_wait other = false
 abbrev pub in_the_way_of : List BookView → Told → List ℕ
 in_the_way_of books told = if is_wait told.news then waited_for told.who books else []
 
--- ---- lines
+-- ---- locks that are held
+
+-- a granted ticket of the lock of this key
+abbrev pub held_as : KeyName → Ticket → HeldView
+held_as key ticket = record { session = ticket.session; mode = mode_name ticket.mode; lock = key_text key }
+
+-- the granted tickets of a lock, in their order
+abbrev pub held_at : BookView → List HeldView
+held_at book = map (held_as book.key) book.granted
+
+-- the granted tickets of these locks
+abbrev pub held_in : List BookView → List HeldView
+held_in books = flat_map held_at books
+
+-- ---- turns
 
 -- the event of an answer, at these books and with these words of the statement
 abbrev pub event_of : List ℕ → List BookView → Told → EventView
@@ -74,18 +86,32 @@ event_of statement books told = record {
   answer = answer_of told.news;
   fate = fate_of told.news;
   in_the_way = in_the_way_of books told;
+  held = held_in books;
 }
 
--- the events of the answers of a scene, at the books that it leaves
+-- the events of a turn, at the books right after it. A turn has one answer, and a wait ends the turn in which it begins: after that only deadlocks are
+-- searched, which changes no book. So these are the books as they are when the wait begins
 abbrev pub events_of : List ℕ → Scene → List EventView
-events_of statement scene = map (event_of statement scene.world.core.books) scene.told
+events_of statement turn = map (event_of statement turn.world.core.books) turn.told
 
--- the moment of a line with this statement: the events of the line, and then those of the sessions that continue
+-- the turn of the session that continues, if there is one, and then more turns
+abbrev pub turns_first : Option ℕ → (World → List Scene) → World → List Scene
+turns_first None more world = []
+turns_first (Some who) more world = going who world ∷ more (going who world).world
+
+-- the turns of sessions that continue, at most this many: each time the one with the least number whose wait is settled
+unfoldable pub turns_after : ℕ → World → List Scene
+turns_after zero world = []
+turns_after (suc most) world = turns_first (first_settled world) (turns_after most) world
+
+-- ---- lines
+
+-- the moment of a line with this statement: the events of the line's own turn, and then those of each turn that follows
 abbrev pub moment_of : List ℕ → Line → World → MomentView
 moment_of statement line world = record {
   line = line.number;
   session = line.session;
-  events = events_of statement (asked line world) ++ events_of [] (settling most_turns (asked line world).world);
+  events = events_of statement (asked line world) ++ flat_map (events_of []) (turns_after most_turns (asked line world).world);
 }
 
 -- the moments of these lines of a text, played one after the other in a world

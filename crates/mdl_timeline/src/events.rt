@@ -2,6 +2,7 @@
 ghost use Rattle.std.specs.Prelude.{◌≡◌, ◌++◌, IfOk, OnOk, map};
 ghost use Rattle.mdl_timeline.specs.Moments.{answer_of, error_note, event_of, fate_of, note_of};
 
+use crate::held::held_in;
 use crate::in_the_way::in_the_way_of;
 use mdl_book::Book;
 use mdl_picture::{Event, Fate};
@@ -41,6 +42,7 @@ fn event_of(
         answer: answer_of(alloc, &told.news)?,
         fate: fate_of(&told.news),
         in_the_way: in_the_way_of(alloc, books, told)?,
+        held: held_in(alloc, books)?,
     })
 }
 

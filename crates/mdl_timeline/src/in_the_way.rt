@@ -4,7 +4,7 @@ ghost use Rattle.mdl_view.specs.ViewLaws.{is_told};
 ghost use Rattle.mdl_script.specs.Worlds.{sessions};
 ghost use Rattle.mdl_timeline.specs.Moments.{in_the_way_of, is_wait, waited_for};
 
-use mdl_book::{Book, Sessions};
+use mdl_book::Book;
 use mdl_key::MOST_SESSIONS;
 use mdl_script::{News, Told};
 use mdl_view::{Blocking, blockings, locks_of};
@@ -36,7 +36,7 @@ fn waited_for(alloc: Global, who: u16, books: &[Book]) -> Result<Vec<u16>, Alloc
     ensures { IfOk result (λ sessions. sessions.items ≡ waited_for who books.now) }
 {
     let locks = locks_of(alloc, books)?;
-    let found = blockings(alloc, &Sessions::new(), &locks)?;
+    let found = blockings(alloc, &locks)?;
     sessions_before(alloc, who, &found)
 }
 
@@ -53,5 +53,6 @@ fn sessions_before(alloc: Global, who: u16, found: &[Blocking]) -> Result<Vec<u1
 fn is_in_the_way(found: &[Blocking], who: u16, session: u16) -> bool
     ensures { result ≡ is_told found.now who session }
 {
+    let (who, session) = (usize::from(who), usize::from(session));
     found.iter().any(|blocking| blocking.waiter.session == who && blocking.other.session == session)
 }

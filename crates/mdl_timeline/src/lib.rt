@@ -16,10 +16,11 @@
 
 mod drawing;
 mod events;
+mod held;
 mod in_the_way;
 mod laws;
 mod moments;
 mod statements;
 
 pub use drawing::draw;
-pub use laws::events_are_answers;
+pub use laws::{arrows_are_waits, events_are_answers, held_locks_are_granted};

@@ -1,14 +1,14 @@
 //! What happens at each line of a script.
-ghost use Rattle.std.specs.Prelude.{◌≡◌, ◌++◌, [], All, IfOk, OnOk};
+ghost use Rattle.std.specs.Prelude.{◌≡◌, ◌++◌, [], All, IfOk, OnOk, flat_map};
 ghost use Rattle.mdl_lines.specs.Words.{IsScriptSession};
 ghost use Rattle.mdl_script.specs.Plays.{IsManned, world_of};
-ghost use Rattle.mdl_script.specs.Worlds.{asked, line_played, most_turns, settling};
-ghost use Rattle.mdl_timeline.specs.Moments.{events_of, moment_of, moments_of};
+ghost use Rattle.mdl_script.specs.Worlds.{asked, first_settled, line_played, most_turns, settling, turn_of};
+ghost use Rattle.mdl_timeline.specs.Moments.{events_of, moment_of, moments_of, turns_after};
 
 use crate::events::push_events;
 use crate::statements::{pieces_of, statement_at};
 use mdl_picture::{Event, Moment};
-use mdl_script::{Line, Play};
+use mdl_script::{Line, MOST_TURNS, Play};
 use std::alloc::{AllocError, Global};
 
 /// Plays these lines of a text, and returns the moment of each.
@@ -72,14 +72,35 @@ fn ask<'s>(
     push_events(events, alloc, statement, play.books(), &told)
 }
 
-// Continues the sessions whose waits are settled, and adds the events of their statements.
+// Continues the sessions whose waits are settled, one after the other, and adds the events of each turn.
 fn settle(alloc: Global, play: &mut Play<'_>, events: &mut Vec<Event>) -> Result<(), AllocError>
     requires manned { IsManned play.old }
-    ensures events { OnOk result (events.new.items ≡ events.old.items ++ events_of [] (settling most_turns (world_of play.old))) }
+    ensures events { OnOk result (events.new.items ≡ events.old.items ++ flat_map (events_of []) (turns_after most_turns (world_of play.old))) }
     ensures left { OnOk result (world_of play.new ≡ (settling most_turns (world_of play.old)).world) }
     ensures manned { OnOk result (IsManned play.new) }
 {
+    for _turn in 0..MOST_TURNS {
+        let Some(_who) = settle_one(alloc, play, events)? else {
+            return Ok(());
+        };
+    }
+    Ok(())
+}
+
+// Continues the session with the least number whose wait is settled, if there is one, and adds the events of its turn.
+fn settle_one(
+    alloc: Global,
+    play: &mut Play<'_>,
+    events: &mut Vec<Event>,
+) -> Result<Option<u16>, AllocError>
+    requires manned { IsManned play.old }
+    ensures found { IfOk result (λ found. found ≡ first_settled (world_of play.old)) }
+    ensures events { OnOk result (events.new.items ≡ events.old.items ++ events_of [] (turn_of (first_settled (world_of play.old)) (world_of play.old))) }
+    ensures left { OnOk result (world_of play.new ≡ (turn_of (first_settled (world_of play.old)) (world_of play.old)).world) }
+    ensures manned { OnOk result (IsManned play.new) }
+{
     let mut told = Vec::new(alloc);
-    play.settle(&mut told)?;
-    push_events(events, alloc, b"", play.books(), &told)
+    let found = play.settle_one(&mut told)?;
+    push_events(events, alloc, b"", play.books(), &told)?;
+    Ok(found)
 }

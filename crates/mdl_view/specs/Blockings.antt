@@ -1,52 +1,72 @@
--- Who blocks whom, and why, after MySQL 5.7: `MDL_lock::visit_subgraph` of sql/mdl.cc. That it is listed ticket by ticket, and in which
--- order, is this project's own choice.
-use Rattle.std.specs.Prelude.{ℕ, suc, Bool, not, ◌&&◌, ◌||◌, List, [], ◌∷◌, ◌++◌, filter, flat_map, map}
+-- Who blocks whom, and why, after MySQL 5.7: `MDL_lock::can_grant_lock` and `MDL_lock::visit_subgraph` of sql/mdl.cc. That it is listed ticket by
+-- ticket, and in which order, is this project's own choice.
+use Rattle.std.specs.Prelude.{ℕ, suc, Bool, not, ◌&&◌, ◌||◌, ◌==◌, List, [], ◌∷◌, ◌++◌, filter, flat_map, map}
 use Rattle.std.specs.List.{list_any}
-use Rattle.mdl_book.specs.declared.book_view.BookView.{BookView}
-use Rattle.mdl_book.specs.declared.ticket.Ticket.{Ticket}
-use Rattle.mdl_book.specs.Books.{lock_kind}
-use Rattle.mdl_book.specs.Granting.{stands_beside, overtakes}
-use Rattle.mdl_graph.specs.WaitsFor.{SessionTest, is_unsettled}
+use Rattle.mdl_view.specs.declared.at_lock.AtLock.{AtLock}
 use Rattle.mdl_view.specs.declared.blocking.Blocking.{Blocking}
 use Rattle.mdl_view.specs.declared.blocking.Reason.{Reason}
 use Rattle.mdl_view.specs.declared.blocking.Reason.TheVariants.{Holds, WaitsBefore}
+use Rattle.mdl_view.specs.declared.ticket.Ticket.{Ticket}
+use Rattle.mdl_view.specs.Locks.{LockView}
+use Rattle.mdl_view.specs.Modes.{lock_clashes, lock_waits_behind}
 
--- whether a granted ticket blocks a wish (a waiting ticket's request): it is another session's, and they clash
-abbrev pub holds_against : BookView → Ticket → Ticket → Bool
-holds_against book wish held = not (stands_beside (lock_kind book) wish.session wish.mode held)
+-- whether a granted ticket blocks a request: it is another session's, and they clash
+abbrev pub holds_against : LockView → Ticket → Ticket → Bool
+holds_against lock ask held = not (held.session == ask.session) && lock_clashes lock.kind ask.mode held.mode
 
--- whether a waiting ticket blocks a wish: it is of another session, whose wait isn't settled, and the wish is behind it
-abbrev pub waits_before : SessionTest → BookView → Ticket → Ticket → Bool
-waits_before settled book wish pending =
-    is_unsettled settled pending.session && not (overtakes (lock_kind book) wish.session wish.mode pending)
+-- whether a waiting ticket blocks a request: it is another session's, and the request waits behind it
+abbrev pub waits_before : LockView → Ticket → Ticket → Bool
+waits_before lock ask pending = not (pending.session == ask.session) && lock_waits_behind lock.kind ask.mode pending.mode
 
 -- a waiting ticket and one that blocks it, at the lock of this index
 abbrev pub blocking : ℕ → Ticket → Reason → Ticket → Blocking
-blocking place wish reason other = record { lock = place; waiter = wish; other = other; reason = reason }
+blocking place ask reason other = record { lock = place; waiter = ask; other = other; reason = reason }
 
 -- all tickets that block a waiting one: the granted ones first, then the waiting ones, each in the order of its list
-abbrev pub blockings_of : SessionTest → ℕ → BookView → Ticket → List Blocking
-blockings_of settled place book wish =
-    map (blocking place wish Holds) (filter (holds_against book wish) book.granted)
-    ++ map (blocking place wish WaitsBefore) (filter (waits_before settled book wish) book.waiting)
+abbrev pub blockings_of : ℕ → LockView → Ticket → List Blocking
+blockings_of place lock ask =
+    map (blocking place ask Holds) (filter (holds_against lock ask) lock.granted)
+    ++ map (blocking place ask WaitsBefore) (filter (waits_before lock ask) lock.waiting)
 
--- whether the session of a waiting ticket is unsettled
-abbrev pub has_open_wait : SessionTest → Ticket → Bool
-has_open_wait settled wish = is_unsettled settled wish.session
-
--- the blockings of all unsettled sessions that wait at a lock, in order of arrival
-abbrev pub blockings_at : SessionTest → ℕ → BookView → List Blocking
-blockings_at settled place book = flat_map (blockings_of settled place book) (filter (has_open_wait settled) book.waiting)
+-- the blockings of all that wait at a lock, in order of arrival
+abbrev pub blockings_at : ℕ → LockView → List Blocking
+blockings_at place lock = flat_map (blockings_of place lock) lock.waiting
 
 -- the blockings at these locks, the first of which has this index
-abbrev pub blockings_in : SessionTest → ℕ → List BookView → List Blocking
-blockings_in settled place [] = []
-blockings_in settled place (book ∷ books) = blockings_at settled place book ++ blockings_in settled (suc place) books
+abbrev pub blockings_in : ℕ → List LockView → List Blocking
+blockings_in place [] = []
+blockings_in place (lock ∷ locks) = blockings_at place lock ++ blockings_in (suc place) locks
 
--- whether some ticket blocks a wish
-abbrev pub is_wish_blocked : SessionTest → BookView → Ticket → Bool
-is_wish_blocked settled book wish = list_any (holds_against book wish) book.granted || list_any (waits_before settled book wish) book.waiting
+-- whether some ticket blocks a request
+abbrev pub is_blocked : LockView → Ticket → Bool
+is_blocked lock ask = list_any (holds_against lock ask) lock.granted || list_any (waits_before lock ask) lock.waiting
 
--- whether some ticket blocks some unsettled waiter at a lock
-abbrev pub has_waiter_blocked : SessionTest → BookView → Bool
-has_waiter_blocked settled book = list_any (λ wish. has_open_wait settled wish && is_wish_blocked settled book wish) book.waiting
+-- ---- waits
+
+-- a ticket at the lock of this index
+abbrev pub at_lock : ℕ → Ticket → AtLock
+at_lock place ticket = record { lock = place; ticket = ticket }
+
+-- the waits that pass a test, at these locks, the first of which has this index
+abbrev pub waits_that : (LockView → Ticket → Bool) → ℕ → List LockView → List AtLock
+waits_that test place [] = []
+waits_that test place (lock ∷ locks) = map (at_lock place) (filter (test lock) lock.waiting) ++ waits_that test (suc place) locks
+
+-- the waits that some ticket blocks
+abbrev pub blocked_waits : List LockView → List AtLock
+blocked_waits locks = waits_that is_blocked 0 locks
+
+-- whether a wait can't be explained by the tickets of its lock: none blocks it, and it isn't behind one that is about to go
+abbrev pub is_unexplained : LockView → Ticket → Bool
+is_unexplained lock ask = not (is_blocked lock ask) && not (list_any (waits_before lock ask) lock.settled)
+
+-- the waits for which no ticket shows a reason. Who holds the lock isn't among the rows
+abbrev pub unexplained_waits : List LockView → List AtLock
+unexplained_waits locks = waits_that is_unexplained 0 locks
+
+-- whether a session has a wait that some ticket blocks
+abbrev pub is_blocked_here : ℕ → LockView → Bool
+is_blocked_here session lock = list_any (λ ask. (ask.session == session) && is_blocked lock ask) lock.waiting
+
+abbrev pub waits_blocked : List LockView → ℕ → Bool
+waits_blocked locks session = list_any (is_blocked_here session) locks

@@ -1,57 +1,47 @@
--- Laws: the blockings, and what follows if a session ends, compared with the definitions of waits.
-use Rattle.std.specs.Prelude.{◌≡◌, ◌↔◌, ℕ, Bool, ◌&&◌, ◌==◌, List, ◌++◌, map, None, IsTrue, All, IsPermutation}
-use Rattle.std.specs.FinSet as set
+-- Laws: who blocks whom, compared with the waits of `mdl_graph`, and which waits are granted at once.
+use Rattle.std.specs.Prelude.{◌≡◌, ℕ, Bool, false, not, ◌&&◌, ◌==◌, List, [], ◌++◌, map, All, IsPermutation, IsTrue}
 use Rattle.std.specs.List.{list_any}
-use Rattle.std.specs.Ordering.{nat_cmp}
 use Rattle.mdl_book.specs.declared.book_view.BookView.{BookView}
-use Rattle.mdl_book.specs.SessionSets.{is_session}
-use Rattle.mdl_book.specs.Tickets.{ticket_id}
-use Rattle.mdl_graph.specs.declared.cycle.Member.{Member}
-use Rattle.mdl_graph.specs.Cycles.{IsCycleThrough}
-use Rattle.mdl_graph.specs.GraphLaws.{IsChosen}
-use Rattle.mdl_graph.specs.WaitsFor.{SessionTest, WaitsFor, waits_for}
+use Rattle.mdl_graph.specs.WaitsFor.{SessionTest, waits_for}
+use Rattle.mdl_view.specs.declared.act.Act.{Act}
 use Rattle.mdl_view.specs.declared.blocking.Blocking.{Blocking}
+use Rattle.mdl_view.specs.declared.lock_mode.LockKind.{LockKind}
+use Rattle.mdl_view.specs.declared.lock_mode.LockMode.{LockMode}
+use Rattle.mdl_view.specs.declared.ticket.Ticket.{Ticket}
+use Rattle.mdl_view.specs.Acts.{is_taken, lock_after}
+use Rattle.mdl_view.specs.AtOnce.{can_be_granted, granted_at, granted_from}
 use Rattle.mdl_view.specs.Blockings.{blockings_in}
-use Rattle.mdl_view.specs.Deadlocks.{deadlocks_in, is_member_of}
-use Rattle.mdl_view.specs.Endings.{leaving, next_waiter, grants_after}
-use Rattle.mdl_view.specs.Roots.{is_root}
+use Rattle.mdl_view.specs.GoingOn.{is_free}
+use Rattle.mdl_view.specs.Locks.{LockView, lock_of_book}
+use Rattle.mdl_view.specs.Modes.{lock_clashes, lock_waits_behind}
 
 -- whether the blockings say that the first session is blocked by the second
 abbrev pub is_told : List Blocking → ℕ → ℕ → Bool
 is_told blockings waiter other = list_any (λ blocking. blocking.waiter.session == waiter && blocking.other.session == other) blockings
 
--- the blockings have a pair of sessions exactly if the one waits for the other
+-- no session is settled
+abbrev pub nobody : SessionTest
+nobody session = false
+
+-- the blockings of books have a pair of sessions exactly if the one waits for the other, where no wait is settled
 abbrev pub BlockingsAreWaits : Type 0
-BlockingsAreWaits =
-    (settled : SessionTest) (books : List BookView) (waiter other : ℕ) →
-    is_told (blockings_in settled 0 books) waiter other ≡ waits_for settled books waiter other
+BlockingsAreWaits = (books : List BookView) (waiter other : ℕ) → is_told (blockings_in 0 (map lock_of_book books)) waiter other ≡ waits_for nobody books waiter other
 
--- the roots are the sessions that another session waits for, and that wait for no session
-abbrev pub RootsWaitForNobody : Type 0
-RootsWaitForNobody =
-    (settled : SessionTest) (books : List BookView) (session : ℕ) →
-    IsTrue (is_root (blockings_in settled 0 books) session)
-    ↔ (((waiter : ℕ) × WaitsFor settled books waiter session) × ((other : ℕ) → WaitsFor settled books session other → ⊥))
+-- a request that waits behind another one clashes with it, too, once the other one is granted
+abbrev pub WaitingBehindIsClashing : Type 0
+WaitingBehindIsClashing = (kind : LockKind) (ask pending : LockMode) → IsTrue (lock_waits_behind kind ask pending) → IsTrue (lock_clashes kind ask pending)
 
--- after the grants that follow the end of a session, no waiter can be granted
-abbrev pub EndingsForgetNobody : Type 0
-EndingsForgetNobody =
-    (unsettled : set.FinSet nat_cmp) (session : ℕ) (book : BookView) →
-    next_waiter unsettled (grants_after unsettled session book).book ≡ None
+-- the waiting tickets `left` are those that aren't granted, and none of them that `may` be granted can be, beside all that were
+pub record AreLeft (lock : LockView) (may : Ticket → Bool) (granted waiting got left : List Ticket) : Type 0 where
+  pub all : IsPermutation waiting (got ++ left)
+  pub none : All (λ ask. IsTrue (not (may ask && can_be_granted lock (granted ++ got) left ask))) left
 
--- each waiting ticket of the other sessions is granted or still waits, and each is there once
-abbrev pub WaitersAreGrantedOrWait : Type 0
-WaitersAreGrantedOrWait =
-    (unsettled : set.FinSet nat_cmp) (session : ℕ) (book : BookView) →
-    IsPermutation (map ticket_id (leaving session book).waiting)
-    (map ticket_id (grants_after unsettled session book).tickets ++ map ticket_id (grants_after unsettled session book).book.waiting)
+-- after one pass over the waiting tickets nobody is left that can be granted
+abbrev pub NobodyIsForgotten : Type 0
+NobodyIsForgotten =
+    (lock : LockView) (may : Ticket → Bool) (granted waiting : List Ticket) →
+    (left : List Ticket) × AreLeft lock may granted waiting (granted_from lock may granted [] waiting) left
 
--- each of these is the chosen cycle through a session, and each session that is in any cycle is a member of one
-pub record AreAllDeadlocks (settled : SessionTest) (books : List BookView) (found : List (List Member)) : Type 0 where
-  pub cycles : All (λ members. (from : ℕ) × IsChosen settled books from members) found
-  pub all : (session : ℕ) (cycle : List ℕ) → IsTrue (is_session session) → IsCycleThrough (waits_for settled books) session cycle
-      → IsTrue (is_member_of found session)
-
--- the deadlocks found are all deadlocks
-abbrev pub DeadlocksAreAll : Type 0
-DeadlocksAreAll = (settled : SessionTest) (books : List BookView) → AreAllDeadlocks settled books (deadlocks_in settled books)
+-- each wait that is granted at once after an act was blocked by tickets alone that the act takes
+abbrev pub GrantedAreFreed : Type 0
+GrantedAreFreed = (act : Act) (lock : LockView) → All (λ ask. IsTrue (is_free lock (is_taken act) ask)) (granted_at lock (lock_after act lock))

@@ -1,12 +1,10 @@
-//! Which tickets block which. A wish is the request of a waiting ticket.
-ghost use Rattle.std.specs.Prelude.{◌≡◌, ◌++◌, ◌∷◌, [], ◌==◌, ◌&&◌, not, length, map, filter, flat_map, OnOk, IfOk};
-ghost use Rattle.std.specs.FinSet as set;
-ghost use Rattle.std.specs.List.{list_any};
-ghost use Rattle.mdl_view.specs.Blockings.{has_open_wait, has_waiter_blocked, holds_against, is_wish_blocked, waits_before, blocking, blockings_of, blockings_at, blockings_in};
+//! Which tickets block which.
+ghost use Rattle.std.specs.Prelude.{◌≡◌, ◌++◌, ◌∷◌, [], map, filter, OnOk, IfOk};
+ghost use Rattle.mdl_view.specs.Blockings.{blocking, blockings_at, blockings_in, blockings_of, holds_against, waits_before};
 
 use crate::lock::Lock;
-use mdl_book::{Sessions, Ticket};
-use mdl_key::{conflicts_granted, conflicts_waiting};
+use crate::lock_mode::{lock_clashes, lock_waits_behind};
+use crate::ticket::Ticket;
 use std::alloc::{AllocError, Global};
 
 /// Why a ticket blocks a waiting one.
@@ -31,155 +29,58 @@ pub struct Blocking {
     pub reason: Reason,
 }
 
-/// Returns each waiting ticket of an unsettled session with each ticket that blocks it: lock by lock, for each lock waiter by waiter in order
-/// of arrival, and for each waiter granted tickets before waiting ones.
-pub fn blockings(
-    alloc: Global,
-    settled: &Sessions,
-    locks: &[Lock],
-) -> Result<Vec<Blocking>, AllocError>
-    ensures { IfOk result (λ found. found.items ≡ blockings_in (set.contains settled.now) 0 locks.now) }
+/// Returns each waiting ticket with each ticket that blocks it: lock by lock, for each lock waiter by waiter in order of arrival, and for each
+/// waiter granted tickets before waiting ones.
+pub fn blockings(alloc: Global, locks: &[Lock]) -> Result<Vec<Blocking>, AllocError>
+    ensures { IfOk result (λ found. found.items ≡ blockings_in 0 locks.now) }
 {
     let mut found = Vec::new(alloc);
     for (place, lock) in locks.iter().enumerate() {
-        add_lock(&mut found, settled, place, lock)?;
+        add_lock(&mut found, place, lock)?;
     }
     Ok(found)
 }
 
-/// Whether any ticket blocks a waiting one of an unsettled session. It lists nothing, and takes no memory.
-pub fn has_blockings(settled: &Sessions, locks: &[Lock]) -> bool
-    ensures { result ≡ not (length (blockings_in (set.contains settled.now) 0 locks.now) == 0) }
-{
-    has_lock_blocked(settled, locks)
-}
-
-// Whether a waiter is blocked at some lock.
-fn has_lock_blocked(settled: &Sessions, locks: &[Lock]) -> bool
-    ensures { result ≡ list_any (has_waiter_blocked (set.contains settled.now)) locks.now }
-{
-    locks.iter().any(|lock| has_waiter_blocked(settled, lock))
-}
-
-// Whether a waiter is blocked at a lock.
-fn has_waiter_blocked(settled: &Sessions, lock: &Lock) -> bool
-    ensures { result ≡ has_waiter_blocked (set.contains settled.now) lock.now }
-{
-    lock.waiting().iter().any(|wish| !settled.contains(wish.session)
-        && is_wish_blocked(settled, lock, *wish))
-}
-
-// Whether a wish is blocked.
-fn is_wish_blocked(settled: &Sessions, lock: &Lock, wish: Ticket) -> bool
-    ensures { result ≡ is_wish_blocked (set.contains settled.now) lock.now wish }
-{
-    is_held_against(lock, wish) || is_waited_before(settled, lock, wish)
-}
-
-// Whether a granted ticket blocks a wish.
-fn is_held_against(lock: &Lock, wish: Ticket) -> bool
-    ensures { result ≡ list_any (holds_against lock.now wish) lock.now.granted }
-{
-    let kind = lock.namespace().kind();
-    lock.granted().iter().any(|held| {
-        held.session != wish.session && conflicts_granted(kind, wish.mode, held.mode)
-    })
-}
-
-// Whether a waiting ticket of an unsettled session blocks a wish.
-fn is_waited_before(settled: &Sessions, lock: &Lock, wish: Ticket) -> bool
-    ensures { result ≡ list_any (waits_before (set.contains settled.now) lock.now wish) lock.now.waiting }
-{
-    let kind = lock.namespace().kind();
-    lock.waiting().iter().any(|pending| {
-        !settled.contains(pending.session)
-            && pending.session != wish.session
-            && conflicts_waiting(kind, wish.mode, pending.mode)
-    })
-}
-
 // Adds the blockings of one lock.
-fn add_lock(
-    found: &mut Vec<Blocking>,
-    settled: &Sessions,
-    place: usize,
-    lock: &Lock,
-) -> Result<(), AllocError>
-    ensures { OnOk result (found.new.items ≡ found.old.items ++ blockings_at (set.contains settled.now) place lock.now) }
+fn add_lock(found: &mut Vec<Blocking>, place: usize, lock: &Lock) -> Result<(), AllocError>
+    ensures { OnOk result (found.new.items ≡ found.old.items ++ blockings_at place lock.now) }
 {
-    for wish in lock.waiting() {
-        add_unsettled(found, settled, place, lock, *wish)?;
+    for ask in lock.waiting() {
+        add_holders(found, place, lock, *ask)?;
+        add_waiters(found, place, lock, *ask)?;
     }
     Ok(())
 }
 
-/// Adds the blockings of one waiting ticket, if its session is unsettled.
-pub(crate) fn add_unsettled(
-    found: &mut Vec<Blocking>,
-    settled: &Sessions,
-    place: usize,
-    lock: &Lock,
-    wish: Ticket,
-) -> Result<(), AllocError>
-    ensures { OnOk result (found.new.items ≡ found.old.items
-        ++ flat_map (blockings_of (set.contains settled.now) place lock.now) (filter (has_open_wait (set.contains settled.now)) (wish ∷ []))) }
-{
-    if settled.contains(wish.session) {
-        return Ok(());
-    }
-    add_wish(found, settled, place, lock, wish)
-}
-
-/// Adds the blockings of one waiting ticket.
-pub(crate) fn add_wish(
-    found: &mut Vec<Blocking>,
-    settled: &Sessions,
-    place: usize,
-    lock: &Lock,
-    wish: Ticket,
-) -> Result<(), AllocError>
-    ensures { OnOk result (found.new.items ≡ found.old.items ++ blockings_of (set.contains settled.now) place lock.now wish) }
-{
-    add_holders(found, place, lock, wish)?;
-    add_waiters(found, settled, place, lock, wish)
-}
-
-// Adds the granted tickets that block a wish.
+// Adds the granted tickets that block a request.
 fn add_holders(
     found: &mut Vec<Blocking>,
     place: usize,
     lock: &Lock,
-    wish: Ticket,
+    ask: Ticket,
 ) -> Result<(), AllocError>
-    ensures { OnOk result (found.new.items ≡ found.old.items ++ map (blocking place wish Reason.Holds) (filter (holds_against lock.now wish) lock.now.granted)) }
+    ensures { OnOk result (found.new.items ≡ found.old.items ++ map (blocking place ask Reason.Holds) (filter (holds_against lock.now ask) lock.now.granted)) }
 {
-    let kind = lock.namespace().kind();
     for held in lock.granted() {
-        if held.session != wish.session && conflicts_granted(kind, wish.mode, held.mode) {
-            add(found, place, wish, *held, Reason::Holds)?;
+        if holds_against(lock, ask, *held) {
+            add(found, place, ask, *held, Reason::Holds)?;
         }
     }
     Ok(())
 }
 
-// Adds the waiting tickets that block a wish.
+// Adds the waiting tickets that block a request.
 fn add_waiters(
     found: &mut Vec<Blocking>,
-    settled: &Sessions,
     place: usize,
     lock: &Lock,
-    wish: Ticket,
+    ask: Ticket,
 ) -> Result<(), AllocError>
-    ensures { OnOk result (found.new.items ≡ found.old.items
-        ++ map (blocking place wish Reason.WaitsBefore) (filter (waits_before (set.contains settled.now) lock.now wish) lock.now.waiting)) }
+    ensures { OnOk result (found.new.items ≡ found.old.items ++ map (blocking place ask Reason.WaitsBefore) (filter (waits_before lock.now ask) lock.now.waiting)) }
 {
-    let kind = lock.namespace().kind();
     for pending in lock.waiting() {
-        if !settled.contains(pending.session)
-            && pending.session != wish.session
-            && conflicts_waiting(kind, wish.mode, pending.mode)
-        {
-            add(found, place, wish, *pending, Reason::WaitsBefore)?;
+        if waits_before(lock, ask, *pending) {
+            add(found, place, ask, *pending, Reason::WaitsBefore)?;
         }
     }
     Ok(())
@@ -202,4 +103,18 @@ fn add(
         reason,
     })?;
     Ok(())
+}
+
+/// Whether a granted ticket blocks a request at this lock: it is another session's, and they clash.
+pub(crate) fn holds_against(lock: &Lock, ask: Ticket, held: Ticket) -> bool
+    ensures { result ≡ holds_against lock.now ask held }
+{
+    held.session != ask.session && lock_clashes(lock.kind(), ask.mode, held.mode)
+}
+
+/// Whether a waiting ticket blocks a request at this lock: it is another session's, and the request waits behind it.
+pub(crate) fn waits_before(lock: &Lock, ask: Ticket, pending: Ticket) -> bool
+    ensures { result ≡ waits_before lock.now ask pending }
+{
+    pending.session != ask.session && lock_waits_behind(lock.kind(), ask.mode, pending.mode)
 }

@@ -1,69 +1,87 @@
-//! Who blocks whom at a table of locks, and what would follow if a session ended.
+//! Who blocks whom at a table of locks, and what an operator can do about it.
 //!
-//! [`blockings`] lists each waiting ticket with the tickets that block it, [`roots`] finds the sessions that block others and aren't blocked
-//! themselves, and [`course_after`] predicts who would be granted at a lock if a session ended.
+//! [`blockings`] lists each waiting ticket with the tickets that block it, [`unexplained_waits`] finds the waits that no ticket explains, and
+//! [`at_once`] foretells who is granted if a session or its statement is ended.
 //!
 //! # Example
 //!
 //! ```
-//! use mdl_book::{Sessions, Ticket};
-//! use mdl_key::{Mode, Namespace};
-//! use mdl_view::{Lock, blockings, course_after, roots};
+//! use mdl_key::Mode;
+//! use mdl_view::{Act, Lock, LockKind, LockMode, Ticket, at_once, blockings};
 //!
 //! let alloc = rt.alloc();
 //! let reader = Ticket {
-//!     session: 1,
 //!     number: 1,
-//!     mode: Mode::SR,
+//!     session: 1,
+//!     mode: LockMode::Mdl(Mode::SR),
+//!     of_statement: false,
 //! };
 //! let change = Ticket {
 //!     session: 2,
-//!     mode: Mode::X,
+//!     mode: LockMode::Mdl(Mode::X),
+//!     of_statement: true,
 //!     ..reader
 //! };
 //! let later = Ticket {
 //!     session: 3,
+//!     of_statement: true,
 //!     ..reader
 //! };
-//! let mut lock = Lock::new(alloc, Namespace::Table);
+//! let mut lock = Lock::new(alloc, LockKind::Object);
 //! lock.add_granted(reader)?;
 //! lock.add_waiting(change)?;
 //! lock.add_waiting(later)?;
 //! let mut locks = Vec::new(alloc);
 //! locks.push(lock)?;
-//! // The reader is in the way of the change, and the change in that of the later reader.
-//! let found = blockings(alloc, &Sessions::new(), &locks)?;
-//! assert_eq!(rt; found.len(), 2);
-//! let at_root = roots(alloc, &found)?;
-//! assert_eq!(rt; at_root.as_slice(), [1].as_slice());
-//! // If the reader ended, the change would be granted, and the later reader would wait for it.
-//! for lock in &locks {
-//!     let course = course_after(alloc, lock, &Sessions::all(), 1)?;
-//!     assert_eq!(rt; course.granted.as_slice(), [change].as_slice());
-//!     assert_eq!(rt; course.left.waiting(), [later].as_slice());
-//! }
+//! // The reader blocks the change, and the change blocks the later reader.
+//! assert_eq!(rt; blockings(alloc, &locks)?.len(), 2);
+//! // If the statement of the change is ended, the later reader is granted at once.
+//! let granted = at_once(alloc, &locks, Act::KillQuery(2))?;
+//! assert_eq!(rt; granted[0].ticket, later);
 //! ```
 #![tactic(auto)]
 
+mod act;
+mod against;
+mod at_lock;
+mod backup_matrix;
+mod blocker;
 mod blocking;
-mod deadlock;
-mod ending;
+mod few_sessions;
+mod going_on;
+mod granting;
+mod held;
+mod joint;
 mod laws;
 mod lock;
-mod root;
-mod root_rank;
-mod still_waiting;
-mod what_follows;
+mod lock_mode;
+mod sample;
+mod session_set;
+mod stuck;
+mod ticket;
+mod upgrade;
+mod waits;
+mod way;
+mod way_laws;
+mod ways_out;
 
-pub use blocking::{Blocking, Reason, blockings, has_blockings};
-pub use deadlock::deadlocks;
-pub use ending::{Course, course_after};
+pub use act::Act;
+pub use at_lock::AtLock;
+pub use blocker::blockers;
+pub use blocking::{Blocking, Reason, blockings};
+pub use going_on::in_turn;
+pub use granting::at_once;
+pub use held::held_by;
+pub use joint::joint_waits;
 pub use laws::{
-    blockings_are_waits, deadlocks_are_all, endings_forget_nobody, roots_wait_for_nobody,
-    waiters_are_granted_or_wait,
+    blockings_are_waits, granted_are_freed, nobody_is_forgotten, waiting_behind_is_clashing,
 };
 pub use lock::{Lock, locks_of};
-pub use root::roots;
-pub use root_rank::{RootRank, ranked_roots, root_endings};
-pub use still_waiting::StillWaiting;
-pub use what_follows::{AtLock, Ending, Scene, ending_of};
+pub use lock_mode::{BackupMode, LockKind, LockMode, lock_clashes, lock_waits_behind};
+pub use stuck::stuck_waits;
+pub use ticket::Ticket;
+pub use upgrade::{Upgrade, by_now, upgrades};
+pub use waits::{blocked_waits, unexplained_waits};
+pub use way::Way;
+pub use way_laws::{ends_are_determined, granted_go_on, nobody_ends_blocked};
+pub use ways_out::ways;

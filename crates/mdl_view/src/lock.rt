@@ -1,64 +1,70 @@
-//! One lock: who holds it, and who waits for it.
-ghost use Rattle.std.specs.Prelude.{◌≡◌, ◌++◌, ◌∷◌, [], true, Some, filter, map, position, is_some, OnOk, OnErr, IfOk, IfSome};
-ghost use Rattle.std.specs.Option.{IfNone};
-ghost use Rattle.mdl_book.specs.Books.{admitting, lock_kind};
-ghost use Rattle.mdl_book.specs.Granting.{is_grantable, is_compatible, goes_first};
-ghost use Rattle.mdl_book.specs.Tickets.{is_ticket, ticket_of};
-ghost use Rattle.mdl_graph.specs.Graphs.{lock_of};
-ghost use Rattle.mdl_view.specs.BookLocks.{lock_of_book};
-ghost use Rattle.mdl_view.specs.Endings.{leaving, is_of_other, next_waiter};
+//! One lock: who holds it, who waits for it, and whose wait for it is over.
+ghost use Rattle.std.specs.Prelude.{◌≡◌, ◌++◌, ◌∷◌, [], filter, map, not, OnOk, OnErr, IfOk};
+ghost use Rattle.mdl_view.specs.Acts.{is_taken, lock_after};
+ghost use Rattle.mdl_view.specs.Locks.{empty_lock, granted_ticket, lock_of_book, ticket_from, waiting_ticket};
+ghost use Rattle.mdl_view.specs.Samples.{IsSampleOf};
 
-use mdl_book::{Book, Sessions, Ticket};
-use mdl_key::{Kind, Namespace, conflicts_granted, conflicts_waiting};
+use crate::act::Act;
+use crate::lock_mode::{LockKind, LockMode};
+use crate::sample::sample_of;
+use crate::ticket::Ticket;
+use mdl_book::Book;
 use std::alloc::{AllocError, Global};
 use std::marker::Model;
 
-/// A lock's namespace, its granted tickets and its waiting ones in order of arrival, as a server shows them. They need not be lawful: tickets
-/// that clash may be granted together, since a server's table isn't a snapshot of one moment.
+/// A lock's kind, its granted tickets, its waiting ones in order of arrival, and those whose wait is over without a grant and that are about to
+/// go. They need not be lawful: tickets that clash may be granted together, since a server's table isn't a snapshot of one moment.
 #[derive(Drop)]
 pub struct Lock {
-    namespace: Namespace,
+    kind: LockKind,
     granted: Vec<Ticket>,
     waiting: Vec<Ticket>,
+    settled: Vec<Ticket>,
 }
 
 impl Model for Lock {
-    ghost use Rattle.mdl_book.specs.declared.book_view.BookView.{BookView};
-    ghost use Rattle.mdl_graph.specs.Graphs.{lock_of};
+    ghost use Rattle.mdl_view.specs.Locks.{LockView};
 
-    ghost Value = { BookView };
+    ghost Value = { LockView };
 
-    ghost view = { λ lock. lock_of lock.namespace lock.granted.items lock.waiting.items };
+    ghost view = { λ lock. record {
+      kind = lock.kind;
+      granted = lock.granted.items;
+      waiting = lock.waiting.items;
+      settled = lock.settled.items;
+    } };
 }
 
 impl Lock {
     /// Returns a lock without tickets.
-    pub fn new(alloc: Global, namespace: Namespace) -> Lock
-        ensures { result ≡ lock_of namespace [] [] }
+    pub fn new(alloc: Global, kind: LockKind) -> Lock
+        ensures { result ≡ empty_lock kind }
     {
         Lock {
-            namespace,
+            kind,
             granted: Vec::new(alloc),
             waiting: Vec::new(alloc),
+            settled: Vec::new(alloc),
         }
     }
 
-    /// Returns the lock of a book. The names of its key and its definition are left out.
+    /// Returns the lock of a book: no wait is settled, and what is granted is kept if the session's statement is killed.
     pub fn of_book(alloc: Global, book: &Book) -> Result<Lock, AllocError>
         ensures { IfOk result (λ lock. lock ≡ lock_of_book book.now) }
     {
         Ok(Lock {
-            namespace: book.key().namespace(),
-            granted: copied(alloc, book.granted())?,
-            waiting: copied(alloc, book.waiting())?,
+            kind: LockKind::of_kind(book.key().namespace().kind()),
+            granted: granted_tickets(alloc, book.granted())?,
+            waiting: waiting_tickets(alloc, book.waiting())?,
+            settled: Vec::new(alloc),
         })
     }
 
-    /// The lock's namespace.
-    pub fn namespace(&self) -> Namespace
-        ensures { result ≡ self.now.key.namespace }
+    /// The lock's kind.
+    pub fn kind(&self) -> LockKind
+        ensures { result ≡ self.now.kind }
     {
-        self.namespace
+        self.kind
     }
 
     /// The granted tickets, in order.
@@ -73,6 +79,29 @@ impl Lock {
         ensures { result.now ≡ self.now.waiting }
     {
         self.waiting.as_slice()
+    }
+
+    /// The tickets whose wait is over without a grant, in order.
+    pub fn settled(&self) -> &[Ticket]
+        ensures { result.now ≡ self.now.settled }
+    {
+        self.settled.as_slice()
+    }
+
+    /// Returns a copy of the lock with other granted tickets.
+    pub(crate) fn with_granted(
+        &self,
+        alloc: Global,
+        granted: Vec<Ticket>,
+    ) -> Result<Lock, AllocError>
+        ensures { IfOk result (λ lock. lock ≡ record self.now { granted = granted.items }) }
+    {
+        Ok(Lock {
+            kind: self.kind,
+            granted,
+            waiting: copied(alloc, &self.waiting)?,
+            settled: copied(alloc, &self.settled)?,
+        })
     }
 
     /// Appends a ticket to the granted ones.
@@ -97,66 +126,38 @@ impl Lock {
         }
     }
 
-    /// Grants the first waiter, in order of arrival, whose session is among `unsettled` and that can be granted. If there is none, or memory
-    /// runs out, nothing changes.
-    pub(crate) fn grant_next(&mut self, unsettled: &Sessions) -> Result<Option<Ticket>, AllocError>
-        ensures ticket { IfOk result (λ found. found ≡ next_waiter unsettled.now self.old) }
-        ensures granted { IfOk result (λ found. IfSome found (λ ticket. self.new ≡ admitting ticket.session ticket.number self.old)) }
-        ensures none { IfOk result (λ found. IfNone found (self.new ≡ self.old)) }
+    /// Appends a ticket to those whose wait is over without a grant.
+    pub fn add_settled(&mut self, ticket: Ticket) -> Result<(), AllocError>
+        ensures added { OnOk result (self.new ≡ record self.old { settled = self.old.settled ++ ticket ∷ [] }) }
         ensures unchanged { OnErr result (self.new ≡ self.old) }
     {
-        let Some(ticket) = self.next_waiter(unsettled) else {
-            return Ok(None);
-        };
-        self.admit(ticket)?;
-        Ok(Some(ticket))
-    }
-
-    // The first waiter that can be granted.
-    fn next_waiter(&self, unsettled: &Sessions) -> Option<Ticket>
-        ensures { result ≡ next_waiter unsettled.now self.now }
-    {
-        for ticket in self.waiting() {
-            if unsettled.contains(ticket.session) && self.is_grantable(*ticket) {
-                return Some(*ticket);
-            }
-        }
-        None
-    }
-
-    // Whether a wish can be granted.
-    fn is_grantable(&self, wish: Ticket) -> bool
-        ensures { result ≡ is_grantable (lock_kind self.now) self.now.granted self.now.waiting wish.session wish.mode }
-    {
-        let kind = self.namespace.kind();
-        is_compatible(kind, &self.granted, wish) && goes_first(kind, &self.waiting, wish)
-    }
-
-    // Grants the first waiting ticket of the same session and number: moves it to the end of the granted list.
-    fn admit(&mut self, ticket: Ticket) -> Result<(), AllocError>
-        requires { is_some (ticket_of ticket.session ticket.number self.old.waiting) ≡ true }
-        ensures granted { OnOk result (self.new ≡ admitting ticket.session ticket.number self.old) }
-        ensures unchanged { OnErr result (self.new ≡ self.old) }
-    {
-        let place = place_of(&self.waiting, ticket);
-        let waiter = self.waiting[place];
-        match self.granted.push(waiter) {
-            Ok(()) => {
-                self.waiting.remove(place);
-                Ok(())
-            }
+        match self.settled.push(ticket) {
+            Ok(()) => Ok(()),
             Err(_) => Err(AllocError),
         }
     }
 
-    /// Returns a copy of the lock without the tickets of a session that ends.
-    pub(crate) fn without(&self, alloc: Global, session: u16) -> Result<Lock, AllocError>
-        ensures { IfOk result (λ lock. lock ≡ leaving session self.now) }
+    /// Returns the lock as an act leaves it, before anybody is granted.
+    pub(crate) fn after(&self, alloc: Global, act: Act) -> Result<Lock, AllocError>
+        ensures { IfOk result (λ lock. lock ≡ lock_after act self.now) }
     {
         Ok(Lock {
-            namespace: self.namespace,
-            granted: others(alloc, &self.granted, session)?,
-            waiting: others(alloc, &self.waiting, session)?,
+            kind: self.kind,
+            granted: left_by(alloc, &self.granted, act)?,
+            waiting: left_by(alloc, &self.waiting, act)?,
+            settled: copied(alloc, &self.settled)?,
+        })
+    }
+
+    /// Returns a lock with a few of these tickets, which says as much about who blocks whom.
+    pub(crate) fn sample(&self, alloc: Global) -> Result<Lock, AllocError>
+        ensures { IfOk result (λ few. IsSampleOf self.now few) }
+    {
+        Ok(Lock {
+            kind: self.kind,
+            granted: sample_of(alloc, &self.granted)?,
+            waiting: sample_of(alloc, &self.waiting)?,
+            settled: sample_of(alloc, &self.settled)?,
         })
     }
 }
@@ -181,50 +182,47 @@ fn copied(alloc: Global, tickets: &[Ticket]) -> Result<Vec<Ticket>, AllocError>
     Ok(copy)
 }
 
-// The tickets of other sessions.
-fn others(alloc: Global, tickets: &[Ticket], session: u16) -> Result<Vec<Ticket>, AllocError>
-    ensures { IfOk result (λ left. left.items ≡ filter (is_of_other session) tickets.now) }
+// The granted tickets of a book as tickets of a lock.
+fn granted_tickets(alloc: Global, tickets: &[mdl_book::Ticket]) -> Result<Vec<Ticket>, AllocError>
+    ensures { IfOk result (λ copy. copy.items ≡ map granted_ticket tickets.now) }
 {
-    tickets
-        .iter()
-        .filter(|ticket| ticket.session != session)
-        .copied()
-        .collect(alloc)
+    let mut copy = Vec::new(alloc);
+    for ticket in tickets {
+        copy.push(ticket_from(*ticket, false))?;
+    }
+    Ok(copy)
 }
 
-// Whether a wish clashes with no granted ticket of another session.
-fn is_compatible(kind: Kind, granted: &[Ticket], wish: Ticket) -> bool
-    ensures { result ≡ is_compatible kind granted.now wish.session wish.mode }
+// The waiting tickets of a book as tickets of a lock.
+fn waiting_tickets(alloc: Global, tickets: &[mdl_book::Ticket]) -> Result<Vec<Ticket>, AllocError>
+    ensures { IfOk result (λ copy. copy.items ≡ map waiting_ticket tickets.now) }
 {
-    granted.iter().all(|held| {
-        held.session == wish.session || !conflicts_granted(kind, wish.mode, held.mode)
-    })
+    let mut copy = Vec::new(alloc);
+    for ticket in tickets {
+        copy.push(ticket_from(*ticket, true))?;
+    }
+    Ok(copy)
 }
 
-// Whether a wish is behind no waiting ticket of another session.
-fn goes_first(kind: Kind, waiting: &[Ticket], wish: Ticket) -> bool
-    ensures { result ≡ goes_first kind waiting.now wish.session wish.mode }
+// A ticket of a book as a ticket of a lock.
+fn ticket_from(ticket: mdl_book::Ticket, of_statement: bool) -> Ticket
+    ensures { result ≡ ticket_from of_statement ticket }
 {
-    waiting.iter().all(|pending| {
-        pending.session == wish.session || !conflicts_waiting(kind, wish.mode, pending.mode)
-    })
-}
-
-// The index of the first ticket of the same session and number.
-fn place_of(tickets: &[Ticket], ticket: Ticket) -> usize
-    requires { is_some (ticket_of ticket.session ticket.number tickets.now) ≡ true }
-    ensures { Some result ≡ position (is_ticket ticket.session ticket.number) tickets.now }
-{
-    match position_of(tickets, ticket) {
-        Some(place) => place,
-        None => unreachable!(),
+    Ticket {
+        number: ticket.number,
+        session: usize::from(ticket.session),
+        mode: LockMode::Mdl(ticket.mode),
+        of_statement,
     }
 }
 
-// The index of the first ticket of the same session and number, if there is one.
-fn position_of(tickets: &[Ticket], ticket: Ticket) -> Option<usize>
-    ensures { result ≡ position (is_ticket ticket.session ticket.number) tickets.now }
+// The tickets that an act leaves.
+fn left_by(alloc: Global, tickets: &[Ticket], act: Act) -> Result<Vec<Ticket>, AllocError>
+    ensures { IfOk result (λ left. left.items ≡ filter (λ ticket. not (is_taken act ticket)) tickets.now) }
 {
-    tickets.iter().position(|other| other.session == ticket.session
-        && other.number == ticket.number)
+    tickets
+        .iter()
+        .filter(|ticket| !act.takes(**ticket))
+        .copied()
+        .collect(alloc)
 }

@@ -1,75 +1,66 @@
 //! The answers to questions about a table of locks.
-ghost use Rattle.std.specs.Prelude.{◌≡◌, IfOk};
-ghost use Rattle.std.specs.FinSet as set;
-ghost use Rattle.mdl_view.specs.Blockings.{blockings_in};
-ghost use Rattle.mdl_view_program.specs.Answers.{AnswersBooks, IsAnswer, locks_answer, waits_answer, why_answer, is_jammed};
-ghost use Rattle.mdl_view.specs.Deadlocks.{deadlocks_in};
-ghost use Rattle.mdl_view.specs.Following.{endings_of};
+ghost use Rattle.std.specs.Prelude.{◌≡◌, [], IfOk};
+ghost use Rattle.mdl_view_program.specs.Answers.{AnswersBooks, IsAnswer, graph_answer, locks_answer, waits_answer, why_answer};
 
 use crate::question::{Form, Question};
-use mdl_book::{Book, Sessions};
-use mdl_graph::Cycle;
+use mdl_book::Book;
 use mdl_lock_rows::LeftOut;
-use mdl_view::{RootRank, Scene, blockings, deadlocks, has_blockings, locks_of, ranked_roots};
+use mdl_view::{Lock, blockings, locks_of, unexplained_waits};
 use mdl_view_text::{
-    Names, add_left_out, add_left_out_comment, graph_text, locks_json, locks_text, names_of,
+    Findings, Names, add_comments, add_notes, find, graph_text, locks_json, locks_text, names_of,
     waits_json, waits_text, why_json, why_text,
 };
 use std::alloc::{AllocError, Global};
 
-/// Returns the answer to a question about locks, as text, with the rows of a server that were left out.
+/// Returns the answer to a question about locks, as text, with the rows of a server that were left out. Only [`Question::Locks`] shows the tickets
+/// as they are in `shown`, the same locks as rows show them.
 pub fn answer(
     alloc: Global,
     question: Question,
     names: &Names,
-    scene: Scene<'_>,
+    shown: &[Lock],
+    locks: &[Lock],
     left_out: &[LeftOut],
 ) -> Result<Vec<u8>, AllocError>
-    ensures { IfOk result (λ text. IsAnswer question names.now (set.contains scene.entry.settled.now) scene.entry.unsettled.now scene.entry.locks.now left_out.now text.items) }
+    ensures { IfOk result (λ text. IsAnswer question names.now shown.now locks.now left_out.now text.items) }
 {
     match question {
-        Question::Why(form) => answer_why(alloc, form, names, scene, left_out),
-        Question::Locks(form) => answer_locks(alloc, form, names, scene, left_out),
-        Question::Waits(form) => answer_waits(alloc, form, names, scene, left_out),
-        Question::Graph => answer_graph(alloc, names, scene, left_out),
+        Question::Why(form) => answer_why(alloc, form, names, locks, left_out),
+        Question::Locks(form) => answer_locks(alloc, form, names, shown, locks, left_out),
+        Question::Waits(form) => answer_waits(alloc, form, names, locks, left_out),
+        Question::Graph => answer_graph(alloc, names, locks, left_out),
     }
 }
 
-// Answers which deadlocks there are, which sessions are the roots, and what would follow if they ended.
+// Answers how many requests wait, and what to do about it.
 fn answer_why(
     alloc: Global,
     form: Form,
     names: &Names,
-    scene: Scene<'_>,
+    locks: &[Lock],
     left_out: &[LeftOut],
 ) -> Result<Vec<u8>, AllocError>
-    ensures { IfOk result (λ text. IsAnswer (Question.Why form) names.now (set.contains scene.entry.settled.now) scene.entry.unsettled.now scene.entry.locks.now left_out.now text.items) }
+    ensures { IfOk result (λ text. IsAnswer (Question.Why form) names.now [] locks.now left_out.now text.items) }
 {
-    let found = deadlocks(alloc, scene)?;
-    let roots = ranked_roots(alloc, scene)?;
-    why_in_form(alloc, form, names, scene, &found, &roots, left_out)
+    let found = find(alloc, locks)?;
+    let text = why_in_form(alloc, form, names, &found, left_out)?;
+    Ok(text)
 }
 
-// Returns that answer in this form.
+// Returns what was found, in this form.
 fn why_in_form(
     alloc: Global,
     form: Form,
     names: &Names,
-    scene: Scene<'_>,
-    deadlocks: &[Cycle],
-    roots: &[RootRank],
+    found: &Findings,
     left_out: &[LeftOut],
 ) -> Result<Vec<u8>, AllocError>
-    ensures { IfOk result (λ text. text.items ≡ why_answer form names.now (is_jammed (set.contains scene.entry.settled.now) scene.entry.locks.now) deadlocks.now
-        (endings_of (set.contains scene.entry.settled.now) scene.entry.unsettled.now scene.entry.locks.now roots.now) left_out.now) }
+    ensures { IfOk result (λ text. text.items ≡ why_answer form names.now found.now left_out.now) }
 {
-    if form == Form::Json {
-        return why_json(alloc, names, scene, deadlocks, roots, left_out);
+    match form {
+        Form::Text => why_text(alloc, names, found, left_out),
+        Form::Json => why_json(alloc, names, found, left_out),
     }
-    let is_jammed = has_blockings(scene.settled, scene.locks);
-    let mut text = why_text(alloc, names, scene, is_jammed, deadlocks, roots)?;
-    add_left_out(&mut text, alloc, left_out)?;
-    Ok(text)
 }
 
 // Answers which tickets there are.
@@ -77,16 +68,18 @@ fn answer_locks(
     alloc: Global,
     form: Form,
     names: &Names,
-    scene: Scene<'_>,
+    shown: &[Lock],
+    locks: &[Lock],
     left_out: &[LeftOut],
 ) -> Result<Vec<u8>, AllocError>
-    ensures { IfOk result (λ text. text.items ≡ locks_answer form names.now (set.contains scene.entry.settled.now) scene.entry.locks.now left_out.now) }
+    ensures { IfOk result (λ text. text.items ≡ locks_answer form names.now shown.now locks.now left_out.now) }
 {
+    let unexplained = unexplained_waits(alloc, locks)?;
     if form == Form::Json {
-        return locks_json(alloc, names, scene, left_out);
+        return locks_json(alloc, names, shown, &unexplained, left_out);
     }
-    let mut text = locks_text(alloc, names, scene)?;
-    add_left_out(&mut text, alloc, left_out)?;
+    let mut text = locks_text(alloc, names, shown)?;
+    add_notes(&mut text, alloc, &unexplained, left_out)?;
     Ok(text)
 }
 
@@ -95,18 +88,18 @@ fn answer_waits(
     alloc: Global,
     form: Form,
     names: &Names,
-    scene: Scene<'_>,
+    locks: &[Lock],
     left_out: &[LeftOut],
 ) -> Result<Vec<u8>, AllocError>
-    ensures { IfOk result (λ text. text.items
-        ≡ waits_answer form names.now (blockings_in (set.contains scene.entry.settled.now) 0 scene.entry.locks.now) left_out.now) }
+    ensures { IfOk result (λ text. text.items ≡ waits_answer form names.now locks.now left_out.now) }
 {
-    let found = blockings(alloc, scene.settled, scene.locks)?;
+    let found = blockings(alloc, locks)?;
+    let unexplained = unexplained_waits(alloc, locks)?;
     if form == Form::Json {
-        return waits_json(alloc, names, &found, left_out);
+        return waits_json(alloc, names, &found, &unexplained, left_out);
     }
     let mut text = waits_text(alloc, names, &found)?;
-    add_left_out(&mut text, alloc, left_out)?;
+    add_notes(&mut text, alloc, &unexplained, left_out)?;
     Ok(text)
 }
 
@@ -114,18 +107,19 @@ fn answer_waits(
 fn answer_graph(
     alloc: Global,
     names: &Names,
-    scene: Scene<'_>,
+    locks: &[Lock],
     left_out: &[LeftOut],
 ) -> Result<Vec<u8>, AllocError>
-    ensures { IfOk result (λ text. IsAnswer Question.Graph names.now (set.contains scene.entry.settled.now) scene.entry.unsettled.now scene.entry.locks.now left_out.now text.items) }
+    ensures { IfOk result (λ text. text.items ≡ graph_answer names.now locks.now left_out.now) }
 {
-    let found = blockings(alloc, scene.settled, scene.locks)?;
+    let found = blockings(alloc, locks)?;
+    let unexplained = unexplained_waits(alloc, locks)?;
     let mut text = graph_text(alloc, names, &found)?;
-    add_left_out_comment(&mut text, alloc, left_out)?;
+    add_comments(&mut text, alloc, &unexplained, left_out)?;
     Ok(text)
 }
 
-/// Returns the answer to a question about the locks of books. No wait there is taken as settled.
+/// Returns the answer to a question about the locks of books.
 #[tactic(auto, using(crate::proofs::AnswerLemmas::books_answered))]
 pub fn answer_of_books(
     alloc: Global,
@@ -136,10 +130,5 @@ pub fn answer_of_books(
 {
     let names = names_of(alloc, books)?;
     let locks = locks_of(alloc, books)?;
-    let scene = Scene {
-        locks: &locks,
-        settled: &Sessions::new(),
-        unsettled: &Sessions::all(),
-    };
-    answer(alloc, question, &names, scene, &[])
+    answer(alloc, question, &names, &locks, &locks, &[])
 }

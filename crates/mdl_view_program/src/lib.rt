@@ -21,7 +21,13 @@
 //! assert!(rt; end.is_ok());
 //! assert_eq!(rt;
 //!     output.as_slice(),
-//!     b"If 1 ended, waits granted: 1\n  holds SR of TABLE test.t\n  then 2 gets X of TABLE test.t\n".as_slice()
+//!     b"1 request waits. Ways out, the best first:
+//! 1. End session 1
+//!    1 wait ends at once
+//!    session 1 holds SR of TABLE test.t
+//!    session 2 gets X of TABLE test.t
+//! "
+//!         .as_slice()
 //! );
 //! ```
 #![tactic(auto)]
@@ -34,4 +40,4 @@ mod rows;
 pub use answers::{answer, answer_of_books};
 pub use program::{draw_script, view_script};
 pub use question::{Form, Question};
-pub use rows::{RowsFault, view_rows};
+pub use rows::{Explained, RowsFault, view_rows};

@@ -12,7 +12,7 @@ pub enum Form {
 /// A question about a table of locks.
 #[derive(Clone, Copy, Debug, PartialEq, Eq)]
 pub enum Question {
-    /// Which deadlocks there are, which sessions are the roots of the waits, and what would follow if each of them ended.
+    /// How many requests wait, whom to end so that they go on, and which of them the locks don't explain.
     Why(Form),
     /// Which tickets there are.
     Locks(Form),

@@ -1,8 +1,8 @@
 -- The graph of waits in Graphviz's DOT language, by its page "DOT Language".
 use Rattle.std.specs.Prelude.{ℕ, ◌||◌, ◌==◌, List, [], ◌∷◌, ◌++◌, codes, flat_map, if◌then◌else◌}
 use Rattle.mdl_view.specs.declared.blocking.Blocking.{Blocking}
-use Rattle.mdl_view_text.specs.Names.{NamesView, lock_name}
-use Rattle.mdl_view_text.specs.Rows.{reason_text, session_text}
+use Rattle.mdl_view_text.specs.Names.{NamesView, lock_name, session_text}
+use Rattle.mdl_view_text.specs.Rows.{reason_text}
 
 -- a byte within quotes: a quote and a backslash have a backslash before them
 abbrev pub quoted_byte : ℕ → List ℕ
@@ -10,6 +10,10 @@ quoted_byte byte = if byte == 34 || byte == 92 then 92 ∷ byte ∷ [] else byte
 
 abbrev pub quoted : List ℕ → List ℕ
 quoted text = flat_map quoted_byte text
+
+-- a session as a node
+abbrev pub node : NamesView → ℕ → List ℕ
+node names session = 34 ∷ session_text names session ++ 34 ∷ []
 
 -- the lock and the reason, beside an arrow
 abbrev pub label : NamesView → Blocking → List ℕ
@@ -19,8 +23,7 @@ label names blocking =
 
 -- an arrow from a waiter to a session that blocks it
 abbrev pub arrow : NamesView → Blocking → List ℕ
-arrow names blocking =
-    codes "  " ++ session_text names blocking.waiter.session ++ codes " -> " ++ session_text names blocking.other.session ++ label names blocking
+arrow names blocking = codes "  " ++ node names blocking.waiter.session ++ codes " -> " ++ node names blocking.other.session ++ label names blocking
 
 abbrev pub graph_text : NamesView → List Blocking → List ℕ
 graph_text names blockings = codes "digraph waits {" ++ 10 ∷ flat_map (arrow names) blockings ++ 125 ∷ 10 ∷ []

@@ -1,9 +1,13 @@
+pub mod ActTexts
 pub mod Explanations
+pub mod Findings
 pub mod Graph
 pub mod Json
 pub mod LeftOuts
 pub mod Names
 pub mod Layouts
+pub mod Owners
 pub mod Refusals
 pub mod Rows
+pub mod Upgraded
 pub mod Why

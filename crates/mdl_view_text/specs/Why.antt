@@ -1,134 +1,217 @@
--- The roots of the waits, and what would follow if each of them ended. The wording is this project's own.
-use Rattle.std.specs.Prelude.{ℕ, zero, suc, Bool, true, false, ◌-◌, List, [], ◌∷◌, ◌++◌, Option, Some, None, codes, drop, flat_map, get_or, length, take, if◌then◌else◌}
+-- The answer to `why`: how many requests wait, what to type so that they go on, and which of them these rows don't explain. The wording is this
+-- project's own.
+use Rattle.std.specs.Prelude.{ℕ, suc, Bool, not, ◌&&◌, ◌||◌, ◌+◌, ◌-◌, ◌==◌, List, [], ◌∷◌, ◌++◌, codes, flat_map, length, take, if◌then◌else◌}
 use Rattle.std.specs.Fmt.{decimal}
-use Rattle.std.specs.List.{list_all}
-use Rattle.mdl_key.specs.declared.mode.Mode.{Mode}
-use Rattle.mdl_key.specs.declared.mode.Mode.TheVariants.{SH, SR, SRO}
-use Rattle.mdl_key.specs.Modes.{mode_name}
-use Rattle.mdl_book.specs.declared.ticket.Ticket.{Ticket}
-use Rattle.mdl_graph.specs.declared.cycle.Member.{Member}
-use Rattle.mdl_graph.specs.Victims.{victim_of}
-use Rattle.mdl_view.specs.declared.blocking.Blocking.{Blocking}
-use Rattle.mdl_view.specs.declared.what_follows.AtLock.{AtLock}
-use Rattle.mdl_view.specs.declared.still_waiting.StillWaiting.{StillWaiting}
-use Rattle.mdl_view.specs.Following.{EndingView}
-use Rattle.mdl_view_text.specs.Names.{NamesView, knows_session, lock_name}
-use Rattle.mdl_view_text.specs.Layouts.{line_with, listed}
-use Rattle.mdl_view_text.specs.Rows.{reason_text, session_text}
+use Rattle.mdl_lock_rows.specs.declared.row_class.LeftOut.{LeftOut}
+use Rattle.mdl_view.specs.declared.act.Act.{Act}
+use Rattle.mdl_view.specs.declared.at_lock.AtLock.{AtLock}
+use Rattle.mdl_view.specs.declared.lock_mode.LockMode.{LockMode}
+use Rattle.mdl_view.specs.declared.way.Way.{Way}
+use Rattle.mdl_view.specs.Acts.{target_of}
+use Rattle.mdl_view.specs.Modes.{lock_mode_name}
+use Rattle.mdl_view_text.specs.declared.findings.BlockedWait.{BlockedWait}
+use Rattle.mdl_view_text.specs.declared.findings.Findings.{Findings}
+use Rattle.mdl_view_text.specs.declared.findings.WayFound.{WayFound}
+use Rattle.mdl_view_text.specs.ActTexts.{act_lines}
+use Rattle.mdl_view_text.specs.Layouts.{line_with}
+use Rattle.mdl_view_text.specs.LeftOuts.{left_out_line, unexplained_count, unexplained_words, waiting_among}
+use Rattle.mdl_view_text.specs.Names.{NamesView, knows_connections, lock_name, numbered, printed, session_text}
+
+-- ---- how many wait
+
+abbrev pub wait_words : ℕ → List ℕ
+wait_words count = if count == 1 then codes "1 request waits" else decimal count ++ codes " requests wait"
+
+abbrev pub ways_head : List WayFound → List ℕ
+ways_head [] = codes "." ++ 10 ∷ []
+ways_head (way ∷ ways) = codes ". Ways out, the best first:" ++ 10 ∷ []
+
+-- the first line. It says that no session waits only if no row does
+abbrev pub head_line : ℕ → List WayFound → List ℕ
+head_line count ways = if count == 0 then codes "No session waits." ++ 10 ∷ [] else wait_words count ++ ways_head ways
+
+-- ---- lines about tickets
 
 -- a mode before the lock's name, as in SR of TABLE shop.orders
-abbrev pub mode_of : Mode → List ℕ
-mode_of mode = mode_name mode ++ codes " of "
+abbrev pub mode_of : LockMode → List ℕ
+mode_of mode = lock_mode_name mode ++ codes " of "
 
--- the line for a ticket that the session holds
-abbrev pub holds_line : NamesView → AtLock → List ℕ
-holds_line names held = line_with (codes "  holds " ++ mode_of held.ticket.mode) (lock_name names held.lock) []
+-- the line for a ticket, as in: connection 8 (thread 16) holds SR of TABLE shop.orders
+abbrev pub ticket_start : NamesView → List ℕ → AtLock → List ℕ
+ticket_start names verb at = codes "   " ++ session_text names at.ticket.session ++ verb ++ mode_of at.ticket.mode
 
--- the line for what another session gets
-abbrev pub gets_start : NamesView → Ticket → List ℕ
-gets_start names ticket = codes "  then " ++ session_text names ticket.session ++ codes " gets " ++ mode_of ticket.mode
-
-abbrev pub gets_line : NamesView → AtLock → List ℕ
-gets_line names got = line_with (gets_start names got.ticket) (lock_name names got.lock) []
-
--- what blocks a wait. A settled wait stops those behind it until it ends
-abbrev pub blocker_text : NamesView → Option Blocking → List ℕ
-blocker_text names None = codes ": behind a settled wait"
-blocker_text names (Some blocking) =
-    codes ": " ++ session_text names blocking.other.session ++ 32 ∷ reason_text blocking.reason blocking.other.mode
-
--- how many tickets block it besides the first
-abbrev pub more_in_its_way : ℕ → List ℕ
-more_in_its_way zero = []
-more_in_its_way (suc zero) = []
-more_in_its_way (suc (suc more)) = codes ", and " ++ decimal (suc more) ++ codes " more"
-
--- the line for what a session goes on waiting for, and what blocks it
-abbrev pub waits_start : NamesView → Ticket → List ℕ
-waits_start names ticket = codes "  then " ++ session_text names ticket.session ++ codes " waits for " ++ mode_of ticket.mode
-
-abbrev pub waits_line : NamesView → StillWaiting → List ℕ
-waits_line names wait =
-    line_with (waits_start names wait.waiter) (lock_name names wait.lock) (blocker_text names wait.first ++ more_in_its_way wait.count)
+abbrev pub ticket_line : NamesView → List ℕ → List ℕ → AtLock → List ℕ
+ticket_line names verb rest at = line_with (ticket_start names verb at) (lock_name names at.lock) rest
 
 -- there are at most eight lines of each kind
 abbrev pub most_lines : ℕ
 most_lines = 8
 
--- how many more lines there would be, and of what
-abbrev pub and_more : List ℕ → ℕ → List ℕ
-and_more what zero = []
-and_more what (suc more) = codes "  and " ++ decimal (suc more) ++ what ++ 10 ∷ []
+-- how many more lines there would be
+abbrev pub and_more : ℕ → List ℕ
+and_more more = if more == 0 then [] else numbered (codes "   and ") more (codes " more\n")
 
 -- the lines of a kind, and how many more aren't printed
-abbrev pub lines_of : {X : Type 0} → (X → List ℕ) → (List X → List ℕ) → List X → List ℕ
-lines_of line what facts = flat_map line (take most_lines facts) ++ and_more (what (drop most_lines facts)) (length facts - most_lines)
+abbrev pub ticket_lines : NamesView → List ℕ → List ℕ → List AtLock → List ℕ
+ticket_lines names verb rest ats = flat_map (ticket_line names verb rest) (take most_lines ats) ++ and_more (length ats - most_lines)
 
--- whether a mode allows its session only to read
-abbrev pub is_reading : Mode → Bool
-is_reading SH = true
-is_reading SR = true
-is_reading SRO = true
-is_reading mode = false
+-- ---- ways out
 
--- whether a ticket is for reading
-abbrev pub is_reader : AtLock → Bool
-is_reader got = is_reading got.ticket.mode
+-- so many waits end
+abbrev pub ends_words : ℕ → List ℕ
+ends_words count = if count == 1 then codes "1 wait ends" else decimal count ++ codes " waits end"
 
--- what is said of the grants that aren't printed: whether all are for reading
-abbrev pub more_gets : List AtLock → List ℕ
-more_gets gets = if list_all is_reader gets then codes " more readers" else codes " more"
+-- when they do, if all are granted at once
+abbrev pub all_at_once : ℕ → List ℕ
+all_at_once count = if count == 1 then codes " at once" else codes ", all at once"
 
--- what is said of other facts that aren't printed
-abbrev pub just_more : {X : Type 0} → List X → List ℕ
-just_more facts = codes " more"
+-- when they do: those that are granted at once, and the others when sessions granted before them have ended
+abbrev pub when_words : ℕ → ℕ → List ℕ
+when_words at_once later =
+    if later == 0 then all_at_once at_once
+    else numbered (codes ": ") at_once (codes " at once, ") ++ numbered [] later (codes " when those have ended")
 
--- how many waits would be granted if a session ended
-abbrev pub granted_text : ℕ → List ℕ
-granted_text count = codes " ended, waits granted: " ++ decimal count ++ 10 ∷ []
+abbrev pub effect_line : Way → List ℕ
+effect_line way = codes "   " ++ ends_words way.in_turn ++ when_words way.at_once (way.in_turn - way.at_once) ++ 10 ∷ []
 
-abbrev pub head_line : NamesView → EndingView → List ℕ
-head_line names ending = codes "If " ++ session_text names ending.session ++ granted_text (length ending.gets)
+-- what a line starts with: the number of the way
+abbrev pub number_start : ℕ → List ℕ
+number_start place = numbered [] (place + 1) (codes ". ")
 
--- how a server's session is ended: KILL takes another number than the thread's
-abbrev pub kill_line : NamesView → ℕ → List ℕ
-kill_line names session =
-    if knows_session names session
-    then codes "  KILL: SELECT processlist_id FROM performance_schema.threads WHERE thread_id = " ++ session_text names session ++ 10 ∷ []
+-- a way: what to type, what follows, what the session holds, and who gets what at once
+abbrev pub way_head : NamesView → ℕ → Way → List ℕ
+way_head names place way = act_lines names (number_start place) way.act ++ effect_line way
+
+abbrev pub way_text : NamesView → ℕ → WayFound → List ℕ
+way_text names place found =
+    way_head names place found.way ++ ticket_lines names (codes " holds ") [] found.held.items
+    ++ ticket_lines names (codes " gets ") [] found.at_once.items
+
+-- ways, the first of which has this index
+abbrev pub ways_from : NamesView → ℕ → List WayFound → List ℕ
+ways_from names place [] = []
+ways_from names place (way ∷ ways) = way_text names place way ++ ways_from names (suc place) ways
+
+-- how many ways aren't printed
+abbrev pub more_ways_line : ℕ → List ℕ
+more_ways_line more = if more == 0 then [] else numbered (codes "More ways, which are no better: ") more (10 ∷ [])
+
+-- ---- waits that no single act ends
+
+-- each of so many acts is needed
+abbrev pub all_words : ℕ → List ℕ
+all_words count = if count == 2 then codes " goes on only after both of these:" else numbered (codes " goes on only after all ") count (codes " of these:")
+
+abbrev pub joint_line : NamesView → BlockedWait → List ℕ
+joint_line names wait = session_text names wait.at.ticket.session ++ all_words wait.blockers ++ 10 ∷ []
+
+-- a wait, and what to type for it
+abbrev pub joint_text : NamesView → BlockedWait → List ℕ
+joint_text names wait =
+    joint_line names wait ++ flat_map (act_lines names (codes "   ")) wait.acts.items ++ and_more (wait.blockers - length wait.acts.items)
+    ++ ticket_line names (codes " waits for ") [] wait.at
+
+abbrev pub more_joint_line : ℕ → List ℕ
+more_joint_line more = if more == 0 then [] else numbered (codes "More requests that go on only after several acts: ") more (10 ∷ [])
+
+-- ---- deadlocks
+
+-- the session of the first act that a wait needs
+abbrev pub first_blocker : NamesView → List Act → List ℕ
+first_blocker names [] = []
+first_blocker names (act ∷ acts) = codes ", behind " ++ session_text names (target_of act)
+
+abbrev pub stuck_line : NamesView → BlockedWait → List ℕ
+stuck_line names wait = ticket_line names (codes " waits for ") (first_blocker names wait.acts.items) wait.at
+
+-- so many waits are in a deadlock, or behind one
+abbrev pub stuck_words : ℕ → List ℕ
+stuck_words count = if count == 1 then codes "1 request is" else numbered [] count (codes " requests are")
+
+abbrev pub stuck_head : ℕ → List ℕ
+stuck_head count = stuck_words count ++ codes " in a deadlock or behind one. A server ends a deadlock by itself: look again.\n"
+
+abbrev pub stuck_text : NamesView → List BlockedWait → ℕ → List ℕ
+stuck_text names waits count = if count == 0 then [] else stuck_head count ++ flat_map (stuck_line names) waits ++ and_more (count - length waits)
+
+-- ---- waits behind others that are over
+
+abbrev pub passing_line : ℕ → List ℕ
+passing_line count = if count == 0 then [] else wait_words count ++ codes " only behind requests that are over: look again.\n"
+
+-- ---- waits that can't be explained
+
+-- rows that wait and aren't read
+abbrev pub unread_name : LeftOut → List ℕ
+unread_name left = printed left.class.object_type ++ 32 ∷ printed left.class.lock_type
+
+abbrev pub unread_rest : LeftOut → List ℕ
+unread_rest left = 32 ∷ decimal left.waiting
+
+abbrev pub unread_words : LeftOut → List ℕ
+unread_words left = line_with (codes "   rows that wait and aren't read: ") (unread_name left) (unread_rest left)
+
+abbrev pub unread_line : LeftOut → List ℕ
+unread_line left =
+    if left.waiting == 0 then []
+    else unread_words left
+
+-- what to do if no row shows who holds a lock
+abbrev pub holder_help : List AtLock → List ℕ
+holder_help [] = []
+holder_help (at ∷ ats) =
+    codes "   Either the lock was taken while the instrument wait/lock/metadata/sql/mdl was off, or it is held by" ++ 10 ∷ []
+    ++ codes "   a prepared XA transaction, which has no client. These show the open transactions:" ++ 10 ∷ []
+    ++ codes "      SELECT trx_mysql_thread_id, trx_started FROM information_schema.INNODB_TRX ORDER BY 2;" ++ 10 ∷ []
+    ++ codes "      XA RECOVER;" ++ 10 ∷ []
+    ++ codes "   Begin with the oldest: KILL takes its trx_mysql_thread_id. For 0, XA ROLLBACK takes the xid." ++ 10 ∷ []
+
+-- what to do if rows that wait aren't read
+abbrev pub unread_help : ℕ → List ℕ
+unread_help count =
+    if count == 0 then []
+    else codes "   Who holds those: the rows with their OBJECT_TYPE and OBJECT_NAME that are GRANTED. To see all rows:" ++ 10 ∷ []
+    ++ codes "      SELECT * FROM performance_schema.metadata_locks;" ++ 10 ∷ []
+
+abbrev pub unexplained_body : NamesView → List AtLock → List LeftOut → List ℕ
+unexplained_body names unexplained left_out =
+    ticket_lines names (codes " waits for ") (codes ", and no row shows who holds it") unexplained ++ holder_help unexplained
+    ++ flat_map unread_line left_out ++ unread_help (waiting_among left_out)
+
+abbrev pub unexplained_text : NamesView → List AtLock → List LeftOut → List ℕ
+unexplained_text names unexplained left_out =
+    if unexplained_count unexplained left_out == 0 then []
+    else unexplained_words (unexplained_count unexplained left_out) ++ codes ":" ++ 10 ∷ [] ++ unexplained_body names unexplained left_out
+
+-- ---- the answer
+
+-- how many requests wait in all: those of the locks, and those of rows that aren't read
+abbrev pub all_waits : Findings → List LeftOut → ℕ
+all_waits found left_out = found.waits + waiting_among left_out
+
+-- how many are only behind waits that are over
+abbrev pub passing : Findings → ℕ
+passing found = found.waits - found.blocked - length found.unexplained.items
+
+-- where rows have no numbers of connections: what prints rows that do
+abbrev pub lacks_connections : NamesView → Bool
+lacks_connections names = not (length names.owners == 0) && not (knows_connections names)
+
+abbrev pub better_rows : NamesView → Bool → List ℕ
+better_rows names has_acts =
+    if has_acts && lacks_connections names
+    then codes "Rows that have the numbers for KILL: mysql -B -e \"$(mdlview query)\" | mdlview" ++ 10 ∷ []
     else []
 
--- what would follow if a session ended
-abbrev pub ending_text : NamesView → EndingView → List ℕ
-ending_text names ending =
-    head_line names ending ++ kill_line names ending.session ++ lines_of (holds_line names) just_more ending.holds
-    ++ lines_of (gets_line names) more_gets ending.gets ++ lines_of (waits_line names) just_more ending.waits
+abbrev pub ways_text : NamesView → Findings → List ℕ
+ways_text names found =
+    ways_from names 0 found.ways.items ++ more_ways_line found.more_ways ++ flat_map (joint_text names) found.joint.items ++ more_joint_line found.more_joint
 
--- who waits for whom on a cycle: each for the next one, and the last for the first
-abbrev pub next_member : List Member → ℕ → ℕ
-next_member cycle place = (get_or cycle (suc place) (get_or cycle 0 (record { session = 0; weight = 0 }))).session
+abbrev pub other_text : NamesView → Findings → List LeftOut → List ℕ
+other_text names found left_out =
+    stuck_text names found.stuck.items found.stuck_count ++ passing_line (passing found) ++ unexplained_text names found.unexplained.items left_out
+    ++ better_rows names (not (length found.ways.items == 0) || not (length found.joint.items == 0))
 
-unfoldable pub link_text : NamesView → List Member → ℕ → Member → List ℕ
-link_text names cycle place member = session_text names member.session ++ codes " waits for " ++ session_text names (next_member cycle place)
-
-abbrev pub cycle_text : NamesView → List Member → List ℕ
-cycle_text names cycle = listed (codes ", ") (link_text names cycle) 0 cycle
-
--- a deadlock, with its victim
-abbrev pub victim_text : NamesView → List Member → List ℕ
-victim_text names cycle = codes "; victim " ++ session_text names (victim_of cycle)
-
-abbrev pub deadlock_line : NamesView → List Member → List ℕ
-deadlock_line names cycle = line_with (codes "deadlock: ") (cycle_text names cycle) (victim_text names cycle)
-
--- the text if there is no root: no session blocks another, or all that do wait themselves
-abbrev pub no_root_text : Bool → List ℕ
-no_root_text is_jammed = if is_jammed then codes "Each session that is in the way of another one waits: there is a deadlock." ++ 10 ∷ [] else codes "No session is in the way of another one." ++ 10 ∷ []
-
--- what would follow if each of the roots ended, in this order
-abbrev pub roots_text : NamesView → Bool → List EndingView → List ℕ
-roots_text names is_jammed [] = no_root_text is_jammed
-roots_text names is_jammed (ending ∷ endings) = flat_map (ending_text names) (ending ∷ endings)
-
--- the answer: deadlocks, and what would follow if each root ended
-abbrev pub why_text : NamesView → Bool → List (List Member) → List EndingView → List ℕ
-why_text names is_jammed deadlocks endings = flat_map (deadlock_line names) deadlocks ++ roots_text names is_jammed endings
+abbrev pub why_text : NamesView → Findings → List LeftOut → List ℕ
+why_text names found left_out =
+    head_line (all_waits found left_out) found.ways.items ++ ways_text names found ++ other_text names found left_out ++ left_out_line left_out

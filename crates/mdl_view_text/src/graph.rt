@@ -1,6 +1,6 @@
 //! The graph of waits.
 ghost use Rattle.std.specs.Prelude.{◌≡◌, ◌++◌, flat_map, OnOk, IfOk};
-ghost use Rattle.mdl_view_text.specs.Graph.{arrow, graph_text, label, quoted, quoted_byte};
+ghost use Rattle.mdl_view_text.specs.Graph.{arrow, graph_text, label, node, quoted, quoted_byte};
 
 use crate::names::Names;
 use crate::text::{push, push_reason, push_session};
@@ -38,10 +38,19 @@ fn push_arrow(out: &mut Vec<u8>, names: &Names, blocking: Blocking) -> Result<()
     ensures { OnOk result (out.new.items ≡ out.old.items ++ arrow names.now blocking) }
 {
     push(out, b"  ")?;
-    push_session(out, names, blocking.waiter.session)?;
+    push_node(out, names, blocking.waiter.session)?;
     push(out, b" -> ")?;
-    push_session(out, names, blocking.other.session)?;
+    push_node(out, names, blocking.other.session)?;
     push_label(out, names, blocking)
+}
+
+// Appends a session as a node.
+fn push_node(out: &mut Vec<u8>, names: &Names, session: usize) -> Result<(), AllocError>
+    ensures { OnOk result (out.new.items ≡ out.old.items ++ node names.now session) }
+{
+    push(out, b"\"")?;
+    push_session(out, names, session)?;
+    push(out, b"\"")
 }
 
 // Appends the label of an arrow.

@@ -1,129 +1,150 @@
 //! Locks and waits as JSON.
 ghost use Rattle.std.specs.Prelude.{◌≡◌, ◌++◌, codes, OnOk, IfOk};
-ghost use Rattle.std.specs.FinSet as set;
-ghost use Rattle.mdl_view_text.specs.Json.{blocker_members, granted_object, lock_object, locks_json, reason_word, wait_object, waiting_object, waits_json};
+ghost use Rattle.mdl_view_text.specs.Json.{blocker_members, granted_member, lock_object, locks_json, pending_member, reason_word, settled_member, ticket_object, wait_object, waiting_object, waits_json};
 ghost use Rattle.mdl_view_text.specs.Layouts.{listed};
 
 use crate::json_text::{
-    push_left_out, push_lock_member, push_mode_member, push_session_member, push_text_member,
+    push_end, push_lock_member, push_mode_member, push_session_member, push_text_member,
     push_ticket_members,
 };
 use crate::layout::push_mark;
 use crate::names::Names;
-use crate::rows::wait_status;
 use crate::text::push;
-use mdl_book::{Sessions, Ticket};
 use mdl_lock_rows::LeftOut;
-use mdl_view::{Blocking, Lock, Reason, Scene};
+use mdl_view::{AtLock, Blocking, Lock, Reason, Ticket};
 use std::alloc::{AllocError, Global};
 
-/// Returns all tickets as an object of JSON: for each lock its name, and the tickets that hold it and wait for it. The text of a name
-/// has the name's bytes if they are UTF-8, and otherwise each byte from 128 on as the character of that number.
+/// Returns all tickets as an object of JSON: for each lock its name, and the tickets that hold it and wait for it; and the waits that can't be
+/// explained. The text of a name has the name's bytes if they are UTF-8, and otherwise each byte from 128 on as the character of that number.
 pub fn locks_json(
     alloc: Global,
     names: &Names,
-    scene: Scene<'_>,
+    locks: &[Lock],
+    unexplained: &[AtLock],
     left_out: &[LeftOut],
 ) -> Result<Vec<u8>, AllocError>
-    ensures { IfOk result (λ text. text.items ≡ locks_json names.now (set.contains scene.entry.settled.now) scene.entry.locks.now left_out.now) }
+    ensures { IfOk result (λ text. text.items ≡ locks_json names.now locks.now unexplained.now left_out.now) }
 {
     let mut out = Vec::new(alloc);
-    push(&mut out, b"{\"locks\":[")?;
-    push_locks(&mut out, names, scene.settled, scene.locks)?;
-    push_left_out(&mut out, left_out)?;
+    push(&mut out, b"{\"version\":1,\"locks\":[")?;
+    push_locks(&mut out, names, locks)?;
+    push(&mut out, b"]")?;
+    push_end(&mut out, names, unexplained, left_out)?;
     Ok(out)
 }
 
 // Appends all locks.
-fn push_locks(
-    out: &mut Vec<u8>,
-    names: &Names,
-    settled: &Sessions,
-    locks: &[Lock],
-) -> Result<(), AllocError>
-    ensures { OnOk result (out.new.items ≡ out.old.items ++ listed (codes ",") (lock_object names.now (set.contains settled.now)) 0 locks.now) }
+fn push_locks(out: &mut Vec<u8>, names: &Names, locks: &[Lock]) -> Result<(), AllocError>
+    ensures { OnOk result (out.new.items ≡ out.old.items ++ listed (codes ",") (lock_object names.now) 0 locks.now) }
 {
     for (place, lock) in locks.iter().enumerate() {
         push_mark(out, b",", place)?;
-        push_lock(out, names, settled, place, lock)?;
+        push_lock(out, names, place, lock)?;
     }
     Ok(())
 }
 
 // Appends a lock.
-fn push_lock(
-    out: &mut Vec<u8>,
-    names: &Names,
-    settled: &Sessions,
-    place: usize,
-    lock: &Lock,
-) -> Result<(), AllocError>
-    ensures { OnOk result (out.new.items ≡ out.old.items ++ lock_object names.now (set.contains settled.now) place lock.now) }
+fn push_lock(out: &mut Vec<u8>, names: &Names, place: usize, lock: &Lock) -> Result<(), AllocError>
+    ensures { OnOk result (out.new.items ≡ out.old.items ++ lock_object names.now place lock.now) }
 {
     push_text_member(out, b"{\"lock\":", names.lock(place))?;
+    push_granted_member(out, names, lock)?;
+    push_pending_member(out, names, lock)?;
+    push_settled_member(out, names, lock)
+}
+
+// Appends the tickets that hold a lock, as a member.
+fn push_granted_member(out: &mut Vec<u8>, names: &Names, lock: &Lock) -> Result<(), AllocError>
+    ensures { OnOk result (out.new.items ≡ out.old.items ++ granted_member names.now lock.now) }
+{
     push(out, b",\"granted\":[")?;
     push_granted(out, names, lock.granted())?;
-    push(out, b"],\"waiting\":[")?;
-    push_waiting(out, names, settled, lock.waiting())?;
-    push(out, b"]}")
+    push(out, b"]")
 }
 
 // Appends the tickets that hold a lock.
 fn push_granted(out: &mut Vec<u8>, names: &Names, tickets: &[Ticket]) -> Result<(), AllocError>
-    ensures { OnOk result (out.new.items ≡ out.old.items ++ listed (codes ",") (granted_object names.now) 0 tickets.now) }
+    ensures { OnOk result (out.new.items ≡ out.old.items ++ listed (codes ",") (ticket_object names.now) 0 tickets.now) }
 {
     for (place, ticket) in tickets.iter().enumerate() {
         push_mark(out, b",", place)?;
-        push_ticket_members(out, names, *ticket)?;
-        push(out, b"}")?;
+        push_ticket(out, names, *ticket)?;
     }
     Ok(())
 }
 
-// Appends the tickets that wait for a lock.
+// Appends a ticket that holds a lock.
+fn push_ticket(out: &mut Vec<u8>, names: &Names, ticket: Ticket) -> Result<(), AllocError>
+    ensures { OnOk result (out.new.items ≡ out.old.items ++ ticket_object names.now 0 ticket) }
+{
+    push_ticket_members(out, names, ticket)?;
+    push(out, b"}")
+}
+
+// Appends the tickets that wait for a lock, as a member.
+fn push_pending_member(out: &mut Vec<u8>, names: &Names, lock: &Lock) -> Result<(), AllocError>
+    ensures { OnOk result (out.new.items ≡ out.old.items ++ pending_member names.now lock.now) }
+{
+    push(out, b",\"waiting\":[")?;
+    push_waiting(out, names, b"PENDING", lock.waiting())?;
+    push(out, b"]")
+}
+
+// Appends the tickets whose wait is over, as a member, and the end of the object.
+fn push_settled_member(out: &mut Vec<u8>, names: &Names, lock: &Lock) -> Result<(), AllocError>
+    ensures { OnOk result (out.new.items ≡ out.old.items ++ settled_member names.now lock.now) }
+{
+    push(out, b",\"settled\":[")?;
+    push_waiting(out, names, b"SETTLED", lock.settled())?;
+    push(out, b"]}")
+}
+
+// Appends tickets that wait for a lock, or whose wait is over.
 fn push_waiting(
     out: &mut Vec<u8>,
     names: &Names,
-    settled: &Sessions,
+    status: &[u8],
     tickets: &[Ticket],
 ) -> Result<(), AllocError>
-    ensures { OnOk result (out.new.items ≡ out.old.items ++ listed (codes ",") (waiting_object names.now (set.contains settled.now)) 0 tickets.now) }
+    ensures { OnOk result (out.new.items ≡ out.old.items ++ listed (codes ",") (waiting_object names.now status.now) 0 tickets.now) }
 {
     for (place, ticket) in tickets.iter().enumerate() {
         push_mark(out, b",", place)?;
-        push_waiter(out, names, settled, *ticket)?;
+        push_waiter(out, names, status, *ticket)?;
     }
     Ok(())
 }
 
-// Appends a ticket that waits for a lock.
+// Appends one of these tickets.
 fn push_waiter(
     out: &mut Vec<u8>,
     names: &Names,
-    settled: &Sessions,
+    status: &[u8],
     ticket: Ticket,
 ) -> Result<(), AllocError>
-    ensures { OnOk result (out.new.items ≡ out.old.items ++ waiting_object names.now (set.contains settled.now) 0 ticket) }
+    ensures { OnOk result (out.new.items ≡ out.old.items ++ waiting_object names.now status.now 0 ticket) }
 {
     push_ticket_members(out, names, ticket)?;
-    let status = wait_status(settled.contains(ticket.session));
     push_text_member(out, b",\"status\":", status)?;
     push(out, b"}")
 }
 
-/// Returns who blocks whom, as an object of JSON: each waiting ticket with each ticket that blocks it.
+/// Returns who blocks whom, as an object of JSON: each waiting ticket with each ticket that blocks it; and the waits that can't be explained.
 pub fn waits_json(
     alloc: Global,
     names: &Names,
     blockings: &[Blocking],
+    unexplained: &[AtLock],
     left_out: &[LeftOut],
 ) -> Result<Vec<u8>, AllocError>
-    ensures { IfOk result (λ text. text.items ≡ waits_json names.now blockings.now left_out.now) }
+    ensures { IfOk result (λ text. text.items ≡ waits_json names.now blockings.now unexplained.now left_out.now) }
 {
     let mut out = Vec::new(alloc);
-    push(&mut out, b"{\"waits\":[")?;
+    push(&mut out, b"{\"version\":1,\"waits\":[")?;
     push_waits(&mut out, names, blockings)?;
-    push_left_out(&mut out, left_out)?;
+    push(&mut out, b"]")?;
+    push_end(&mut out, names, unexplained, left_out)?;
     Ok(out)
 }
 
@@ -148,8 +169,8 @@ fn push_wait(out: &mut Vec<u8>, names: &Names, blocking: Blocking) -> Result<(),
     push(out, b"}")
 }
 
-/// Appends which ticket blocks, and why, as members.
-pub(crate) fn push_blocker_members(
+// Appends which ticket blocks, and why, as members.
+fn push_blocker_members(
     out: &mut Vec<u8>,
     names: &Names,
     blocking: Blocking,

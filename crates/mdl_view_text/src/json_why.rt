@@ -1,170 +1,153 @@
-//! What would follow if sessions ended, as JSON.
-ghost use Rattle.std.specs.Prelude.{◌≡◌, ◌++◌, codes, OnOk, IfOk};
-ghost use Rattle.std.specs.FinSet as set;
-ghost use Rattle.mdl_view.specs.Following.{ending_of, endings_of};
-ghost use Rattle.mdl_view_text.specs.Json.{at_lock_object, deadlock_object, ending_object, first_members, member_text, still_waiting_object, why_json};
+//! The answer to `why` as JSON.
+ghost use Rattle.std.specs.Prelude.{◌≡◌, ◌-◌, ◌++◌, codes, OnOk, IfOk};
+ghost use Rattle.mdl_view_text.specs.Json.{act_members, act_object, blocked_end, blocked_object, joint_members, stuck_members, way_object, way_waits, ways_members, why_json};
 ghost use Rattle.mdl_view_text.specs.Layouts.{listed};
 
-use crate::json_rows::push_blocker_members;
+use crate::act_texts::act_words;
+use crate::findings::{BlockedWait, Findings, WayFound, target_of};
 use crate::json_text::{
-    push_left_out, push_lock_member, push_number_member, push_session_member, push_ticket_members,
+    push_end, push_lock_member, push_number_member, push_session_member, push_text_member,
+    push_ticket_members, push_tickets_member,
 };
 use crate::layout::push_mark;
 use crate::names::Names;
-use crate::text::{push, push_session};
-use mdl_graph::{Cycle, Member, victim};
+use crate::text::push;
+use crate::why::all_waits;
 use mdl_lock_rows::LeftOut;
-use mdl_view::{AtLock, Blocking, Ending, RootRank, Scene, StillWaiting, ending_of};
+use mdl_view::Act;
 use std::alloc::{AllocError, Global};
 
-/// Returns the deadlocks, and what would follow if each of these sessions ended, in the order given, as an object of JSON. Nothing is cut.
+/// Returns the answer to `why` as an object of JSON: how many requests wait; the first eight ways out, each with what its session holds, the
+/// waits that are granted at once, and those that end in turn; the first eight waits that go on only after several acts; the first eight in
+/// deadlocks; and all that can't be explained.
 pub fn why_json(
     alloc: Global,
     names: &Names,
-    scene: Scene<'_>,
-    deadlocks: &[Cycle],
-    roots: &[RootRank],
+    found: &Findings,
     left_out: &[LeftOut],
 ) -> Result<Vec<u8>, AllocError>
-    ensures { IfOk result (λ text. text.items ≡ why_json names.now deadlocks.now
-        (endings_of (set.contains scene.entry.settled.now) scene.entry.unsettled.now scene.entry.locks.now roots.now) left_out.now) }
+    ensures { IfOk result (λ text. text.items ≡ why_json names.now found.now left_out.now) }
 {
     let mut out = Vec::new(alloc);
-    push(&mut out, b"{\"deadlocks\":[")?;
-    push_deadlocks(&mut out, names, deadlocks)?;
-    push(&mut out, b"],\"roots\":[")?;
-    push_endings(&mut out, alloc, names, scene, roots)?;
-    push_left_out(&mut out, left_out)?;
+    let waits = all_waits(found, left_out)?;
+    push_number_member(&mut out, b"{\"version\":1,\"waits\":", waits)?;
+    push_ways_members(&mut out, names, found)?;
+    push_joint_members(&mut out, names, found)?;
+    push_stuck_members(&mut out, names, found)?;
+    push_end(&mut out, names, &found.unexplained, left_out)?;
     Ok(out)
 }
 
-// Appends all deadlocks.
-fn push_deadlocks(out: &mut Vec<u8>, names: &Names, deadlocks: &[Cycle]) -> Result<(), AllocError>
-    ensures { OnOk result (out.new.items ≡ out.old.items ++ listed (codes ",") (deadlock_object names.now) 0 deadlocks.now) }
+// Appends the ways out.
+fn push_ways_members(out: &mut Vec<u8>, names: &Names, found: &Findings) -> Result<(), AllocError>
+    ensures { OnOk result (out.new.items ≡ out.old.items ++ ways_members names.now found.now) }
 {
-    for (place, deadlock) in deadlocks.iter().enumerate() {
+    push(out, b",\"ways\":[")?;
+    push_ways(out, names, &found.ways)?;
+    push_number_member(out, b"],\"more_ways\":", found.more_ways as u64)
+}
+
+// Appends the waits that several acts are needed for.
+fn push_joint_members(out: &mut Vec<u8>, names: &Names, found: &Findings) -> Result<(), AllocError>
+    ensures { OnOk result (out.new.items ≡ out.old.items ++ joint_members names.now found.now) }
+{
+    push(out, b",\"joint\":[")?;
+    push_blocked(out, names, &found.joint)?;
+    push_number_member(out, b"],\"more_joint\":", found.more_joint as u64)
+}
+
+// Appends the waits that are in deadlocks.
+fn push_stuck_members(out: &mut Vec<u8>, names: &Names, found: &Findings) -> Result<(), AllocError>
+    ensures { OnOk result (out.new.items ≡ out.old.items ++ stuck_members names.now found.now) }
+{
+    push(out, b",\"deadlocked\":[")?;
+    push_blocked(out, names, &found.stuck)?;
+    let more = found.stuck_count.saturating_sub(found.stuck.len());
+    push_number_member(out, b"],\"more_deadlocked\":", more as u64)
+}
+
+// Appends the ways.
+fn push_ways(out: &mut Vec<u8>, names: &Names, ways: &[WayFound]) -> Result<(), AllocError>
+    ensures { OnOk result (out.new.items ≡ out.old.items ++ listed (codes ",") (way_object names.now) 0 ways.now) }
+{
+    for (place, way) in ways.iter().enumerate() {
         push_mark(out, b",", place)?;
-        push_deadlock(out, names, deadlock)?;
+        push_way(out, names, way)?;
     }
     Ok(())
 }
 
-// Appends a deadlock.
-fn push_deadlock(out: &mut Vec<u8>, names: &Names, deadlock: &Cycle) -> Result<(), AllocError>
-    ensures { OnOk result (out.new.items ≡ out.old.items ++ deadlock_object names.now 0 deadlock.now) }
+// Appends a way.
+fn push_way(out: &mut Vec<u8>, names: &Names, found: &WayFound) -> Result<(), AllocError>
+    ensures { OnOk result (out.new.items ≡ out.old.items ++ way_object names.now 0 found.now) }
 {
-    push(out, b"{\"sessions\":[")?;
-    push_members(out, names, deadlock.members())?;
-    push_session_member(out, b"],\"victim\":", names, victim(deadlock))?;
+    push_act_members(out, names, found.way.act)?;
+    push_tickets_member(out, b",\"holds\":", names, &found.held)?;
+    push_way_waits(out, names, found)
+}
+
+// Appends the waits that end by a way, as members, and the end of the object.
+fn push_way_waits(out: &mut Vec<u8>, names: &Names, found: &WayFound) -> Result<(), AllocError>
+    ensures { OnOk result (out.new.items ≡ out.old.items ++ way_waits names.now found.now) }
+{
+    push_tickets_member(out, b",\"at_once\":", names, &found.at_once)?;
+    push_tickets_member(out, b",\"in_turn\":", names, &found.in_turn)?;
     push(out, b"}")
 }
 
-// Appends the members of a deadlock.
-fn push_members(out: &mut Vec<u8>, names: &Names, members: &[Member]) -> Result<(), AllocError>
-    ensures { OnOk result (out.new.items ≡ out.old.items ++ listed (codes ",") (member_text names.now) 0 members.now) }
+// Appends the beginning of an object: an act.
+fn push_act_members(out: &mut Vec<u8>, names: &Names, act: Act) -> Result<(), AllocError>
+    ensures { OnOk result (out.new.items ≡ out.old.items ++ act_members names.now act) }
 {
-    for (place, member) in members.iter().enumerate() {
-        push_mark(out, b",", place)?;
-        push_session(out, names, member.session)?;
-    }
-    Ok(())
+    push_text_member(out, b"{\"act\":", act_words(act))?;
+    push_session_member(out, b",\"session\":", names, target_of(act))
 }
 
-// Appends what would follow if each of the roots ended.
-fn push_endings(
-    out: &mut Vec<u8>,
-    alloc: Global,
-    names: &Names,
-    scene: Scene<'_>,
-    roots: &[RootRank],
-) -> Result<(), AllocError>
-    ensures { OnOk result (out.new.items ≡ out.old.items ++ listed (codes ",") (ending_object names.now) 0
-        (endings_of (set.contains scene.entry.settled.now) scene.entry.unsettled.now scene.entry.locks.now roots.now)) }
-{
-    for (place, root) in roots.iter().enumerate() {
-        push_mark(out, b",", place)?;
-        push_root(out, alloc, names, scene, root)?;
-    }
-    Ok(())
-}
-
-// Appends what would follow if a root ended.
-fn push_root(
-    out: &mut Vec<u8>,
-    alloc: Global,
-    names: &Names,
-    scene: Scene<'_>,
-    root: &RootRank,
-) -> Result<(), AllocError>
-    ensures { OnOk result (out.new.items ≡ out.old.items ++ ending_object names.now 0
-        (ending_of (set.contains scene.entry.settled.now) scene.entry.unsettled.now scene.entry.locks.now root.now.session)) }
-{
-    let ending = ending_of(alloc, scene, root.session)?;
-    push_ending(out, names, &ending)
-}
-
-// Appends an ending.
-fn push_ending(out: &mut Vec<u8>, names: &Names, ending: &Ending) -> Result<(), AllocError>
-    ensures { OnOk result (out.new.items ≡ out.old.items ++ ending_object names.now 0 ending.now) }
-{
-    push_session_member(out, b"{\"session\":", names, ending.session())?;
-    push(out, b",\"holds\":[")?;
-    push_tickets(out, names, ending.holds())?;
-    push(out, b"],\"gets\":[")?;
-    push_tickets(out, names, ending.gets())?;
-    push(out, b"],\"waits\":[")?;
-    push_waits(out, names, ending.waits())?;
-    push(out, b"]}")
-}
-
-// Appends tickets that are held, or would be granted.
-fn push_tickets(out: &mut Vec<u8>, names: &Names, tickets: &[AtLock]) -> Result<(), AllocError>
-    ensures { OnOk result (out.new.items ≡ out.old.items ++ listed (codes ",") (at_lock_object names.now) 0 tickets.now) }
-{
-    for (place, at) in tickets.iter().enumerate() {
-        push_mark(out, b",", place)?;
-        push_ticket(out, names, *at)?;
-    }
-    Ok(())
-}
-
-// Appends one of these tickets.
-fn push_ticket(out: &mut Vec<u8>, names: &Names, at: AtLock) -> Result<(), AllocError>
-    ensures { OnOk result (out.new.items ≡ out.old.items ++ at_lock_object names.now 0 at) }
-{
-    push_ticket_members(out, names, at.ticket)?;
-    push_lock_member(out, names, at.lock)?;
-    push(out, b"}")
-}
-
-// Appends the tickets that would go on waiting.
-fn push_waits(out: &mut Vec<u8>, names: &Names, waits: &[StillWaiting]) -> Result<(), AllocError>
-    ensures { OnOk result (out.new.items ≡ out.old.items ++ listed (codes ",") (still_waiting_object names.now) 0 waits.now) }
+// Appends waits with what they need.
+fn push_blocked(out: &mut Vec<u8>, names: &Names, waits: &[BlockedWait]) -> Result<(), AllocError>
+    ensures { OnOk result (out.new.items ≡ out.old.items ++ listed (codes ",") (blocked_object names.now) 0 waits.now) }
 {
     for (place, wait) in waits.iter().enumerate() {
         push_mark(out, b",", place)?;
-        push_wait(out, names, *wait)?;
+        push_blocked_wait(out, names, wait)?;
     }
     Ok(())
 }
 
-// Appends a ticket that would go on waiting.
-fn push_wait(out: &mut Vec<u8>, names: &Names, wait: StillWaiting) -> Result<(), AllocError>
-    ensures { OnOk result (out.new.items ≡ out.old.items ++ still_waiting_object names.now 0 wait) }
+// Appends a wait with what it needs.
+fn push_blocked_wait(out: &mut Vec<u8>, names: &Names, wait: &BlockedWait) -> Result<(), AllocError>
+    ensures { OnOk result (out.new.items ≡ out.old.items ++ blocked_object names.now 0 wait.now) }
 {
-    push_ticket_members(out, names, wait.waiter)?;
-    push_lock_member(out, names, wait.lock)?;
-    push_first(out, names, wait.first)?;
-    push_number_member(out, b",\"tickets_in_its_way\":", wait.count as u64)?;
-    push(out, b"}")
+    push_ticket_members(out, names, wait.at.ticket)?;
+    push_lock_member(out, names, wait.at.lock)?;
+    push_blocked_end(out, names, wait)
 }
 
-// Appends the first ticket that blocks it, if there is one.
-fn push_first(out: &mut Vec<u8>, names: &Names, first: Option<Blocking>) -> Result<(), AllocError>
-    ensures { OnOk result (out.new.items ≡ out.old.items ++ first_members names.now first) }
+// Appends how many sessions block a wait, and the acts.
+fn push_blocked_end(out: &mut Vec<u8>, names: &Names, wait: &BlockedWait) -> Result<(), AllocError>
+    ensures { OnOk result (out.new.items ≡ out.old.items ++ blocked_end names.now wait.now) }
 {
-    match first {
-        Some(blocking) => push_blocker_members(out, names, blocking),
-        None => Ok(()),
+    push_number_member(out, b",\"blockers\":", wait.blockers as u64)?;
+    push(out, b",\"acts\":[")?;
+    push_acts(out, names, &wait.acts)?;
+    push(out, b"]}")
+}
+
+// Appends acts.
+fn push_acts(out: &mut Vec<u8>, names: &Names, acts: &[Act]) -> Result<(), AllocError>
+    ensures { OnOk result (out.new.items ≡ out.old.items ++ listed (codes ",") (act_object names.now) 0 acts.now) }
+{
+    for (place, act) in acts.iter().enumerate() {
+        push_mark(out, b",", place)?;
+        push_act(out, names, *act)?;
     }
+    Ok(())
+}
+
+// Appends an act.
+fn push_act(out: &mut Vec<u8>, names: &Names, act: Act) -> Result<(), AllocError>
+    ensures { OnOk result (out.new.items ≡ out.old.items ++ act_object names.now 0 act) }
+{
+    push_act_members(out, names, act)?;
+    push(out, b"}")
 }

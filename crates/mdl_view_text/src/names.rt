@@ -1,18 +1,20 @@
 //! The names of locks and sessions.
-ghost use Rattle.std.specs.Prelude.{◌≡◌, ◌<◌, ◌/◌, ◌%◌, ◌++◌, ◌∷◌, [], map, OnErr, OnOk, IfOk};
-ghost use Rattle.mdl_view_text.specs.Names.{book_text, hex_digit, key_text, knows_session, lock_name, owner_of, printed, printed_byte};
+ghost use Rattle.std.specs.Prelude.{◌≡◌, ◌<◌, ◌/◌, ◌%◌, ◌++◌, ◌∷◌, [], map, IfOk, OnErr, OnOk};
+ghost use Rattle.std.specs.Option.{option_map};
+ghost use Rattle.mdl_view_text.specs.Names.{book_text, has_connection, hex_digit, key_text, knows_connections, lock_name, named_text, object_text, owner_of, printed, printed_byte, shown_byte, space_text};
 
 use crate::text::push;
 use mdl_book::Book;
 use mdl_key::{Key, Namespace};
+use mdl_lock_rows::{ObjectType, Owner};
 use std::alloc::{AllocError, Global};
 use std::marker::Model;
 
-/// The names of locks, by their indices from 0 on, and the numbers by which a server knows the sessions 1, 2, and so on.
+/// The names of locks, by their indices from 0 on, and what a server's rows say of the sessions 1, 2, and so on.
 #[derive(Drop)]
 pub struct Names {
     locks: Vec<Vec<u8>>,
-    owners: Vec<u64>,
+    owners: Vec<Owner>,
 }
 
 impl Model for Names {
@@ -25,13 +27,14 @@ impl Model for Names {
 }
 
 impl Names {
-    /// Returns no names: locks are printed as nothing, and sessions by their own numbers.
-    pub fn new(alloc: Global) -> Names
-        ensures { result ≡ record { locks = []; owners = [] } }
+    /// Returns no names of locks, and what rows say of the sessions. Of a script's sessions no row says anything: `owners` is empty, and a session
+    /// is printed by its own number.
+    pub fn new(alloc: Global, owners: Vec<Owner>) -> Names
+        ensures { result ≡ record { locks = []; owners = owners.items } }
     {
         Names {
             locks: Vec::new(alloc),
-            owners: Vec::new(alloc),
+            owners,
         }
     }
 
@@ -41,17 +44,6 @@ impl Names {
         ensures unchanged { OnErr result (self.new ≡ self.old) }
     {
         match self.locks.push(name) {
-            Ok(()) => Ok(()),
-            Err(_) => Err(AllocError),
-        }
-    }
-
-    /// Adds the number by which the server knows the next session.
-    pub fn add_session(&mut self, owner: u64) -> Result<(), AllocError>
-        ensures added { OnOk result (self.new ≡ record self.old { owners = self.old.owners ++ owner ∷ [] }) }
-        ensures unchanged { OnErr result (self.new ≡ self.old) }
-    {
-        match self.owners.push(owner) {
             Ok(()) => Ok(()),
             Err(_) => Err(AllocError),
         }
@@ -67,65 +59,81 @@ impl Names {
         }
     }
 
-    /// Returns the number by which the server knows a session, or the session's own if that isn't known. No session has the number 0.
-    pub fn session(&self, session: u16) -> u64
-        ensures { result ≡ owner_of self.now session }
+    /// Returns what rows say of a session, if they say anything. No session has the number 0.
+    pub fn owner(&self, session: usize) -> Option<&Owner>
+        ensures { option_map (λ owner. owner.now) result ≡ owner_of self.now session }
     {
         if session == 0 {
-            return 0;
+            return None;
         }
-        match self.owners.get(usize::from(session) - 1) {
-            Some(owner) => *owner,
-            None => u64::from(session),
-        }
+        self.owners.get(session - 1)
     }
 
-    /// Whether the server has a number for a session.
-    pub fn knows_session(&self, session: u16) -> bool
-        ensures { result ≡ knows_session self.now session }
+    /// Returns what rows say of the sessions.
+    pub(crate) fn owners(&self) -> &[Owner]
+        ensures { result.now ≡ self.now.owners }
     {
-        session >= 1 && usize::from(session) <= self.owners.len()
+        self.owners.as_slice()
     }
 }
 
-/// Returns the name of a lock whose schema and table have these names: `TABLE shop.orders`, or `USER n` for a user-level lock, whose name is
-/// passed as `schema`. A backslash or a dot in a name has a backslash before it, and a control byte is printed as `\x` and two digits. Names
-/// that the namespace doesn't have are left out.
+/// Whether rows have the numbers of connections, which `KILL` takes.
+pub(crate) fn knows_connections(names: &Names) -> bool
+    ensures { result ≡ knows_connections names.now }
+{
+    names.owners().iter().any(|owner| has_connection(owner))
+}
+
+// Whether a session's row has the number of its connection.
+fn has_connection(owner: &Owner) -> bool
+    ensures { result ≡ has_connection owner.now }
+{
+    owner.connection().is_some()
+}
+
+/// Returns the name of the lock of an object: `TABLE shop.orders`, or `USER n` for a user-level lock. A backslash or a dot in a name has a
+/// backslash before it, and a control byte is printed as `\x` and two digits. Names that the type doesn't have are left out.
 pub fn key_text(
     alloc: Global,
-    namespace: Namespace,
+    object_type: ObjectType,
     schema: &[u8],
-    table: &[u8],
+    name: &[u8],
 ) -> Result<Vec<u8>, AllocError>
-    ensures { IfOk result (λ text. text.items ≡ key_text namespace schema.now table.now) }
+    ensures { IfOk result (λ text. text.items ≡ key_text object_type schema.now name.now) }
 {
-    let mut out = Vec::new(alloc);
-    match namespace {
-        Namespace::Global => push(&mut out, b"GLOBAL")?,
-        Namespace::Commit => push(&mut out, b"COMMIT")?,
-        Namespace::Schema => push_schema(&mut out, schema)?,
-        Namespace::Table => push_table(&mut out, schema, table)?,
-        Namespace::UserLevelLock => push_user_lock(&mut out, schema)?,
+    match object_type {
+        ObjectType::Global => word(alloc, b"GLOBAL"),
+        ObjectType::Commit => word(alloc, b"COMMIT"),
+        ObjectType::Backup => word(alloc, b"BACKUP"),
+        ObjectType::Schema => named_text(alloc, b"SCHEMA ", schema),
+        ObjectType::Tablespace => named_text(alloc, b"TABLESPACE ", name),
+        ObjectType::UserLevelLock => named_text(alloc, b"USER ", name),
+        ObjectType::Table => object_text(alloc, b"TABLE ", schema, name),
+        ObjectType::Function => object_text(alloc, b"FUNCTION ", schema, name),
+        ObjectType::Procedure => object_text(alloc, b"PROCEDURE ", schema, name),
+        ObjectType::Trigger => object_text(alloc, b"TRIGGER ", schema, name),
+        ObjectType::Event => object_text(alloc, b"EVENT ", schema, name),
+        ObjectType::LockingService => object_text(alloc, b"LOCKING SERVICE ", schema, name),
+        ObjectType::PackageBody => object_text(alloc, b"PACKAGE BODY ", schema, name),
     }
-    Ok(out)
 }
 
 /// Returns the names of the locks of these books. Sessions are printed by their own numbers.
 pub fn names_of(alloc: Global, books: &[Book]) -> Result<Names, AllocError>
     ensures { IfOk result (λ names. names ≡ record { locks = map book_text books.now; owners = [] }) }
 {
-    let mut names = Names::new(alloc);
+    let mut names = Names::new(alloc, Vec::new(alloc));
     for book in books {
         names.add_lock(text_of_key(alloc, book.key())?)?;
     }
     Ok(names)
 }
 
-// The name of the lock of a key.
+// The name of the lock of a book's key.
 fn text_of_key(alloc: Global, key: &Key) -> Result<Vec<u8>, AllocError>
-    ensures { IfOk result (λ text. text.items ≡ key_text key.now.namespace key.now.schema key.now.table) }
+    ensures { IfOk result (λ text. text.items ≡ space_text key.now.namespace key.now.schema key.now.table) }
 {
-    key_text(
+    space_text(
         alloc,
         key.namespace(),
         key.schema_name().as_bytes(),
@@ -133,30 +141,58 @@ fn text_of_key(alloc: Global, key: &Key) -> Result<Vec<u8>, AllocError>
     )
 }
 
-// Appends the name of the lock of a schema.
-fn push_schema(out: &mut Vec<u8>, schema: &[u8]) -> Result<(), AllocError>
-    ensures { OnOk result (out.new.items ≡ out.old.items ++ key_text Namespace.Schema schema.now []) }
+// The name of a lock whose schema and table have these names. A user-level lock's name is in place of the schema's.
+fn space_text(
+    alloc: Global,
+    namespace: Namespace,
+    schema: &[u8],
+    table: &[u8],
+) -> Result<Vec<u8>, AllocError>
+    ensures { IfOk result (λ text. text.items ≡ space_text namespace schema.now table.now) }
 {
-    push(out, b"SCHEMA ")?;
-    push_name(out, schema)
+    match namespace {
+        Namespace::Global => key_text(alloc, ObjectType::Global, &[], &[]),
+        Namespace::Commit => key_text(alloc, ObjectType::Commit, &[], &[]),
+        Namespace::Schema => key_text(alloc, ObjectType::Schema, schema, &[]),
+        Namespace::Table => key_text(alloc, ObjectType::Table, schema, table),
+        Namespace::UserLevelLock => key_text(alloc, ObjectType::UserLevelLock, &[], schema),
+    }
 }
 
-// Appends the name of a user-level lock.
-fn push_user_lock(out: &mut Vec<u8>, name: &[u8]) -> Result<(), AllocError>
-    ensures { OnOk result (out.new.items ≡ out.old.items ++ key_text Namespace.UserLevelLock name.now []) }
+// A word alone.
+fn word(alloc: Global, word: &[u8]) -> Result<Vec<u8>, AllocError>
+    ensures { IfOk result (λ text. text.items ≡ word.now) }
 {
-    push(out, b"USER ")?;
-    push_name(out, name)
+    let mut out = Vec::new(alloc);
+    push(&mut out, word)?;
+    Ok(out)
 }
 
-// Appends the name of the lock of a table.
-fn push_table(out: &mut Vec<u8>, schema: &[u8], table: &[u8]) -> Result<(), AllocError>
-    ensures { OnOk result (out.new.items ≡ out.old.items ++ key_text Namespace.Table schema.now table.now) }
+// The name of the lock of something with one name.
+fn named_text(alloc: Global, object_type: &[u8], name: &[u8]) -> Result<Vec<u8>, AllocError>
+    ensures { IfOk result (λ text. text.items ≡ named_text object_type.now name.now) }
 {
-    push(out, b"TABLE ")?;
-    push_name(out, schema)?;
-    push(out, b".")?;
-    push_name(out, table)
+    let mut out = Vec::new(alloc);
+    push(&mut out, object_type)?;
+    push_name(&mut out, name)?;
+    Ok(out)
+}
+
+// The name of the lock of an object of a schema.
+fn object_text(
+    alloc: Global,
+    object_type: &[u8],
+    schema: &[u8],
+    name: &[u8],
+) -> Result<Vec<u8>, AllocError>
+    ensures { IfOk result (λ text. text.items ≡ object_text object_type.now schema.now name.now) }
+{
+    let mut out = Vec::new(alloc);
+    push(&mut out, object_type)?;
+    push_name(&mut out, schema)?;
+    push(&mut out, b".")?;
+    push_name(&mut out, name)?;
+    Ok(out)
 }
 
 /// Appends a name, as it is printed.
@@ -173,10 +209,18 @@ pub(crate) fn push_name(out: &mut Vec<u8>, name: &[u8]) -> Result<(), AllocError
 fn push_byte(out: &mut Vec<u8>, byte: u8) -> Result<(), AllocError>
     ensures { OnOk result (out.new.items ≡ out.old.items ++ printed_byte byte) }
 {
-    if byte == b'\\' || byte == b'.' {
-        push(out, b"\\")?;
-        out.push(byte)?;
-        Ok(())
+    if byte == b'.' {
+        return push(out, b"\\.");
+    }
+    push_shown(out, byte)
+}
+
+/// Appends a byte, as it is printed: a backslash as two, and a control byte by its digits.
+pub(crate) fn push_shown(out: &mut Vec<u8>, byte: u8) -> Result<(), AllocError>
+    ensures { OnOk result (out.new.items ≡ out.old.items ++ shown_byte byte) }
+{
+    if byte == b'\\' {
+        push(out, b"\\\\")
     } else if byte < 32 || byte == 127 {
         push_escaped(out, byte)
     } else {

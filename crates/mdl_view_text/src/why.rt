@@ -1,340 +1,505 @@
-//! The deadlocks, and what would follow if the roots of the waits ended.
-ghost use Rattle.std.specs.Prelude.{◌≡◌, ◌++◌, ◌-◌, drop, flat_map, take, OnOk, IfOk};
-ghost use Rattle.std.specs.FinSet as set;
-ghost use Rattle.mdl_view.specs.Following.{ending_of, endings_of};
-ghost use Rattle.mdl_view_text.specs.Why.{and_more, blocker_text, ending_text, gets_line, gets_start, granted_text, head_line, holds_line, is_reading, just_more, kill_line, lines_of, mode_of, more_gets, more_in_its_way, most_lines, no_root_text, roots_text, waits_line, waits_start, why_text};
+//! The answer to `why`: how many requests wait, what to type so that they go on, and which of them these rows don't explain.
+ghost use Rattle.std.specs.Prelude.{◌≡◌, ◌++◌, ◌-◌, ◌+◌, ◌∷◌, [], codes, flat_map, length, take, OnOk, IfOk};
+ghost use Rattle.mdl_view_text.specs.ActTexts.{act_lines};
+ghost use Rattle.mdl_view_text.specs.Why.{all_at_once, all_waits, all_words, and_more, effect_line, ends_words, first_blocker, head_line, joint_line, joint_text, mode_of, more_joint_line, more_ways_line, most_lines, number_start, other_text, passing, passing_line, stuck_head, stuck_line, stuck_text, stuck_words, ticket_line, ticket_lines, ticket_start, wait_words, way_head, way_text, ways_from, ways_head, ways_text, when_words, why_text};
 
-use crate::deadlock::push_deadlocks;
+use crate::act_texts::push_act;
+use crate::findings::{BlockedWait, Findings, WayFound, target_of};
 use crate::layout::push_line_with;
+use crate::left_out::{push_left_out, waiting_among};
 use crate::names::Names;
-use crate::text::{push, push_mode, push_number, push_reason, push_session};
-use mdl_book::Ticket;
-use mdl_graph::Cycle;
-use mdl_key::Mode;
-use mdl_view::{AtLock, Blocking, Ending, RootRank, Scene, StillWaiting, ending_of};
+use crate::text::{push, push_mode, push_number, push_numbered, push_session};
+use crate::unexplained::{push_better_rows, push_unexplained};
+use mdl_lock_rows::LeftOut;
+use mdl_view::{Act, AtLock, LockMode, Way};
 use std::alloc::{AllocError, Global};
 
 // The greatest number of lines of a kind that are printed.
-const MOST_LINES: usize = 8;
+pub(crate) const MOST_LINES: usize = 8;
 
-/// Returns the deadlocks, and what would follow if each of these sessions ended, in the order given: how many waits would be granted, how a
-/// server's session is ended, what it holds, who gets what, and who goes on waiting and why. Each of the last three has at most eight lines,
-/// and then one that says how many more there are. If there is no such session, one line says whether any session blocks another
-/// nevertheless. Names are cut if a line would have more than 100 bytes.
+/// Returns the answer to `why`: how many requests wait; for each way out what to type, how many waits end by it, what its session holds and
+/// who is granted what at once; the waits that go on only after several acts; those in deadlocks; and those that can't be explained, with what
+/// to do about them. Only if no row waits it says so. Of a kind at most eight lines are printed, and then one that says how many more there
+/// are. Names are cut if a line would have more than 100 bytes.
 pub fn why_text(
     alloc: Global,
     names: &Names,
-    scene: Scene<'_>,
-    is_jammed: bool,
-    deadlocks: &[Cycle],
-    roots: &[RootRank],
+    found: &Findings,
+    left_out: &[LeftOut],
 ) -> Result<Vec<u8>, AllocError>
-    ensures { IfOk result (λ text. text.items ≡ why_text names.now is_jammed deadlocks.now
-        (endings_of (set.contains scene.entry.settled.now) scene.entry.unsettled.now scene.entry.locks.now roots.now)) }
+    ensures { IfOk result (λ text. text.items ≡ why_text names.now found.now left_out.now) }
 {
     let mut out = Vec::new(alloc);
-    push_deadlocks(&mut out, alloc, names, deadlocks)?;
-    push_roots(&mut out, alloc, names, scene, is_jammed, roots)?;
+    push_head(&mut out, all_waits(found, left_out)?, &found.ways)?;
+    push_ways(&mut out, alloc, names, found)?;
+    push_others(&mut out, alloc, names, found, left_out)?;
+    push_left_out(&mut out, alloc, left_out)?;
     Ok(out)
 }
 
-// Appends what would follow if the roots ended, or that there is no root.
-fn push_roots(
-    out: &mut Vec<u8>,
-    alloc: Global,
-    names: &Names,
-    scene: Scene<'_>,
-    is_jammed: bool,
-    roots: &[RootRank],
-) -> Result<(), AllocError>
-    ensures { OnOk result (out.new.items ≡ out.old.items ++ roots_text names.now is_jammed
-        (endings_of (set.contains scene.entry.settled.now) scene.entry.unsettled.now scene.entry.locks.now roots.now)) }
+/// Returns how many requests wait in all: those of the locks, and those of rows that aren't read. It can't overflow, since all are in memory.
+/// If it did, that would count as out of memory.
+pub(crate) fn all_waits(found: &Findings, left_out: &[LeftOut]) -> Result<u64, AllocError>
+    ensures { IfOk result (λ count. count ≡ all_waits found.now left_out.now) }
 {
-    if roots.is_empty() {
-        return push(out, no_root_text(is_jammed));
+    match found.waits.checked_add(waiting_among(left_out)?) {
+        Some(count) => Ok(count),
+        None => Err(AllocError),
     }
-    push_endings(out, alloc, names, scene, roots)
 }
 
-// The text if no session is a root.
-fn no_root_text(is_jammed: bool) -> &'static [u8]
-    ensures { result.now ≡ no_root_text is_jammed }
+// Appends the first line.
+fn push_head(out: &mut Vec<u8>, count: u64, ways: &[WayFound]) -> Result<(), AllocError>
+    ensures { OnOk result (out.new.items ≡ out.old.items ++ head_line count ways.now) }
 {
-    if is_jammed {
-        b"Each session that is in the way of another one waits: there is a deadlock.\n"
+    if count == 0 {
+        return push(out, b"No session waits.\n");
+    }
+    push_wait_words(out, count)?;
+    push(out, ways_head(ways))
+}
+
+// Appends how many requests wait.
+fn push_wait_words(out: &mut Vec<u8>, count: u64) -> Result<(), AllocError>
+    ensures { OnOk result (out.new.items ≡ out.old.items ++ wait_words count) }
+{
+    if count == 1 {
+        return push(out, b"1 request waits");
+    }
+    push_number(out, count)?;
+    push(out, b" requests wait")
+}
+
+// The rest of the first line.
+fn ways_head(ways: &[WayFound]) -> &'static [u8]
+    ensures { result.now ≡ ways_head ways.now }
+{
+    if ways.is_empty() {
+        b".\n"
     } else {
-        b"No session is in the way of another one.\n"
+        b". Ways out, the best first:\n"
     }
 }
 
-// Appends what would follow if each of the roots ended.
-fn push_endings(
+// Appends the ways out, and the waits that several acts are needed for.
+fn push_ways(
     out: &mut Vec<u8>,
     alloc: Global,
     names: &Names,
-    scene: Scene<'_>,
-    roots: &[RootRank],
+    found: &Findings,
 ) -> Result<(), AllocError>
-    ensures { OnOk result (out.new.items ≡ out.old.items ++ flat_map (ending_text names.now)
-        (endings_of (set.contains scene.entry.settled.now) scene.entry.unsettled.now scene.entry.locks.now roots.now)) }
+    ensures { OnOk result (out.new.items ≡ out.old.items ++ ways_text names.now found.now) }
 {
-    for root in roots {
-        push_root(out, alloc, names, scene, root)?;
+    push_each_way(out, alloc, names, &found.ways)?;
+    push_more_ways(out, found.more_ways)?;
+    push_each_joint(out, alloc, names, &found.joint)?;
+    push_more_joint(out, found.more_joint)
+}
+
+// Appends each way out.
+fn push_each_way(
+    out: &mut Vec<u8>,
+    alloc: Global,
+    names: &Names,
+    ways: &[WayFound],
+) -> Result<(), AllocError>
+    ensures { OnOk result (out.new.items ≡ out.old.items ++ ways_from names.now 0 ways.now) }
+{
+    for (place, way) in ways.iter().enumerate() {
+        push_way(out, alloc, names, place, way)?;
     }
     Ok(())
 }
 
-// Appends what would follow if a root ended.
-fn push_root(
+// Appends a way out.
+fn push_way(
     out: &mut Vec<u8>,
     alloc: Global,
     names: &Names,
-    scene: Scene<'_>,
-    root: &RootRank,
+    place: usize,
+    found: &WayFound,
 ) -> Result<(), AllocError>
-    ensures { OnOk result (out.new.items ≡ out.old.items ++ ending_text names.now
-        (ending_of (set.contains scene.entry.settled.now) scene.entry.unsettled.now scene.entry.locks.now root.now.session)) }
+    ensures { OnOk result (out.new.items ≡ out.old.items ++ way_text names.now place found.now) }
 {
-    let ending = ending_of(alloc, scene, root.session)?;
-    push_ending(out, alloc, names, &ending)
+    push_way_head(out, alloc, names, place, found.way)?;
+    push_tickets(out, alloc, names, b" holds ", b"", &found.held)?;
+    push_tickets(out, alloc, names, b" gets ", b"", &found.at_once)
 }
 
-// Appends an ending.
-fn push_ending(
+// Appends what to type, and how many waits end by it.
+fn push_way_head(
     out: &mut Vec<u8>,
     alloc: Global,
     names: &Names,
-    ending: &Ending,
+    place: usize,
+    way: Way,
 ) -> Result<(), AllocError>
-    ensures { OnOk result (out.new.items ≡ out.old.items ++ ending_text names.now ending.now) }
+    ensures { OnOk result (out.new.items ≡ out.old.items ++ way_head names.now place way) }
 {
-    push_head(out, names, ending)?;
-    push_kill(out, names, ending.session())?;
-    push_holds(out, alloc, names, ending.holds())?;
-    push_gets(out, alloc, names, ending.gets())?;
-    push_waits(out, alloc, names, ending.waits())
+    let start = number_start(alloc, place)?;
+    push_act(out, alloc, names, &start, way.act)?;
+    push_effect(out, way)
 }
 
-// Appends how many waits would be granted.
-fn push_head(out: &mut Vec<u8>, names: &Names, ending: &Ending) -> Result<(), AllocError>
-    ensures { OnOk result (out.new.items ≡ out.old.items ++ head_line names.now ending.now) }
+// What the line of a way starts with: its number, counted from 1. It can't overflow, since all ways are in memory. If it did, that would count as
+// out of memory.
+fn number_start(alloc: Global, place: usize) -> Result<Vec<u8>, AllocError>
+    ensures { IfOk result (λ start. start.items ≡ number_start place) }
 {
-    push(out, b"If ")?;
-    push_session(out, names, ending.session())?;
-    push_granted(out, ending.gets().len())
-}
-
-// Appends the rest of that line.
-fn push_granted(out: &mut Vec<u8>, count: usize) -> Result<(), AllocError>
-    ensures { OnOk result (out.new.items ≡ out.old.items ++ granted_text count) }
-{
-    push(out, b" ended, waits granted: ")?;
-    push_number(out, count as u64)?;
-    push(out, b"\n")
-}
-
-// Appends how a server's session is ended.
-fn push_kill(out: &mut Vec<u8>, names: &Names, session: u16) -> Result<(), AllocError>
-    ensures { OnOk result (out.new.items ≡ out.old.items ++ kill_line names.now session) }
-{
-    if !names.knows_session(session) {
-        return Ok(());
-    }
-    push(
-        out,
-        b"  KILL: SELECT processlist_id FROM performance_schema.threads WHERE thread_id = ",
-    )?;
-    push_session(out, names, session)?;
-    push(out, b"\n")
-}
-
-// Appends what the session holds.
-fn push_holds(
-    out: &mut Vec<u8>,
-    alloc: Global,
-    names: &Names,
-    holds: &[AtLock],
-) -> Result<(), AllocError>
-    ensures { OnOk result (out.new.items ≡ out.old.items ++ lines_of (holds_line names.now) just_more holds.now) }
-{
-    for held in first_lines(holds) {
-        push_hold(out, alloc, names, *held)?;
-    }
-    push_more(out, holds.len(), b" more")
-}
-
-// Appends a ticket that the session holds.
-fn push_hold(
-    out: &mut Vec<u8>,
-    alloc: Global,
-    names: &Names,
-    held: AtLock,
-) -> Result<(), AllocError>
-    ensures { OnOk result (out.new.items ≡ out.old.items ++ holds_line names.now held) }
-{
-    let mut start = Vec::new(alloc);
-    push(&mut start, b"  holds ")?;
-    push_mode_of(&mut start, held.ticket.mode)?;
-    push_line_with(out, alloc, &start, names.lock(held.lock), b"")
-}
-
-// Appends who gets what.
-fn push_gets(
-    out: &mut Vec<u8>,
-    alloc: Global,
-    names: &Names,
-    gets: &[AtLock],
-) -> Result<(), AllocError>
-    ensures { OnOk result (out.new.items ≡ out.old.items ++ lines_of (gets_line names.now) more_gets gets.now) }
-{
-    for got in first_lines(gets) {
-        push_got(out, alloc, names, *got)?;
-    }
-    push_more(out, gets.len(), more_gets(last_lines(gets)))
-}
-
-// Appends a wait that is granted.
-fn push_got(out: &mut Vec<u8>, alloc: Global, names: &Names, got: AtLock) -> Result<(), AllocError>
-    ensures { OnOk result (out.new.items ≡ out.old.items ++ gets_line names.now got) }
-{
-    let mut start = Vec::new(alloc);
-    push_gets_start(&mut start, names, got.ticket)?;
-    push_line_with(out, alloc, &start, names.lock(got.lock), b"")
-}
-
-// Appends the beginning of that line, before the lock's name.
-fn push_gets_start(out: &mut Vec<u8>, names: &Names, ticket: Ticket) -> Result<(), AllocError>
-    ensures { OnOk result (out.new.items ≡ out.old.items ++ gets_start names.now ticket) }
-{
-    push(out, b"  then ")?;
-    push_session(out, names, ticket.session)?;
-    push(out, b" gets ")?;
-    push_mode_of(out, ticket.mode)
-}
-
-// What is said of the grants whose lines aren't printed.
-fn more_gets(gets: &[AtLock]) -> &'static [u8]
-    ensures { result.now ≡ more_gets gets.now }
-{
-    for got in gets {
-        if !is_reading(got.ticket.mode) {
-            return b" more";
-        }
-    }
-    b" more readers"
-}
-
-// Whether a mode allows its session only to read.
-fn is_reading(mode: Mode) -> bool
-    ensures { result ≡ is_reading mode }
-{
-    matches!(mode, Mode::SH | Mode::SR | Mode::SRO)
-}
-
-// Appends who goes on waiting.
-fn push_waits(
-    out: &mut Vec<u8>,
-    alloc: Global,
-    names: &Names,
-    waits: &[StillWaiting],
-) -> Result<(), AllocError>
-    ensures { OnOk result (out.new.items ≡ out.old.items ++ lines_of (waits_line names.now) just_more waits.now) }
-{
-    for wait in first_lines(waits) {
-        push_wait(out, alloc, names, *wait)?;
-    }
-    push_more(out, waits.len(), b" more")
-}
-
-// Appends a wait that goes on, and what blocks it.
-fn push_wait(
-    out: &mut Vec<u8>,
-    alloc: Global,
-    names: &Names,
-    wait: StillWaiting,
-) -> Result<(), AllocError>
-    ensures { OnOk result (out.new.items ≡ out.old.items ++ waits_line names.now wait) }
-{
-    let mut start = Vec::new(alloc);
-    push_waits_start(&mut start, names, wait.waiter)?;
-    let mut rest = Vec::new(alloc);
-    push_blocker(&mut rest, names, wait.first)?;
-    push_more_in_its_way(&mut rest, wait.count)?;
-    push_line_with(out, alloc, &start, names.lock(wait.lock), &rest)
-}
-
-// Appends the beginning of that line, before the lock's name.
-fn push_waits_start(out: &mut Vec<u8>, names: &Names, ticket: Ticket) -> Result<(), AllocError>
-    ensures { OnOk result (out.new.items ≡ out.old.items ++ waits_start names.now ticket) }
-{
-    push(out, b"  then ")?;
-    push_session(out, names, ticket.session)?;
-    push(out, b" waits for ")?;
-    push_mode_of(out, ticket.mode)
-}
-
-// Appends the first ticket that blocks a wait.
-fn push_blocker(out: &mut Vec<u8>, names: &Names, first: Option<Blocking>) -> Result<(), AllocError>
-    ensures { OnOk result (out.new.items ≡ out.old.items ++ blocker_text names.now first) }
-{
-    let Some(blocking) = first else {
-        return push(out, b": behind a settled wait");
+    let Some(number) = (place as u64).checked_add(1) else {
+        return Err(AllocError);
     };
-    push(out, b": ")?;
-    push_session(out, names, blocking.other.session)?;
-    push(out, b" ")?;
-    push_reason(out, blocking.reason, blocking.other.mode)
+    let mut start = Vec::new(alloc);
+    push_numbered(&mut start, b"", number, b". ")?;
+    Ok(start)
 }
 
-// Appends how many tickets block a wait besides the first, if there are `count` in all.
-fn push_more_in_its_way(out: &mut Vec<u8>, count: usize) -> Result<(), AllocError>
-    ensures { OnOk result (out.new.items ≡ out.old.items ++ more_in_its_way count) }
+// Appends how many waits end by a way.
+fn push_effect(out: &mut Vec<u8>, way: Way) -> Result<(), AllocError>
+    ensures { OnOk result (out.new.items ≡ out.old.items ++ effect_line way) }
 {
-    if count <= 1 {
+    push(out, b"   ")?;
+    push_ends(out, way.in_turn)?;
+    push_when(out, way.at_once, way.in_turn.saturating_sub(way.at_once))?;
+    push(out, b"\n")
+}
+
+// Appends so many waits that end.
+fn push_ends(out: &mut Vec<u8>, count: usize) -> Result<(), AllocError>
+    ensures { OnOk result (out.new.items ≡ out.old.items ++ ends_words count) }
+{
+    if count == 1 {
+        return push(out, b"1 wait ends");
+    }
+    push_number(out, count as u64)?;
+    push(out, b" waits end")
+}
+
+// Appends when they do.
+fn push_when(out: &mut Vec<u8>, at_once: usize, later: usize) -> Result<(), AllocError>
+    ensures { OnOk result (out.new.items ≡ out.old.items ++ when_words at_once later) }
+{
+    if later == 0 {
+        return push(out, all_at_once(at_once));
+    }
+    push_numbered(out, b": ", at_once as u64, b" at once, ")?;
+    push_numbered(out, b"", later as u64, b" when those have ended")
+}
+
+// When waits end that all end at once.
+fn all_at_once(count: usize) -> &'static [u8]
+    ensures { result.now ≡ all_at_once count }
+{
+    if count == 1 {
+        b" at once"
+    } else {
+        b", all at once"
+    }
+}
+
+// Appends how many ways aren't printed.
+fn push_more_ways(out: &mut Vec<u8>, more: usize) -> Result<(), AllocError>
+    ensures { OnOk result (out.new.items ≡ out.old.items ++ more_ways_line more) }
+{
+    if more == 0 {
         return Ok(());
     }
-    push(out, b", and ")?;
-    push_number(out, (count - 1) as u64)?;
-    push(out, b" more")
+    push_numbered(out, b"More ways, which are no better: ", more as u64, b"\n")
 }
 
-// Appends a mode before the name of its lock.
-fn push_mode_of(out: &mut Vec<u8>, mode: Mode) -> Result<(), AllocError>
+/// Appends a line for each of the first eight tickets, and how many more there are: the session, what it does, its mode, the lock, and the rest
+/// of the line.
+pub(crate) fn push_tickets(
+    out: &mut Vec<u8>,
+    alloc: Global,
+    names: &Names,
+    verb: &[u8],
+    rest: &[u8],
+    ats: &[AtLock],
+) -> Result<(), AllocError>
+    ensures { OnOk result (out.new.items ≡ out.old.items ++ ticket_lines names.now verb.now rest.now ats.now) }
+{
+    push_each_ticket(out, alloc, names, verb, rest, first_lines(ats))?;
+    push_and_more(out, ats.len().saturating_sub(MOST_LINES))
+}
+
+// The first tickets, which are printed.
+fn first_lines(ats: &[AtLock]) -> &[AtLock]
+    ensures { result.now ≡ take most_lines ats.now }
+{
+    if ats.len() <= MOST_LINES {
+        return ats;
+    }
+    &ats[..MOST_LINES]
+}
+
+// Appends a line for each of these tickets.
+fn push_each_ticket(
+    out: &mut Vec<u8>,
+    alloc: Global,
+    names: &Names,
+    verb: &[u8],
+    rest: &[u8],
+    ats: &[AtLock],
+) -> Result<(), AllocError>
+    ensures { OnOk result (out.new.items ≡ out.old.items ++ flat_map (ticket_line names.now verb.now rest.now) ats.now) }
+{
+    for at in ats {
+        push_ticket(out, alloc, names, verb, rest, *at)?;
+    }
+    Ok(())
+}
+
+// Appends the line of a ticket.
+fn push_ticket(
+    out: &mut Vec<u8>,
+    alloc: Global,
+    names: &Names,
+    verb: &[u8],
+    rest: &[u8],
+    at: AtLock,
+) -> Result<(), AllocError>
+    ensures { OnOk result (out.new.items ≡ out.old.items ++ ticket_line names.now verb.now rest.now at) }
+{
+    let mut start = Vec::new(alloc);
+    push_ticket_start(&mut start, names, verb, at)?;
+    push_line_with(out, alloc, &start, names.lock(at.lock), rest)
+}
+
+// Appends the beginning of that line, before the lock's name.
+fn push_ticket_start(
+    out: &mut Vec<u8>,
+    names: &Names,
+    verb: &[u8],
+    at: AtLock,
+) -> Result<(), AllocError>
+    ensures { OnOk result (out.new.items ≡ out.old.items ++ ticket_start names.now verb.now at) }
+{
+    push(out, b"   ")?;
+    push_session(out, names, at.ticket.session)?;
+    push(out, verb)?;
+    push_mode_of(out, at.ticket.mode)
+}
+
+/// Appends a mode before the name of its lock.
+pub(crate) fn push_mode_of(out: &mut Vec<u8>, mode: LockMode) -> Result<(), AllocError>
     ensures { OnOk result (out.new.items ≡ out.old.items ++ mode_of mode) }
 {
     push_mode(out, mode)?;
     push(out, b" of ")
 }
 
-// The first of some facts, which are printed.
-fn first_lines<T>(facts: &[T]) -> &[T]
-    ensures { result.now ≡ take most_lines facts.now }
+/// Appends how many more lines there would be.
+pub(crate) fn push_and_more(out: &mut Vec<u8>, more: usize) -> Result<(), AllocError>
+    ensures { OnOk result (out.new.items ≡ out.old.items ++ and_more more) }
 {
-    if facts.len() <= MOST_LINES {
-        return facts;
-    }
-    &facts[..MOST_LINES]
-}
-
-// The other facts, which aren't printed.
-fn last_lines<T>(facts: &[T]) -> &[T]
-    ensures { result.now ≡ drop most_lines facts.now }
-{
-    if facts.len() <= MOST_LINES {
-        return &[];
-    }
-    &facts[MOST_LINES..]
-}
-
-// Appends how many of this number of lines aren't printed, and of what.
-fn push_more(out: &mut Vec<u8>, lines: usize, what: &[u8]) -> Result<(), AllocError>
-    ensures { OnOk result (out.new.items ≡ out.old.items ++ and_more what.now (lines - most_lines)) }
-{
-    if lines <= MOST_LINES {
+    if more == 0 {
         return Ok(());
     }
-    push(out, b"  and ")?;
-    push_number(out, (lines - MOST_LINES) as u64)?;
-    push(out, what)?;
+    push_numbered(out, b"   and ", more as u64, b" more\n")
+}
+
+// Appends each wait that several acts are needed for.
+fn push_each_joint(
+    out: &mut Vec<u8>,
+    alloc: Global,
+    names: &Names,
+    waits: &[BlockedWait],
+) -> Result<(), AllocError>
+    ensures { OnOk result (out.new.items ≡ out.old.items ++ flat_map (joint_text names.now) waits.now) }
+{
+    for wait in waits {
+        push_joint(out, alloc, names, wait)?;
+    }
+    Ok(())
+}
+
+// Appends a wait that several acts are needed for, and what to type for it.
+fn push_joint(
+    out: &mut Vec<u8>,
+    alloc: Global,
+    names: &Names,
+    wait: &BlockedWait,
+) -> Result<(), AllocError>
+    ensures { OnOk result (out.new.items ≡ out.old.items ++ joint_text names.now wait.now) }
+{
+    push_joint_line(out, names, wait)?;
+    push_acts(out, alloc, names, &wait.acts)?;
+    push_and_more(out, wait.blockers.saturating_sub(wait.acts.len()))?;
+    push_ticket(out, alloc, names, b" waits for ", b"", wait.at)
+}
+
+// Appends which session goes on, and after how many acts.
+fn push_joint_line(out: &mut Vec<u8>, names: &Names, wait: &BlockedWait) -> Result<(), AllocError>
+    ensures { OnOk result (out.new.items ≡ out.old.items ++ joint_line names.now wait.now) }
+{
+    push_session(out, names, wait.at.ticket.session)?;
+    push_all_words(out, wait.blockers)?;
     push(out, b"\n")
+}
+
+// Appends that each of so many acts is needed.
+fn push_all_words(out: &mut Vec<u8>, count: usize) -> Result<(), AllocError>
+    ensures { OnOk result (out.new.items ≡ out.old.items ++ all_words count) }
+{
+    if count == 2 {
+        return push(out, b" goes on only after both of these:");
+    }
+    push_numbered(
+        out,
+        b" goes on only after all ",
+        count as u64,
+        b" of these:",
+    )
+}
+
+// Appends what to type for each of these acts.
+fn push_acts(
+    out: &mut Vec<u8>,
+    alloc: Global,
+    names: &Names,
+    acts: &[Act],
+) -> Result<(), AllocError>
+    ensures { OnOk result (out.new.items ≡ out.old.items ++ flat_map (act_lines names.now (codes "   ")) acts.now) }
+{
+    for act in acts {
+        push_act(out, alloc, names, b"   ", *act)?;
+    }
+    Ok(())
+}
+
+// Appends how many such waits aren't printed.
+fn push_more_joint(out: &mut Vec<u8>, more: usize) -> Result<(), AllocError>
+    ensures { OnOk result (out.new.items ≡ out.old.items ++ more_joint_line more) }
+{
+    if more == 0 {
+        return Ok(());
+    }
+    push_numbered(
+        out,
+        b"More requests that go on only after several acts: ",
+        more as u64,
+        b"\n",
+    )
+}
+
+// Appends what is said of other waits.
+fn push_others(
+    out: &mut Vec<u8>,
+    alloc: Global,
+    names: &Names,
+    found: &Findings,
+    left_out: &[LeftOut],
+) -> Result<(), AllocError>
+    ensures { OnOk result (out.new.items ≡ out.old.items ++ other_text names.now found.now left_out.now) }
+{
+    push_stuck(out, alloc, names, &found.stuck, found.stuck_count)?;
+    push_passing(out, passing(found))?;
+    push_unexplained(out, alloc, names, &found.unexplained, left_out)?;
+    push_better_rows(
+        out,
+        names,
+        !found.ways.is_empty() || !found.joint.is_empty(),
+    )
+}
+
+// How many waits are only behind others that are over.
+fn passing(found: &Findings) -> u64
+    ensures { result ≡ passing found.now }
+{
+    found
+        .waits
+        .saturating_sub(found.blocked as u64)
+        .saturating_sub(found.unexplained.len() as u64)
+}
+
+// Appends the waits that are in a deadlock, or behind one.
+fn push_stuck(
+    out: &mut Vec<u8>,
+    alloc: Global,
+    names: &Names,
+    waits: &[BlockedWait],
+    count: usize,
+) -> Result<(), AllocError>
+    ensures { OnOk result (out.new.items ≡ out.old.items ++ stuck_text names.now waits.now count) }
+{
+    if count == 0 {
+        return Ok(());
+    }
+    push_stuck_head(out, count as u64)?;
+    push_each_stuck(out, alloc, names, waits)?;
+    push_and_more(out, count.saturating_sub(waits.len()))
+}
+
+// Appends how many such waits there are.
+fn push_stuck_head(out: &mut Vec<u8>, count: u64) -> Result<(), AllocError>
+    ensures { OnOk result (out.new.items ≡ out.old.items ++ stuck_head count) }
+{
+    push_stuck_words(out, count)?;
+    push(
+        out,
+        b" in a deadlock or behind one. A server ends a deadlock by itself: look again.\n",
+    )
+}
+
+// Appends so many such waits.
+fn push_stuck_words(out: &mut Vec<u8>, count: u64) -> Result<(), AllocError>
+    ensures { OnOk result (out.new.items ≡ out.old.items ++ stuck_words count) }
+{
+    if count == 1 {
+        return push(out, b"1 request is");
+    }
+    push_numbered(out, b"", count, b" requests are")
+}
+
+// Appends a line for each of these waits.
+fn push_each_stuck(
+    out: &mut Vec<u8>,
+    alloc: Global,
+    names: &Names,
+    waits: &[BlockedWait],
+) -> Result<(), AllocError>
+    ensures { OnOk result (out.new.items ≡ out.old.items ++ flat_map (stuck_line names.now) waits.now) }
+{
+    for wait in waits {
+        push_stuck_wait(out, alloc, names, wait)?;
+    }
+    Ok(())
+}
+
+// Appends a wait, and the first session that blocks it.
+fn push_stuck_wait(
+    out: &mut Vec<u8>,
+    alloc: Global,
+    names: &Names,
+    wait: &BlockedWait,
+) -> Result<(), AllocError>
+    ensures { OnOk result (out.new.items ≡ out.old.items ++ stuck_line names.now wait.now) }
+{
+    let rest = first_blocker(alloc, names, &wait.acts)?;
+    push_ticket(out, alloc, names, b" waits for ", &rest, wait.at)
+}
+
+// The first session that blocks a wait, as the rest of a line.
+fn first_blocker(alloc: Global, names: &Names, acts: &[Act]) -> Result<Vec<u8>, AllocError>
+    ensures { IfOk result (λ words. words.items ≡ first_blocker names.now acts.now) }
+{
+    let mut words = Vec::new(alloc);
+    let Some(act) = acts.first() else {
+        return Ok(words);
+    };
+    push(&mut words, b", behind ")?;
+    push_session(&mut words, names, target_of(*act))?;
+    Ok(words)
+}
+
+// Appends how many waits are only behind others that are over.
+fn push_passing(out: &mut Vec<u8>, count: u64) -> Result<(), AllocError>
+    ensures { OnOk result (out.new.items ≡ out.old.items ++ passing_line count) }
+{
+    if count == 0 {
+        return Ok(());
+    }
+    push_wait_words(out, count)?;
+    push(out, b" only behind requests that are over: look again.\n")
 }

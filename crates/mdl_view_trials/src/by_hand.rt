@@ -1,292 +1,279 @@
 //! Small tables of locks, with everything that is found of them worked out by hand.
-use mdl_book::{Sessions, Ticket};
-use mdl_graph::{Cycle, victim};
-use mdl_key::{Mode, Namespace};
+use mdl_key::Mode;
 use mdl_view::{
-    AtLock, Blocking, Lock, Reason, RootRank, Scene, StillWaiting, blockings, deadlocks, ending_of,
-    has_blockings, ranked_roots, roots,
+    Act, AtLock, BackupMode, Blocking, Lock, LockKind, LockMode, Reason, Ticket, at_once,
+    blocked_waits, blockers, blockings, held_by, unexplained_waits,
 };
 use std::alloc::{AllocError, Global};
 use std::test::Fail;
 
-// A session with a mode.
-type Of = (u16, Mode);
+// A session with a mode. What a session holds in these tables isn't of its statement.
+type Of = (usize, LockMode);
 
-// A lock: its holders, and its waiters in order.
-type Row = (Namespace, &'static [Of], &'static [Of]);
+// A lock: its holders, its waiters in order, and those whose wait is settled.
+#[derive(Clone, Copy)]
+struct Row {
+    kind: LockKind,
+    granted: &'static [Of],
+    waiting: &'static [Of],
+    settled: &'static [Of],
+}
 
 // Some locks, and what is found of them.
 struct Case {
     name: &'static str,
     locks: &'static [Row],
-    // The session whose wait is settled, or 0.
-    settled: u16,
     // Each waiter, a session that blocks it, and the reason.
-    in_the_way: &'static [(u16, u16, Reason)],
-    // The members of each deadlock, and after them its victim.
-    deadlocks: &'static [&'static [u16]],
-    // The roots in the order of their ranks, each with how many waits are granted if it ends.
-    roots: &'static [(u16, usize)],
-    // A session that ends, and the sessions that get a lock then.
-    ends: u16,
-    gets: &'static [u16],
-    // The sessions that still wait then, the first session that each waits for, or 0 if there is none, and how many tickets block it.
-    waits: &'static [(u16, u16, usize)],
+    in_the_way: &'static [(usize, usize, Reason)],
+    // The sessions whose waits nothing explains.
+    unexplained: &'static [usize],
+    // An act, and the sessions that get a lock at once.
+    act: Act,
+    gets: &'static [usize],
+    // How many tickets the session of the act holds.
+    holds: usize,
 }
 
-const TABLE: Namespace = Namespace::Table;
+const IX: LockMode = LockMode::Mdl(Mode::IX);
+
+const S: LockMode = LockMode::Mdl(Mode::S);
+
+const SH: LockMode = LockMode::Mdl(Mode::SH);
+
+const SR: LockMode = LockMode::Mdl(Mode::SR);
+
+const SW: LockMode = LockMode::Mdl(Mode::SW);
+
+const SU: LockMode = LockMode::Mdl(Mode::SU);
+
+const X: LockMode = LockMode::Mdl(Mode::X);
+
+const FTWRL2: LockMode = LockMode::Backup(BackupMode::Ftwrl2);
+
+const TRANS_DML: LockMode = LockMode::Backup(BackupMode::TransDml);
+
+const DDL: LockMode = LockMode::Backup(BackupMode::Ddl);
+
+const COMMIT: LockMode = LockMode::Backup(BackupMode::Commit);
 
 const CASES: &[Case] = &[
     Case {
         name: "nobody waits",
-        locks: &[(TABLE, &[(1, Mode::SR), (2, Mode::SW)], &[])],
-        settled: 0,
+        locks: &[Row {
+            kind: LockKind::Object,
+            granted: &[(1, SR), (2, SW)],
+            waiting: &[],
+            settled: &[],
+        }],
         in_the_way: &[],
-        deadlocks: &[],
-        roots: &[],
-        ends: 1,
+        unexplained: &[],
+        act: Act::Kill(1),
         gets: &[],
-        waits: &[],
+        holds: 1,
     },
-    // The reader with high priority could be granted by itself.
+    // The reader with high priority could be granted by itself: nothing explains that it waits.
     Case {
         name: "a change behind two readers, and two readers behind the change",
-        locks: &[(
-            TABLE,
-            &[(4, Mode::SR), (2, Mode::SR)],
-            &[(3, Mode::X), (1, Mode::SR), (5, Mode::SH)],
-        )],
-        settled: 0,
+        locks: &[Row {
+            kind: LockKind::Object,
+            granted: &[(4, SR), (2, SR)],
+            waiting: &[(3, X), (1, SR), (5, SH)],
+            settled: &[],
+        }],
         in_the_way: &[
             (3, 4, Reason::Holds),
             (3, 2, Reason::Holds),
             (1, 3, Reason::WaitsBefore),
         ],
-        deadlocks: &[],
-        roots: &[(2, 1), (4, 1)],
-        ends: 3,
-        gets: &[1, 5],
-        waits: &[],
+        unexplained: &[5],
+        act: Act::KillQuery(3),
+        gets: &[1],
+        holds: 0,
     },
-    // The ticket of the change still blocks later requests, but no session waits for it.
+    // One of two readers ends: the other one still blocks the change.
+    Case {
+        name: "one of two holders ends",
+        locks: &[Row {
+            kind: LockKind::Object,
+            granted: &[(1, SR), (2, SR)],
+            waiting: &[(3, X), (4, SR)],
+            settled: &[],
+        }],
+        in_the_way: &[
+            (3, 1, Reason::Holds),
+            (3, 2, Reason::Holds),
+            (4, 3, Reason::WaitsBefore),
+        ],
+        unexplained: &[],
+        act: Act::Kill(1),
+        gets: &[],
+        holds: 1,
+    },
+    // The change is about to go. It blocks nobody, but the reader behind it still waits.
     Case {
         name: "a change that is settled",
-        locks: &[(TABLE, &[(4, Mode::SR)], &[(3, Mode::X), (1, Mode::SR)])],
-        settled: 3,
+        locks: &[Row {
+            kind: LockKind::Object,
+            granted: &[(4, SR)],
+            waiting: &[(1, SR)],
+            settled: &[(3, X)],
+        }],
         in_the_way: &[],
-        deadlocks: &[],
-        roots: &[],
-        ends: 4,
+        unexplained: &[],
+        act: Act::Kill(4),
         gets: &[],
-        waits: &[(1, 0, 0)],
+        holds: 1,
     },
-    // The reader behind it also waits for the later change, and that for both sessions that read.
+    // What a session holds stays if its statement is killed, and its own ticket doesn't block its requests.
     Case {
-        name: "a change that is settled, and a later one",
-        locks: &[(
-            TABLE,
-            &[(1, Mode::SR), (4, Mode::SR)],
-            &[(2, Mode::X), (3, Mode::SR), (5, Mode::X)],
-        )],
-        settled: 2,
-        in_the_way: &[
-            (3, 5, Reason::WaitsBefore),
-            (5, 1, Reason::Holds),
-            (5, 4, Reason::Holds),
-        ],
-        deadlocks: &[],
-        roots: &[(1, 0), (4, 0)],
-        ends: 1,
+        name: "the statement of a holder",
+        locks: &[Row {
+            kind: LockKind::Object,
+            granted: &[(1, SR), (1, SU)],
+            waiting: &[(1, X), (2, X), (3, SH)],
+            settled: &[],
+        }],
+        in_the_way: &[(2, 1, Reason::Holds), (2, 1, Reason::Holds)],
+        unexplained: &[1, 3],
+        act: Act::KillQuery(1),
         gets: &[],
-        waits: &[(3, 5, 1), (5, 4, 1)],
+        holds: 2,
     },
-    // A session's own ticket doesn't block its requests.
+    // Each change is blocked by the holder alone. The first is granted, and then the second clashes with it, and the reader, too.
+    Case {
+        name: "two changes behind a holder",
+        locks: &[Row {
+            kind: LockKind::Object,
+            granted: &[(9, X)],
+            waiting: &[(1, X), (2, X), (3, SH)],
+            settled: &[],
+        }],
+        in_the_way: &[
+            (1, 9, Reason::Holds),
+            (2, 9, Reason::Holds),
+            (3, 9, Reason::Holds),
+        ],
+        unexplained: &[],
+        act: Act::Kill(9),
+        gets: &[1],
+        holds: 1,
+    },
+    // No row shows who holds the lock.
+    Case {
+        name: "a holder without a row",
+        locks: &[Row {
+            kind: LockKind::Object,
+            granted: &[],
+            waiting: &[(1, SU), (2, SR)],
+            settled: &[],
+        }],
+        in_the_way: &[],
+        unexplained: &[1, 2],
+        act: Act::Kill(1),
+        gets: &[],
+        holds: 0,
+    },
     Case {
         name: "the global read lock behind a write, and a write behind that",
         locks: &[
-            (
-                Namespace::Global,
-                &[(1, Mode::IX), (9, Mode::IX)],
-                &[(9, Mode::S), (1024, Mode::IX)],
-            ),
-            (Namespace::Commit, &[(1, Mode::IX)], &[]),
+            Row {
+                kind: LockKind::Scoped,
+                granted: &[(1, IX), (9, IX)],
+                waiting: &[(9, S), (70_000, IX)],
+                settled: &[],
+            },
+            Row {
+                kind: LockKind::Scoped,
+                granted: &[(1, IX)],
+                waiting: &[],
+                settled: &[],
+            },
         ],
-        settled: 0,
-        in_the_way: &[(9, 1, Reason::Holds), (1024, 9, Reason::WaitsBefore)],
-        deadlocks: &[],
-        roots: &[(1, 1)],
-        ends: 1,
+        in_the_way: &[(9, 1, Reason::Holds), (70_000, 9, Reason::WaitsBefore)],
+        unexplained: &[],
+        act: Act::Kill(1),
         gets: &[9],
-        waits: &[(1024, 9, 1)],
+        holds: 2,
     },
-    // Their weights are equal.
+    // FLUSH TABLES WITH READ LOCK on MariaDB: whoever changes something waits. Those who wait don't block one another.
     Case {
-        name: "each of two readers wants to change the table of the other",
-        locks: &[
-            (TABLE, &[(1, Mode::SR)], &[(2, Mode::X)]),
-            (TABLE, &[(2, Mode::SR)], &[(1, Mode::X)]),
-        ],
-        settled: 0,
-        in_the_way: &[(2, 1, Reason::Holds), (1, 2, Reason::Holds)],
-        deadlocks: &[&[1, 2, 2]],
-        roots: &[],
-        ends: 1,
-        gets: &[2],
-        waits: &[],
-    },
-    Case {
-        name: "the same, once one of the waits is settled",
-        locks: &[
-            (TABLE, &[(1, Mode::SR)], &[(2, Mode::X)]),
-            (TABLE, &[(2, Mode::SR)], &[(1, Mode::X)]),
-        ],
-        settled: 2,
-        in_the_way: &[(1, 2, Reason::Holds)],
-        deadlocks: &[],
-        roots: &[(2, 1)],
-        ends: 2,
-        gets: &[1],
-        waits: &[],
-    },
-    Case {
-        name: "a reader falls rather than a change",
-        locks: &[
-            (TABLE, &[(3, Mode::SR)], &[(4, Mode::X)]),
-            (TABLE, &[(7, Mode::X)], &[(3, Mode::SR)]),
-            (TABLE, &[(4, Mode::SR)], &[(7, Mode::X), (9, Mode::SR)]),
-        ],
-        settled: 0,
+        name: "a backup",
+        locks: &[Row {
+            kind: LockKind::Backup,
+            granted: &[(8, FTWRL2)],
+            waiting: &[(1, TRANS_DML), (2, DDL), (3, COMMIT)],
+            settled: &[],
+        }],
         in_the_way: &[
-            (4, 3, Reason::Holds),
-            (3, 7, Reason::Holds),
-            (7, 4, Reason::Holds),
-            (9, 7, Reason::WaitsBefore),
+            (1, 8, Reason::Holds),
+            (2, 8, Reason::Holds),
+            (3, 8, Reason::Holds),
         ],
-        deadlocks: &[&[3, 7, 4, 3]],
-        roots: &[],
-        ends: 7,
-        gets: &[3, 9],
-        waits: &[(4, 3, 1)],
+        unexplained: &[],
+        act: Act::Kill(8),
+        gets: &[1, 2, 3],
+        holds: 1,
     },
+    // FLUSH TABLES WITH READ LOCK waits for a change, and later changes behind it.
     Case {
-        name: "two deadlocks, and two roots, of which one comes first since its end lets more be granted",
-        locks: &[
-            (TABLE, &[(1, Mode::SR)], &[(2, Mode::X)]),
-            (TABLE, &[(2, Mode::SR)], &[(1, Mode::X)]),
-            (TABLE, &[(5, Mode::SR)], &[(6, Mode::X)]),
-            (TABLE, &[(6, Mode::SR)], &[(5, Mode::X)]),
-            (TABLE, &[(3, Mode::SR)], &[(4, Mode::X)]),
-            (TABLE, &[(8, Mode::X)], &[(9, Mode::SR), (10, Mode::SR)]),
-        ],
-        settled: 0,
+        name: "a backup that waits",
+        locks: &[Row {
+            kind: LockKind::Backup,
+            granted: &[(1, TRANS_DML), (2, COMMIT)],
+            waiting: &[(8, FTWRL2), (3, TRANS_DML)],
+            settled: &[],
+        }],
         in_the_way: &[
-            (2, 1, Reason::Holds),
-            (1, 2, Reason::Holds),
-            (6, 5, Reason::Holds),
-            (5, 6, Reason::Holds),
-            (4, 3, Reason::Holds),
-            (9, 8, Reason::Holds),
-            (10, 8, Reason::Holds),
+            (8, 1, Reason::Holds),
+            (8, 2, Reason::Holds),
+            (3, 8, Reason::WaitsBefore),
         ],
-        deadlocks: &[&[1, 2, 2], &[5, 6, 6]],
-        roots: &[(8, 2), (3, 1)],
-        ends: 8,
-        gets: &[9, 10],
-        waits: &[(2, 1, 1), (1, 2, 1), (6, 5, 1), (5, 6, 1), (4, 3, 1)],
+        unexplained: &[],
+        act: Act::KillQuery(8),
+        gets: &[3],
+        holds: 0,
     },
 ];
 
+// Returns a ticket of a session.
+fn ticket_of(of: &Of, number: u64, of_statement: bool) -> Ticket {
+    Ticket {
+        number,
+        session: of.0,
+        mode: of.1,
+        of_statement,
+    }
+}
+
 // Returns the lock of a row.
 fn lock_of(alloc: Global, row: &Row) -> Result<Lock, AllocError> {
-    let mut lock = Lock::new(alloc, row.0);
-    for (session, mode) in row.1 {
-        lock.add_granted(Ticket {
-            session: *session,
-            number: 1,
-            mode: *mode,
-        })?;
+    let mut lock = Lock::new(alloc, row.kind);
+    for of in row.granted {
+        lock.add_granted(ticket_of(of, 1, false))?;
     }
-    for (session, mode) in row.2 {
-        lock.add_waiting(Ticket {
-            session: *session,
-            number: 2,
-            mode: *mode,
-        })?;
+    for of in row.waiting {
+        lock.add_waiting(ticket_of(of, 2, true))?;
+    }
+    for of in row.settled {
+        lock.add_settled(ticket_of(of, 3, true))?;
     }
     Ok(lock)
 }
 
 // Whether these are the wanted pairs of a waiter and a session that blocks it, with their reasons.
-fn are_pairs(found: &[Blocking], wanted: &[(u16, u16, Reason)]) -> bool {
-    for (pair, told) in found.iter().zip(wanted) {
-        if (pair.waiter.session, pair.other.session) != (told.0, told.1) || pair.reason != told.2 {
+fn are_pairs(found: &[Blocking], wanted: &[(usize, usize, Reason)]) -> bool {
+    for (pair, known) in found.iter().zip(wanted) {
+        if (pair.waiter.session, pair.other.session) != (known.0, known.1)
+            || pair.reason != known.2
+        {
             return false;
         }
     }
     found.len() == wanted.len()
 }
 
-// Whether the roots are the wanted ones, and are ranked in the wanted order.
-fn are_roots(found: &[u16], ranks: &[RootRank], wanted: &[(u16, usize)]) -> bool {
-    for (rank, told) in ranks.iter().zip(wanted) {
-        if rank.session != told.0 || rank.gets != told.1 || !found.contains(&told.0) {
-            return false;
-        }
-    }
-    ranks.len() == wanted.len() && found.len() == wanted.len()
-}
-
-// Whether the right blocked and blocking sessions are found, and the right roots.
-fn are_waits_found(alloc: Global, case: &Case, scene: Scene<'_>) -> Result<bool, AllocError> {
-    let found = blockings(alloc, scene.settled, scene.locks)?;
-    let at_root = roots(alloc, &found)?;
-    let ranks = ranked_roots(alloc, scene)?;
-    Ok(
-        has_blockings(scene.settled, scene.locks) == !found.is_empty()
-            && are_pairs(&found, case.in_the_way)
-            && are_roots(&at_root, &ranks, case.roots),
-    )
-}
-
-// Whether a deadlock has these members, and as its victim the session after them.
-fn is_deadlock(cycle: &Cycle, wanted: &[u16]) -> bool {
-    for (member, session) in cycle.members().iter().zip(wanted) {
-        if member.session != *session {
-            return false;
-        }
-    }
-    match wanted {
-        [members @ .., last] => members.len() == cycle.members().len() && *last == victim(cycle),
-        [] => false,
-    }
-}
-
-// Whether these are the wanted deadlocks.
-fn are_deadlocks(found: &[Cycle], wanted: &[&[u16]]) -> bool {
-    for (cycle, sessions) in found.iter().zip(wanted) {
-        if !is_deadlock(cycle, sessions) {
-            return false;
-        }
-    }
-    found.len() == wanted.len()
-}
-
-// Whether exactly these sessions still wait, each for this session first and for this number of tickets.
-fn are_left(found: &[StillWaiting], wanted: &[(u16, u16, usize)]) -> bool {
-    for (waiting, told) in found.iter().zip(wanted) {
-        let first = match waiting.first {
-            Some(first) => first.other.session,
-            None => 0,
-        };
-        if waiting.waiter.session != told.0 || first != told.1 || waiting.count != told.2 {
-            return false;
-        }
-    }
-    found.len() == wanted.len()
-}
-
-// Whether exactly these sessions get a lock.
-fn are_granted(found: &[AtLock], wanted: &[u16]) -> bool {
+// Whether these are tickets of the wanted sessions.
+fn are_of(found: &[AtLock], wanted: &[usize]) -> bool {
     for (got, session) in found.iter().zip(wanted) {
         if got.ticket.session != *session {
             return false;
@@ -295,31 +282,26 @@ fn are_granted(found: &[AtLock], wanted: &[u16]) -> bool {
     found.len() == wanted.len()
 }
 
-// Whether the right deadlocks are found, and the right outcome if the session of the case ends.
-fn is_end_found(alloc: Global, case: &Case, scene: Scene<'_>) -> Result<bool, AllocError> {
-    let cycles = deadlocks(alloc, scene)?;
-    let ending = ending_of(alloc, scene, case.ends)?;
-    Ok(
-        are_deadlocks(&cycles, case.deadlocks)
-            && are_granted(ending.gets(), case.gets)
-            && are_left(ending.waits(), case.waits),
-    )
+// Whether each of these waits is one of a pair, and each pair is of one of them.
+fn are_blocked(found: &[AtLock], pairs: &[(usize, usize, Reason)]) -> bool {
+    found.iter().all(|wait| pairs.iter().any(|pair| pair.0 == wait.ticket.session))
+        && pairs.iter().all(|pair| found.iter().any(|wait| wait.ticket.session == pair.0))
 }
 
 // Whether everything that a case says is found of its locks.
 fn is_all_found(alloc: Global, case: &Case, locks: &[Lock]) -> Result<bool, AllocError> {
-    let mut settled = Sessions::new();
-    let mut unsettled = Sessions::all();
-    if case.settled >= 1 && case.settled <= 1024 {
-        settled.insert(case.settled);
-        unsettled.remove(case.settled);
-    }
-    let scene = Scene {
-        locks,
-        settled: &settled,
-        unsettled: &unsettled,
-    };
-    Ok(are_waits_found(alloc, case, scene)? && is_end_found(alloc, case, scene)?)
+    let pairs = blockings(alloc, locks)?;
+    let blocked = blocked_waits(alloc, locks)?;
+    let unexplained = unexplained_waits(alloc, locks)?;
+    let got = at_once(alloc, locks, case.act)?;
+    let held = held_by(alloc, locks, case.act.target())?;
+    Ok(
+        are_pairs(&pairs, case.in_the_way)
+            && are_blocked(&blocked, case.in_the_way)
+            && are_of(&unexplained, case.unexplained)
+            && are_of(&got, case.gets)
+            && held.len() == case.holds,
+    )
 }
 
 // The same, for locks made from the case.
@@ -337,5 +319,36 @@ fn tables_by_hand(rt: HostRuntime) -> Result<(), Fail> {
         let holds = holds(rt.alloc(), case)?;
         assert!(rt; holds, "{}", case.name);
     }
+    Ok(())
+}
+
+// A session that blocks a request twice is named once, and one that holds the lock before one that waits for it.
+#[test]
+fn each_blocker_once(rt: HostRuntime) -> Result<(), Fail> {
+    let row = Row {
+        kind: LockKind::Object,
+        granted: &[(7, SU), (5, SR), (7, X)],
+        waiting: &[(6, X), (1, SR)],
+        settled: &[],
+    };
+    let lock = lock_of(rt.alloc(), &row)?;
+    let found = blockers(rt.alloc(), &lock, ticket_of(&(1, SR), 2, true))?;
+    assert_eq!(rt; found.as_slice(), [7, 6].as_slice());
+    Ok(())
+}
+
+// 20,000 tickets at one lock: half hold it, and the others wait.
+#[test]
+fn many_tickets_at_one_lock(rt: HostRuntime) -> Result<(), Fail> {
+    let mut lock = Lock::new(rt.alloc(), LockKind::Object);
+    for session in 1..10_001 {
+        lock.add_granted(ticket_of(&(session, SR), 1, false))?;
+        lock.add_waiting(ticket_of(&(session + 10_000, X), 2, true))?;
+    }
+    let mut locks = Vec::new(rt.alloc());
+    locks.push(lock)?;
+    assert_eq!(rt; blocked_waits(rt.alloc(), &locks)?.len(), 10_000);
+    assert_eq!(rt; unexplained_waits(rt.alloc(), &locks)?.len(), 0);
+    assert_eq!(rt; at_once(rt.alloc(), &locks, Act::Kill(1))?.len(), 0);
     Ok(())
 }

@@ -1,4 +1,5 @@
 //! The examples that the libraries show.
+mod client_table;
 mod lock_rows;
 mod picture;
 mod timeline;

@@ -19,6 +19,7 @@ fn is_shown(alloc: Global, statement: &[u8]) -> Result<bool, AllocError> {
         answer: Vec::from_slice(alloc, b"ERR 1213, victim")?,
         fate: Fate::Fails,
         in_the_way: Vec::new(alloc),
+        held: Vec::new(alloc),
     })?;
     let mut moments = Vec::new(alloc);
     moments.push(Moment {

@@ -4,8 +4,11 @@
 //! leaves. With `--json` it prints an object of JSON. `mdlview --version` prints its version.
 #![tactic(auto)]
 
+mod asked;
 mod command_line;
+mod help;
 mod program;
+mod query;
 
 use mdl_program::lack_words;
 use program::run_words;

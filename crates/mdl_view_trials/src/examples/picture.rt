@@ -13,6 +13,7 @@ fn a_change_waits_for_a_session(rt: HostRuntime) -> Result<(), Fail> {
         answer: Vec::from_slice(alloc, b"WAIT TABLE test.t X")?,
         fate: Fate::Waits,
         in_the_way: Vec::from_slice(alloc, &[1])?,
+        held: Vec::new(alloc),
     };
     let mut events = Vec::new(alloc);
     events.push(event)?;
@@ -23,7 +24,7 @@ fn a_change_waits_for_a_session(rt: HostRuntime) -> Result<(), Fail> {
         events,
     })?;
     let text = picture(alloc, &moments)?;
-    let arrow = b"<g><title>session 1 was in the way of session 2 at line 2</title>\n";
+    let arrow = b"<g><title>session 2 waits for session 1 at line 2</title>\n";
     assert!(rt;
         text.windows(arrow.len())
             .any(|bytes| bytes == arrow.as_slice())

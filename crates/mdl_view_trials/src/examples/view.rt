@@ -1,42 +1,38 @@
-//! `mdl_view`: a reader stops a change, and with it who comes later.
-use mdl_book::{Sessions, Ticket};
-use mdl_key::{Mode, Namespace};
-use mdl_view::{Lock, blockings, course_after, roots};
+//! `mdl_view`: a reader blocks a change, and the change blocks who comes later.
+use mdl_key::Mode;
+use mdl_view::{Act, Lock, LockKind, LockMode, Ticket, at_once, blockings};
 use std::test::Fail;
 
 #[test]
-fn a_reader_is_the_root(rt: HostRuntime) -> Result<(), Fail> {
+fn a_reader_blocks_a_change(rt: HostRuntime) -> Result<(), Fail> {
     let alloc = rt.alloc();
     let reader = Ticket {
-        session: 1,
         number: 1,
-        mode: Mode::SR,
+        session: 1,
+        mode: LockMode::Mdl(Mode::SR),
+        of_statement: false,
     };
     let change = Ticket {
         session: 2,
-        mode: Mode::X,
+        mode: LockMode::Mdl(Mode::X),
+        of_statement: true,
         ..reader
     };
     let later = Ticket {
         session: 3,
+        of_statement: true,
         ..reader
     };
-    let mut lock = Lock::new(alloc, Namespace::Table);
+    let mut lock = Lock::new(alloc, LockKind::Object);
     lock.add_granted(reader)?;
     lock.add_waiting(change)?;
     lock.add_waiting(later)?;
     let mut locks = Vec::new(alloc);
     locks.push(lock)?;
-    // The reader is in the way of the change, and the change in that of the later reader.
-    let found = blockings(alloc, &Sessions::new(), &locks)?;
-    assert_eq!(rt; found.len(), 2);
-    let at_root = roots(alloc, &found)?;
-    assert_eq!(rt; at_root.as_slice(), [1].as_slice());
-    // If the reader ended, the change would be granted, and the later reader would wait for it.
-    for lock in &locks {
-        let course = course_after(alloc, lock, &Sessions::all(), 1)?;
-        assert_eq!(rt; course.granted.as_slice(), [change].as_slice());
-        assert_eq!(rt; course.left.waiting(), [later].as_slice());
-    }
+    // The reader blocks the change, and the change blocks the later reader.
+    assert_eq!(rt; blockings(alloc, &locks)?.len(), 2);
+    // If the statement of the change is ended, the later reader is granted at once.
+    let granted = at_once(alloc, &locks, Act::KillQuery(2))?;
+    assert_eq!(rt; granted[0].ticket, later);
     Ok(())
 }

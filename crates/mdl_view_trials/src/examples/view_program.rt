@@ -17,7 +17,13 @@ fn a_script_is_looked_at(rt: HostRuntime) -> Result<(), Fail> {
     assert!(rt; end.is_ok());
     assert_eq!(rt;
         output.as_slice(),
-        b"If 1 ended, waits granted: 1\n  holds SR of TABLE test.t\n  then 2 gets X of TABLE test.t\n".as_slice()
+        b"1 request waits. Ways out, the best first:
+1. End session 1
+   1 wait ends at once
+   session 1 holds SR of TABLE test.t
+   session 2 gets X of TABLE test.t
+"
+            .as_slice()
     );
     Ok(())
 }

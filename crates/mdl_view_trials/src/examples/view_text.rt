@@ -1,46 +1,29 @@
-//! `mdl_view_text`: what would follow if a reader ended, as text.
-use mdl_book::{Sessions, Ticket};
-use mdl_key::{Mode, Namespace};
-use mdl_view::{Lock, Scene, ranked_roots};
-use mdl_view_text::{Names, key_text, why_text};
+//! `mdl_view_text`: what to type so that a change goes on.
+use mdl_lock_rows::read_lock_rows;
+use mdl_view_text::{Names, find, key_text, why_text};
 use std::test::Fail;
 
 #[test]
 fn a_reader_stops_a_change(rt: HostRuntime) -> Result<(), Fail> {
     let alloc = rt.alloc();
-    let reader = Ticket {
-        session: 1,
-        number: 1,
-        mode: Mode::SR,
-    };
-    let change = Ticket {
-        session: 2,
-        mode: Mode::X,
-        ..reader
-    };
-    let mut lock = Lock::new(alloc, Namespace::Table);
-    lock.add_granted(reader)?;
-    lock.add_waiting(change)?;
-    let mut locks = Vec::new(alloc);
-    locks.push(lock)?;
-    // The server knows the sessions as its threads 48 and 52.
-    let mut names = Names::new(alloc);
-    names.add_lock(key_text(alloc, Namespace::Table, b"shop", b"orders")?)?;
-    names.add_session(48)?;
-    names.add_session(52)?;
-    let scene = Scene {
-        locks: &locks,
-        settled: &Sessions::new(),
-        unsettled: &Sessions::all(),
-    };
-    let roots = ranked_roots(alloc, scene)?;
-    let text = why_text(alloc, &names, scene, true, &[], &roots)?;
+    let rows =
+        b"OBJECT_TYPE\tOBJECT_SCHEMA\tOBJECT_NAME\tLOCK_TYPE\tLOCK_STATUS\tOWNER_THREAD_ID\tPROCESSLIST_ID\tUSER\tHOST\tCOMMAND\tTIME
+TABLE\tshop\torders\tSHARED_READ\tGRANTED\t48\t8\tapp\tweb3\tSleep\t412
+TABLE\tshop\torders\tEXCLUSIVE\tPENDING\t52\t15\troot\tlocalhost\tQuery\t300
+";
+    let found = read_lock_rows(alloc, rows)?;
+    let mut names = Names::new(alloc, found.owners);
+    for key in &found.keys {
+        names.add_lock(key_text(alloc, key.object_type(), key.schema(), key.name())?)?;
+    }
+    let text = why_text(alloc, &names, &find(alloc, &found.locks)?, &found.left_out)?;
     assert_eq!(rt;
         text.as_slice(),
-        b"If 48 ended, waits granted: 1
-  KILL: SELECT processlist_id FROM performance_schema.threads WHERE thread_id = 48
-  holds SR of TABLE shop.orders
-  then 52 gets X of TABLE shop.orders
+        b"1 request waits. Ways out, the best first:
+1. KILL 8;  -- app@web3, Sleep 412 s
+   1 wait ends at once
+   connection 8 (thread 48) holds SR of TABLE shop.orders
+   connection 15 (thread 52) gets X of TABLE shop.orders
 "
             .as_slice()
     );

@@ -1,7 +1,7 @@
--- Those of the classes so far are counted, and no class is twice.
+-- The rows so far are counted.
 use Rattle.std.proofs.Common.{◌≡◌, map, take}
 use Rattle.mdl_lock_rows.specs.Numbering.{counted_among}
 use Rattle.mdl_lock_rows.proofs.left_out.counted.Given as goal
 
-abbrev pub invariant-loop-class : goal.invariant-loop-class
-invariant-loop-class l = l.left_out.items ≡ map (counted_among (take l.class-index l.classes)) l.known.keys
+abbrev pub invariant-loop-row : goal.invariant-loop-row
+invariant-loop-row l = l.left_out.items ≡ map (counted_among (take l.row-index l.rows)) l.known.keys

@@ -9,6 +9,6 @@ use Rattle.mdl_picture.proofs.frame.push_legend_arrow.Goals as goal
 pub returns : goal.returns
 returns c =
     last_next node_text c.push_words.result c.args.out.now.items c.push_line.new.out.items c.push_words.new.out.items
-    (alone (line Arrow 100 c.args.foot 100 c.args.top) ∷ []) (alone (words Words 112 c.args.base (codes "to who was in the way when the wait began")))
-    (first node_text c.args.out.now.items c.push_line.new.out.items (alone (line Arrow 100 c.args.foot 100 c.args.top)) c.in_ok-push_line.ensures)
+    (alone (line Arrow 180 c.args.foot 180 c.args.top) ∷ []) (alone (words Words 190 c.args.base (codes "waits for (when the wait began)")))
+    (first node_text c.args.out.now.items c.push_line.new.out.items (alone (line Arrow 180 c.args.foot 180 c.args.top)) c.in_ok-push_line.ensures)
     c.push_words.ensures

@@ -6,5 +6,5 @@ use Rattle.mdl_picture.proofs.layout.add_boxes.Given as goal
 
 abbrev pub invariant-loop-event : goal.invariant-loop-event
 invariant-loop-event l =
-    let now : Course = record { x = l.x; boxes = l.boxes.items } in
-    now ≡ fold (with_box l.moment.line) (record { x = l.column; boxes = l.fn.boxes.items }) (take l.event-index l.moment.events)
+    let now : Course = record { next = l.next; boxes = l.boxes.items } in
+    now ≡ fold (with_box l.moment.line) (record { next = l.column; boxes = l.fn.boxes.items }) (take l.event-index l.moment.events)

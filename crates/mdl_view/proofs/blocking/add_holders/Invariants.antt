@@ -6,4 +6,4 @@ use Rattle.mdl_view.proofs.blocking.add_holders.Given as goal
 
 abbrev pub invariant-loop-held : goal.invariant-loop-held
 invariant-loop-held l =
-    l.found.items ≡ l.fn.found.items ++ map (blocking l.place l.wish Holds) (filter (holds_against l.lock l.wish) (take l.held-index l.lock.granted))
+    l.found.items ≡ l.fn.found.items ++ map (blocking l.place l.ask Holds) (filter (holds_against l.lock l.ask) (take l.held-index l.lock.granted))

@@ -1,13 +1,8 @@
 -- Those of the waiting tickets so far were added.
-use Rattle.std.proofs.Common.{◌≡◌, ◌++◌, filter, take}
+use Rattle.std.proofs.Common.{◌≡◌, ◌++◌, take}
 use Rattle.std.specs.List.{flat_map}
-use Rattle.std.specs.FinSet as set
-use Rattle.mdl_view.specs.Blockings.{has_open_wait, blockings_of}
+use Rattle.mdl_view.specs.Blockings.{blockings_of}
 use Rattle.mdl_view.proofs.blocking.add_lock.Given as goal
 
-abbrev pub invariant-loop-wish : goal.invariant-loop-wish
-invariant-loop-wish l =
-    l.found.items
-    ≡ l.fn.found.items
-    ++ flat_map (blockings_of (set.contains l.settled) l.place l.lock)
-    (filter (has_open_wait (set.contains l.settled)) (take l.wish-index l.lock.waiting))
+abbrev pub invariant-loop-ask : goal.invariant-loop-ask
+invariant-loop-ask l = l.found.items ≡ l.fn.found.items ++ flat_map (blockings_of l.place l.lock) (take l.ask-index l.lock.waiting)

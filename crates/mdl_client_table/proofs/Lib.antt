@@ -1,0 +1,4 @@
+pub mod EscapeLemmas
+pub mod LastLemmas
+pub mod LineLemmas
+pub mod PartLemmas

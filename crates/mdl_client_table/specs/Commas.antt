@@ -1,0 +1,38 @@
+-- A table with commas between its fields (CSV), after RFC 4180: a field may be in quotes, and has commas, line feeds and doubled quotes there. A
+-- field without quotes is NULL if it is empty, `NULL`, or `\N`.
+use Rattle.std.specs.Prelude.{ℕ, ◌-◌, Bool, true, false, not, ◌&&◌, ◌||◌, ◌==◌, List, [], ◌∷◌, drop, take, length, fold, find, Option, codes, nat_le, if◌then◌else◌}
+use Rattle.std.specs.Option.{option_map_or}
+use Rattle.mdl_lines.specs.Words.{same_text}
+
+-- whether a quote is open behind a text, given whether one was open before it: each quote opens one or closes it
+abbrev pub is_quote_open : Bool → List ℕ → Bool
+is_quote_open was text = fold (λ is_open byte. if byte == 34 then not is_open else is_open) was text
+
+-- a text in which each quote that follows another one is dropped, unless that one followed a quote itself
+abbrev pub undoubled_from : Bool → List ℕ → List ℕ
+undoubled_from follows [] = []
+undoubled_from follows (byte ∷ bytes) = if (byte == 34) && follows then undoubled_from false bytes else byte ∷ undoubled_from (byte == 34) bytes
+
+-- whether a cell is in quotes
+abbrev pub is_quoted : List ℕ → Bool
+is_quoted cell = nat_le 2 (length cell) && (same_text (take 1 cell) (codes "\"") && same_text (drop (length cell - 1) cell) (codes "\""))
+
+-- the text between the quotes of a cell
+abbrev pub in_quotes : List ℕ → List ℕ
+in_quotes cell = undoubled_from false (take (length cell - 1 - 1) (drop 1 cell))
+
+-- a cell without quotes
+abbrev pub plain_value : List ℕ → List ℕ
+plain_value cell = if same_text cell (codes "NULL") || same_text cell (codes "\\N") then [] else cell
+
+-- the value of a cell
+abbrev pub comma_value : List ℕ → List ℕ
+comma_value cell = if is_quoted cell then in_quotes cell else plain_value cell
+
+-- the first byte of a text that is a tab, a line feed or a comma
+abbrev pub first_mark : List ℕ → Option ℕ
+first_mark text = find (λ byte. (byte == 9) || ((byte == 10) || (byte == 44))) text
+
+-- whether there is a comma in the first line of a text, and no tab before it
+abbrev pub has_commas : List ℕ → Bool
+has_commas text = option_map_or (λ byte. byte == 44) (first_mark text) false

@@ -1,0 +1,9 @@
+pub mod Boxes
+pub mod Cells
+pub mod Commas
+pub mod Escapes
+pub mod Forms
+pub mod Tables
+pub mod Tabs
+pub mod Vertical
+pub mod Words

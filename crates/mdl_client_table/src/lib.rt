@@ -1,0 +1,43 @@
+//! Tables, as a client of a MySQL server prints them.
+//!
+//! [`read_table`] reads what `mysql` prints with `-B`, `-t` or `-E`, or CSV, and returns a [`Table`]: the names of the columns, and the [`Row`]s, each
+//! with the number of its line. The [`Form`] is that which the text begins with.
+//!
+//! # Example
+//!
+//! ```
+//! use mdl_client_table::read_table;
+//!
+//! let alloc = rt.alloc();
+//! let text = b"+------+------+
+//! | ID   | USER |
+//! +------+------+
+//! |    8 | app  |
+//! +------+------+
+//! ";
+//! let table = read_table(alloc, text)?;
+//! for row in table.rows() {
+//!     assert_eq!(rt; row.line(), 4);
+//!     assert_eq!(rt; row.field(1), b"app".as_slice());
+//! }
+//! ```
+#![tactic(auto)]
+
+mod cells;
+mod commas;
+mod escapes;
+mod field;
+mod form;
+mod laws;
+mod lines;
+mod pieces;
+mod row;
+mod table;
+mod vertical;
+
+pub use field::Field;
+pub use form::Form;
+pub use laws::names_come_back;
+pub use lines::read_table;
+pub use row::Row;
+pub use table::Table;

@@ -1,6 +1,0 @@
--- Byte by byte.
-use Rattle.mdl_lock_rows.proofs.EscapeLemmas.{name_back}
-use Rattle.mdl_lock_rows.proofs.laws.names_come_back.Goals as goal
-
-pub returns : goal.returns
-returns c = λ name. name_back name

@@ -1,7 +1,0 @@
--- What was found, and what the locks behind have.
-use Rattle.std.proofs.Common.{◌≡◌, ◌++◌, drop}
-use Rattle.mdl_view.specs.Following.{held_from}
-use Rattle.mdl_view.proofs.what_follows.holds_of.Given as goal
-
-abbrev pub invariant-loop-place : goal.invariant-loop-place
-invariant-loop-place l = l.found.items ++ held_from l.session l.place (drop l.place l.locks) ≡ held_from l.session 0 l.locks

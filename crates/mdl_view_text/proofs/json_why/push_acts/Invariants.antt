@@ -1,0 +1,9 @@
+-- What was put there, and the elements behind.
+use Rattle.std.proofs.Common.{◌≡◌, ◌++◌, codes, drop}
+use Rattle.mdl_view_text.specs.Json.{act_object}
+use Rattle.mdl_view_text.specs.Layouts.{listed}
+use Rattle.mdl_view_text.proofs.json_why.push_acts.Given as goal
+
+abbrev pub invariant-loop-place : goal.invariant-loop-place
+invariant-loop-place l =
+    l.out.items ++ listed (codes ",") (act_object l.names) l.place (drop l.place l.acts) ≡ l.fn.out.items ++ listed (codes ",") (act_object l.names) 0 l.acts

@@ -1,9 +1,0 @@
--- What was put there, and the elements behind.
-use Rattle.std.proofs.Common.{◌≡◌, ◌++◌, codes, drop}
-use Rattle.mdl_view_text.specs.Json.{deadlock_object}
-use Rattle.mdl_view_text.specs.Layouts.{listed}
-use Rattle.mdl_view_text.proofs.json_why.push_deadlocks.Given as goal
-
-abbrev pub invariant-loop-place : goal.invariant-loop-place
-invariant-loop-place l =
-    l.out.items ++ listed (codes ",") (deadlock_object l.names) l.place (drop l.place l.deadlocks) ≡ l.fn.out.items ++ listed (codes ",") (deadlock_object l.names) 0 l.deadlocks

@@ -1,0 +1,12 @@
+-- One element more.
+use Rattle.std.proofs.Common.{◌++◌, codes}
+use Rattle.mdl_view_text.specs.Json.{way_object}
+use Rattle.mdl_view_text.specs.Layouts.{listed}
+use Rattle.mdl_view_text.proofs.Pieces.{next_listed}
+use Rattle.mdl_view_text.proofs.json_why.push_ways.Goals as goal
+
+pub loop-place-preserved : goal.loop-place-preserved
+loop-place-preserved c =
+    next_listed (codes ",") (way_object c.args.names.now) c.args.ways.now c.loop-place.place c.index-ways-place.result
+    (c.args.out.now.items ++ listed (codes ",") (way_object c.args.names.now) 0 c.args.ways.now) c.loop-place.out.items c.push_mark.new.out.items
+    c.push_way.new.out.items c.loop-place-test.true c.index-ways-place.is c.loop-place.invariant c.in_ok-push_mark.ensures c.in_ok-push_way.ensures

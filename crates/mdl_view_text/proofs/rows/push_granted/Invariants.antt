@@ -1,8 +1,0 @@
--- So much was put there.
-use Rattle.std.proofs.Common.{◌≡◌, ◌++◌, take}
-use Rattle.std.specs.List.{flat_map}
-use Rattle.mdl_view_text.specs.Rows.{granted_row}
-use Rattle.mdl_view_text.proofs.rows.push_granted.Given as goal
-
-abbrev pub invariant-loop-ticket : goal.invariant-loop-ticket
-invariant-loop-ticket l = l.out.items ≡ l.fn.out.items ++ flat_map (granted_row l.names l.place) (take l.ticket-index l.tickets)

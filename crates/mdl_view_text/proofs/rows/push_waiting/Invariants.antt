@@ -1,9 +1,0 @@
--- So much was put there.
-use Rattle.std.proofs.Common.{◌≡◌, ◌++◌, take}
-use Rattle.std.specs.List.{flat_map}
-use Rattle.std.specs.FinSet as set
-use Rattle.mdl_view_text.specs.Rows.{waiting_row}
-use Rattle.mdl_view_text.proofs.rows.push_waiting.Given as goal
-
-abbrev pub invariant-loop-ticket : goal.invariant-loop-ticket
-invariant-loop-ticket l = l.out.items ≡ l.fn.out.items ++ flat_map (waiting_row l.names (set.contains l.settled) l.place) (take l.ticket-index l.tickets)

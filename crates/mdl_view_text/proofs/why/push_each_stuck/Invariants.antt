@@ -1,0 +1,8 @@
+-- So much was put there.
+use Rattle.std.proofs.Common.{◌≡◌, ◌++◌, take}
+use Rattle.std.specs.List.{flat_map}
+use Rattle.mdl_view_text.specs.Why.{stuck_line}
+use Rattle.mdl_view_text.proofs.why.push_each_stuck.Given as goal
+
+abbrev pub invariant-loop-wait : goal.invariant-loop-wait
+invariant-loop-wait l = l.out.items ≡ l.fn.out.items ++ flat_map (stuck_line l.names) (take l.wait-index l.waits)
