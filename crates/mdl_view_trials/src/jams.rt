@@ -92,6 +92,34 @@ const CASES: &[Case] = &[
             ),
             (SCOPE, &[(1, Mode::IX)], &[]),
         ],
+        ways: &[(Act::Kill(1), 1, 2), (Act::KillQuery(9), 1, 1)],
+        joint: &[],
+        stuck: &[],
+        act: Act::Kill(1),
+        granted: &[9],
+        ending: &[9, 1024],
+    },
+    // To give up a request doesn't help: what the session holds blocks the other one.
+    Case {
+        name: "each of two readers wants to change the table of the other",
+        locks: &[
+            (OBJECT, &[(1, Mode::SR)], &[(2, Mode::X)]),
+            (OBJECT, &[(2, Mode::SR)], &[(1, Mode::X)]),
+        ],
+        ways: &[(Act::Kill(1), 1, 1), (Act::Kill(2), 1, 1)],
+        joint: &[],
+        stuck: &[2, 1],
+        act: Act::Kill(1),
+        granted: &[2],
+        ending: &[2],
+    },
+    Case {
+        name: "three sessions in a circle, and one behind them",
+        locks: &[
+            (OBJECT, &[(3, Mode::SR)], &[(4, Mode::X)]),
+            (OBJECT, &[(7, Mode::X)], &[(3, Mode::SR)]),
+            (OBJECT, &[(4, Mode::SR)], &[(7, Mode::X), (9, Mode::SR)]),
+        ],
         ways: &[
             (Act::Kill(7), 2, 3),
             (Act::Kill(3), 1, 3),
